@@ -1,0 +1,4 @@
+pub mod Slot
+pub mod Tree
+pub mod Reading
+pub mod OpenPlaces
