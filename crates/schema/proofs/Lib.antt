@@ -1,3 +1,5 @@
 -- What the proofs of several functions use.
 pub mod TreeLaws
 pub mod OpenPlacesLaws
+pub mod FaultLaws
+pub mod DemandLaws

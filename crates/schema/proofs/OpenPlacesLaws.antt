@@ -7,7 +7,7 @@ use native.Mathlib.Omega.{arith}
 use native.Mathlib.Nat.{zero-add, suc-add, add-comm}
 use lib.ListN.{length, take}
 use lib.IntN.{ℤ, pos, negsuc, _+ℤ_, _-ℤ_, predℤ, +ℤ-assoc, +ℤ-idr, -ℤ-one, +ℤ-predℤ}
-use Rattle.schema.specs.Slot.{childCount}
+use Rattle.sheet.specs.Slot.{childCount}
 use Rattle.schema.specs.Tree.{Slot, Tree, Fields, node, empty, field, listing, listings, count, Claims, ClaimsAll}
 use Rattle.schema.specs.Reading.{trees, takeFields, dropFields}
 use Rattle.schema.specs.OpenPlaces.{sum, openPlaces}
@@ -68,6 +68,10 @@ tree-fills t c = rw append-nil at (listing-fills t 0 [] c done)
 pub openFrom : ℕ → List Slot → ℕ → ℤ
 openFrom n ss k = pos n +ℤ sum (map (λ s. pos (childCount s) -ℤ pos 1) (take k ss))
 
+pub openFrom-one : (ss : List Slot) (k : ℕ) → openFrom 1 ss k ≡ openPlaces ss k
+unfolding openFrom openPlaces
+openFrom-one ss k = refl
+
 -- one place is filled, and as many open as the slot claims
 place-filled : (n c : ℕ) → pos (suc n) +ℤ (pos c -ℤ pos 1) ≡ pos (c + n)
 place-filled n c =
@@ -86,7 +90,7 @@ unfolding openFrom sum
 openFrom-zero n ss = +ℤ-idr (pos n)
 
 -- some place is open
-pub Open : ℤ → Type 0
+unfoldable pub Open : ℤ → Type 0
 Open z = (m : ℕ) × (z ≡ pos (suc m))
 
 pub fills-open : {n : ℕ} {ss : List Slot} → Fills n ss → (k : ℕ) → k < length ss → Open (openFrom n ss k)

@@ -5,7 +5,7 @@ use mathlib.Core.List.{List, [], _∷_, _++_, append-assoc, append-nil}
 use native.Mathlib.Omega.{arith}
 use native.Mathlib.Nat.{sub-zero}
 use lib.ListN.{length, drop, length-append}
-use Rattle.schema.specs.Slot.{childCount}
+use Rattle.sheet.specs.Slot.{childCount}
 use Rattle.schema.specs.Tree.{Slot, Tree, Fields, node, empty, field, listing, listings, count, size, Claims, ClaimsAll}
 use Rattle.schema.specs.Reading.{takeFields, dropFields, trees, firstTree, treeOf}
 

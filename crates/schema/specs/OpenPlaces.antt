@@ -4,7 +4,7 @@ use mathlib.Core.Bool.{Bool, true, false}
 use mathlib.Core.List.{List, [], _∷_, map}
 use lib.ListN.{take}
 use lib.IntN.{ℤ, pos, negsuc, _+ℤ_, _-ℤ_}
-use Rattle.schema.specs.Slot.{childCount}
+use Rattle.sheet.specs.Slot.{childCount}
 use Rattle.schema.specs.Tree.{Slot}
 
 -- the sum of some integers

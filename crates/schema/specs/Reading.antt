@@ -1,7 +1,7 @@
 -- The trees that a list of slots stands for.
 use Prim.Native.Nat.{ℕ, zero, suc}
 use mathlib.Core.List.{List, [], _∷_}
-use Rattle.schema.specs.Slot.{childCount}
+use Rattle.sheet.specs.Slot.{childCount}
 use Rattle.schema.specs.Tree.{Slot, Tree, Fields, node, empty, field}
 
 -- the first n fields of a run, or all where it has fewer

@@ -3,7 +3,7 @@ use Prim.Native.Nat.{ℕ, zero, suc, _+_, _≤_}
 use mathlib.Core.Path.{_≡_}
 use mathlib.Core.List.{List, [], _∷_, _++_}
 use lib.ListN.{length, getD}
-use Rattle.schema.specs.Slot.{childCount}
+use Rattle.sheet.specs.Slot.{childCount}
 
 -- a node is a used slot, whole: its 72 bytes
 abbrev pub Slot : Type 0

@@ -1,4 +1,35 @@
 // The schema of a sheet: its tree judged, and its rows.
+ghost use mathlib.Core.Path.{_≡_};
+
+// A numbered refusal and its place.
+pub struct Refusal {
+    pub number: u32,
+    pub place: usize,
+}
+
+// What resolving answers: the number of nodes, whose rows are written, or the refusal.
+pub enum Resolved {
+    Rows(usize),
+    Refused(Refusal),
+}
+
+// Where a node stands, as far as rules 8 to 13 look above it.
+pub enum Place {
+    Root,
+    Field,
+    MapField,
+}
+
+// What a node's parent is to it, as far as roles go.
+pub enum Parent {
+    Other,
+    List,
+    ListLayer,
+    Map,
+    KeyValue,
+    KeyValueRest,
+}
+
 pub fn nothing() -> u8 {
     0
 }

@@ -1,0 +1,180 @@
+-- Demand 3: a sheet of sound blocks and slots is accepted exactly where it has a tree, it has one at the most, and the rows written are that tree's.
+use Prim.Native.Nat.{ℕ, zero, suc, _+_, _*_, _≤_, _<_}
+use mathlib.Core.Path.{_≡_, refl, sym, ap, _∙_, subst}
+use mathlib.Core.Logic.{_⊎_, inl, inr, _↔_}
+use mathlib.Core.Bool.{Bool, true, false, cond, not}
+use mathlib.Core.Option.{Option, none, some, Option·some-ne-none}
+use mathlib.Core.List.{List, [], _∷_, _++_, append-nil}
+use native.Mathlib.Omega.{arith}
+use native.Mathlib.Nat.{le-refl}
+use borrow.Author.Tests.{lt-ltb, le-ltb}
+use lib.Dec.{ltb}
+use lib.IntN.{ℤ, pos}
+use lib.ListN.{length, drop}
+use Rattle.sheet.specs.Block.{totalOf}
+use Rattle.sheet.specs.First.{firstWrong}
+use Rattle.sheet.specs.Opening as sheet
+use Rattle.sheet.specs.Slot.{slots}
+use Rattle.sheet.proofs.FirstLaws.{firstWrong-at, firstWrong-none}
+use Rattle.schema.specs.Tree.{Slot, Tree, Fields, node, empty, field, listing, listings, count, Claims, ClaimsAll}
+use Rattle.schema.specs.Rows.{rows, rowWidth}
+use Rattle.schema.specs.Reading.{trees, firstTree, treeOf}
+use Rattle.schema.specs.OpenPlaces.{openPlaces, isNoPlace}
+use Rattle.schema.specs.Outcome.{orElse, refusal, leftOver, missing, tooDeep, unlawful, treeRefusal, judgedAs, judgement, answer, outcome, written}
+use Rattle.schema.specs.Demand.{IsTreeOf, Sound, EnoughOutput, Accepted}
+use Rattle.schema.specs.declared.Refusal.{Refusal}
+use Rattle.schema.specs.declared.Resolved.{Resolved}
+use Rattle.schema.specs.declared.Resolved.the-variants.{Rows, Refused}
+use Rattle.schema.proofs.TreeLaws.{listings-trees, trees-of-listing, listing-injective}
+use Rattle.schema.proofs.OpenPlacesLaws.{Fills, Lacks, Full, one-of-three, fills-trees, tree-fills, openFrom, openFrom-one, Open, fills-open, fills-end, lacks-open, full-below, full-none, full-open}
+use Rattle.schema.proofs.FaultLaws.{orElse-none, none-orElse, atMostDeep-none, none-atMostDeep, keeps-none, none-keeps}
+
+-- what some open place says of the test for none
+open-test : (z : ℤ) → Open z → isNoPlace z ≡ false
+unfolding Open isNoPlace
+open-test z o = rw (o .1)
+
+none-test : (z : ℤ) → z ≡ pos 0 → isNoPlace z ≡ true
+unfolding isNoPlace
+none-test z e = rw e
+
+open-at : (ss : List Slot) (j : ℕ) → Open (openFrom 1 ss j) → not (isNoPlace (openPlaces ss j)) ≡ true
+open-at ss j o = rw (← openFrom-one, open-test _ o)
+
+-- where a place is open before every slot, none is left over
+leftOver-none : (ss : List Slot) → ((j : ℕ) → j < length ss → Open (openFrom 1 ss j)) → leftOver ss ≡ none
+unfolding leftOver
+leftOver-none ss all =
+    rw (firstWrong-none (λ j. not (isNoPlace (openPlaces ss j))) (length ss) (λ j h. open-at ss j (all j h)), le-ltb (length ss) (length ss) (le-refl _))
+
+fills-leftOver : (ss : List Slot) → Fills 1 ss → leftOver ss ≡ none
+fills-leftOver ss f = leftOver-none ss (fills-open f)
+
+fills-missing : (ss : List Slot) → Fills 1 ss → missing ss ≡ none
+unfolding missing
+fills-missing ss f = rw (← openFrom-one, none-test _ (fills-end f))
+
+-- refusal 5 holds where places are left open, refusal 6 where there is none before a slot
+pub lacks-leftOver : (ss : List Slot) → Lacks 1 ss → leftOver ss ≡ none
+lacks-leftOver ss l = leftOver-none ss (λ j h. lacks-open l j (omega arith))
+
+pub lacks-missing : (ss : List Slot) → Lacks 1 ss → missing ss ≡ some (refusal 5 (length ss))
+unfolding missing
+lacks-missing ss l = rw (← openFrom-one, open-test _ (lacks-open l (length ss) (le-refl _)))
+
+pub full-leftOver : (ss : List Slot) (k : ℕ) → Full 1 ss k → leftOver ss ≡ some (refusal 6 k)
+unfolding leftOver
+full-leftOver ss k f =
+    rw
+    ( firstWrong-at (λ j. not (isNoPlace (openPlaces ss j))) (length ss) k (full-below f) (λ j h. open-at ss j (full-open f j h)) (rw (← openFrom-one, none-test _ (full-none f)))
+    , lt-ltb k (length ss) (full-below f))
+
+-- a tree that claims rightly and lists the slots is the one that they stand for
+pub treeOf-listing : (t : Tree) (ss : List Slot) → Claims t → listing t ≡ ss → treeOf ss ≡ t
+unfolding treeOf firstTree
+treeOf-listing t ss c e = rw (← e, trees-of-listing t c)
+
+one-of : (fs : Fields) → count fs ≡ 1 → fs ≡ field (firstTree fs) empty
+unfolding count firstTree
+one-of empty e = absurd (omega arith)
+one-of (field t empty) e = refl
+one-of (field t (field u fs)) e = absurd (omega arith)
+
+-- slots that fill the one open place are listed by their tree, which claims rightly
+pub fills-listing : (ss : List Slot) → Fills 1 ss → listing (treeOf ss) ≡ ss
+unfolding treeOf listing
+fills-listing ss f =
+    sym (append-nil (listing (firstTree (trees ss)))) ∙ sym (ap listings (one-of (trees ss) (fills-trees f .0))) ∙ listings-trees ss
+
+pub fills-claims : (ss : List Slot) → Fills 1 ss → Claims (treeOf ss)
+unfolding treeOf Claims
+fills-claims ss f = subst ClaimsAll (one-of (trees ss) (fills-trees f .0)) (fills-trees f .1) .0
+
+-- no refusal of 5 to 13 holds where the slots are listed by a tree that is not too deep, keeps every rule and claims rightly
+tree-accepted : (bytes : List ℕ) (t : Tree) → IsTreeOf bytes t → treeRefusal (slots bytes) ≡ none
+unfolding treeRefusal
+tree-accepted bytes t h =
+    let f : Fills 1 (slots bytes) = subst (Fills 1) (h .lists) (tree-fills t (h .claims)) in
+    let e : treeOf (slots bytes) ≡ t = treeOf-listing t (slots bytes) (h .claims) (h .lists) in
+    orElse-none _ _ (fills-leftOver (slots bytes) f)
+    (orElse-none _ _ (fills-missing (slots bytes) f)
+    (orElse-none _ _ (rw e (atMostDeep-none t (h .deep))) (rw e (keeps-none t (h .keeps)))))
+
+-- slots that no refusal of 5 or 6 meets fill the one open place
+pub accepted-fills : (ss : List Slot) → leftOver ss ≡ none → missing ss ≡ none → Fills 1 ss
+accepted-fills ss p q = on (one-of-three 1 ss)
+  where
+    on : Fills 1 ss ⊎ (Lacks 1 ss ⊎ ((k : ℕ) × Full 1 ss k)) → Fills 1 ss
+    on (inl f) = f
+    on (inr (inl l)) = absurd (Option·some-ne-none _ (sym (lacks-missing ss l) ∙ q))
+    on (inr (inr o)) = absurd (Option·some-ne-none _ (sym (full-leftOver ss (o .0) (o .1)) ∙ p))
+
+accepted-tree : (bytes : List ℕ) → treeRefusal (slots bytes) ≡ none → IsTreeOf bytes (treeOf (slots bytes))
+unfolding treeRefusal
+accepted-tree bytes e =
+    let a = none-orElse _ _ e in
+    let b = none-orElse _ _ (a .1) in
+    let c = none-orElse _ _ (b .1) in
+    let f : Fills 1 (slots bytes) = accepted-fills (slots bytes) (a .0) (b .0) in
+    record
+    { deep = none-atMostDeep (treeOf (slots bytes)) (c .0)
+    ; keeps = none-keeps (treeOf (slots bytes)) (c .1)
+    ; claims = fills-claims (slots bytes) f
+    ; lists = fills-listing (slots bytes) f
+    }
+
+sound-judgement : (bytes : List ℕ) → Sound bytes → judgement bytes ≡ treeRefusal (slots bytes)
+unfolding Sound judgement judgedAs
+sound-judgement bytes s = rw s
+
+accepted-no-refusal : (r : Option Refusal) (t lent : ℕ) → Accepted (answer r t lent) → r ≡ none
+unfolding Accepted answer
+accepted-no-refusal none t lent a = refl
+accepted-no-refusal (some r) t lent a = absurd a
+
+no-refusal-rows : (r : Option Refusal) (t lent : ℕ) → r ≡ none → rowWidth * t ≤ lent → answer r t lent ≡ Rows t
+unfolding answer
+no-refusal-rows r t lent e h = rw (e, le-ltb lent (rowWidth * t) h)
+
+-- where a sheet has a tree and output is enough, the answer is its T rows
+pub tree-rows : (bytes : List ℕ) (lent : ℕ) (t : Tree) → Sound bytes → EnoughOutput bytes lent → IsTreeOf bytes t → outcome bytes lent ≡ Rows (totalOf bytes)
+unfolding outcome EnoughOutput
+tree-rows bytes lent t s n h =
+    no-refusal-rows (judgement bytes) (totalOf bytes) lent (sound-judgement bytes s ∙ tree-accepted bytes t h) n
+
+-- a sheet is accepted exactly where some tree, at most 32 deep, keeps every rule, claims its children rightly and lists the sheet's nodes
+pub accepted-exactly : (bytes : List ℕ) (lent : ℕ) → Sound bytes → EnoughOutput bytes lent → Accepted (outcome bytes lent) ↔ ((t : Tree) × IsTreeOf bytes t)
+unfolding outcome Accepted
+accepted-exactly bytes lent s n =
+    ( (λ a. (treeOf (slots bytes), accepted-tree bytes (sym (sound-judgement bytes s) ∙ accepted-no-refusal (judgement bytes) (totalOf bytes) lent a)))
+    , (λ h. subst Accepted (sym (tree-rows bytes lent (h .0) s n (h .1))) tt))
+
+-- any two such trees are equal
+pub one-tree : (bytes : List ℕ) (t u : Tree) → IsTreeOf bytes t → IsTreeOf bytes u → t ≡ u
+one-tree bytes t u h k = listing-injective t u (h .claims) (k .claims) (h .lists ∙ sym (k .lists))
+
+-- the rows written are that tree's, and what stood past them stays
+pub rows-are : (bytes lent : List ℕ) (t : Tree) → Sound bytes → EnoughOutput bytes (length lent) → IsTreeOf bytes t → written (outcome bytes (length lent)) bytes lent ≡ rows t ++ drop (rowWidth * totalOf bytes) lent
+unfolding written
+rows-are bytes lent t s n h =
+    rw (tree-rows bytes (length lent) t s n h, treeOf-listing t (slots bytes) (h .claims) (h .lists))
+
+-- a refusal changes nothing
+pub refused-unchanged : (bytes lent : List ℕ) (r : Refusal) → outcome bytes (length lent) ≡ Refused r → written (outcome bytes (length lent)) bytes lent ≡ lent
+unfolding written
+refused-unchanged bytes lent r e = rw e
+
+-- of refusal 6, refusal 5 and a tree that claims rightly and lists the slots, one holds
+pub six-five-or-tree : (ss : List Slot) → ((k : ℕ) × (k < length ss) × (leftOver ss ≡ some (refusal 6 k))) ⊎ (((leftOver ss ≡ none) × (missing ss ≡ some (refusal 5 (length ss)))) ⊎ ((t : Tree) × Claims t × (listing t ≡ ss)))
+six-five-or-tree ss = on (one-of-three 1 ss)
+  where
+    on : Fills 1 ss ⊎ (Lacks 1 ss ⊎ ((k : ℕ) × Full 1 ss k)) → ((k : ℕ) × (k < length ss) × (leftOver ss ≡ some (refusal 6 k))) ⊎ (((leftOver ss ≡ none) × (missing ss ≡ some (refusal 5 (length ss)))) ⊎ ((t : Tree) × Claims t × (listing t ≡ ss)))
+    on (inl f) = inr (inr (treeOf ss, fills-claims ss f, fills-listing ss f))
+    on (inr (inl l)) = inr (inl (lacks-leftOver ss l, lacks-missing ss l))
+    on (inr (inr o)) = inl (o .0, full-below (o .1), full-leftOver ss (o .0) (o .1))
+
+-- and where the tree does, neither refusal does
+pub tree-neither : (ss : List Slot) (t : Tree) → Claims t → listing t ≡ ss → (leftOver ss ≡ none) × (missing ss ≡ none)
+tree-neither ss t c e =
+    let f : Fills 1 ss = subst (Fills 1) e (tree-fills t c) in
+    (fills-leftOver ss f, fills-missing ss f)

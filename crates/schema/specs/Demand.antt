@@ -1,0 +1,34 @@
+-- What demand 3 speaks of.
+use Prim.Native.Nat.{ℕ, _*_, _≤_}
+use mathlib.Core.Path.{_≡_}
+use mathlib.Core.List.{List}
+use Rattle.sheet.specs.Block.{totalOf}
+use Rattle.sheet.specs.Opening as sheet
+use Rattle.sheet.specs.Slot.{slots}
+use Rattle.schema.specs.Tree.{Tree, AtMostDeep, Claims, listing}
+use Rattle.schema.specs.Rules.{Keeps}
+use Rattle.schema.specs.Rows.{rowWidth}
+use Rattle.schema.specs.Outcome.{mostDepth}
+use Rattle.schema.specs.declared.Place.the-variants.{Root}
+use Rattle.schema.specs.declared.Resolved.{Resolved}
+use Rattle.schema.specs.declared.Resolved.the-variants.{Rows, Refused}
+
+-- a tree of a sheet: at most 32 deep, it keeps every rule, claims its children rightly and lists the sheet's nodes
+pub record IsTreeOf (bytes : List ℕ) (t : Tree) : Type 0 where
+  pub deep : AtMostDeep mostDepth t
+  pub keeps : Keeps Root t
+  pub claims : Claims t
+  pub lists : listing t ≡ slots bytes
+
+-- blocks are sound where refusals 1 to 3 do not hold, node slots where 4 does not
+unfoldable pub Sound : List ℕ → Type 0
+Sound bytes = sheet.outcome bytes ≡ sheet.accepted (totalOf bytes) (slots bytes)
+
+-- output is enough where 14 does not hold
+unfoldable pub EnoughOutput : List ℕ → ℕ → Type 0
+EnoughOutput bytes lent = rowWidth * totalOf bytes ≤ lent
+
+-- accepted: an answer with rows and no refusal
+unfoldable pub Accepted : Resolved → Type 0
+Accepted (Rows t) = Unit {0}
+Accepted (Refused r) = ⊥

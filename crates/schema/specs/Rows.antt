@@ -1,0 +1,87 @@
+-- The rows of a tree: nine numbers for each node, in listing order.
+use Prim.Native.Nat.{ℕ, zero, suc, _+_}
+use mathlib.Core.Bool.{Bool, true, false, cond}
+use mathlib.Core.List.{List, [], _∷_, _++_}
+use lib.Dec.{eqb}
+use lib.IntN.{ℤ, pos, negsuc}
+use Rattle.sheet.specs.Slot.{physical, repetition, typeLength}
+use Rattle.schema.specs.Annotated.{kind, p1, p2}
+use Rattle.schema.specs.Tree.{Slot, Tree, Fields, node, empty, field, size}
+use Rattle.schema.specs.Rules.{isGroup, isRepeated, isElementGroup}
+use Rattle.schema.specs.declared.Parent.{Parent}
+use Rattle.schema.specs.declared.Parent.the-variants as parent
+
+-- an integer as an unsigned number; no row of an accepted sheet has one below 0
+unfoldable pub unsigned : ℤ → ℕ
+unsigned (pos n) = n
+unsigned (negsuc n) = 0
+
+-- whether a parent is a resolved MAP
+unfoldable pub isMapParent : Parent → Bool
+isMapParent parent.Other = false
+isMapParent parent.List = false
+isMapParent parent.ListLayer = false
+isMapParent parent.Map = true
+isMapParent parent.KeyValue = false
+isMapParent parent.KeyValueRest = false
+
+-- roles: 0 field, 1 list layer, 2 element, 3 group layer that is the element, 4 key_value layer, 5 key, 6 value, 7 bare repeated
+unfoldable pub role : Parent → Slot → Slot → Fields → ℕ
+role parent.Other above s fs = cond (isRepeated s) 7 0
+role parent.List above s fs = cond (isGroup s) (cond (isElementGroup above s fs) 3 1) 2
+role parent.ListLayer above s fs = 2
+role parent.Map above s fs = 4
+role parent.KeyValue above s fs = 5
+role parent.KeyValueRest above s fs = 6
+
+-- what a node is to its fields: by its resolved kind, or by its own role
+unfoldable pub parentBy : ℕ → ℕ → Parent
+parentBy kind role =
+    cond (eqb kind 3) parent.List
+    (cond (eqb kind 2) parent.Map
+    (cond (eqb role 1) parent.ListLayer
+    (cond (eqb role 4) parent.KeyValue parent.Other)))
+
+-- what it is to the fields after the first: "key first; then value"
+unfoldable pub afterFirst : Parent → Parent
+afterFirst parent.Other = parent.Other
+afterFirst parent.List = parent.List
+afterFirst parent.ListLayer = parent.ListLayer
+afterFirst parent.Map = parent.Map
+afterFirst parent.KeyValue = parent.KeyValueRest
+afterFirst parent.KeyValueRest = parent.KeyValueRest
+
+-- one row: physical, type length, repetition, kind, p1, p2, parent, end, role
+unfoldable pub row : ℕ → ℕ → Parent → Slot → Slot → Fields → List ℕ
+row at up p above s fs =
+    physical s
+    ∷ unsigned (typeLength s)
+    ∷ repetition s
+    ∷ kind (isMapParent p) s
+    ∷ p1 (isMapParent p) s
+    ∷ p2 (isMapParent p) s
+    ∷ up
+    ∷ (at + size (node s fs))
+    ∷ role p above s fs
+    ∷ []
+
+-- what a node is to its fields
+unfoldable pub parentOf : Parent → Slot → Slot → Fields → Parent
+parentOf p above s fs = parentBy (kind (isMapParent p) s) (role p above s fs)
+
+-- the rows of a tree whose root has the number `at`, under the node `above` of number `up`, which is p to it
+unfoldable mutual
+  pub rowsFrom : ℕ → ℕ → Parent → Slot → Tree → List ℕ
+  rowsFrom at up p above (node s fs) = row at up p above s fs ++ rowssFrom (suc at) at (parentOf p above s fs) s fs
+
+  pub rowssFrom : ℕ → ℕ → Parent → Slot → Fields → List ℕ
+  rowssFrom at up p above empty = []
+  rowssFrom at up p above (field t fs) = rowsFrom at up p above t ++ rowssFrom (at + size t) up (afterFirst p) above fs
+
+-- a tree's rows, its nodes numbered from 0: the root's parent is 0
+unfoldable pub rows : Tree → List ℕ
+rows t = rowsFrom 0 0 parent.Other [] t
+
+-- how many numbers a row has
+abbrev pub rowWidth : ℕ
+rowWidth = 9
