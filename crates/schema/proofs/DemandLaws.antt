@@ -3,7 +3,8 @@ use Prim.Native.Nat.{ℕ, zero, suc, _+_, _*_, _≤_, _<_}
 use mathlib.Core.Path.{_≡_, refl, sym, ap, _∙_, subst}
 use mathlib.Core.Logic.{_⊎_, inl, inr, _↔_}
 use mathlib.Core.Bool.{Bool, true, false, cond, not}
-use mathlib.Core.Option.{Option, none, some, Option·some-ne-none}
+use Rattle.schema.specs.declared.Verdict.{Verdict}
+use Rattle.schema.specs.declared.Verdict.the-variants.{Lawful, Refused}
 use mathlib.Core.List.{List, [], _∷_, _++_, append-nil}
 use native.Mathlib.Omega.{arith}
 use native.Mathlib.Nat.{le-refl}
@@ -24,12 +25,11 @@ use Rattle.schema.specs.Outcome.{orElse, refusal, leftOver, missing, too
 use Rattle.schema.specs.Demand.{IsTreeOf, Sound, EnoughOutput, Accepted}
 use Rattle.schema.specs.declared.Refusal.{Refusal}
 use Rattle.schema.specs.declared.Resolved.{Resolved}
-use Rattle.schema.specs.declared.Resolved.the-variants.{Rows, Refused}
 use Rattle.schema.proofs.TreeLaws.{listings-trees, trees-of-listing, listing-injective}
 use Rattle.schema.proofs.OpenPlacesLaws.{Fills, Lacks, Full, one-of-three, fills-trees, tree-fills, openFrom, openFrom-one, Open, fills-open, fills-end, lacks-open, full-below, full-none, full-open}
-use Rattle.schema.proofs.FaultLaws.{orElse-none, none-orElse, atMostDeep-none, none-atMostDeep, keeps-none, none-keeps}
+use Rattle.schema.proofs.FaultLaws.{refused-not-lawful, orElse-none, none-orElse, atMostDeep-none, none-atMostDeep, keeps-none, none-keeps}
 
--- what some open place says of the test for none
+-- what some open place says of the test for Lawful
 open-test : (z : ℤ) → Open z → isNoPlace z ≡ false
 unfolding Open isNoPlace
 open-test z o = rw (o .1)
@@ -41,28 +41,28 @@ none-test z e = rw e
 open-at : (ss : List Slot) (j : ℕ) → Open (openFrom 1 ss j) → not (isNoPlace (openPlaces ss j)) ≡ true
 open-at ss j o = rw (← openFrom-one, open-test _ o)
 
--- where a place is open before every slot, none is left over
-leftOver-none : (ss : List Slot) → ((j : ℕ) → j < length ss → Open (openFrom 1 ss j)) → leftOver ss ≡ none
+-- where a place is open before every slot, Lawful is left over
+leftOver-none : (ss : List Slot) → ((j : ℕ) → j < length ss → Open (openFrom 1 ss j)) → leftOver ss ≡ Lawful
 unfolding leftOver
 leftOver-none ss all =
     rw (firstWrong-none (λ j. not (isNoPlace (openPlaces ss j))) (length ss) (λ j h. open-at ss j (all j h)), le-ltb (length ss) (length ss) (le-refl _))
 
-fills-leftOver : (ss : List Slot) → Fills 1 ss → leftOver ss ≡ none
+fills-leftOver : (ss : List Slot) → Fills 1 ss → leftOver ss ≡ Lawful
 fills-leftOver ss f = leftOver-none ss (fills-open f)
 
-fills-missing : (ss : List Slot) → Fills 1 ss → missing ss ≡ none
+fills-missing : (ss : List Slot) → Fills 1 ss → missing ss ≡ Lawful
 unfolding missing
 fills-missing ss f = rw (← openFrom-one, none-test _ (fills-end f))
 
--- refusal 5 holds where places are left open, refusal 6 where there is none before a slot
-pub lacks-leftOver : (ss : List Slot) → Lacks 1 ss → leftOver ss ≡ none
+-- refusal 5 holds where places are left open, refusal 6 where there is Lawful before a slot
+pub lacks-leftOver : (ss : List Slot) → Lacks 1 ss → leftOver ss ≡ Lawful
 lacks-leftOver ss l = leftOver-none ss (λ j h. lacks-open l j (omega arith))
 
-pub lacks-missing : (ss : List Slot) → Lacks 1 ss → missing ss ≡ some (refusal 5 (length ss))
+pub lacks-missing : (ss : List Slot) → Lacks 1 ss → missing ss ≡ Refused (refusal 5 (length ss))
 unfolding missing
 lacks-missing ss l = rw (← openFrom-one, open-test _ (lacks-open l (length ss) (le-refl _)))
 
-pub full-leftOver : (ss : List Slot) (k : ℕ) → Full 1 ss k → leftOver ss ≡ some (refusal 6 k)
+pub full-leftOver : (ss : List Slot) (k : ℕ) → Full 1 ss k → leftOver ss ≡ Refused (refusal 6 k)
 unfolding leftOver
 full-leftOver ss k f =
     rw
@@ -91,7 +91,7 @@ unfolding treeOf Claims
 fills-claims ss f = subst ClaimsAll (one-of (trees ss) (fills-trees f .0)) (fills-trees f .1) .0
 
 -- no refusal of 5 to 13 holds where the slots are listed by a tree that is not too deep, keeps every rule and claims rightly
-tree-accepted : (bytes : List ℕ) (t : Tree) → IsTreeOf bytes t → treeRefusal (slots bytes) ≡ none
+tree-accepted : (bytes : List ℕ) (t : Tree) → IsTreeOf bytes t → treeRefusal (slots bytes) ≡ Lawful
 unfolding treeRefusal
 tree-accepted bytes t h =
     let f : Fills 1 (slots bytes) = subst (Fills 1) (h .lists) (tree-fills t (h .claims)) in
@@ -101,15 +101,15 @@ tree-accepted bytes t h =
     (orElse-none _ _ (rw e (atMostDeep-none t (h .deep))) (rw e (keeps-none t (h .keeps)))))
 
 -- slots that no refusal of 5 or 6 meets fill the one open place
-pub accepted-fills : (ss : List Slot) → leftOver ss ≡ none → missing ss ≡ none → Fills 1 ss
+pub accepted-fills : (ss : List Slot) → leftOver ss ≡ Lawful → missing ss ≡ Lawful → Fills 1 ss
 accepted-fills ss p q = on (one-of-three 1 ss)
   where
     on : Fills 1 ss ⊎ (Lacks 1 ss ⊎ ((k : ℕ) × Full 1 ss k)) → Fills 1 ss
     on (inl f) = f
-    on (inr (inl l)) = absurd (Option·some-ne-none _ (sym (lacks-missing ss l) ∙ q))
-    on (inr (inr o)) = absurd (Option·some-ne-none _ (sym (full-leftOver ss (o .0) (o .1)) ∙ p))
+    on (inr (inl l)) = absurd (refused-not-lawful _ (sym (lacks-missing ss l) ∙ q))
+    on (inr (inr o)) = absurd (refused-not-lawful _ (sym (full-leftOver ss (o .0) (o .1)) ∙ p))
 
-accepted-tree : (bytes : List ℕ) → treeRefusal (slots bytes) ≡ none → IsTreeOf bytes (treeOf (slots bytes))
+accepted-tree : (bytes : List ℕ) → treeRefusal (slots bytes) ≡ Lawful → IsTreeOf bytes (treeOf (slots bytes))
 unfolding treeRefusal
 accepted-tree bytes e =
     let a = none-orElse _ _ e in
@@ -127,17 +127,17 @@ sound-judgement : (bytes : List ℕ) → Sound bytes → judgement bytes ≡ tre
 unfolding Sound judgement judgedAs
 sound-judgement bytes s = rw s
 
-accepted-no-refusal : (r : Option Refusal) (t lent : ℕ) → Accepted (answer r t lent) → r ≡ none
+accepted-no-refusal : (r : Verdict) (t lent : ℕ) → Accepted (answer r t lent) → r ≡ Lawful
 unfolding Accepted answer
-accepted-no-refusal none t lent a = refl
-accepted-no-refusal (some r) t lent a = absurd a
+accepted-no-refusal Lawful t lent a = refl
+accepted-no-refusal (Refused r) t lent a = absurd a
 
-no-refusal-rows : (r : Option Refusal) (t lent : ℕ) → r ≡ none → rowWidth * t ≤ lent → answer r t lent ≡ Rows t
+no-refusal-rows : (r : Verdict) (t lent : ℕ) → r ≡ Lawful → rowWidth * t ≤ lent → answer r t lent ≡ Resolved.Rows t
 unfolding answer
 no-refusal-rows r t lent e h = rw (e, le-ltb lent (rowWidth * t) h)
 
 -- where a sheet has a tree and output is enough, the answer is its T rows
-pub tree-rows : (bytes : List ℕ) (lent : ℕ) (t : Tree) → Sound bytes → EnoughOutput bytes lent → IsTreeOf bytes t → outcome bytes lent ≡ Rows (totalOf bytes)
+pub tree-rows : (bytes : List ℕ) (lent : ℕ) (t : Tree) → Sound bytes → EnoughOutput bytes lent → IsTreeOf bytes t → outcome bytes lent ≡ Resolved.Rows (totalOf bytes)
 unfolding outcome EnoughOutput
 tree-rows bytes lent t s n h =
     no-refusal-rows (judgement bytes) (totalOf bytes) lent (sound-judgement bytes s ∙ tree-accepted bytes t h) n
@@ -160,21 +160,21 @@ rows-are bytes lent t s n h =
     rw (tree-rows bytes (length lent) t s n h, treeOf-listing t (slots bytes) (h .claims) (h .lists))
 
 -- a refusal changes nothing
-pub refused-unchanged : (bytes lent : List ℕ) (r : Refusal) → outcome bytes (length lent) ≡ Refused r → written (outcome bytes (length lent)) bytes lent ≡ lent
+pub refused-unchanged : (bytes lent : List ℕ) (r : Refusal) → outcome bytes (length lent) ≡ Resolved.Refused r → written (outcome bytes (length lent)) bytes lent ≡ lent
 unfolding written
 refused-unchanged bytes lent r e = rw e
 
 -- of refusal 6, refusal 5 and a tree that claims rightly and lists the slots, one holds
-pub six-five-or-tree : (ss : List Slot) → ((k : ℕ) × (k < length ss) × (leftOver ss ≡ some (refusal 6 k))) ⊎ (((leftOver ss ≡ none) × (missing ss ≡ some (refusal 5 (length ss)))) ⊎ ((t : Tree) × Claims t × (listing t ≡ ss)))
+pub six-five-or-tree : (ss : List Slot) → ((k : ℕ) × (k < length ss) × (leftOver ss ≡ Refused (refusal 6 k))) ⊎ (((leftOver ss ≡ Lawful) × (missing ss ≡ Refused (refusal 5 (length ss)))) ⊎ ((t : Tree) × Claims t × (listing t ≡ ss)))
 six-five-or-tree ss = on (one-of-three 1 ss)
   where
-    on : Fills 1 ss ⊎ (Lacks 1 ss ⊎ ((k : ℕ) × Full 1 ss k)) → ((k : ℕ) × (k < length ss) × (leftOver ss ≡ some (refusal 6 k))) ⊎ (((leftOver ss ≡ none) × (missing ss ≡ some (refusal 5 (length ss)))) ⊎ ((t : Tree) × Claims t × (listing t ≡ ss)))
+    on : Fills 1 ss ⊎ (Lacks 1 ss ⊎ ((k : ℕ) × Full 1 ss k)) → ((k : ℕ) × (k < length ss) × (leftOver ss ≡ Refused (refusal 6 k))) ⊎ (((leftOver ss ≡ Lawful) × (missing ss ≡ Refused (refusal 5 (length ss)))) ⊎ ((t : Tree) × Claims t × (listing t ≡ ss)))
     on (inl f) = inr (inr (treeOf ss, fills-claims ss f, fills-listing ss f))
     on (inr (inl l)) = inr (inl (lacks-leftOver ss l, lacks-missing ss l))
     on (inr (inr o)) = inl (o .0, full-below (o .1), full-leftOver ss (o .0) (o .1))
 
 -- and where the tree does, neither refusal does
-pub tree-neither : (ss : List Slot) (t : Tree) → Claims t → listing t ≡ ss → (leftOver ss ≡ none) × (missing ss ≡ none)
+pub tree-neither : (ss : List Slot) (t : Tree) → Claims t → listing t ≡ ss → (leftOver ss ≡ Lawful) × (missing ss ≡ Lawful)
 tree-neither ss t c e =
     let f : Fills 1 ss = subst (Fills 1) e (tree-fills t c) in
     (fills-leftOver ss f, fills-missing ss f)

@@ -1,8 +1,9 @@
--- The first fault in listing order: there is none exactly where every rule is kept, and none is too deep exactly where no node is.
+-- The first fault in listing order: there is Lawful exactly where every rule is kept, and Lawful is too deep exactly where no node is.
 use Prim.Native.Nat.{ℕ, zero, suc, _+_, _≤_, _<_}
 use mathlib.Core.Path.{_≡_, refl, sym, ap, _∙_, subst}
 use mathlib.Core.Bool.{Bool, true, false, cond}
-use mathlib.Core.Option.{Option, none, some, Option·some-ne-none}
+use Rattle.schema.specs.declared.Verdict.{Verdict}
+use Rattle.schema.specs.declared.Verdict.the-variants.{Lawful, Refused}
 use mathlib.Core.List.{List, [], _∷_, _++_, map}
 use native.Mathlib.Omega.{arith}
 use native.Mathlib.Nat.{add-zero, add-suc, suc-add}
@@ -23,21 +24,24 @@ firstFault-append k [] ns = rw add-zero
 firstFault-append k (zero ∷ ms) ns = rw (firstFault-append (suc k) ms ns, add-suc, suc-add)
 firstFault-append k (suc m ∷ ms) ns = refl
 
--- of two refusals in order there is none exactly where neither is
-pub orElse-none : (a b : Option Refusal) → a ≡ none → b ≡ none → orElse a b ≡ none
-unfolding orElse
-orElse-none none b p q = q
-orElse-none (some r) b p q = p
+pub refused-not-lawful : (r : Refusal) → Refused r ≡ Lawful → ⊥
+refused-not-lawful r e = let z : _≡_ {A = ℕ} 0 1 = cc in omega arith
 
-pub none-orElse : (a b : Option Refusal) → orElse a b ≡ none → (a ≡ none) × (b ≡ none)
+-- of two refusals in order there is Lawful exactly where neither is
+pub orElse-none : (a b : Verdict) → a ≡ Lawful → b ≡ Lawful → orElse a b ≡ Lawful
 unfolding orElse
-none-orElse none b p = (refl, p)
-none-orElse (some r) b p = absurd (Option·some-ne-none r p)
+orElse-none Lawful b p q = q
+orElse-none (Refused r) b p q = p
 
-zero-or-not : (n : ℕ) (k : ℕ) (ns : List ℕ) → firstFault k (n ∷ ns) ≡ none → (n ≡ 0) × (firstFault (suc k) ns ≡ none)
+pub none-orElse : (a b : Verdict) → orElse a b ≡ Lawful → (a ≡ Lawful) × (b ≡ Lawful)
+unfolding orElse
+none-orElse Lawful b p = (refl, p)
+none-orElse (Refused r) b p = absurd (refused-not-lawful r p)
+
+zero-or-not : (n : ℕ) (k : ℕ) (ns : List ℕ) → firstFault k (n ∷ ns) ≡ Lawful → (n ≡ 0) × (firstFault (suc k) ns ≡ Lawful)
 unfolding firstFault
 zero-or-not zero k ns e = (refl, e)
-zero-or-not (suc n) k ns e = absurd (Option·some-ne-none (refusal (suc n) k) e)
+zero-or-not (suc n) k ns e = absurd (refused-not-lawful (refusal (suc n) k) e)
 
 -- the rule numbers of a node are all kept exactly where it breaks number 0
 pub keepsAt-broken : (p : Place) (s : Slot) (fs : Fields) → KeepsAt p s fs → broken p s fs ≡ 0
@@ -62,10 +66,10 @@ broken-keepsAt p s fs e =
 mutual
   unfolding Keeps faults firstFault
   -- a tree that keeps every rule has no fault
-  pub keeps-no-fault : (t : Tree) (p : Place) (k : ℕ) → Keeps p t → firstFault k (faults p t) ≡ none
+  pub keeps-no-fault : (t : Tree) (p : Place) (k : ℕ) → Keeps p t → firstFault k (faults p t) ≡ Lawful
   keeps-no-fault (node s fs) p k h = rw (keepsAt-broken p s fs (h .0)) (keepsAll-no-fault fs (placeBelow p s) (suc k) (h .1))
 
-  keepsAll-no-fault : (fs : Fields) (p : Place) (k : ℕ) → KeepsAll p fs → firstFault k (faultss p fs) ≡ none
+  keepsAll-no-fault : (fs : Fields) (p : Place) (k : ℕ) → KeepsAll p fs → firstFault k (faultss p fs) ≡ Lawful
   keepsAll-no-fault empty p k h = refl
   keepsAll-no-fault (field t fs) p k h =
       firstFault-append k (faults p t) (faultss p fs)
@@ -74,19 +78,19 @@ mutual
 mutual
   unfolding Keeps faults
   -- a tree with no fault keeps every rule
-  pub no-fault-keeps : (t : Tree) (p : Place) (k : ℕ) → firstFault k (faults p t) ≡ none → Keeps p t
+  pub no-fault-keeps : (t : Tree) (p : Place) (k : ℕ) → firstFault k (faults p t) ≡ Lawful → Keeps p t
   no-fault-keeps (node s fs) p k e =
       let z = zero-or-not (broken p s fs) k (faultss (placeBelow p s) fs) e in
       (broken-keepsAt p s fs (z .0), no-fault-keepsAll fs (placeBelow p s) (suc k) (z .1))
 
-  no-fault-keepsAll : (fs : Fields) (p : Place) (k : ℕ) → firstFault k (faultss p fs) ≡ none → KeepsAll p fs
+  no-fault-keepsAll : (fs : Fields) (p : Place) (k : ℕ) → firstFault k (faultss p fs) ≡ Lawful → KeepsAll p fs
   no-fault-keepsAll empty p k e = tt
   no-fault-keepsAll (field t fs) p k e =
       let z = none-orElse _ _ (sym (firstFault-append k (faults p t) (faultss p fs)) ∙ e) in
       (no-fault-keeps t p k (z .0), no-fault-keepsAll fs p (k + length (faults p t)) (z .1))
 
--- depths of which none is beyond the most
-shallow-none : (ds : List ℕ) (k : ℕ) → ((i : ℕ) → getD ds i 0 ≤ mostDepth) → firstFault k (map deepness ds) ≡ none
+-- depths of which Lawful is beyond the most
+shallow-none : (ds : List ℕ) (k : ℕ) → ((i : ℕ) → getD ds i 0 ≤ mostDepth) → firstFault k (map deepness ds) ≡ Lawful
 unfolding firstFault deepness
 shallow-none [] k h = refl
 shallow-none (d ∷ ds) k h = rw (le-leb d mostDepth (h 0)) (shallow-none ds (suc k) (λ i. h (suc i)))
@@ -95,23 +99,23 @@ not-deep : (d : ℕ) → deepness d ≡ 0 → d ≤ mostDepth
 unfolding deepness
 not-deep d e = leb-true d mostDepth (cond-zero (leb d mostDepth) 0 6 e .0)
 
-none-shallow : (ds : List ℕ) (k : ℕ) → firstFault k (map deepness ds) ≡ none → (i : ℕ) → getD ds i 0 ≤ mostDepth
+none-shallow : (ds : List ℕ) (k : ℕ) → firstFault k (map deepness ds) ≡ Lawful → (i : ℕ) → getD ds i 0 ≤ mostDepth
 none-shallow [] k e i = omega arith
 none-shallow (d ∷ ds) k e zero = not-deep d (zero-or-not (deepness d) k (map deepness ds) e .0)
 none-shallow (d ∷ ds) k e (suc i) = none-shallow ds (suc k) (zero-or-not (deepness d) k (map deepness ds) e .1) i
 
-pub atMostDeep-none : (t : Tree) → AtMostDeep mostDepth t → tooDeep t ≡ none
+pub atMostDeep-none : (t : Tree) → AtMostDeep mostDepth t → tooDeep t ≡ Lawful
 unfolding AtMostDeep tooDeep
 atMostDeep-none t h = shallow-none (depths 0 t) 0 h
 
-pub none-atMostDeep : (t : Tree) → tooDeep t ≡ none → AtMostDeep mostDepth t
+pub none-atMostDeep : (t : Tree) → tooDeep t ≡ Lawful → AtMostDeep mostDepth t
 unfolding AtMostDeep tooDeep
 none-atMostDeep t e = none-shallow (depths 0 t) 0 e
 
-pub keeps-none : (t : Tree) → Keeps Root t → unlawful t ≡ none
+pub keeps-none : (t : Tree) → Keeps Root t → unlawful t ≡ Lawful
 unfolding unlawful
 keeps-none t h = keeps-no-fault t Root 0 h
 
-pub none-keeps : (t : Tree) → unlawful t ≡ none → Keeps Root t
+pub none-keeps : (t : Tree) → unlawful t ≡ Lawful → Keeps Root t
 unfolding unlawful
 none-keeps t e = no-fault-keeps t Root 0 e

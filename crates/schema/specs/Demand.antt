@@ -11,7 +11,6 @@ use Rattle.schema.specs.Rows.{rowWidth}
 use Rattle.schema.specs.Outcome.{mostDepth}
 use Rattle.schema.specs.declared.Place.the-variants.{Root}
 use Rattle.schema.specs.declared.Resolved.{Resolved}
-use Rattle.schema.specs.declared.Resolved.the-variants.{Rows, Refused}
 
 -- a tree of a sheet: at most 32 deep, it keeps every rule, claims its children rightly and lists the sheet's nodes
 pub record IsTreeOf (bytes : List ℕ) (t : Tree) : Type 0 where
@@ -30,5 +29,5 @@ EnoughOutput bytes lent = rowWidth * totalOf bytes ≤ lent
 
 -- accepted: an answer with rows and no refusal
 unfoldable pub Accepted : Resolved → Type 0
-Accepted (Rows t) = Unit {0}
-Accepted (Refused r) = ⊥
+Accepted (Resolved.Rows t) = Unit {0}
+Accepted (Resolved.Refused r) = ⊥

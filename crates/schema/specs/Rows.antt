@@ -3,18 +3,14 @@ use Prim.Native.Nat.{ℕ, zero, suc, _+_}
 use mathlib.Core.Bool.{Bool, true, false, cond}
 use mathlib.Core.List.{List, [], _∷_, _++_}
 use lib.Dec.{eqb}
-use lib.IntN.{ℤ, pos, negsuc}
+use Rattle.annotation.specs.Logical as logical
+use Rattle.annotation.specs.Signed.{natural}
 use Rattle.sheet.specs.Slot.{physical, repetition, typeLength}
-use Rattle.schema.specs.Annotated.{kind, p1, p2}
+use Rattle.schema.specs.Annotated.{kind}
 use Rattle.schema.specs.Tree.{Slot, Tree, Fields, node, empty, field, size}
 use Rattle.schema.specs.Rules.{isGroup, isRepeated, isElementGroup}
 use Rattle.schema.specs.declared.Parent.{Parent}
 use Rattle.schema.specs.declared.Parent.the-variants as parent
-
--- an integer as an unsigned number; no row of an accepted sheet has one below 0
-unfoldable pub unsigned : ℤ → ℕ
-unsigned (pos n) = n
-unsigned (negsuc n) = 0
 
 -- whether a parent is a resolved MAP
 unfoldable pub isMapParent : Parent → Bool
@@ -37,8 +33,8 @@ role parent.KeyValueRest above s fs = 6
 -- what a node is to its fields: by its resolved kind, or by its own role
 unfoldable pub parentBy : ℕ → ℕ → Parent
 parentBy kind role =
-    cond (eqb kind 3) parent.List
-    (cond (eqb kind 2) parent.Map
+    cond (eqb kind logical.LIST) parent.List
+    (cond (eqb kind logical.MAP) parent.Map
     (cond (eqb role 1) parent.ListLayer
     (cond (eqb role 4) parent.KeyValue parent.Other)))
 
@@ -55,11 +51,11 @@ afterFirst parent.KeyValueRest = parent.KeyValueRest
 unfoldable pub row : ℕ → ℕ → Parent → Slot → Slot → Fields → List ℕ
 row at up p above s fs =
     physical s
-    ∷ unsigned (typeLength s)
+    ∷ natural (typeLength s)
     ∷ repetition s
-    ∷ kind (isMapParent p) s
-    ∷ p1 (isMapParent p) s
-    ∷ p2 (isMapParent p) s
+    ∷ kind (isMapParent p) s .kind
+    ∷ kind (isMapParent p) s .p1
+    ∷ kind (isMapParent p) s .p2
     ∷ up
     ∷ (at + size (node s fs))
     ∷ role p above s fs
@@ -67,7 +63,7 @@ row at up p above s fs =
 
 -- what a node is to its fields
 unfoldable pub parentOf : Parent → Slot → Slot → Fields → Parent
-parentOf p above s fs = parentBy (kind (isMapParent p) s) (role p above s fs)
+parentOf p above s fs = parentBy (kind (isMapParent p) s .kind) (role p above s fs)
 
 -- the rows of a tree whose root has the number `at`, under the node `above` of number `up`, which is p to it
 unfoldable mutual

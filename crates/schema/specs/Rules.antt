@@ -5,8 +5,11 @@ use mathlib.Core.Bool.{Bool, true, false, cond, not, _&&_, _||_}
 use mathlib.Core.List.{List, [], _∷_, _++_}
 use lib.Dec.{leb, eqb}
 use lib.IntN.{ℤ, pos, negsuc}
-use Rattle.sheet.specs.Slot.{physical, repetition, converted, logical, typeLength, scale, precision, name}
+use Rattle.sheet.specs.Slot.{physical as physicalOf, repetition, converted as convertedOf, logical as logicalOf, typeLength, scale, precision, name}
 use Rattle.sheet.specs.Name.{sameBytes}
+use Rattle.annotation.specs.Physical as physical
+use Rattle.annotation.specs.Converted as converted
+use Rattle.annotation.specs.Logical as logical
 use Rattle.schema.specs.Annotated.{kind, rule9, rule10, rule11}
 use Rattle.schema.specs.Tree.{Slot, Tree, Fields, node, empty, field, count}
 use Rattle.schema.specs.declared.Place.{Place}
@@ -14,7 +17,7 @@ use Rattle.schema.specs.declared.Place.the-variants.{Root, Field, MapFie
 
 -- "A node is a group where its physical is 255, else a leaf"
 unfoldable pub isGroup : Slot → Bool
-isGroup s = eqb (physical s) 255
+isGroup s = eqb (physicalOf s) physical.GROUP
 
 unfoldable pub isRequired : Slot → Bool
 isRequired s = eqb (repetition s) 0
@@ -36,10 +39,10 @@ underMap MapField = true
 
 -- a node's resolved kind is LIST; is MAP
 unfoldable pub isList : Place → Slot → Bool
-isList p s = eqb (kind (underMap p) s) 3
+isList p s = eqb (kind (underMap p) s .kind) logical.LIST
 
 unfoldable pub isMap : Place → Slot → Bool
-isMap p s = eqb (kind (underMap p) s) 2
+isMap p s = eqb (kind (underMap p) s .kind) logical.MAP
 
 -- the place of a node's fields
 unfoldable pub placeBelow : Place → Slot → Place
@@ -47,7 +50,7 @@ placeBelow p s = cond (isMap p s) MapField Field
 
 -- "The root is a group without repetition or annotation", and "may have no children"
 unfoldable pub rootShape : Slot → Bool
-rootShape s = isGroup s && eqb (repetition s) 255 && eqb (converted s) 255 && eqb (logical s) 0
+rootShape s = isGroup s && eqb (repetition s) 255 && eqb (convertedOf s) converted.NONE && eqb (logicalOf s) logical.NONE
 
 -- "Every other node has a repetition. A leaf has no children; any group but the root has at least one"
 unfoldable pub fieldShape : Slot → Fields → Bool
@@ -64,11 +67,11 @@ isPositive (negsuc n) = false
 
 -- "Type length is at least 1 for FIXED, 0 otherwise"
 unfoldable pub lengthShape : Slot → Bool
-lengthShape s = cond (eqb (physical s) 7) (isPositive (typeLength s)) (isNought (typeLength s))
+lengthShape s = cond (eqb (physicalOf s) physical.FIXED-LEN-BYTE-ARRAY) (isPositive (typeLength s)) (isNought (typeLength s))
 
 -- "Scale and precision are 0 unless either annotation is DECIMAL"
 unfoldable pub decimalShape : Slot → Bool
-decimalShape s = (eqb (converted s) 5 || eqb (logical s) 5) || (isNought (scale s) && isNought (precision s))
+decimalShape s = (eqb (convertedOf s) converted.DECIMAL || eqb (logicalOf s) logical.DECIMAL) || (isNought (scale s) && isNought (precision s))
 
 unfoldable pub placeShape : Place → Slot → Fields → Bool
 placeShape Root s fs = rootShape s

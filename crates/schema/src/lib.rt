@@ -7,6 +7,12 @@ pub struct Refusal {
     pub place: usize,
 }
 
+// Whether a sheet is refused for its bytes or its tree.
+pub enum Verdict {
+    Lawful,
+    Refused(Refusal),
+}
+
 // What resolving answers: the number of nodes, whose rows are written, or the refusal.
 pub enum Resolved {
     Rows(usize),
