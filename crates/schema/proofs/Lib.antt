@@ -3,3 +3,5 @@ pub mod TreeLaws
 pub mod OpenPlacesLaws
 pub mod FaultLaws
 pub mod DemandLaws
+pub mod StandingLaws
+pub mod JudgingLaws

@@ -1,9 +1,18 @@
 -- What the steps of judging and of writing answer, which the contracts of private functions cite. Nothing here is a promise to a caller.
-use Prim.Native.Nat.{ℕ, zero, suc, _+_}
-use mathlib.Core.List.{List}
-use lib.ListN.{drop}
-use Rattle.schema.specs.Tree.{Slot, Tree, Fields}
+use Prim.Native.Nat.{ℕ, zero, suc, _+_, _-_, _≤_}
+use mathlib.Core.Path.{_≡_}
+use mathlib.Core.List.{List, map}
+use lib.ListN.{length, drop}
+use Rattle.sheet.specs.Block.{totalOf, mostNodes}
+use Rattle.sheet.specs.Slot.{slots}
+use Rattle.schema.specs.Tree.{Slot, Tree, Fields, node, empty, field, listings, size, depths, depthss, ClaimsAll}
+use Rattle.schema.specs.Rules.{faults, faultss}
 use Rattle.schema.specs.Reading.{trees, takeFields, firstTree}
+use Rattle.schema.specs.Outcome.{mostDepth, deepness, firstFault}
+use Rattle.schema.specs.declared.Place.{Place}
+use Rattle.schema.specs.declared.Verdict.{Verdict}
+use Rattle.schema.specs.declared.TreeJudged.{TreeJudged}
+use Rattle.schema.specs.declared.RunJudged.{RunJudged}
 
 -- the tree that stands at number k of some slots
 unfoldable pub treeAt : List Slot → ℕ → Tree
@@ -12,3 +21,50 @@ treeAt ss k = firstTree (trees (drop k ss))
 -- the run of n fields that stands there
 unfoldable pub runAt : List Slot → ℕ → ℕ → Fields
 runAt ss k n = takeFields n (trees (drop k ss))
+
+-- a sheet whose slots claim rightly
+pub record Claimed (bytes : List ℕ) : Type 0 where
+  pub total : length (slots bytes) ≡ totalOf bytes
+  pub most : totalOf bytes ≤ mostNodes
+  pub claims : ClaimsAll (trees (slots bytes))
+
+-- how many nodes a run has
+unfoldable pub sizes : Fields → ℕ
+sizes fs = length (listings fs)
+
+-- where the second field of a run stands whose first stands at k
+unfoldable pub secondIn : ℕ → Fields → ℕ
+secondIn k empty = k
+secondIn k (field t fs) = k + size t
+
+-- where the second field of a tree's root stands, the root at k
+unfoldable pub secondOf : ℕ → Tree → ℕ
+secondOf k (node s fs) = secondIn (suc k) fs
+
+-- where the second field of a run's first field stands
+unfoldable pub innerIn : ℕ → Fields → ℕ
+innerIn k empty = k
+innerIn k (field t fs) = secondOf k t
+
+-- the depth at which so many levels are left
+unfoldable pub depthAt : ℕ → ℕ
+depthAt levels = suc mostDepth - levels
+
+unfoldable pub treeOrDeep : Verdict → TreeJudged → TreeJudged
+treeOrDeep Verdict.Lawful found = found
+treeOrDeep (Verdict.Refused r) found = TreeJudged.Deep (r .place)
+
+unfoldable pub runOrDeep : Verdict → RunJudged → RunJudged
+runOrDeep Verdict.Lawful found = found
+runOrDeep (Verdict.Refused r) found = RunJudged.Deep (r .place)
+
+-- what judging finds of a tree whose root has the number `at`
+unfoldable pub judgedTree : ℕ → ℕ → Place → Tree → TreeJudged
+judgedTree at levels p t =
+    treeOrDeep (firstFault at (map deepness (depths (depthAt levels) t))) (TreeJudged.Judged (at + size t) (secondOf at t) (firstFault at (faults p t)))
+
+-- and of a run whose first field has it
+unfoldable pub judgedRun : ℕ → ℕ → Place → Fields → RunJudged
+judgedRun at levels p fs =
+    runOrDeep (firstFault at (map deepness (depthss (depthAt levels) fs)))
+    (RunJudged.Judged (at + sizes fs) (secondIn at fs) (innerIn at fs) (firstFault at (faultss p fs)))

@@ -36,6 +36,27 @@ pub enum Parent {
     KeyValueRest,
 }
 
+// What judging a tree finds: the first node that is too deep; or where the next tree and the root's second field stand, and the first fault.
+enum TreeJudged {
+    Deep(usize),
+    Judged {
+        next: usize,
+        second: usize,
+        verdict: Verdict,
+    },
+}
+
+// What judging a run finds: the same, with where the second field of the run stands, and that of its first field.
+enum RunJudged {
+    Deep(usize),
+    Judged {
+        next: usize,
+        second: usize,
+        inner: usize,
+        verdict: Verdict,
+    },
+}
+
 pub fn nothing() -> u8 {
     0
 }

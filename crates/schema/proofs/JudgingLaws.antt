@@ -1,0 +1,127 @@
+-- How judging a tree goes on with judging its run, and judging a run with its first tree and the shorter run.
+use Prim.Native.Nat.{ℕ, zero, suc, _+_, _-_, _≤_, _<_}
+use mathlib.Core.Path.{_≡_, refl, sym, ap, _∙_, subst}
+use mathlib.Core.List.{List, [], _∷_, _++_, map, map-append}
+use native.Mathlib.Omega.{arith}
+use native.Mathlib.Nat.{add-zero, add-assoc, suc-add, add-suc}
+use borrow.Author.Tests.{le-leb, lt-leb}
+use lib.ListN.{length, length-append, length-map}
+use Rattle.schema.specs.Tree.{Slot, Tree, Fields, node, empty, field, listing, listings, size, depths, depthss}
+use Rattle.schema.specs.Rules.{placeBelow, broken, faults, faultss}
+use Rattle.schema.specs.Outcome.{orElse, firstFault, refusal, mostDepth, deepness}
+use Rattle.schema.specs.Steps.{sizes, secondIn, secondOf, innerIn, depthAt, treeOrDeep, runOrDeep, judgedTree, judgedRun}
+use Rattle.schema.specs.declared.Place.{Place}
+use Rattle.schema.specs.declared.Verdict.{Verdict}
+use Rattle.schema.specs.declared.TreeJudged.{TreeJudged}
+use Rattle.schema.specs.declared.RunJudged.{RunJudged}
+use Rattle.schema.proofs.FaultLaws.{firstFault-append}
+
+mutual
+  unfolding depths size listing
+  pub length-depths : (t : Tree) (d : ℕ) → length (depths d t) ≡ size t
+  length-depths (node s fs) d = ap suc (length-depthss fs (suc d))
+
+  length-depthss : (fs : Fields) (d : ℕ) → length (depthss d fs) ≡ length (listings fs)
+  length-depthss empty d = refl
+  length-depthss (field t fs) d = rw (length-append, length-append, length-depths t d, length-depthss fs d)
+
+mutual
+  unfolding faults size listing
+  pub length-faults : (t : Tree) (p : Place) → length (faults p t) ≡ size t
+  length-faults (node s fs) p = ap suc (length-faultss fs (placeBelow p s))
+
+  length-faultss : (fs : Fields) (p : Place) → length (faultss p fs) ≡ length (listings fs)
+  length-faultss empty p = refl
+  length-faultss (field t fs) p = rw (length-append, length-append, length-faults t p, length-faultss fs p)
+
+-- a tree that has no level left is too deep
+pub judgedTree-deep : (at : ℕ) (p : Place) (t : Tree) → judgedTree at 0 p t ≡ TreeJudged.Deep at
+unfolding judgedTree treeOrDeep depthAt depths firstFault deepness
+judgedTree-deep at p (node s fs) = refl
+
+-- a fault of the root's own comes before those of its run
+unfoldable pub ownFirst : ℕ → ℕ → Verdict → Verdict
+ownFirst zero at v = v
+ownFirst (suc n) at v = Verdict.Refused (refusal (suc n) at)
+
+-- what a tree's run finds is what the tree finds, with the root's own fault first
+unfoldable pub treeBy : ℕ → ℕ → RunJudged → TreeJudged
+treeBy own at (RunJudged.Deep k) = TreeJudged.Deep k
+treeBy own at (RunJudged.Judged next second inner v) = TreeJudged.Judged next second (ownFirst own at v)
+
+not-deep : (l : ℕ) → deepness (depthAt (suc l)) ≡ 0
+unfolding deepness depthAt
+not-deep l = rw (le-leb (suc mostDepth - suc l) mostDepth (omega arith))
+
+deeper : (l : ℕ) → suc l ≤ suc mostDepth → suc (depthAt (suc l)) ≡ depthAt l
+unfolding depthAt
+deeper l h = omega arith
+
+own-first : (own at : ℕ) (ns : List ℕ) → firstFault at (own ∷ ns) ≡ ownFirst own at (firstFault (suc at) ns)
+unfolding firstFault ownFirst
+own-first zero at ns = refl
+own-first (suc n) at ns = refl
+
+tree-by : (v w : Verdict) (own at next second inner : ℕ) → treeOrDeep v (TreeJudged.Judged next second (ownFirst own at w)) ≡ treeBy own at (runOrDeep v (RunJudged.Judged next second inner w))
+unfolding treeOrDeep runOrDeep treeBy
+tree-by Verdict.Lawful w own at next second inner = refl
+tree-by (Verdict.Refused r) w own at next second inner = refl
+
+deep-behind : (at l : ℕ) (fs : Fields) → suc l ≤ suc mostDepth → firstFault at (deepness (depthAt (suc l)) ∷ map deepness (depthss (suc (depthAt (suc l))) fs)) ≡ firstFault (suc at) (map deepness (depthss (depthAt l) fs))
+unfolding firstFault
+deep-behind at l fs h = rw (not-deep l, deeper l h)
+
+size-node : (at : ℕ) (s : Slot) (fs : Fields) → at + size (node s fs) ≡ suc at + sizes fs
+unfolding size listing sizes
+size-node at s fs = omega arith
+
+pub judgedTree-node : (at l : ℕ) (p : Place) (s : Slot) (fs : Fields) → suc l ≤ suc mostDepth → judgedTree at (suc l) p (node s fs) ≡ treeBy (broken p s fs) at (judgedRun (suc at) l (placeBelow p s) fs)
+unfolding judgedTree judgedRun depths faults secondOf
+judgedTree-node at l p s fs h = rw (deep-behind at l fs h, own-first, size-node) (tree-by _ _ _ _ _ _ _)
+
+pub judgedRun-empty : (at l : ℕ) (p : Place) → judgedRun at l p empty ≡ RunJudged.Judged at at at Verdict.Lawful
+unfolding judgedRun runOrDeep depthss firstFault sizes listings secondIn innerIn faultss
+judgedRun-empty at l p = rw add-zero
+
+-- what a run's first tree and the shorter run find is what the run finds
+unfoldable pub runAfter : ℕ → ℕ → Verdict → RunJudged → RunJudged
+runAfter next second v (RunJudged.Deep k) = RunJudged.Deep k
+runAfter next second v (RunJudged.Judged end third inner w) = RunJudged.Judged end next second (orElse v w)
+
+unfoldable pub runBy : TreeJudged → (ℕ → RunJudged) → RunJudged
+runBy (TreeJudged.Deep k) rest = RunJudged.Deep k
+runBy (TreeJudged.Judged next second v) rest = runAfter next second v (rest next)
+
+run-by : (a b v w : Verdict) (next second end third inner : ℕ) → runOrDeep (orElse a b) (RunJudged.Judged end next second (orElse v w)) ≡ runBy (treeOrDeep a (TreeJudged.Judged next second v)) (λ k. runOrDeep b (RunJudged.Judged end third inner w))
+unfolding runOrDeep treeOrDeep runBy runAfter orElse
+run-by Verdict.Lawful Verdict.Lawful v w next second end third inner = refl
+run-by Verdict.Lawful (Verdict.Refused r) v w next second end third inner = refl
+run-by (Verdict.Refused r) b v w next second end third inner = refl
+
+run-next : (a v : Verdict) (next second : ℕ) (f g : ℕ → RunJudged) → f next ≡ g next → runBy (treeOrDeep a (TreeJudged.Judged next second v)) f ≡ runBy (treeOrDeep a (TreeJudged.Judged next second v)) g
+unfolding treeOrDeep runBy
+run-next Verdict.Lawful v next second f g e = ap (runAfter next second v) e
+run-next (Verdict.Refused r) v next second f g e = refl
+
+deep-split : (at d : ℕ) (t : Tree) (fs : Fields) → firstFault at (map deepness (depths d t ++ depthss d fs)) ≡ orElse (firstFault at (map deepness (depths d t))) (firstFault (at + size t) (map deepness (depthss d fs)))
+deep-split at d t fs =
+    rw map-append
+    (firstFault-append at (map deepness (depths d t)) (map deepness (depthss d fs))
+    ∙ rw (length-map, length-depths))
+
+fault-split : (at : ℕ) (p : Place) (t : Tree) (fs : Fields) → firstFault at (faults p t ++ faultss p fs) ≡ orElse (firstFault at (faults p t)) (firstFault (at + size t) (faultss p fs))
+fault-split at p t fs = firstFault-append at (faults p t) (faultss p fs) ∙ rw length-faults
+
+sizes-field : (at : ℕ) (t : Tree) (fs : Fields) → at + sizes (field t fs) ≡ at + size t + sizes fs
+unfolding sizes size listings
+sizes-field at t fs = rw length-append (omega arith)
+
+run-parts : (a b v w : Verdict) (e f next second : ℕ) → a ≡ b → e ≡ f → v ≡ w → runOrDeep a (RunJudged.Judged e next second v) ≡ runOrDeep b (RunJudged.Judged f next second w)
+run-parts a b v w e f next second p q r = cc
+
+pub judgedRun-field : (at l : ℕ) (p : Place) (t : Tree) (fs : Fields) → judgedRun at l p (field t fs) ≡ runBy (judgedTree at l p t) (λ k. judgedRun k l p fs)
+unfolding judgedTree judgedRun depthss faultss secondIn innerIn
+judgedRun-field at l p t fs =
+    run-parts _ _ _ _ _ _ _ _ (deep-split at (depthAt l) t fs) (sizes-field at t fs) (fault-split at p t fs)
+    ∙ run-by _ _ _ _ _ _ _ (secondIn (at + size t) fs) (innerIn (at + size t) fs)
+    ∙ run-next _ _ _ _ _ _ refl
