@@ -3,8 +3,8 @@ use Prim.Native.Nat.{ℕ, zero, suc, _+_, _*_, _≤_, _<_}
 use mathlib.Core.Path.{_≡_, refl, sym, ap, _∙_, subst}
 use mathlib.Core.Logic.{_⊎_, inl, inr, _↔_}
 use mathlib.Core.Bool.{Bool, true, false, cond, not}
-use Rattle.schema.specs.declared.Verdict.{Verdict}
-use Rattle.schema.specs.declared.Verdict.the-variants.{Lawful, Refused}
+use Rattle.schema.specs.declared.refusal.Verdict.{Verdict}
+use Rattle.schema.specs.declared.refusal.Verdict.the-variants.{Lawful, Refused}
 use mathlib.Core.List.{List, [], _∷_, _++_, append-nil}
 use native.Mathlib.Omega.{arith}
 use native.Mathlib.Nat.{le-refl}
@@ -23,8 +23,8 @@ use Rattle.schema.specs.Reading.{trees, firstTree, treeOf}
 use Rattle.schema.specs.OpenPlaces.{openPlaces, isNoPlace}
 use Rattle.schema.specs.Outcome.{orElse, refusal, leftOver, missing, tooDeep, unlawful, treeRefusal, judgedAs, judgement, answer, outcome, written}
 use Rattle.schema.specs.Demand.{IsTreeOf, Sound, EnoughOutput, Accepted}
-use Rattle.schema.specs.declared.Refusal.{Refusal}
-use Rattle.schema.specs.declared.Resolved.{Resolved}
+use Rattle.schema.specs.declared.refusal.Refusal.{Refusal}
+use Rattle.schema.specs.declared.resolving.Resolved.{Resolved}
 use Rattle.schema.proofs.TreeLaws.{listings-trees, trees-of-listing, listing-injective}
 use Rattle.schema.proofs.OpenPlacesLaws.{Fills, Lacks, Full, one-of-three, fills-trees, tree-fills, openFrom, openFrom-one, Open, fills-open, fills-end, lacks-open, full-below, full-none, full-open}
 use Rattle.schema.proofs.FaultLaws.{refused-not-lawful, orElse-none, none-orElse, atMostDeep-none, none-atMostDeep, keeps-none, none-keeps}

@@ -2,8 +2,8 @@
 use Prim.Native.Nat.{ℕ, zero, suc, _+_, _≤_, _<_}
 use mathlib.Core.Path.{_≡_, refl, sym, ap, _∙_, subst}
 use mathlib.Core.Bool.{Bool, true, false, cond}
-use Rattle.schema.specs.declared.Verdict.{Verdict}
-use Rattle.schema.specs.declared.Verdict.the-variants.{Lawful, Refused}
+use Rattle.schema.specs.declared.refusal.Verdict.{Verdict}
+use Rattle.schema.specs.declared.refusal.Verdict.the-variants.{Lawful, Refused}
 use mathlib.Core.List.{List, [], _∷_, _++_, map}
 use native.Mathlib.Omega.{arith}
 use native.Mathlib.Nat.{add-zero, add-suc, suc-add}
@@ -14,9 +14,9 @@ use Rattle.schema.specs.Annotated.{rule9, rule10, rule11}
 use Rattle.schema.specs.Tree.{Slot, Tree, Fields, node, empty, field, depths, depthss, AtMostDeep}
 use Rattle.schema.specs.Rules.{rule8, rule12, rule13, underMap, placeBelow, KeepsAt, Keeps, KeepsAll, broken, faults, faultss}
 use Rattle.schema.specs.Outcome.{orElse, firstFault, refusal, mostDepth, deepness, tooDeep, unlawful}
-use Rattle.schema.specs.declared.Place.{Place}
-use Rattle.schema.specs.declared.Place.the-variants.{Root}
-use Rattle.schema.specs.declared.Refusal.{Refusal}
+use Rattle.schema.specs.declared.place.Place.{Place}
+use Rattle.schema.specs.declared.place.Place.the-variants.{Root}
+use Rattle.schema.specs.declared.refusal.Refusal.{Refusal}
 
 pub firstFault-append : (k : ℕ) (ms ns : List ℕ) → firstFault k (ms ++ ns) ≡ orElse (firstFault k ms) (firstFault (k + length ms) ns)
 unfolding firstFault orElse

@@ -10,10 +10,10 @@ use Rattle.schema.specs.Tree.{Slot, Tree, Fields, node, empty, field, li
 use Rattle.schema.specs.Rules.{placeBelow, broken, faults, faultss}
 use Rattle.schema.specs.Outcome.{orElse, firstFault, refusal, mostDepth, deepness}
 use Rattle.schema.specs.Steps.{sizes, secondIn, secondOf, innerIn, depthAt, treeOrDeep, runOrDeep, judgedTree, judgedRun}
-use Rattle.schema.specs.declared.Place.{Place}
-use Rattle.schema.specs.declared.Verdict.{Verdict}
-use Rattle.schema.specs.declared.TreeJudged.{TreeJudged}
-use Rattle.schema.specs.declared.RunJudged.{RunJudged}
+use Rattle.schema.specs.declared.place.Place.{Place}
+use Rattle.schema.specs.declared.refusal.Verdict.{Verdict}
+use Rattle.schema.specs.declared.judging.TreeJudged.{TreeJudged}
+use Rattle.schema.specs.declared.judging.RunJudged.{RunJudged}
 use Rattle.schema.proofs.FaultLaws.{firstFault-append}
 
 mutual

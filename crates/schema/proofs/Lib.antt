@@ -5,3 +5,6 @@ pub mod FaultLaws
 pub mod DemandLaws
 pub mod StandingLaws
 pub mod JudgingLaws
+pub mod PlacingLaws
+pub mod RowsLaws
+pub mod ShapeLaws

@@ -9,8 +9,8 @@ use Rattle.schema.specs.Tree.{Tree, AtMostDeep, Claims, listing}
 use Rattle.schema.specs.Rules.{Keeps}
 use Rattle.schema.specs.Rows.{rowWidth}
 use Rattle.schema.specs.Outcome.{mostDepth}
-use Rattle.schema.specs.declared.Place.the-variants.{Root}
-use Rattle.schema.specs.declared.Resolved.{Resolved}
+use Rattle.schema.specs.declared.place.Place.the-variants.{Root}
+use Rattle.schema.specs.declared.resolving.Resolved.{Resolved}
 
 -- a tree of a sheet: at most 32 deep, it keeps every rule, claims its children rightly and lists the sheet's nodes
 pub record IsTreeOf (bytes : List ℕ) (t : Tree) : Type 0 where

@@ -13,10 +13,10 @@ use Rattle.schema.specs.Rules.{faults}
 use Rattle.schema.specs.Rows.{rows, rowWidth}
 use Rattle.schema.specs.Reading.{treeOf}
 use Rattle.schema.specs.OpenPlaces.{openPlaces, isNoPlace}
-use Rattle.schema.specs.declared.Place.the-variants.{Root}
-use Rattle.schema.specs.declared.Refusal.{Refusal}
-use Rattle.schema.specs.declared.Verdict.{Verdict}
-use Rattle.schema.specs.declared.Resolved.{Resolved}
+use Rattle.schema.specs.declared.place.Place.the-variants.{Root}
+use Rattle.schema.specs.declared.refusal.Refusal.{Refusal}
+use Rattle.schema.specs.declared.refusal.Verdict.{Verdict}
+use Rattle.schema.specs.declared.resolving.Resolved.{Resolved}
 
 -- a numbered refusal at its place
 abbrev pub refusal : ℕ → ℕ → Refusal

@@ -8,9 +8,9 @@ use Rattle.annotation.specs.Signed.{natural}
 use Rattle.sheet.specs.Slot.{physical, repetition, typeLength}
 use Rattle.schema.specs.Annotated.{kind}
 use Rattle.schema.specs.Tree.{Slot, Tree, Fields, node, empty, field, size}
-use Rattle.schema.specs.Rules.{isGroup, isRepeated, isElementGroup}
-use Rattle.schema.specs.declared.Parent.{Parent}
-use Rattle.schema.specs.declared.Parent.the-variants as parent
+use Rattle.schema.specs.Rules.{isGroup, REPEATED, isElementGroup}
+use Rattle.schema.specs.declared.rows.Parent.{Parent}
+use Rattle.schema.specs.declared.rows.Parent.the-variants as parent
 
 -- whether a parent is a resolved MAP
 unfoldable pub isMapParent : Parent → Bool
@@ -23,8 +23,8 @@ isMapParent parent.KeyValueRest = false
 
 -- roles: 0 field, 1 list layer, 2 element, 3 group layer that is the element, 4 key_value layer, 5 key, 6 value, 7 bare repeated
 unfoldable pub role : Parent → Slot → Slot → Fields → ℕ
-role parent.Other above s fs = cond (isRepeated s) 7 0
-role parent.List above s fs = cond (isGroup s) (cond (isElementGroup above s fs) 3 1) 2
+role parent.Other above s fs = cond (eqb (repetition s) REPEATED) 7 0
+role parent.List above s fs = cond (isGroup (physical s)) (cond (isElementGroup above s fs) 3 1) 2
 role parent.ListLayer above s fs = 2
 role parent.Map above s fs = 4
 role parent.KeyValue above s fs = 5

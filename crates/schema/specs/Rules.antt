@@ -5,6 +5,7 @@ use mathlib.Core.Bool.{Bool, true, false, cond, not, _&&_, _||_}
 use mathlib.Core.List.{List, [], _∷_, _++_}
 use lib.Dec.{leb, eqb}
 use lib.IntN.{ℤ, pos, negsuc}
+use lib.Signed.{leZ}
 use Rattle.sheet.specs.Slot.{physical as physicalOf, repetition, converted as convertedOf, logical as logicalOf, typeLength, scale, precision, name}
 use Rattle.sheet.specs.Name.{sameBytes}
 use Rattle.annotation.specs.Physical as physical
@@ -12,27 +13,31 @@ use Rattle.annotation.specs.Converted as converted
 use Rattle.annotation.specs.Logical as logical
 use Rattle.schema.specs.Annotated.{kind, rule9, rule10, rule11}
 use Rattle.schema.specs.Tree.{Slot, Tree, Fields, node, empty, field, count}
-use Rattle.schema.specs.declared.Place.{Place}
-use Rattle.schema.specs.declared.Place.the-variants.{Root, Field, MapField}
+use Rattle.schema.specs.declared.place.Place.{Place}
+use Rattle.schema.specs.declared.place.Place.the-variants.{Root, Field, MapField}
 
 -- "A node is a group where its physical is 255, else a leaf"
-unfoldable pub isGroup : Slot → Bool
-isGroup s = eqb (physicalOf s) physical.GROUP
+abbrev pub isGroup : ℕ → Bool
+isGroup code = eqb code physical.GROUP
 
-unfoldable pub isRequired : Slot → Bool
-isRequired s = eqb (repetition s) 0
+-- "required 0, optional 1, repeated 2, none 255"
+abbrev pub REQUIRED : ℕ
+REQUIRED = 0
 
-unfoldable pub isOptional : Slot → Bool
-isOptional s = eqb (repetition s) 1
+abbrev pub OPTIONAL : ℕ
+OPTIONAL = 1
 
-unfoldable pub isRepeated : Slot → Bool
-isRepeated s = eqb (repetition s) 2
+abbrev pub REPEATED : ℕ
+REPEATED = 2
 
-unfoldable pub isRequiredOrOptional : Slot → Bool
-isRequiredOrOptional s = isRequired s || isOptional s
+abbrev pub NO-REPETITION : ℕ
+NO-REPETITION = 255
+
+abbrev pub isRequiredOrOptional : ℕ → Bool
+isRequiredOrOptional code = eqb code REQUIRED || eqb code OPTIONAL
 
 -- whether a node's parent is a resolved MAP
-unfoldable pub underMap : Place → Bool
+abbrev pub underMap : Place → Bool
 underMap Root = false
 underMap Field = false
 underMap MapField = true
@@ -48,92 +53,106 @@ isMap p s = eqb (kind (underMap p) s .kind) logical.MAP
 unfoldable pub placeBelow : Place → Slot → Place
 placeBelow p s = cond (isMap p s) MapField Field
 
--- "The root is a group without repetition or annotation", and "may have no children"
-unfoldable pub rootShape : Slot → Bool
-rootShape s = isGroup s && eqb (repetition s) 255 && eqb (convertedOf s) converted.NONE && eqb (logicalOf s) logical.NONE
+-- rule 8 -----------------------------------------------------------------------------------------------------------------
 
--- "Every other node has a repetition. A leaf has no children; any group but the root has at least one"
-unfoldable pub fieldShape : Slot → Fields → Bool
-fieldShape s fs = not (eqb (repetition s) 255) && cond (isGroup s) (leb 1 (count fs)) (eqb (count fs) 0)
+-- "The root is a group without repetition or annotation, and may have no children", of its physical, repetition, converted and logical
+abbrev pub rootShape : ℕ → ℕ → ℕ → ℕ → Bool
+rootShape ph rep conv log = isGroup ph && eqb rep NO-REPETITION && eqb conv converted.NONE && eqb log logical.NONE
 
--- an integer is 0; is at least 1
+-- "Every other node has a repetition. A leaf has no children; any group but the root has at least one", of its physical, repetition and children
+abbrev pub fieldShape : ℕ → ℕ → ℕ → Bool
+fieldShape ph rep children = not (eqb rep NO-REPETITION) && cond (isGroup ph) (leb 1 children) (eqb children 0)
+
+abbrev pub placeShape : Place → Slot → Fields → Bool
+placeShape Root s fs = rootShape (physicalOf s) (repetition s) (convertedOf s) (logicalOf s)
+placeShape Field s fs = fieldShape (physicalOf s) (repetition s) (count fs)
+placeShape MapField s fs = fieldShape (physicalOf s) (repetition s) (count fs)
+
+-- an integer is 0
 unfoldable pub isNought : ℤ → Bool
 isNought (pos n) = eqb n 0
 isNought (negsuc n) = false
 
-unfoldable pub isPositive : ℤ → Bool
-isPositive (pos n) = leb 1 n
-isPositive (negsuc n) = false
+-- "Type length is at least 1 for FIXED, 0 otherwise", of its physical and type length
+unfoldable pub lengthShape : ℕ → ℤ → Bool
+lengthShape ph length = cond (eqb ph physical.FIXED-LEN-BYTE-ARRAY) (leZ (pos 1) length) (isNought length)
 
--- "Type length is at least 1 for FIXED, 0 otherwise"
-unfoldable pub lengthShape : Slot → Bool
-lengthShape s = cond (eqb (physicalOf s) physical.FIXED-LEN-BYTE-ARRAY) (isPositive (typeLength s)) (isNought (typeLength s))
-
--- "Scale and precision are 0 unless either annotation is DECIMAL"
-unfoldable pub decimalShape : Slot → Bool
-decimalShape s = (eqb (convertedOf s) converted.DECIMAL || eqb (logicalOf s) logical.DECIMAL) || (isNought (scale s) && isNought (precision s))
-
-unfoldable pub placeShape : Place → Slot → Fields → Bool
-placeShape Root s fs = rootShape s
-placeShape Field s fs = fieldShape s fs
-placeShape MapField s fs = fieldShape s fs
+-- "Scale and precision are 0 unless either annotation is DECIMAL", of its converted, logical, scale and precision
+unfoldable pub decimalShape : ℕ → ℕ → ℤ → ℤ → Bool
+decimalShape conv log sc pr = (eqb conv converted.DECIMAL || eqb log logical.DECIMAL) || (isNought sc && isNought pr)
 
 -- rule 8
 unfoldable pub rule8 : Place → Slot → Fields → Bool
-rule8 p s fs = placeShape p s fs && lengthShape s && decimalShape s
+rule8 p s fs = placeShape p s fs && lengthShape (physicalOf s) (typeLength s) && decimalShape (convertedOf s) (logicalOf s) (scale s) (precision s)
 
--- "array" and "_tuple"
-unfoldable pub arrayName : List ℕ
+-- rule 12 ----------------------------------------------------------------------------------------------------------------
+
+-- `array` and `_tuple`
+abbrev pub arrayName : List ℕ
 arrayName = 97 ∷ 114 ∷ 114 ∷ 97 ∷ 121 ∷ []
 
-unfoldable pub tupleSuffix : List ℕ
+abbrev pub tupleSuffix : List ℕ
 tupleSuffix = 95 ∷ 116 ∷ 117 ∷ 112 ∷ 108 ∷ 101 ∷ []
 
 -- a LIST's repeated group is "named `array` or the list's name plus `_tuple`"
 unfoldable pub namedElement : Slot → Slot → Bool
 namedElement list layer = sameBytes (name layer) arrayName || sameBytes (name layer) (name list ++ tupleSuffix)
 
--- rule 12 (2) and (3): the repeated group of a LIST is itself the element
+-- (2) and (3): the repeated group of a LIST is itself the element
 unfoldable pub isElementGroup : Slot → Slot → Fields → Bool
 isElementGroup list layer empty = false
 isElementGroup list layer (field t empty) = namedElement list layer
 isElementGroup list layer (field t (field u fs)) = true
 
--- rule 12 (4): its one field is the element, required or optional
+-- (4): its one field is the element, required or optional
 unfoldable pub holdsElement : Fields → Bool
 holdsElement empty = false
-holdsElement (field (node s gs) empty) = isRequiredOrOptional s
+holdsElement (field (node s gs) empty) = isRequiredOrOptional (repetition s)
 holdsElement (field (node s gs) (field u fs)) = false
 
--- a LIST's child: a repeated leaf, or a repeated group that is the element or holds it
+-- a LIST's child is repeated: (1) a leaf, or a group that is the element or holds it
 unfoldable pub listChild : Slot → Tree → Bool
-listChild list (node s fs) = isRepeated s && (not (isGroup s) || (isElementGroup list s fs || holdsElement fs))
+listChild list (node s fs) =
+    eqb (repetition s) REPEATED && (not (isGroup (physicalOf s)) || (isElementGroup list s fs || holdsElement fs))
 
+-- "with one child"
 unfoldable pub listRun : Slot → Fields → Bool
 listRun list empty = false
 listRun list (field t empty) = listChild list t
 listRun list (field t (field u fs)) = false
 
+-- "A LIST is required or optional"
+unfoldable pub listKept : Slot → Fields → Bool
+listKept s fs = isRequiredOrOptional (repetition s) && listRun s fs
+
 -- rule 12
 unfoldable pub rule12 : Place → Slot → Fields → Bool
-rule12 p s fs = not (isList p s) || (isRequiredOrOptional s && listRun s fs)
+rule12 p s fs = not (isList p s) || listKept s fs
+
+-- rule 13 ----------------------------------------------------------------------------------------------------------------
 
 -- "one or two fields: key first, required; then value, required or optional"
 unfoldable pub keyValue : Fields → Bool
 keyValue empty = false
-keyValue (field (node k ks) empty) = isRequired k
-keyValue (field (node k ks) (field (node v vs) empty)) = isRequired k && isRequiredOrOptional v
+keyValue (field (node k ks) empty) = eqb (repetition k) REQUIRED
+keyValue (field (node k ks) (field (node v vs) empty)) = eqb (repetition k) REQUIRED && isRequiredOrOptional (repetition v)
 keyValue (field (node k ks) (field (node v vs) (field u fs))) = false
 
--- "one child, a repeated group"
+-- "with one child, a repeated group"
 unfoldable pub mapRun : Fields → Bool
 mapRun empty = false
-mapRun (field (node s fs) empty) = isRepeated s && isGroup s && keyValue fs
+mapRun (field (node s fs) empty) = eqb (repetition s) REPEATED && (isGroup (physicalOf s) && keyValue fs)
 mapRun (field (node s fs) (field u gs)) = false
+
+-- "A MAP is required or optional"
+unfoldable pub mapKept : Slot → Fields → Bool
+mapKept s fs = isRequiredOrOptional (repetition s) && mapRun fs
 
 -- rule 13
 unfoldable pub rule13 : Place → Slot → Fields → Bool
-rule13 p s fs = not (isMap p s) || (isRequiredOrOptional s && mapRun fs)
+rule13 p s fs = not (isMap p s) || mapKept s fs
+
+-- every rule -------------------------------------------------------------------------------------------------------------
 
 -- a node keeps every rule
 pub record KeepsAt (p : Place) (s : Slot) (fs : Fields) : Type 0 where

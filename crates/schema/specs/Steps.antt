@@ -1,18 +1,18 @@
 -- What the steps of judging and of writing answer, which the contracts of private functions cite. Nothing here is a promise to a caller.
 use Prim.Native.Nat.{ℕ, zero, suc, _+_, _-_, _≤_}
 use mathlib.Core.Path.{_≡_}
-use mathlib.Core.List.{List, map}
-use lib.ListN.{length, drop}
+use mathlib.Core.List.{List, _++_, map}
+use lib.ListN.{length, take, drop}
 use Rattle.sheet.specs.Block.{totalOf, mostNodes}
 use Rattle.sheet.specs.Slot.{slots}
 use Rattle.schema.specs.Tree.{Slot, Tree, Fields, node, empty, field, listings, size, depths, depthss, ClaimsAll}
 use Rattle.schema.specs.Rules.{faults, faultss}
 use Rattle.schema.specs.Reading.{trees, takeFields, firstTree}
 use Rattle.schema.specs.Outcome.{mostDepth, deepness, firstFault}
-use Rattle.schema.specs.declared.Place.{Place}
-use Rattle.schema.specs.declared.Verdict.{Verdict}
-use Rattle.schema.specs.declared.TreeJudged.{TreeJudged}
-use Rattle.schema.specs.declared.RunJudged.{RunJudged}
+use Rattle.schema.specs.declared.place.Place.{Place}
+use Rattle.schema.specs.declared.refusal.Verdict.{Verdict}
+use Rattle.schema.specs.declared.judging.TreeJudged.{TreeJudged}
+use Rattle.schema.specs.declared.judging.RunJudged.{RunJudged}
 
 -- the tree that stands at number k of some slots
 unfoldable pub treeAt : List Slot → ℕ → Tree
@@ -68,3 +68,7 @@ unfoldable pub judgedRun : ℕ → ℕ → Place → Fields → RunJudged
 judgedRun at levels p fs =
     runOrDeep (firstFault at (map deepness (depthss (depthAt levels) fs)))
     (RunJudged.Judged (at + sizes fs) (secondIn at fs) (innerIn at fs) (firstFault at (faultss p fs)))
+
+-- a list with some numbers in place of those from i on
+unfoldable pub placed : List ℕ → ℕ → List ℕ → List ℕ
+placed l i vs = take i l ++ vs ++ drop (i + length vs) l

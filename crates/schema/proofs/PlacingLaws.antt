@@ -1,0 +1,60 @@
+-- Numbers placed in a list one stretch after the other.
+use Prim.Native.Nat.{ℕ, zero, suc, _+_, _-_, _≤_, _<_}
+use mathlib.Core.Path.{_≡_, refl, sym, ap, _∙_, subst}
+use mathlib.Core.List.{List, [], _∷_, _++_, append-assoc, append-nil}
+use native.Mathlib.Omega.{arith}
+use native.Mathlib.Nat.{add-assoc, zero-add, add-zero, min-eq-left}
+use lib.ListN.{length, take, drop, length-append, length-take, length-drop, take-append-drop}
+use lib.Seq.{length-take-le, take-append-le, take-at, drop-at, drop-drop, take-take, sets, sets-eq}
+use Rattle.schema.specs.Steps.{placed}
+
+-- what is placed element by element
+pub sets-placed : (vs l : List ℕ) (i : ℕ) → i + length vs ≤ length l → sets l i vs ≡ placed l i vs
+unfolding placed
+sets-placed vs l i h = sets-eq vs l i h
+
+pub length-placed : (l : List ℕ) (i : ℕ) (vs : List ℕ) → i + length vs ≤ length l → length (placed l i vs) ≡ length l
+unfolding placed
+length-placed l i vs h =
+    let a = length-append (take i l ++ vs) (drop (i + length vs) l) in
+    let b = length-append (take i l) vs in
+    let c = length-take-le i l (omega arith) in
+    let d = length-drop (i + length vs) l in
+    omega arith
+
+pub placed-empty : (l : List ℕ) (i : ℕ) → placed l i [] ≡ l
+unfolding placed
+placed-empty l i = rw (append-nil, add-zero) (take-append-drop i l)
+
+-- the stretch behind one, placed after it
+pub placed-after : (l : List ℕ) (i : ℕ) (us vs : List ℕ) → i + length us ≤ length l → placed (placed l i us) (i + length us) vs ≡ placed l i (us ++ vs)
+unfolding placed
+placed-after l i us vs h =
+    let n : length (take i l ++ us) ≡ i + length us = length-append (take i l) us ∙ ap (λ (k : ℕ). k + length us) (length-take-le i l (omega arith)) in
+    let rest : drop (i + length us + length vs) (take i l ++ us ++ drop (i + length us) l) ≡ drop (i + length (us ++ vs)) l =
+        sym (drop-drop (length vs) (i + length us) (take i l ++ us ++ drop (i + length us) l))
+        ∙ ap (drop (length vs)) (drop-at (take i l ++ us) (drop (i + length us) l) (i + length us) n)
+        ∙ drop-drop (length vs) (i + length us) l
+        ∙ ap (λ (k : ℕ). drop k l) (add-assoc i (length us) (length vs) ∙ ap (λ (k : ℕ). i + k) (sym (length-append us vs))) in
+    ap (λ (x : List ℕ). x ++ vs ++ drop (i + length us + length vs) (take i l ++ us ++ drop (i + length us) l)) (take-at (take i l ++ us) (drop (i + length us) l) (i + length us) n)
+    ∙ ap (λ (x : List ℕ). take i l ++ us ++ vs ++ x) rest
+    ∙ ap (λ (x : List ℕ). x ++ drop (i + length (us ++ vs)) l) (append-assoc (take i l) us vs)
+
+-- the stretch before one, placed after it
+pub placed-before : (l : List ℕ) (i : ℕ) (us vs : List ℕ) → i + length us ≤ length l → placed (placed l (i + length us) vs) i us ≡ placed l i (us ++ vs)
+unfolding placed
+placed-before l i us vs h =
+    let j = i + length us in
+    let n : length (take j l) ≡ j = length-take-le j l h in
+    let front : take i (take j l ++ vs ++ drop (j + length vs) l) ≡ take i l =
+        ap (take i) (append-assoc (take j l) vs (drop (j + length vs) l))
+        ∙ take-append-le i (take j l) (vs ++ drop (j + length vs) l) (omega arith)
+        ∙ take-take i j l (omega arith) in
+    let back : drop j (take j l ++ vs ++ drop (j + length vs) l) ≡ vs ++ drop (i + length (us ++ vs)) l =
+        ap (drop j) (append-assoc (take j l) vs (drop (j + length vs) l))
+        ∙ drop-at (take j l) (vs ++ drop (j + length vs) l) j n
+        ∙ ap (λ (k : ℕ). vs ++ drop k l) (add-assoc i (length us) (length vs) ∙ ap (λ (k : ℕ). i + k) (sym (length-append us vs))) in
+    ap (λ (x : List ℕ). x ++ us ++ drop j (take j l ++ vs ++ drop (j + length vs) l)) front
+    ∙ ap (λ (x : List ℕ). take i l ++ us ++ x) back
+    ∙ sym (append-assoc (take i l ++ us) vs (drop (i + length (us ++ vs)) l))
+    ∙ ap (λ (x : List ℕ). x ++ drop (i + length (us ++ vs)) l) (append-assoc (take i l) us vs)

@@ -1,0 +1,16 @@
+-- Signed tests of rule 8, as the machine makes them.
+use Prim.Native.Nat.{ℕ}
+use mathlib.Core.Path.{_≡_, refl}
+use native.Mathlib.Omega.{arith}
+use borrow.Author.Tests.{ne-eqb}
+use lib.Dec.{eqb}
+use lib.IntN.{ℤ, pos, negsuc}
+use mir.Syntax.{w32}
+use mir.Val.{SFits, ofZ}
+use Rattle.schema.specs.Rules.{isNought}
+
+-- the bits of an integer are 0 exactly where it is
+pub isNought-bits : (z : ℤ) → SFits w32 z → eqb (ofZ w32 z) 0 ≡ isNought z
+unfolding isNought
+isNought-bits (pos n) h = refl
+isNought-bits (negsuc n) h = ne-eqb _ _ (λ e. omega (arith, h .sfits))

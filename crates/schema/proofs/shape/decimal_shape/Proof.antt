@@ -1,0 +1,18 @@
+-- `schema::shape::decimal_shape` meets its contract.
+use borrow.Author.Needs.{needs}
+use Rattle.schema.specs.Rules.{decimalShape}
+use Rattle.schema.proofs.shape.decimal_shape.Statement.{statement}
+use Rattle.schema.proofs.shape.decimal_shape.Tie as tie
+
+is-nought-requires : tie.Need-is-nought-requires
+is-nought-requires c κs = search needs
+
+is-nought-requires-2 : tie.Need-is-nought-requires-2
+is-nought-requires-2 c κs = search needs
+
+returns : tie.Need-returns
+unfolding decimalShape
+returns c = rw (c .before .is-nought .ensures, c .is-nought2 .ensures)
+
+pub decimal-shape-spec : {M : Type 1} → statement M
+decimal-shape-spec = tie.close (tie.spec is-nought-requires is-nought-requires-2 returns)

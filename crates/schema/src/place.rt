@@ -1,0 +1,22 @@
+// Where a node stands, as far as rules 8 to 13 look above it.
+ghost use mathlib.Core.Path.{_≡_};
+ghost use Rattle.schema.specs.Rules.{underMap};
+
+pub enum Place {
+    Root,
+    // A field of a node that is no resolved MAP.
+    Field,
+    // A field of a resolved MAP.
+    MapField,
+}
+
+// Whether a node's parent is a resolved MAP.
+pub fn under_map(place: Place) -> bool
+    ensures { λ r. ⌜ r ≡ underMap place ⌝ }
+{
+    match place {
+        Place::Root => false,
+        Place::Field => false,
+        Place::MapField => true,
+    }
+}
