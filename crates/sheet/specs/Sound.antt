@@ -7,6 +7,10 @@ use lib.ListN.{take, drop}
 use Rattle.sheet.specs.Block.{totalOf}
 use Rattle.sheet.specs.Slot.{physical, repetition, converted, logical, nameLength, reservedAt, nameAt, slotAt}
 
+-- a code of a list that runs from 0 to its last code, or the one code beside it
+unfoldable pub listed : ℕ → ℕ → ℕ → Bool
+listed last beside code = leb code last || eqb code beside
+
 -- "BOOLEAN 0, .. FIXED_LEN_BYTE_ARRAY 7, group 255"
 abbrev pub fixedLenByteArray : ℕ
 fixedLenByteArray = 7
@@ -15,7 +19,7 @@ abbrev pub group : ℕ
 group = 255
 
 unfoldable pub physicalListed : ℕ → Bool
-physicalListed code = leb code fixedLenByteArray || eqb code group
+physicalListed code = listed fixedLenByteArray group code
 
 -- "required 0, optional 1, repeated 2, none 255"
 abbrev pub repeated : ℕ
@@ -25,7 +29,7 @@ abbrev pub noRepetition : ℕ
 noRepetition = 255
 
 unfoldable pub repetitionListed : ℕ → Bool
-repetitionListed code = leb code repeated || eqb code noRepetition
+repetitionListed code = listed repeated noRepetition code
 
 -- "converted (0-21, none 255)", 21 being INTERVAL
 abbrev pub interval : ℕ
@@ -35,7 +39,7 @@ abbrev pub noConverted : ℕ
 noConverted = 255
 
 unfoldable pub convertedListed : ℕ → Bool
-convertedListed code = leb code interval || eqb code noConverted
+convertedListed code = listed interval noConverted code
 
 -- "logical (1-8, 10-14, none 0)", 8 being TIMESTAMP, 10 INTEGER and 14 UUID
 abbrev pub timestamp : ℕ

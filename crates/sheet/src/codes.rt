@@ -1,56 +1,28 @@
-// The codes of a slot: which of them document 01 lists.
+// The codes that a slot may hold, as document 01 lists them.
 ghost use mathlib.Core.Path.{_≡_};
-ghost use Rattle.sheet.specs.Sound.{physicalListed, repetitionListed, convertedListed, logicalListed};
+ghost use Rattle.sheet.specs.Sound.{listed as Sound·listed, logicalListed};
 
-const FIXED_LEN_BYTE_ARRAY: u8 = 7;
-
-const GROUP: u8 = 255;
-
-const REPEATED: u8 = 2;
-
-const NO_REPETITION: u8 = 255;
-
-const INTERVAL: u8 = 21;
-
-const NO_CONVERTED: u8 = 255;
-
+pub const FIXED_LEN_BYTE_ARRAY: u8 = 7;
+pub const GROUP: u8 = 255;
+pub const REPEATED: u8 = 2;
+pub const NO_REPETITION: u8 = 255;
+pub const INTERVAL: u8 = 21;
+pub const NO_CONVERTED: u8 = 255;
 const TIMESTAMP: u8 = 8;
-
 const INTEGER: u8 = 10;
-
 const UUID: u8 = 14;
 
-// Whether a physical type or group has this code.
-pub fn physical_listed(code: u8) -> bool
-    ensures { λ r. ⌜ r ≡ physicalListed code ⌝ }
+// Whether a code is in the list from 0 to last, or the one beside it.
+pub fn listed(last: u8, beside: u8, code: u8) -> bool
+    ensures { λ r. ⌜ r ≡ Sound·listed last beside code ⌝ }
 {
-    if code <= FIXED_LEN_BYTE_ARRAY {
+    if code <= last {
         return true;
     }
-    code == GROUP
+    code == beside
 }
 
-// Whether a repetition, or none, has this code.
-pub fn repetition_listed(code: u8) -> bool
-    ensures { λ r. ⌜ r ≡ repetitionListed code ⌝ }
-{
-    if code <= REPEATED {
-        return true;
-    }
-    code == NO_REPETITION
-}
-
-// Whether a converted type, or none, has this code.
-pub fn converted_listed(code: u8) -> bool
-    ensures { λ r. ⌜ r ≡ convertedListed code ⌝ }
-{
-    if code <= INTERVAL {
-        return true;
-    }
-    code == NO_CONVERTED
-}
-
-// Whether a logical type, or none, has this code.
+// Whether a code is that of a logical type, or of none.
 pub fn logical_listed(code: u8) -> bool
     ensures { λ r. ⌜ r ≡ logicalListed code ⌝ }
 {

@@ -8,10 +8,14 @@ ghost use Rattle.sheet.specs.Sound.{allZero, slotSound, slotRight};
 use crate::block::BLOCK_SIZE;
 use crate::block::MOST_NODES;
 use crate::block::SLOTS_IN_BLOCK;
-use crate::codes::converted_listed;
+use crate::codes::listed;
 use crate::codes::logical_listed;
-use crate::codes::physical_listed;
-use crate::codes::repetition_listed;
+use crate::codes::FIXED_LEN_BYTE_ARRAY;
+use crate::codes::GROUP;
+use crate::codes::INTERVAL;
+use crate::codes::NO_CONVERTED;
+use crate::codes::NO_REPETITION;
+use crate::codes::REPEATED;
 use crate::number::number16;
 use crate::number::number32;
 use crate::number::signed32;
@@ -145,13 +149,13 @@ fn slot_sound(slot: &[u8]) -> bool
     requires { ⌜ length (now slot) ≡ slotSize ⌝ }
     ensures { λ r. ⌜ r ≡ slotSound (now (slot .entry)) ⌝ }
 {
-    if !physical_listed(slot[PHYSICAL]) {
+    if !listed(FIXED_LEN_BYTE_ARRAY, GROUP, slot[PHYSICAL]) {
         return false;
     }
-    if !repetition_listed(slot[REPETITION]) {
+    if !listed(REPEATED, NO_REPETITION, slot[REPETITION]) {
         return false;
     }
-    if !converted_listed(slot[CONVERTED]) {
+    if !listed(INTERVAL, NO_CONVERTED, slot[CONVERTED]) {
         return false;
     }
     if !logical_listed(slot[LOGICAL]) {

@@ -1,0 +1,3 @@
+-- Laws of the sheet's definitions.
+pub mod NumberLaws
+pub mod FirstLaws
