@@ -1,8 +1,9 @@
 -- Laws of the first number at which a test fails.
-use mathlib.Core.Path.{_≡_, refl, sym, _∙_, ap, subst}
-use mathlib.Core.Bool.{Bool, true, false, cond}
+use mathlib.Core.Path.{_≡_, sym, _∙_, subst}
+use mathlib.Core.Bool.{Bool, true, false}
 use Prim.Native.Nat.{ℕ, zero, suc, _+_, _≤_, _<_}
-use native.Mathlib.Nat.{add-zero, zero-add, add-suc, suc-add, le-of-suc-le-suc, not-suc-le-zero}
+use mathlib.Core.Logic.{⊎-elim}
+use native.Mathlib.Nat.{add-zero, zero-add, eq-or-lt-of-le}
 use native.Mathlib.Omega.{arith}
 use Rattle.sheet.specs.First.{firstWrongFrom, firstWrong}
 
@@ -25,7 +26,10 @@ module _ (right : ℕ → Bool) where
 
   from-at : (n k i : ℕ) → k ≤ i → i < k + n → ((j : ℕ) → k ≤ j → j < i → right j ≡ true) → right i ≡ false → firstWrongFrom right k n ≡ i
   from-at zero k i l h all e = absurd (omega arith)
-  from-at (suc n) k i l h all e = ?
+  from-at (suc n) k i l h all e = ⊎-elim
+      (λ q. from-wrong k n (subst (λ (m : ℕ). right m ≡ false) (sym q) e) ∙ q)
+      (λ q. from-right k n (all k (omega arith) q) ∙ from-at n (suc k) i q (omega arith) (λ j a b. all j (omega arith) b) e)
+      (eq-or-lt-of-le l)
 
   -- where the test fails first at i, that is the first
   pub firstWrong-at : (n i : ℕ) → i < n → ((j : ℕ) → j < i → right j ≡ true) → right i ≡ false → firstWrong right n ≡ i

@@ -1,3 +1,7 @@
 -- Laws of the sheet's definitions.
+pub mod TestLaws
+pub mod PartLaws
 pub mod NumberLaws
+pub mod CheckLaws
+pub mod SoundLaws
 pub mod FirstLaws

@@ -21,14 +21,14 @@ nodesIn t i = min slotsInBlock (t - slotsInBlock * i)
 unfoldable pub totalRight : ℕ → ℕ → Bool
 totalRight t blocks = leb 1 t && leb t mostNodes && eqb (blocksFor t) blocks
 
--- what block i's header must say of itself
-unfoldable pub fieldsRight : List ℕ → ℕ → Bool
-fieldsRight sheet i =
-    eqb (blockNumber (blockAt sheet i)) i
-    && eqb (version (blockAt sheet i)) versionNow
-    && eqb (total (blockAt sheet i)) (totalOf sheet)
-    && eqb (nodesHere (blockAt sheet i)) (nodesIn (totalOf sheet) i)
+-- what the header of block number i must say, of t nodes in all
+unfoldable pub fieldsRight : ℕ → ℕ → List ℕ → Bool
+fieldsRight t i block =
+    eqb (blockNumber block) i
+    && eqb (version block) versionNow
+    && eqb (total block) t
+    && eqb (nodesHere block) (nodesIn t i)
 
 -- block i's header is right; a wrong T "is block 0's fault"
 unfoldable pub headerRight : List ℕ → ℕ → Bool
-headerRight sheet i = fieldsRight sheet i && cond (eqb i 0) (totalRight (totalOf sheet) (blockCount sheet)) true
+headerRight sheet i = fieldsRight (totalOf sheet) i (blockAt sheet i) && cond (eqb i 0) (totalRight (totalOf sheet) (blockCount sheet)) true

@@ -74,16 +74,21 @@ reservedZero slot = allZero (take (nameAt - reservedAt) (drop reservedAt slot))
 unfoldable pub tailZero : List ℕ → Bool
 tailZero slot = allZero (drop (nameAt + nameLength slot) slot)
 
--- a slot in use is sound; the other fields may hold anything
-unfoldable pub slotSound : List ℕ → Bool
-slotSound slot =
+-- no "slot code outside the lists above"
+unfoldable pub codesListed : List ℕ → Bool
+codesListed slot =
     physicalListed (physical slot)
     && repetitionListed (repetition slot)
     && convertedListed (converted slot)
     && logicalListed (logical slot)
-    && nameLengthRight (nameLength slot)
-    && reservedZero slot
-    && tailZero slot
+
+-- no "name length or zero bytes wrong"
+unfoldable pub nameRight : List ℕ → Bool
+nameRight slot = nameLengthRight (nameLength slot) && reservedZero slot && tailZero slot
+
+-- a slot in use is sound; its other fields may hold anything
+unfoldable pub slotSound : List ℕ → Bool
+slotSound slot = codesListed slot && nameRight slot
 
 -- the slot of number k is sound where k is a node's, and zero where it is not
 unfoldable pub slotRight : List ℕ → ℕ → Bool

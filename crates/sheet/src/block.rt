@@ -5,7 +5,7 @@ ghost use Prim.Native.Nat.{_+_, _*_, _^_, _≤_, _<_};
 ghost use lib.ListN.{length};
 ghost use Rattle.sheet.specs.Block.{blockSize, blockCount, checkAt, blockAt, totalOf};
 ghost use Rattle.sheet.specs.Check.{sumBelow, weighted, checkRight};
-ghost use Rattle.sheet.specs.Header.{nodesIn, totalRight, headerRight};
+ghost use Rattle.sheet.specs.Header.{nodesIn, totalRight, fieldsRight, headerRight};
 use crate::number::number16;
 use crate::number::wide;
 
@@ -25,7 +25,7 @@ const TOTAL: usize = 4;
 
 const CHECK: usize = 510;
 
-const VERSION_NOW: u8 = 1;
+const VERSION_NOW: u32 = 1;
 
 const CHECK_MODULUS: u32 = 65521;
 
@@ -43,19 +43,10 @@ pub fn header_right(sheet: &[u8], i: usize, total: usize, blocks: usize) -> bool
     requires { ⌜ blockSize * (i + 1) ≤ length (now sheet) ⌝ }
     requires { ⌜ total ≡ totalOf (now sheet) ⌝ }
     requires { ⌜ blocks ≡ blockCount (now sheet) ⌝ }
+    requires { ⌜ i < 2 ^ 32 ⌝ }
     ensures { λ r. ⌜ r ≡ headerRight (now (sheet .entry)) i ⌝ }
 {
-    let block = block_at(sheet, i);
-    if number16(block, BLOCK_NUMBER) as usize != i {
-        return false;
-    }
-    if block[VERSION] != VERSION_NOW {
-        return false;
-    }
-    if number16(block, TOTAL) as usize != total {
-        return false;
-    }
-    if wide(block[NODES_HERE]) as usize != nodes_in(total, i) {
+    if !fields_right(block_at(sheet, i), i, total) {
         return false;
     }
     if i == 0 {
@@ -93,6 +84,24 @@ fn weighted_sum(block: &[u8]) -> u32
         i += 1;
     }
     sum
+}
+
+// Whether a block's header is that of block number i, of total nodes in all.
+fn fields_right(block: &[u8], i: usize, total: usize) -> bool
+    requires { ⌜ length (now block) ≡ blockSize ⌝ }
+    requires { ⌜ i < 2 ^ 32 ⌝ }
+    ensures { λ r. ⌜ r ≡ fieldsRight total i (now (block .entry)) ⌝ }
+{
+    if number16(block, BLOCK_NUMBER) as usize != i {
+        return false;
+    }
+    if wide(block[VERSION]) != VERSION_NOW {
+        return false;
+    }
+    if number16(block, TOTAL) as usize != total {
+        return false;
+    }
+    wide(block[NODES_HERE]) as usize == nodes_in(total, i)
 }
 
 // How many of total nodes block i holds.

@@ -4,7 +4,7 @@ ghost use Prim.Native.Nat.{_+_, _≤_, _<_};
 ghost use lib.ListN.{length, take, drop};
 ghost use Rattle.sheet.specs.Block.{slotSize, mostNodes, totalOf};
 ghost use Rattle.sheet.specs.Slot.{numbersOf, slotAt, slotStart, emptySlot};
-ghost use Rattle.sheet.specs.Sound.{allZero, slotSound, slotRight};
+ghost use Rattle.sheet.specs.Sound.{allZero, codesListed, nameRight, slotSound, slotRight};
 use crate::block::BLOCK_SIZE;
 use crate::block::MOST_NODES;
 use crate::block::SLOTS_IN_BLOCK;
@@ -149,6 +149,16 @@ fn slot_sound(slot: &[u8]) -> bool
     requires { ⌜ length (now slot) ≡ slotSize ⌝ }
     ensures { λ r. ⌜ r ≡ slotSound (now (slot .entry)) ⌝ }
 {
+    if !codes_listed(slot) {
+        return false;
+    }
+    name_right(slot)
+}
+
+fn codes_listed(slot: &[u8]) -> bool
+    requires { ⌜ length (now slot) ≡ slotSize ⌝ }
+    ensures { λ r. ⌜ r ≡ codesListed (now (slot .entry)) ⌝ }
+{
     if !listed(FIXED_LEN_BYTE_ARRAY, GROUP, slot[PHYSICAL]) {
         return false;
     }
@@ -158,20 +168,24 @@ fn slot_sound(slot: &[u8]) -> bool
     if !listed(INTERVAL, NO_CONVERTED, slot[CONVERTED]) {
         return false;
     }
-    if !logical_listed(slot[LOGICAL]) {
+    logical_listed(slot[LOGICAL])
+}
+
+fn name_right(slot: &[u8]) -> bool
+    requires { ⌜ length (now slot) ≡ slotSize ⌝ }
+    ensures { λ r. ⌜ r ≡ nameRight (now (slot .entry)) ⌝ }
+{
+    let n = wide(slot[NAME_LENGTH]) as usize;
+    if n < 1 {
         return false;
     }
-    let name_length = wide(slot[NAME_LENGTH]) as usize;
-    if name_length < 1 {
-        return false;
-    }
-    if name_length > MOST_NAME_LENGTH {
+    if n > MOST_NAME_LENGTH {
         return false;
     }
     if !all_zero(&slot[RESERVED..NAME]) {
         return false;
     }
-    all_zero(&slot[NAME + name_length..])
+    all_zero(&slot[NAME + n..])
 }
 
 fn all_zero(bytes: &[u8]) -> bool

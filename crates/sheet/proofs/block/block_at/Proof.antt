@@ -1,4 +1,10 @@
 use borrow.Author.Needs.{needs}
+use mathlib.Core.Path.{ap, _∙_}
+use Prim.Native.Nat.{_*_}
+use native.Mathlib.Omega.{arith}
+use lib.ListN.{length}
+use Rattle.sheet.specs.Block.{blockAt}
+use Rattle.sheet.proofs.PartLaws.{take-to, length-part}
 use Rattle.sheet.proofs.block.block_at.Statement.{statement}
 use Rattle.sheet.proofs.block.block_at.Tie as tie
 use Rattle.sheet.proofs.block.block_at.Reads as reads
@@ -20,7 +26,11 @@ part-result-end : tie.Need-part-result-end
 part-result-end c = search needs
 
 returns : tie.Need-returns
-returns c = ?
+unfolding blockAt
+returns c =
+    let a = c .before .args in
+    let part = take-to (a .sheet .now) (512 * a .i) 512 in
+    (part, ap length part ∙ length-part (a .sheet .now) (512 * a .i) 512 (omega arith))
 
 pub block-at-spec : {M : Type 1} → statement M
 block-at-spec =

@@ -1,4 +1,6 @@
 use borrow.Author.Needs.{needs}
+use Rattle.sheet.specs.Block.{storedCheck}
+use Rattle.sheet.specs.Check.{checkRight, check}
 use Rattle.sheet.proofs.block.check_right.Statement.{statement}
 use Rattle.sheet.proofs.block.check_right.Tie as tie
 use Rattle.sheet.proofs.block.check_right.Reads as reads
@@ -17,7 +19,8 @@ weighted-sum-requires : tie.Need-weighted-sum-requires
 weighted-sum-requires c κs = search needs
 
 returns : tie.Need-returns
-returns c = ?
+unfolding checkRight check storedCheck
+returns c = cc
 
 pub check-right-spec : {M : Type 1} → statement M
 check-right-spec =

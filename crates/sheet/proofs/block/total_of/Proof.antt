@@ -1,4 +1,5 @@
 use borrow.Author.Needs.{needs}
+use Rattle.sheet.specs.Block.{totalOf, total}
 use Rattle.sheet.proofs.block.total_of.Statement.{statement}
 use Rattle.sheet.proofs.block.total_of.Tie as tie
 use Rattle.sheet.proofs.block.total_of.Reads as reads
@@ -16,7 +17,8 @@ cast-result : tie.Need-cast-result
 cast-result c = search needs
 
 returns : tie.Need-returns
-returns c = ?
+unfolding totalOf total
+returns c = cc
 
 pub total-of-spec : {M : Type 1} → statement M
 total-of-spec = tie.close (tie.spec block-at-requires number16-requires cast-result returns)

@@ -1,0 +1,26 @@
+-- Laws of sound slots.
+use mathlib.Core.Path.{_≡_, refl, ap, _∙_}
+use mathlib.Core.Bool.{Bool, true, false, _&&_}
+use mathlib.Core.List.{List, [], _∷_}
+use Prim.Native.Nat.{ℕ, zero, suc, _<_}
+use native.Mathlib.Nat.{le-of-suc-le-suc}
+use native.Mathlib.Omega.{arith}
+use lib.Dec.{eqb}
+use lib.ListN.{length, getD}
+use borrow.Author.Tests.{eq-eqb, ne-eqb}
+use Rattle.sheet.specs.Sound.{allZero}
+
+and-false : (t : Bool) → t && false ≡ false
+and-false true = refl
+and-false false = refl
+
+pub allZero-true : (bytes : List ℕ) → ((k : ℕ) → k < length bytes → getD bytes k 0 ≡ 0) → allZero bytes ≡ true
+unfolding allZero
+allZero-true [] zeros = refl
+allZero-true (byte ∷ bytes) zeros = rw (eq-eqb byte 0 (zeros 0 (omega arith))) (allZero-true bytes (λ k h. zeros (suc k) (omega arith)))
+
+pub allZero-false : (bytes : List ℕ) (k : ℕ) → (getD bytes k 0 ≡ 0 → ⊥) → allZero bytes ≡ false
+unfolding allZero
+allZero-false [] k other = absurd (other refl)
+allZero-false (byte ∷ bytes) zero other = rw (ne-eqb byte 0 other) refl
+allZero-false (byte ∷ bytes) (suc k) other = ap (λ (t : Bool). eqb byte 0 && t) (allZero-false bytes k other) ∙ and-false (eqb byte 0)
