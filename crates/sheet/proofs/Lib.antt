@@ -3,5 +3,7 @@ pub mod TestLaws
 pub mod PartLaws
 pub mod NumberLaws
 pub mod CheckLaws
+pub mod SlotLaws
 pub mod SoundLaws
 pub mod FirstLaws
+pub mod NameLaws

@@ -3,7 +3,7 @@ ghost use mathlib.Core.Path.{_≡_};
 ghost use mathlib.Core.Bool.{true};
 ghost use Prim.Native.Nat.{_+_, _*_, _^_, _≤_, _<_};
 ghost use lib.ListN.{length};
-ghost use Rattle.sheet.specs.Block.{blockSize, blockCount, checkAt, blockAt, totalOf};
+ghost use Rattle.sheet.specs.Block.{blockSize, slotsInBlock, blockCount, checkAt, blockAt, totalOf};
 ghost use Rattle.sheet.specs.Check.{sumBelow, weighted, checkRight};
 ghost use Rattle.sheet.specs.Header.{nodesIn, totalRight, fieldsRight, headerRight};
 use crate::number::number16;
@@ -43,7 +43,6 @@ pub fn header_right(sheet: &[u8], i: usize, total: usize, blocks: usize) -> bool
     requires { ⌜ blockSize * (i + 1) ≤ length (now sheet) ⌝ }
     requires { ⌜ total ≡ totalOf (now sheet) ⌝ }
     requires { ⌜ blocks ≡ blockCount (now sheet) ⌝ }
-    requires { ⌜ i < 2 ^ 32 ⌝ }
     ensures { λ r. ⌜ r ≡ headerRight (now (sheet .entry)) i ⌝ }
 {
     if !fields_right(block_at(sheet, i), i, total) {
@@ -89,7 +88,7 @@ fn weighted_sum(block: &[u8]) -> u32
 // Whether a block's header is that of block number i, of total nodes in all.
 fn fields_right(block: &[u8], i: usize, total: usize) -> bool
     requires { ⌜ length (now block) ≡ blockSize ⌝ }
-    requires { ⌜ i < 2 ^ 32 ⌝ }
+    requires { ⌜ slotsInBlock * i < 2 ^ 64 ⌝ }
     ensures { λ r. ⌜ r ≡ fieldsRight total i (now (block .entry)) ⌝ }
 {
     if number16(block, BLOCK_NUMBER) as usize != i {
@@ -106,7 +105,7 @@ fn fields_right(block: &[u8], i: usize, total: usize) -> bool
 
 // How many of total nodes block i holds.
 fn nodes_in(total: usize, i: usize) -> usize
-    requires { ⌜ i < 2 ^ 32 ⌝ }
+    requires { ⌜ slotsInBlock * i < 2 ^ 64 ⌝ }
     ensures { λ r. ⌜ r ≡ nodesIn total i ⌝ }
 {
     let before = SLOTS_IN_BLOCK * i;

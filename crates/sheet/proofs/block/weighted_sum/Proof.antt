@@ -57,7 +57,7 @@ more : (c : tie.After-wide Inv-loop μ-loop)
        let block = c .before .before .before .before .before .args .block .now in
        own .sum + (own .i + 1) * c .wide .result ≡ sumBelow (weighted block) (own .i + 1)
 unfolding sumBelow weighted
-more c = simp add-one ?
+more c = simp add-one (cc)
 
 loop-again : tie.Need-loop-again Inv-loop μ-loop
 loop-again c = (omega arith, more c, omega (arith, bound c))

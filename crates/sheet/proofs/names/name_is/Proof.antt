@@ -1,3 +1,4 @@
+-- `sheet::names::name_is` meets its contract, by those of what it calls.
 use borrow.Author.Needs.{needs}
 use Rattle.sheet.proofs.names.name_is.Statement.{statement}
 use Rattle.sheet.proofs.names.name_is.Tie as tie
@@ -13,7 +14,7 @@ same-requires : tie.Need-same-requires
 same-requires c κs = search needs
 
 returns : tie.Need-returns
-returns c = ?
+returns c = cc
 
 pub name-is-spec : {M : Type 1} → statement M
 name-is-spec = tie.close (tie.spec name-of-requires same-requires returns)

@@ -8,6 +8,7 @@ use borrow.Author.Needs.{needs}
 use Rattle.sheet.specs.Sound.{slotRight}
 use Rattle.sheet.proofs.FirstLaws.{firstWrong-at, firstWrong-none}
 use Rattle.sheet.proofs.TestLaws.{failed, passed}
+use Rattle.sheet.proofs.SlotLaws.{slotStart-within, blockCount-most}
 use Rattle.sheet.proofs.opening.first_bad_slot.Statement.{statement}
 use Rattle.sheet.proofs.opening.first_bad_slot.Tie as tie
 use Rattle.sheet.proofs.opening.first_bad_slot.Reads as reads
@@ -24,7 +25,11 @@ loop-holds : tie.Need-loop-holds Inv-loop μ-loop
 loop-holds c = (search needs, below-none _)
 
 slot-right-requires : tie.Need-slot-right-requires Inv-loop μ-loop
-slot-right-requires c κs = ?
+slot-right-requires c κs = 
+    let s = c .before .before .before .args .sheet .now in
+    ( omega (arith, blockCount-most s (c .before .before .before .pre .0))
+    , (slotStart-within s (c .before .loop .k) (omega arith), c .before .before .before .pre .1 .1)
+    )
 
 returns : tie.Need-returns Inv-loop μ-loop
 returns c = sym (firstWrong-at _ _ _ (omega arith) (c .before .before .before .loop .inv .1) (failed (c .before .slot-right .ensures) (c .if1 .taken)))

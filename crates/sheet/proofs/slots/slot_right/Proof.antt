@@ -1,4 +1,10 @@
+-- `sheet::slots::slot_right` meets its contract: the slice is the slot, and the test on the way says whether it is used.
 use borrow.Author.Needs.{needs}
+use mathlib.Core.Path.{ap, sym, _∙_}
+use native.Mathlib.Omega.{arith}
+use Rattle.sheet.specs.Sound.{allZero, slotSound}
+use Rattle.sheet.proofs.SoundLaws.{slotRight-used, slotRight-unused}
+use Rattle.sheet.proofs.SlotLaws.{reaches-true, slotAt-slice}
 use Rattle.sheet.proofs.slots.slot_right.Statement.{statement}
 use Rattle.sheet.proofs.slots.slot_right.Tie as tie
 use Rattle.sheet.proofs.slots.slot_right.Reads as reads
@@ -26,13 +32,21 @@ slot-sound-requires : tie.Need-slot-sound-requires
 slot-sound-requires c κs = search needs
 
 returns : tie.Need-returns
-returns c = ?
+returns c = 
+    let a = c .before .before .before .before .before .args in
+    let there = reaches-true (a .sheet .now) (a .k) (c .before .before .before .before .before .pre .0) (c .before .before .before .before .before .pre .1 .0) in
+    let slot = slotAt-slice (a .sheet .now) (a .k) _ (c .before .before .before .slot-start .ensures) there in
+    c .slot-sound .ensures ∙ ap slotSound slot ∙ sym (slotRight-used (a .sheet .now) (a .k) (omega arith))
 
 all-zero-requires : tie.Need-all-zero-requires
 all-zero-requires c κs = search needs
 
 returns-2 : tie.Need-returns-2
-returns-2 c = ?
+returns-2 c = 
+    let a = c .before .before .before .before .before .args in
+    let there = reaches-true (a .sheet .now) (a .k) (c .before .before .before .before .before .pre .0) (c .before .before .before .before .before .pre .1 .0) in
+    let slot = slotAt-slice (a .sheet .now) (a .k) _ (c .before .before .before .slot-start .ensures) there in
+    c .all-zero .ensures ∙ ap allZero slot ∙ sym (slotRight-unused (a .sheet .now) (a .k) (omega arith))
 
 pub slot-right-spec : {M : Type 1} → statement M
 slot-right-spec =
