@@ -5,5 +5,7 @@ pub mod NumberLaws
 pub mod CheckLaws
 pub mod SlotLaws
 pub mod SoundLaws
+pub mod HeaderLaws
 pub mod FirstLaws
+pub mod OpeningLaws
 pub mod NameLaws

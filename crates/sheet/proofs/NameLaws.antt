@@ -28,7 +28,7 @@ name-nowhere sheet k r = ap name (slotAt-empty sheet k r)
 
 -- where the bytes reach, the name's bytes stand 24 bytes into the slot
 pub name-there : (sheet : List ℕ) (k : ℕ) → reaches sheet k ≡ true
-               → name (slotAt sheet k) ≡ take (length (name (slotAt sheet k))) (drop (slotStart k + nameAt) sheet)
+    → name (slotAt sheet k) ≡ take (length (name (slotAt sheet k))) (drop (slotStart k + nameAt) sheet)
 unfolding name
 name-there sheet k r =
     ap (λ (slot : List ℕ). take n (drop nameAt slot)) (slotAt-there sheet k r)
@@ -50,7 +50,7 @@ stretchOf-nowhere sheet k r =
     stretch-is (ap (λ (t : Bool). cond t (slotStart k + nameAt) 0) r) (ap length (name-nowhere sheet k r))
 
 pub stretchOf-there : (sheet : List ℕ) (k : ℕ) → reaches sheet k ≡ true
-                    → stretchOf sheet k ≡ record { start = slotStart k + nameAt; len = min (nameLength (slotAt sheet k)) mostNameLength }
+    → stretchOf sheet k ≡ record { start = slotStart k + nameAt; len = min (nameLength (slotAt sheet k)) mostNameLength }
 unfolding stretchOf
 stretchOf-there sheet k r = stretch-is (ap (λ (t : Bool). cond t (slotStart k + nameAt) 0) r) (name-length sheet k)
 
@@ -103,7 +103,7 @@ sameBytes-false xs ys n = is-false (sameBytes xs ys) (λ e. n (sameBytes-equal x
 
 -- a whole is a front and a suffix where its beginning is the front and its rest the suffix
 pub sameBytes-append : (whole front suffix : List ℕ)
-                     → sameBytes whole (front ++ suffix) ≡ sameBytes (take (length front) whole) front && sameBytes (drop (length front) whole) suffix
+    → sameBytes whole (front ++ suffix) ≡ sameBytes (take (length front) whole) front && sameBytes (drop (length front) whole) suffix
 unfolding sameBytes
 sameBytes-append whole [] suffix = refl
 sameBytes-append [] (y ∷ ys) suffix = refl

@@ -16,7 +16,7 @@ numberAt-two bytes at = simp towards-suc (omega arith)
 
 -- a number of four bytes, written out
 pub numberAt-four : (bytes : List ℕ) (at : ℕ)
-                  → numberAt bytes at 4 ≡ getD bytes at 0 + 256 * (getD bytes (at + 1) 0 + 256 * (getD bytes (at + 2) 0 + 256 * getD bytes (at + 3) 0))
+    → numberAt bytes at 4 ≡ getD bytes at 0 + 256 * (getD bytes (at + 1) 0 + 256 * (getD bytes (at + 2) 0 + 256 * getD bytes (at + 3) 0))
 unfolding numberAt
 numberAt-four bytes at = simp towards-suc (omega arith)
 

@@ -51,7 +51,7 @@ slotAt-empty sheet k e = rw e
 
 -- a slot as a slice of the code has it
 pub slotAt-slice : (sheet : List ℕ) (k start : ℕ) → start ≡ slotStart k → reaches sheet k ≡ true
-                 → take (start + slotSize - start) (drop start sheet) ≡ slotAt sheet k
+    → take (start + slotSize - start) (drop start sheet) ≡ slotAt sheet k
 slotAt-slice sheet k start e r =
     take-to sheet start slotSize ∙ ap (λ (at : ℕ). take slotSize (drop at sheet)) e ∙ sym (slotAt-there sheet k r)
 

@@ -8,14 +8,14 @@ ghost use Rattle.sheet.specs.Sound.{allZero, codesListed, nameRight, slo
 use crate::block::BLOCK_SIZE;
 use crate::block::MOST_NODES;
 use crate::block::SLOTS_IN_BLOCK;
-use crate::codes::listed;
-use crate::codes::logical_listed;
 use crate::codes::FIXED_LEN_BYTE_ARRAY;
 use crate::codes::GROUP;
 use crate::codes::INTERVAL;
 use crate::codes::NO_CONVERTED;
 use crate::codes::NO_REPETITION;
 use crate::codes::REPEATED;
+use crate::codes::listed;
+use crate::codes::logical_listed;
 use crate::number::number16;
 use crate::number::number32;
 use crate::number::signed32;

@@ -18,7 +18,7 @@ use Rattle.sheet.proofs.number.wide.Reads as wide-reads
 
 -- where all but the count of nodes is right, that count decides
 rest-right : (t i : ℕ) (block : List ℕ) → eqb (blockNumber block) i ≡ true → eqb (version block) versionNow ≡ true → eqb (total block) t ≡ true
-           → fieldsRight t i block ≡ eqb (nodesHere block) (nodesIn t i)
+    → fieldsRight t i block ≡ eqb (nodesHere block) (nodesIn t i)
 unfolding fieldsRight
 rest-right t i block a b c = rw (a, b, c)
 
@@ -51,11 +51,11 @@ cast-if3 c = search needs
 
 returns-3 : tie.Need-returns-3
 unfolding fieldsRight blockNumber version total
-returns-3 c = simp
-    ( agrees (c .before .before .before .before .before .before .number16 .ensures .0) (c .before .before .before .before .before .if1 .left)
-    , agrees (c .before .before .before .wide .ensures .0) (c .before .before .if2 .left)
-    , differs (c .before .number162 .ensures .0) (c .if3 .taken)
-    )
+returns-3 c = simp (
+  agrees (c .before .before .before .before .before .before .number16 .ensures .0) (c .before .before .before .before .before .if1 .left),
+  agrees (c .before .before .before .wide .ensures .0) (c .before .before .if2 .left),
+  differs (c .before .number162 .ensures .0) (c .if3 .taken),
+)
 
 shared-slice-read-wide-2 : tie.Need-shared-slice-read-wide-2
 shared-slice-read-wide-2 c = search needs

@@ -23,7 +23,7 @@ fields-right-requires c κs = search needs
 
 returns : tie.Need-returns
 unfolding headerRight
-returns c = 
+returns c =
     let s = c .before .before .before .before .args .sheet .now in
     let i = c .before .before .before .before .args .i in
     let e : c .before .fields-right .result ≡ fieldsRight (totalOf s) i (blockAt s i) = cc in
@@ -34,7 +34,7 @@ total-right-requires c κs = search needs
 
 returns-2 : tie.Need-returns-2
 unfolding headerRight
-returns-2 c = 
+returns-2 c =
     let s = c .before .before .before .before .before .before .args .sheet .now in
     let i = c .before .before .before .before .before .before .args .i in
     let e : c .before .before .before .fields-right .result ≡ fieldsRight (totalOf s) i (blockAt s i) = cc in
@@ -42,7 +42,7 @@ returns-2 c =
 
 returns-3 : tie.Need-returns-3
 unfolding headerRight
-returns-3 c = 
+returns-3 c =
     let s = c .before .before .before .before .before .args .sheet .now in
     let i = c .before .before .before .before .before .args .i in
     let e : c .before .before .fields-right .result ≡ fieldsRight (totalOf s) i (blockAt s i) = cc in

@@ -53,9 +53,9 @@ loop-less c = omega arith
 
 -- one more byte
 more : (c : tie.After-wide Inv-loop μ-loop)
-     → let own = c .before .before .before .loop in
-       let block = c .before .before .before .before .before .args .block .now in
-       own .sum + (own .i + 1) * c .wide .result ≡ sumBelow (weighted block) (own .i + 1)
+    → let own = c .before .before .before .loop in
+    let block = c .before .before .before .before .before .args .block .now in
+    own .sum + (own .i + 1) * c .wide .result ≡ sumBelow (weighted block) (own .i + 1)
 unfolding sumBelow weighted
 more c = simp add-one (cc)
 

@@ -30,7 +30,7 @@ name-of-requires-2 : tie.Need-name-of-requires-2
 name-of-requires-2 c κs = search needs
 
 returns : tie.Need-returns
-returns c = 
+returns c =
     let whole = c .before .before .name-of .result .now in
     let front = c .before .name-of2 .result .now in
     sym (too-short whole front (c .before .before .before .before .before .args .suffix .now) (c .if1 .taken))
@@ -43,7 +43,7 @@ same-requires : tie.Need-same-requires
 same-requires c κs = search needs
 
 returns-2 : tie.Need-returns-2
-returns-2 c = 
+returns-2 c =
     let whole = c .before .before .before .before .before .name-of .result .now in
     let front = c .before .before .before .before .name-of2 .result .now in
     let suffix = c .before .before .before .before .before .before .before .before .args .suffix .now in
@@ -63,7 +63,7 @@ same-requires-2 : tie.Need-same-requires-2
 same-requires-2 c κs = search needs
 
 returns-3 : tie.Need-returns-3
-returns-3 c = 
+returns-3 c =
     let whole = c .before .before .before .before .before .before .before .name-of .result .now in
     let front = c .before .before .before .before .before .before .name-of2 .result .now in
     let suffix = c .before .before .before .before .before .before .before .before .before .before .args .suffix .now in

@@ -35,7 +35,7 @@ part-result-end : tie.Need-part-result-end
 part-result-end c = within c
 
 returns : tie.Need-returns
-returns c = 
+returns c =
     let a = c .before .before .before .args in
     let s = c .before .name-stretch .result in
     take-to (a .sheet .now) (s .start) (s .len)

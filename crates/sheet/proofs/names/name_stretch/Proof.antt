@@ -15,7 +15,7 @@ use Rattle.sheet.proofs.number.wide.Reads as wide-reads
 use Rattle.sheet.proofs.slots.slot_start.Reads as slot-start-reads
 
 returns : tie.Need-returns
-returns c = 
+returns c =
     let a = c .before .before .args in
     sym (stretchOf-nowhere (a .sheet .now) (a .node) (reaches-past (a .sheet .now) (a .node) (c .if1 .taken)))
 
@@ -26,7 +26,7 @@ add-if2 : tie.Need-add-if2
 add-if2 c = omega (arith, slotStart-most (c .before .before .before .args .node) (omega arith))
 
 returns-2 : tie.Need-returns-2
-returns-2 c = 
+returns-2 c =
     let a = c .before .before .before .before .args in
     sym (stretchOf-nowhere (a .sheet .now) (a .node) (reaches-short (a .sheet .now) (a .node) (omega arith) (omega arith)))
 
@@ -47,14 +47,14 @@ add-t11 c = search needs
 
 returns-3 : tie.Need-returns-3
 unfolding nameLength
-returns-3 c = 
+returns-3 c =
     let a = c .before .before .before .before .before .before .before .args in
     let there = reaches-true (a .sheet .now) (a .node) (omega arith) (omega arith) in
     let start = c .before .before .before .before .slot-start .ensures in
     let n : c .before .wide .result ≡ nameLength (slotAt (a .sheet .now) (a .node)) =
-        c .before .wide .ensures .0
-        ∙ ap (λ (at : ℕ). getD (a .sheet .now) (at + nameLengthAt) 0) start
-        ∙ sym (slotAt-byte (a .sheet .now) (a .node) nameLengthAt there (omega arith)) in
+    c .before .wide .ensures .0
+    ∙ ap (λ (at : ℕ). getD (a .sheet .now) (at + nameLengthAt) 0) start
+    ∙ sym (slotAt-byte (a .sheet .now) (a .node) nameLengthAt there (omega arith)) in
     stretch-is (ap (λ (at : ℕ). at + nameAt) start) (omega arith)
     ∙ sym (stretchOf-there (a .sheet .now) (a .node) there)
 
@@ -63,14 +63,14 @@ add-t7 c = search needs
 
 returns-4 : tie.Need-returns-4
 unfolding nameLength
-returns-4 c = 
+returns-4 c =
     let a = c .before .before .before .before .before .before .before .args in
     let there = reaches-true (a .sheet .now) (a .node) (omega arith) (omega arith) in
     let start = c .before .before .before .before .slot-start .ensures in
     let n : c .before .wide .result ≡ nameLength (slotAt (a .sheet .now) (a .node)) =
-        c .before .wide .ensures .0
-        ∙ ap (λ (at : ℕ). getD (a .sheet .now) (at + nameLengthAt) 0) start
-        ∙ sym (slotAt-byte (a .sheet .now) (a .node) nameLengthAt there (omega arith)) in
+    c .before .wide .ensures .0
+    ∙ ap (λ (at : ℕ). getD (a .sheet .now) (at + nameLengthAt) 0) start
+    ∙ sym (slotAt-byte (a .sheet .now) (a .node) nameLengthAt there (omega arith)) in
     stretch-is (ap (λ (at : ℕ). at + nameAt) start) (omega arith)
     ∙ sym (stretchOf-there (a .sheet .now) (a .node) there)
 

@@ -25,10 +25,10 @@ loop-holds : tie.Need-loop-holds Inv-loop μ-loop
 loop-holds c = (search needs, below-none _)
 
 slot-right-requires : tie.Need-slot-right-requires Inv-loop μ-loop
-slot-right-requires c κs = 
-    let s = c .before .before .before .args .sheet .now in
-    ( omega (arith, blockCount-most s (c .before .before .before .pre .0))
-    , (slotStart-within s (c .before .loop .k) (omega arith), c .before .before .before .pre .1 .1)
+slot-right-requires c κs =
+    let s = c .before .before .before .args .sheet .now in (
+      omega (arith, blockCount-most s (c .before .before .before .pre .0)),
+      (slotStart-within s (c .before .loop .k) (omega arith), c .before .before .before .pre .1 .1),
     )
 
 returns : tie.Need-returns Inv-loop μ-loop

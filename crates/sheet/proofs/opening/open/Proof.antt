@@ -1,4 +1,12 @@
+-- `sheet::opening::open` meets its contract: each test on the way says which case of the definition holds.
 use borrow.Author.Needs.{needs}
+use mathlib.Core.Path.{refl, sym, ap, _∙_}
+use native.Mathlib.Omega.{arith}
+use Rattle.sheet.specs.Block.{blockCount}
+use Rattle.sheet.specs.declared.opening.Opened.the-variants.{Nodes}
+use Rattle.sheet.proofs.TestLaws.{failed, passed}
+use Rattle.sheet.proofs.HeaderLaws.{lengthRight-least, lengthRight-most}
+use Rattle.sheet.proofs.OpeningLaws.{openOf-length, openOf-check, openOf-header, openOf-slot, openOf-nodes}
 use Rattle.sheet.proofs.opening.open.Statement.{statement}
 use Rattle.sheet.proofs.opening.open.Tie as tie
 use Rattle.sheet.proofs.opening.open.Reads as reads
@@ -13,34 +21,40 @@ length-right-requires : tie.Need-length-right-requires
 length-right-requires c κs = search needs
 
 returns : tie.Need-returns
-returns c = ?
+returns c = sym (openOf-length _ (failed (c .before .length-right .ensures) (c .if1 .taken)))
 
 first-bad-check-requires : tie.Need-first-bad-check-requires
 first-bad-check-requires c κs = search needs
 
 returns-2 : tie.Need-returns-2
-returns-2 c = ?
+unfolding blockCount
+returns-2 c = sym (openOf-check _ (passed (c .before .before .before .length-right .ensures) (c .before .before .if1 .left)) (c .before .first-bad-check .ensures) (c .if2 .taken))
 
 total-of-requires : tie.Need-total-of-requires
-total-of-requires c κs = ?
+total-of-requires c κs = lengthRight-least _ (passed (c .before .before .before .length-right .ensures) (c .before .before .if1 .left))
 
 first-bad-header-requires : tie.Need-first-bad-header-requires
-first-bad-header-requires c κs = ?
+unfolding blockCount
+first-bad-header-requires c κs = (omega arith, (refl, c .total-of .ensures))
 
 returns-3 : tie.Need-returns-3
-returns-3 c = ?
+unfolding blockCount
+returns-3 c = sym (openOf-header _ (passed (c .before .before .before .before .before .before .length-right .ensures) (c .before .before .before .before .before .if1 .left)) (c .before .before .before .before .first-bad-check .ensures) (c .before .before .before .if2 .left) (c .before .first-bad-header .ensures) (c .if3 .taken))
 
 mul-slots : tie.Need-mul-slots
 mul-slots c = search needs
 
 first-bad-slot-requires : tie.Need-first-bad-slot-requires
-first-bad-slot-requires c κs = ?
+unfolding blockCount
+first-bad-slot-requires c κs = (lengthRight-most _ (passed (c .before .before .before .before .before .before .length-right .ensures) (c .before .before .before .before .before .if1 .left)), (refl, c .before .before .total-of .ensures))
 
 returns-4 : tie.Need-returns-4
-returns-4 c = ?
+unfolding blockCount
+returns-4 c = sym (openOf-slot _ (passed (c .before .before .before .before .before .before .before .before .length-right .ensures) (c .before .before .before .before .before .before .before .if1 .left)) (c .before .before .before .before .before .before .first-bad-check .ensures) (c .before .before .before .before .before .if2 .left) (c .before .before .before .first-bad-header .ensures) (c .before .before .if3 .left) (c .before .first-bad-slot .ensures) (c .if4 .taken))
 
 returns-5 : tie.Need-returns-5
-returns-5 c = ?
+unfolding blockCount
+returns-5 c = ap Nodes (c .before .before .before .before .total-of .ensures) ∙ sym (openOf-nodes _ (passed (c .before .before .before .before .before .before .before .before .length-right .ensures) (c .before .before .before .before .before .before .before .if1 .left)) (c .before .before .before .before .before .before .first-bad-check .ensures) (c .before .before .before .before .before .if2 .left) (c .before .before .before .first-bad-header .ensures) (c .before .before .if3 .left) (c .before .first-bad-slot .ensures) (c .if4 .left))
 
 pub open-spec : {M : Type 1} → statement M
 open-spec =

@@ -39,11 +39,11 @@ listed-requires-3 c κs = search needs
 
 returns-3 : tie.Need-returns-3
 unfolding codesListed physicalListed physical repetitionListed repetition convertedListed converted
-returns-3 c = simp
-    ( passed (c .before .before .before .before .before .before .before .listed .ensures) (c .before .before .before .before .before .before .if1 .left)
-    , passed (c .before .before .before .before .listed2 .ensures) (c .before .before .before .if2 .left)
-    , failed (c .before .listed3 .ensures) (c .if3 .taken)
-    )
+returns-3 c = simp (
+  passed (c .before .before .before .before .before .before .before .listed .ensures) (c .before .before .before .before .before .before .if1 .left),
+  passed (c .before .before .before .before .listed2 .ensures) (c .before .before .before .if2 .left),
+  failed (c .before .listed3 .ensures) (c .if3 .taken),
+)
 
 shared-slice-read-logical-listed : tie.Need-shared-slice-read-logical-listed
 shared-slice-read-logical-listed c = search needs
@@ -53,11 +53,11 @@ logical-listed-requires c κs = search needs
 
 returns-4 : tie.Need-returns-4
 unfolding codesListed physicalListed physical repetitionListed repetition convertedListed converted logical
-returns-4 c = simp
-    ( passed (c .before .before .before .before .before .before .before .before .before .listed .ensures) (c .before .before .before .before .before .before .before .before .if1 .left)
-    , passed (c .before .before .before .before .before .before .listed2 .ensures) (c .before .before .before .before .before .if2 .left)
-    , passed (c .before .before .before .listed3 .ensures) (c .before .before .if3 .left)
-    )
+returns-4 c = simp (
+  passed (c .before .before .before .before .before .before .before .before .before .listed .ensures) (c .before .before .before .before .before .before .before .before .if1 .left),
+  passed (c .before .before .before .before .before .before .listed2 .ensures) (c .before .before .before .before .before .if2 .left),
+  passed (c .before .before .before .listed3 .ensures) (c .before .before .if3 .left),
+)
     (c .logical-listed .ensures)
 
 pub codes-listed-spec : {M : Type 1} → statement M

@@ -61,7 +61,7 @@ all-zero-requires c κs = search needs
 
 returns-3 : tie.Need-returns-3
 unfolding nameLength reservedZero
-returns-3 c = 
+returns-3 c =
     sym (length-listed (c .before .before .before .before .before .before .before .before .args .slot .now) (omega arith) (omega arith)
     ∙ ap (λ (t : Bool). t && tailZero (c .before .before .before .before .before .before .before .before .args .slot .now)) (failed (c .before .all-zero .ensures) (c .if3 .taken)))
 
@@ -82,7 +82,7 @@ all-zero-requires-2 c κs = search needs
 
 returns-4 : tie.Need-returns-4
 unfolding nameLength reservedZero tailZero
-returns-4 c = 
+returns-4 c =
     let slot = c .before .before .before .before .before .before .before .before .before .before .args .slot .now in
     c .all-zero2 .ensures
     ∙ ap allZero (take-rest slot (nameAt + c .before .before .before .before .before .before .before .wide .result))

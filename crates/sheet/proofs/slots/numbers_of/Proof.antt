@@ -69,28 +69,28 @@ shared-slice-read-t20 c = search needs
 
 returns : tie.Need-returns
 unfolding numbersOf physical repetition converted logical parameterA parameterB childCount typeLength scale precision nameLength
-returns c = 
+returns c =
     let slot = c .before .before .before .before .before .before .before .before .before .before .before .before .before .before .before .args .slot .now in
     let type-length : toZ w32 (ofZ w32 (c .before .before .before .before .before .before .before .before .before .before .before .before .signed32 .result)) ≡ typeLength slot =
-        field (c .before .before .before .before .before .before .before .before .before .before .before .before .signed32 .ok) (c .before .before .before .before .before .before .before .before .before .before .before .before .signed32 .ensures) (c .before .before .before .before .before .before .before .before .before .before .before .before .before .number32 .ensures) in
+    field (c .before .before .before .before .before .before .before .before .before .before .before .before .signed32 .ok) (c .before .before .before .before .before .before .before .before .before .before .before .before .signed32 .ensures) (c .before .before .before .before .before .before .before .before .before .before .before .before .before .number32 .ensures) in
     let scale-is : toZ w32 (ofZ w32 (c .before .before .before .before .before .before .before .before .before .before .signed322 .result)) ≡ scale slot =
-        field (c .before .before .before .before .before .before .before .before .before .before .signed322 .ok) (c .before .before .before .before .before .before .before .before .before .before .signed322 .ensures) (c .before .before .before .before .before .before .before .before .before .before .before .number322 .ensures) in
+    field (c .before .before .before .before .before .before .before .before .before .before .signed322 .ok) (c .before .before .before .before .before .before .before .before .before .before .signed322 .ensures) (c .before .before .before .before .before .before .before .before .before .before .before .number322 .ensures) in
     let precision-is : toZ w32 (ofZ w32 (c .before .before .before .before .before .before .before .before .signed323 .result)) ≡ precision slot =
-        field (c .before .before .before .before .before .before .before .before .signed323 .ok) (c .before .before .before .before .before .before .before .before .signed323 .ensures) (c .before .before .before .before .before .before .before .before .before .number323 .ensures) in
+    field (c .before .before .before .before .before .before .before .before .signed323 .ok) (c .before .before .before .before .before .before .before .before .signed323 .ensures) (c .before .before .before .before .before .before .before .before .before .number323 .ensures) in
     λ i.
-        record
-        { physical = getD slot physicalAt 0
-        ; repetition = getD slot repetitionAt 0
-        ; converted = getD slot convertedAt 0
-        ; logical = getD slot logicalAt 0
-        ; a = getD slot parameterAAt 0
-        ; b = getD slot parameterBAt 0
-        ; children = c .before .number16 .ensures .0 i
-        ; «type_length» = type-length i
-        ; scale = scale-is i
-        ; precision = precision-is i
-        ; «name_length» = getD slot nameLengthAt 0
-        }
+    record {
+      physical = getD slot physicalAt 0;
+      repetition = getD slot repetitionAt 0;
+      converted = getD slot convertedAt 0;
+      logical = getD slot logicalAt 0;
+      a = getD slot parameterAAt 0;
+      b = getD slot parameterBAt 0;
+      children = c .before .number16 .ensures .0 i;
+      «type_length» = type-length i;
+      scale = scale-is i;
+      precision = precision-is i;
+      «name_length» = getD slot nameLengthAt 0;
+    }
 
 pub numbers-of-spec : {M : Type 1} → statement M
 numbers-of-spec =

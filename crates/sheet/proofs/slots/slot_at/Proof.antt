@@ -16,7 +16,7 @@ empty-slot-requires : tie.Need-empty-slot-requires
 empty-slot-requires c κs = search needs
 
 returns : tie.Need-returns
-returns c = 
+returns c =
     let a = c .before .before .before .args in
     c .empty-slot .ensures ∙ ap numbersOf (sym (slotAt-empty (a .sheet .now) (a .node) (reaches-past (a .sheet .now) (a .node) (c .before .if1 .taken))))
 
@@ -30,7 +30,7 @@ empty-slot-requires-2 : tie.Need-empty-slot-requires-2
 empty-slot-requires-2 c κs = search needs
 
 returns-2 : tie.Need-returns-2
-returns-2 c = 
+returns-2 c =
     let a = c .before .before .before .before .before .args in
     c .empty-slot2 .ensures ∙ ap numbersOf (sym (slotAt-empty (a .sheet .now) (a .node) (reaches-short (a .sheet .now) (a .node) (omega arith) (omega arith))))
 
@@ -50,7 +50,7 @@ numbers-of-requires : tie.Need-numbers-of-requires
 numbers-of-requires c κs = search needs
 
 returns-3 : tie.Need-returns-3
-returns-3 c = 
+returns-3 c =
     let a = c .before .before .before .before .before .before .args in
     let there = reaches-true (a .sheet .now) (a .node) (omega arith) (omega arith) in
     c .numbers-of .ensures ∙ ap numbersOf (slotAt-slice (a .sheet .now) (a .node) _ (c .before .before .before .slot-start .ensures) there)

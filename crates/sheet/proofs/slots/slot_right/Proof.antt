@@ -32,7 +32,7 @@ slot-sound-requires : tie.Need-slot-sound-requires
 slot-sound-requires c κs = search needs
 
 returns : tie.Need-returns
-returns c = 
+returns c =
     let a = c .before .before .before .before .before .args in
     let there = reaches-true (a .sheet .now) (a .k) (c .before .before .before .before .before .pre .0) (c .before .before .before .before .before .pre .1 .0) in
     let slot = slotAt-slice (a .sheet .now) (a .k) _ (c .before .before .before .slot-start .ensures) there in
@@ -42,7 +42,7 @@ all-zero-requires : tie.Need-all-zero-requires
 all-zero-requires c κs = search needs
 
 returns-2 : tie.Need-returns-2
-returns-2 c = 
+returns-2 c =
     let a = c .before .before .before .before .before .args in
     let there = reaches-true (a .sheet .now) (a .k) (c .before .before .before .before .before .pre .0) (c .before .before .before .before .before .pre .1 .0) in
     let slot = slotAt-slice (a .sheet .now) (a .k) _ (c .before .before .before .slot-start .ensures) there in
