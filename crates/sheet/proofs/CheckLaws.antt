@@ -1,0 +1,9 @@
+-- Laws of a block's check.
+use Prim.Native.Nat.{ℕ, _+_, _*_, _≤_, _<_}
+use native.Mathlib.Nat.{le-trans, mul-le-mul-left, mul-le-mul-right}
+use native.Mathlib.Omega.{arith}
+use Rattle.sheet.specs.Block.{checkAt}
+
+-- a byte times its weight is at most 510 times 255
+pub weight-le : (i byte : ℕ) → i < checkAt → byte < 256 → (i + 1) * byte ≤ checkAt * 255
+weight-le i byte h l = le-trans (mul-le-mul-right byte (omega arith)) (mul-le-mul-left {n = 255} checkAt (omega arith))

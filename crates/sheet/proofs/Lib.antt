@@ -1,0 +1,11 @@
+-- Laws of the sheet's definitions.
+pub mod TestLaws
+pub mod PartLaws
+pub mod NumberLaws
+pub mod CheckLaws
+pub mod SlotLaws
+pub mod SoundLaws
+pub mod HeaderLaws
+pub mod FirstLaws
+pub mod OpeningLaws
+pub mod NameLaws

@@ -1,0 +1,31 @@
+-- Laws of the numbers in a list of bytes.
+use mathlib.Core.Path.{_≡_}
+use mathlib.Core.List.{List}
+use Prim.Native.Nat.{ℕ, suc, _+_, _-_, _*_, _^_, _≤_, _<_}
+use native.Mathlib.Numerals.{towards-suc}
+use native.Mathlib.Omega.{arith}
+use lib.IntN.{ℤ, pos, negsuc, _-ℤ_}
+use lib.ListN.{getD}
+use borrow.Author.Tests.{lt-ltb, le-ltb}
+use Rattle.sheet.specs.Number.{numberAt, signed32}
+
+-- a number of two bytes, written out
+pub numberAt-two : (bytes : List ℕ) (at : ℕ) → numberAt bytes at 2 ≡ getD bytes at 0 + 256 * getD bytes (at + 1) 0
+unfolding numberAt
+numberAt-two bytes at = simp towards-suc (omega arith)
+
+-- a number of four bytes, written out
+pub numberAt-four : (bytes : List ℕ) (at : ℕ)
+    → numberAt bytes at 4 ≡ getD bytes at 0 + 256 * (getD bytes (at + 1) 0 + 256 * (getD bytes (at + 2) 0 + 256 * getD bytes (at + 3) 0))
+unfolding numberAt
+numberAt-four bytes at = simp towards-suc (omega arith)
+
+-- the lower half stands for itself
+pub signed32-low : (n : ℕ) → n < 2 ^ 31 → signed32 n ≡ pos n
+unfolding signed32
+signed32-low n h = rw (lt-ltb n (2 ^ 31) h)
+
+-- the upper half counts up to -1
+pub signed32-high : (n : ℕ) → 2 ^ 31 ≤ n → n < 2 ^ 32 → signed32 n ≡ negsuc (2 ^ 32 - suc n)
+unfolding signed32
+signed32-high n l h = rw (le-ltb n (2 ^ 31) l, lt-ltb n (2 ^ 32) h)

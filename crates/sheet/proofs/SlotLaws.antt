@@ -1,0 +1,78 @@
+-- Laws of a sheet's slots.
+use mathlib.Core.Path.{_≡_, refl, sym, ap, _∙_}
+use mathlib.Core.Bool.{Bool, true, false, _&&_, and-eq-true-iff}
+use mathlib.Core.List.{List}
+use Prim.Native.Nat.{ℕ, _+_, _-_, _*_, _≤_, _<_}
+use native.Mathlib.Omega.{arith}
+use lib.Dec.{leb, ltb}
+use lib.ListN.{length, getD, take, drop}
+use lib.Seq.{getD-take, getD-drop}
+use borrow.Author.Tests.{lt-ltb, le-ltb, le-leb, lt-leb, leb-true}
+use Rattle.sheet.specs.Block.{mostBytes, mostNodes, slotsInBlock, slotSize, blockCount}
+use Rattle.sheet.specs.Slot.{slotStart, reaches, emptySlot, slotAt}
+use Rattle.sheet.proofs.PartLaws.{take-to, length-part}
+
+-- every node's slot lies within the longest sheet
+pub slotStart-most : (k : ℕ) → k < mostNodes → slotStart k + slotSize ≤ mostBytes
+unfolding slotStart
+slotStart-most k h = omega arith
+
+-- the slots of the whole blocks lie within the bytes
+pub slotStart-within : (sheet : List ℕ) (k : ℕ) → k < slotsInBlock * blockCount sheet → slotStart k + slotSize ≤ length sheet
+unfolding slotStart blockCount
+slotStart-within sheet k h = omega arith
+
+-- and are no more than a sheet can have nodes
+pub blockCount-most : (sheet : List ℕ) → length sheet ≤ mostBytes → slotsInBlock * blockCount sheet ≤ mostNodes
+unfolding blockCount
+blockCount-most sheet h = omega arith
+
+pub reaches-true : (sheet : List ℕ) (k : ℕ) → k < mostNodes → slotStart k + slotSize ≤ length sheet → reaches sheet k ≡ true
+unfolding reaches
+reaches-true sheet k l h = rw (lt-ltb k mostNodes l, le-leb (slotStart k + slotSize) (length sheet) h)
+
+pub reaches-past : (sheet : List ℕ) (k : ℕ) → mostNodes ≤ k → reaches sheet k ≡ false
+unfolding reaches
+reaches-past sheet k l = rw (le-ltb k mostNodes l)
+
+pub reaches-short : (sheet : List ℕ) (k : ℕ) → k < mostNodes → length sheet < slotStart k + slotSize → reaches sheet k ≡ false
+unfolding reaches
+reaches-short sheet k l h = rw (lt-ltb k mostNodes l, lt-leb (slotStart k + slotSize) (length sheet) h)
+
+-- where the bytes reach, a slot is what stands there
+pub slotAt-there : (sheet : List ℕ) (k : ℕ) → reaches sheet k ≡ true → slotAt sheet k ≡ take slotSize (drop (slotStart k) sheet)
+unfolding slotAt
+slotAt-there sheet k e = rw e
+
+-- and zeros elsewhere
+pub slotAt-empty : (sheet : List ℕ) (k : ℕ) → reaches sheet k ≡ false → slotAt sheet k ≡ emptySlot
+unfolding slotAt
+slotAt-empty sheet k e = rw e
+
+-- a slot as a slice of the code has it
+pub slotAt-slice : (sheet : List ℕ) (k start : ℕ) → start ≡ slotStart k → reaches sheet k ≡ true
+    → take (start + slotSize - start) (drop start sheet) ≡ slotAt sheet k
+slotAt-slice sheet k start e r =
+    take-to sheet start slotSize ∙ ap (λ (at : ℕ). take slotSize (drop at sheet)) e ∙ sym (slotAt-there sheet k r)
+
+-- a byte of a slot is a byte of the sheet
+pub slotAt-byte : (sheet : List ℕ) (k i : ℕ) → reaches sheet k ≡ true → i < slotSize → getD (slotAt sheet k) i 0 ≡ getD sheet (slotStart k + i) 0
+slotAt-byte sheet k i r h =
+    ap (λ (slot : List ℕ). getD slot i 0) (slotAt-there sheet k r)
+    ∙ getD-take slotSize (drop (slotStart k) sheet) i 0 h
+    ∙ getD-drop (slotStart k) sheet i 0
+
+-- a slot that the bytes reach lies within them
+pub reaches-within : (sheet : List ℕ) (k : ℕ) → reaches sheet k ≡ true → slotStart k + slotSize ≤ length sheet
+unfolding reaches
+reaches-within sheet k r =
+    leb-true (slotStart k + slotSize) (length sheet) (and-eq-true-iff (ltb k mostNodes) (leb (slotStart k + slotSize) (length sheet)) .0 r .1)
+
+-- every slot has its 72 bytes
+pub slotAt-length : (sheet : List ℕ) (k : ℕ) → length (slotAt sheet k) ≡ slotSize
+unfolding emptySlot
+slotAt-length sheet k = cases (reaches sheet k) refl
+  where
+    cases : (t : Bool) → reaches sheet k ≡ t → length (slotAt sheet k) ≡ slotSize
+    cases true r = ap length (slotAt-there sheet k r) ∙ length-part sheet (slotStart k) slotSize (reaches-within sheet k r)
+    cases false r = ap length (slotAt-empty sheet k r)

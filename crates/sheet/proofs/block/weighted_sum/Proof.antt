@@ -1,0 +1,84 @@
+-- `sheet::block::weighted_sum` meets its contract. The invariant: the sum so far is that of the bytes passed, and at most 510 times 255 for each.
+use mathlib.Core.Path.{_≡_, sym, ap, _∙_}
+use Prim.Native.Nat.{ℕ, _+_, _*_, _≤_, _<_, _-_}
+use native.Mathlib.Numerals.{add-one}
+use native.Mathlib.Omega.{arith}
+use lib.ListN.{length, getD}
+use borrow.Author.Needs.{needs}
+use Rattle.sheet.specs.Block.{checkAt}
+use Rattle.sheet.specs.Check.{sumBelow, weighted}
+use Rattle.sheet.proofs.CheckLaws.{weight-le}
+use Rattle.sheet.proofs.block.weighted_sum.Statement.{statement}
+use Rattle.sheet.proofs.block.weighted_sum.Tie as tie
+use Rattle.sheet.proofs.block.weighted_sum.Reads as reads
+use Rattle.sheet.proofs.block.weighted_sum.Lts as lts
+use Rattle.sheet.proofs.number.wide.Reads as wide-reads
+
+abbrev Inv-loop : tie.InvT-loop
+Inv-loop block sum₀ i₀ sum i = (i ≤ checkAt) × (sum ≡ sumBelow (weighted block) i) × (sum ≤ checkAt * 255 * i)
+
+abbrev μ-loop : tie.MeasureT-loop
+μ-loop block sum₀ i₀ sum i = checkAt - i
+
+loop-holds : tie.Need-loop-holds Inv-loop μ-loop
+unfolding sumBelow
+loop-holds c = omega arith
+
+cast-sum : tie.Need-cast-sum Inv-loop μ-loop
+cast-sum c = omega arith
+
+add-sum : tie.Need-add-sum Inv-loop μ-loop
+add-sum c = omega arith
+
+shared-slice-read-wide : tie.Need-shared-slice-read-wide Inv-loop μ-loop
+shared-slice-read-wide c = omega arith
+
+wide-requires : tie.Need-wide-requires Inv-loop μ-loop
+wide-requires c κs = search needs
+
+bound : (c : tie.After-wide Inv-loop μ-loop) → (c .before .before .before .loop .i + 1) * c .wide .result ≤ checkAt * 255
+bound c = weight-le _ _ (omega arith) (c .wide .ensures .1)
+
+mul-sum : tie.Need-mul-sum Inv-loop μ-loop
+mul-sum c = omega (arith, bound c)
+
+add-sum-2 : tie.Need-add-sum-2 Inv-loop μ-loop
+add-sum-2 c = omega (arith, bound c)
+
+add-i : tie.Need-add-i Inv-loop μ-loop
+add-i c = omega arith
+
+loop-less : tie.Need-loop-less Inv-loop μ-loop
+loop-less c = omega arith
+
+-- one more byte
+more : (c : tie.After-wide Inv-loop μ-loop)
+    → let own = c .before .before .before .loop in
+    let block = c .before .before .before .before .before .args .block .now in
+    own .sum + (own .i + 1) * c .wide .result ≡ sumBelow (weighted block) (own .i + 1)
+unfolding sumBelow weighted
+more c = simp add-one (cc)
+
+loop-again : tie.Need-loop-again Inv-loop μ-loop
+loop-again c = (omega arith, more c, omega (arith, bound c))
+
+returns : tie.Need-returns Inv-loop μ-loop
+returns c = c .before .loop .inv .1 ∙ ap (sumBelow _) (omega arith)
+
+pub weighted-sum-spec : {M : Type 1} → statement M
+weighted-sum-spec =
+    tie.close
+    (tie.spec
+    Inv-loop
+    μ-loop
+    loop-holds
+    cast-sum
+    add-sum
+    shared-slice-read-wide
+    wide-requires
+    mul-sum
+    add-sum-2
+    add-i
+    loop-less
+    loop-again
+    returns)

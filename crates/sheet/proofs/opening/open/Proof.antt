@@ -1,0 +1,73 @@
+-- `sheet::opening::open` meets its contract: each test on the way says which case of the definition holds.
+use borrow.Author.Needs.{needs}
+use mathlib.Core.Path.{refl, sym, ap, _∙_}
+use native.Mathlib.Omega.{arith}
+use Rattle.sheet.specs.Block.{blockCount}
+use Rattle.sheet.specs.declared.opening.Opened.the-variants.{Nodes}
+use Rattle.sheet.proofs.TestLaws.{failed, passed}
+use Rattle.sheet.proofs.HeaderLaws.{lengthRight-least, lengthRight-most}
+use Rattle.sheet.proofs.OpeningLaws.{openOf-length, openOf-check, openOf-header, openOf-slot, openOf-nodes}
+use Rattle.sheet.proofs.opening.open.Statement.{statement}
+use Rattle.sheet.proofs.opening.open.Tie as tie
+use Rattle.sheet.proofs.opening.open.Reads as reads
+use Rattle.sheet.proofs.opening.open.Lts as lts
+use Rattle.sheet.proofs.block.total_of.Reads as total-of-reads
+use Rattle.sheet.proofs.opening.first_bad_check.Reads as first-bad-check-reads
+use Rattle.sheet.proofs.opening.first_bad_header.Reads as first-bad-header-reads
+use Rattle.sheet.proofs.opening.first_bad_slot.Reads as first-bad-slot-reads
+use Rattle.sheet.proofs.opening.length_right.Reads as length-right-reads
+
+length-right-requires : tie.Need-length-right-requires
+length-right-requires c κs = search needs
+
+returns : tie.Need-returns
+returns c = sym (openOf-length _ (failed (c .before .length-right .ensures) (c .if1 .taken)))
+
+first-bad-check-requires : tie.Need-first-bad-check-requires
+first-bad-check-requires c κs = search needs
+
+returns-2 : tie.Need-returns-2
+unfolding blockCount
+returns-2 c = sym (openOf-check _ (passed (c .before .before .before .length-right .ensures) (c .before .before .if1 .left)) (c .before .first-bad-check .ensures) (c .if2 .taken))
+
+total-of-requires : tie.Need-total-of-requires
+total-of-requires c κs = lengthRight-least _ (passed (c .before .before .before .length-right .ensures) (c .before .before .if1 .left))
+
+first-bad-header-requires : tie.Need-first-bad-header-requires
+unfolding blockCount
+first-bad-header-requires c κs = (omega arith, (refl, c .total-of .ensures))
+
+returns-3 : tie.Need-returns-3
+unfolding blockCount
+returns-3 c = sym (openOf-header _ (passed (c .before .before .before .before .before .before .length-right .ensures) (c .before .before .before .before .before .if1 .left)) (c .before .before .before .before .first-bad-check .ensures) (c .before .before .before .if2 .left) (c .before .first-bad-header .ensures) (c .if3 .taken))
+
+mul-slots : tie.Need-mul-slots
+mul-slots c = search needs
+
+first-bad-slot-requires : tie.Need-first-bad-slot-requires
+unfolding blockCount
+first-bad-slot-requires c κs = (lengthRight-most _ (passed (c .before .before .before .before .before .before .length-right .ensures) (c .before .before .before .before .before .if1 .left)), (refl, c .before .before .total-of .ensures))
+
+returns-4 : tie.Need-returns-4
+unfolding blockCount
+returns-4 c = sym (openOf-slot _ (passed (c .before .before .before .before .before .before .before .before .length-right .ensures) (c .before .before .before .before .before .before .before .if1 .left)) (c .before .before .before .before .before .before .first-bad-check .ensures) (c .before .before .before .before .before .if2 .left) (c .before .before .before .first-bad-header .ensures) (c .before .before .if3 .left) (c .before .first-bad-slot .ensures) (c .if4 .taken))
+
+returns-5 : tie.Need-returns-5
+unfolding blockCount
+returns-5 c = ap Nodes (c .before .before .before .before .total-of .ensures) ∙ sym (openOf-nodes _ (passed (c .before .before .before .before .before .before .before .before .length-right .ensures) (c .before .before .before .before .before .before .before .if1 .left)) (c .before .before .before .before .before .before .first-bad-check .ensures) (c .before .before .before .before .before .if2 .left) (c .before .before .before .first-bad-header .ensures) (c .before .before .if3 .left) (c .before .first-bad-slot .ensures) (c .if4 .left))
+
+pub open-spec : {M : Type 1} → statement M
+open-spec =
+    tie.close
+    (tie.spec
+    length-right-requires
+    returns
+    first-bad-check-requires
+    returns-2
+    total-of-requires
+    first-bad-header-requires
+    returns-3
+    mul-slots
+    first-bad-slot-requires
+    returns-4
+    returns-5)

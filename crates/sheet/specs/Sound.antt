@@ -1,0 +1,95 @@
+-- When a slot is sound: its codes stand in the lists of document 01, its name has a length, and zeros stand where zeros must.
+use Prim.Native.Nat.{ℕ, _+_, _-_}
+use mathlib.Core.Bool.{Bool, true, cond, _&&_, _||_}
+use mathlib.Core.List.{List, [], _∷_}
+use lib.Dec.{leb, ltb, eqb}
+use lib.ListN.{take, drop}
+use Rattle.sheet.specs.Block.{totalOf}
+use Rattle.sheet.specs.Slot.{physical, repetition, converted, logical, nameLength, reservedAt, nameAt, slotAt}
+
+-- a code of a list that runs from 0 to its last code, or the one code beside it
+unfoldable pub listed : ℕ → ℕ → ℕ → Bool
+listed last beside code = leb code last || eqb code beside
+
+-- "BOOLEAN 0, .. FIXED_LEN_BYTE_ARRAY 7, group 255"
+abbrev pub fixedLenByteArray : ℕ
+fixedLenByteArray = 7
+
+abbrev pub group : ℕ
+group = 255
+
+unfoldable pub physicalListed : ℕ → Bool
+physicalListed code = listed fixedLenByteArray group code
+
+-- "required 0, optional 1, repeated 2, none 255"
+abbrev pub repeated : ℕ
+repeated = 2
+
+abbrev pub noRepetition : ℕ
+noRepetition = 255
+
+unfoldable pub repetitionListed : ℕ → Bool
+repetitionListed code = listed repeated noRepetition code
+
+-- "converted (0-21, none 255)", 21 being INTERVAL
+abbrev pub interval : ℕ
+interval = 21
+
+abbrev pub noConverted : ℕ
+noConverted = 255
+
+unfoldable pub convertedListed : ℕ → Bool
+convertedListed code = listed interval noConverted code
+
+-- "logical (1-8, 10-14, none 0)", 8 being TIMESTAMP, 10 INTEGER and 14 UUID
+abbrev pub timestamp : ℕ
+timestamp = 8
+
+abbrev pub integer : ℕ
+integer = 10
+
+abbrev pub uuid : ℕ
+uuid = 14
+
+unfoldable pub logicalListed : ℕ → Bool
+logicalListed code = leb code timestamp || (leb integer code && leb code uuid)
+
+-- "name length 1-48"
+abbrev pub mostNameLength : ℕ
+mostNameLength = 48
+
+unfoldable pub nameLengthRight : ℕ → Bool
+nameLengthRight n = leb 1 n && leb n mostNameLength
+
+-- every byte is zero
+unfoldable pub allZero : List ℕ → Bool
+allZero [] = true
+allZero (byte ∷ bytes) = eqb byte 0 && allZero bytes
+
+-- "21-23 zero"
+unfoldable pub reservedZero : List ℕ → Bool
+reservedZero slot = allZero (take (nameAt - reservedAt) (drop reservedAt slot))
+
+-- "24-71 name, zero after its length"
+unfoldable pub tailZero : List ℕ → Bool
+tailZero slot = allZero (drop (nameAt + nameLength slot) slot)
+
+-- no "slot code outside the lists above"
+unfoldable pub codesListed : List ℕ → Bool
+codesListed slot =
+    physicalListed (physical slot)
+    && repetitionListed (repetition slot)
+    && convertedListed (converted slot)
+    && logicalListed (logical slot)
+
+-- no "name length or zero bytes wrong"
+unfoldable pub nameRight : List ℕ → Bool
+nameRight slot = nameLengthRight (nameLength slot) && reservedZero slot && tailZero slot
+
+-- a slot in use is sound; its other fields may hold anything
+unfoldable pub slotSound : List ℕ → Bool
+slotSound slot = codesListed slot && nameRight slot
+
+-- the slot of number k is sound where k is a node's, and zero where it is not
+unfoldable pub slotRight : List ℕ → ℕ → Bool
+slotRight sheet k = cond (ltb k (totalOf sheet)) (slotSound (slotAt sheet k)) (allZero (slotAt sheet k))

@@ -1,0 +1,16 @@
+// The sheet: bytes are sound blocks and slots, or the one refusal of 1 to 4 that document 01 names.
+mod number; // number.rt: little-endian numbers in bytes
+mod block; // block.rt: a block's check and header
+mod codes; // codes.rt: the codes that a slot may hold
+mod slots; // slots.rt: a node's slot, its numbers and its soundness
+mod names; // names.rt: a node's name, and names compared
+mod opening; // opening.rt: a sheet's nodes, or the refusal
+
+pub use names::Stretch;
+pub use names::name_is;
+pub use names::name_is_with;
+pub use names::name_stretch;
+pub use opening::Opened;
+pub use opening::open;
+pub use slots::Slot;
+pub use slots::slot_at;

@@ -1,0 +1,115 @@
+// Opening a sheet: refusals 1 to 4, each judged over the whole sheet before the next.
+ghost use mathlib.Core.Path.{_≡_};
+ghost use Prim.Native.Nat.{_*_, _≤_, _<_};
+ghost use lib.ListN.{length};
+ghost use Rattle.sheet.specs.Block.{blockSize, mostBytes, slotsInBlock, blockCount, totalOf};
+ghost use Rattle.sheet.specs.Check.{checkRight};
+ghost use Rattle.sheet.specs.Header.{lengthRight, headerRight};
+ghost use Rattle.sheet.specs.Sound.{slotRight};
+ghost use Rattle.sheet.specs.First.{firstWrong};
+ghost use Rattle.sheet.specs.Opening.{openOf};
+use crate::block::BLOCK_SIZE;
+use crate::block::SLOTS_IN_BLOCK;
+use crate::block::check_right;
+use crate::block::header_right;
+use crate::block::total_of;
+use crate::slots::slot_right;
+
+const MOST_BYTES: usize = 65536;
+
+// What opening finds.
+pub enum Opened {
+    // A sheet of so many nodes.
+    Nodes(usize),
+    // The length is 0, not a multiple of 512, or over 65,536.
+    BadLength,
+    // The first block whose check differs.
+    BadCheck(usize),
+    // The first block whose header is wrong.
+    BadHeader(usize),
+    // The first node whose slot is wrong, or the first unused slot that is not zero.
+    BadSlot(usize),
+}
+
+// The number of nodes of a sheet, or the first refusal that holds of it.
+pub fn open(sheet: &[u8]) -> Opened
+    ensures { λ r. ⌜ r ≡ openOf (now (sheet .entry)) ⌝ }
+{
+    if !length_right(sheet.len()) {
+        return Opened::BadLength;
+    }
+    let blocks = sheet.len() / BLOCK_SIZE;
+    let check = first_bad_check(sheet, blocks);
+    if check < blocks {
+        return Opened::BadCheck(check);
+    }
+    let total = total_of(sheet);
+    let header = first_bad_header(sheet, blocks, total);
+    if header < blocks {
+        return Opened::BadHeader(header);
+    }
+    let slots = SLOTS_IN_BLOCK * blocks;
+    let slot = first_bad_slot(sheet, slots, total);
+    if slot < slots {
+        return Opened::BadSlot(slot);
+    }
+    Opened::Nodes(total)
+}
+
+fn length_right(n: usize) -> bool
+    ensures { λ r. ⌜ r ≡ lengthRight n ⌝ }
+{
+    if n < 1 {
+        return false;
+    }
+    if n % BLOCK_SIZE != 0 {
+        return false;
+    }
+    n <= MOST_BYTES
+}
+
+fn first_bad_check(sheet: &[u8], blocks: usize) -> usize
+    requires { ⌜ blockSize * blocks ≤ length (now sheet) ⌝ }
+    ensures { λ r. ⌜ r ≡ firstWrong (checkRight (now (sheet .entry))) blocks ⌝ }
+{
+    let mut i = 0;
+    while i < blocks {
+        if !check_right(sheet, i) {
+            return i;
+        }
+        i += 1;
+    }
+    blocks
+}
+
+fn first_bad_header(sheet: &[u8], blocks: usize, total: usize) -> usize
+    requires { ⌜ blockSize * blocks ≤ length (now sheet) ⌝ }
+    requires { ⌜ blocks ≡ blockCount (now sheet) ⌝ }
+    requires { ⌜ total ≡ totalOf (now sheet) ⌝ }
+    ensures { λ r. ⌜ r ≡ firstWrong (headerRight (now (sheet .entry))) blocks ⌝ }
+{
+    let mut i = 0;
+    while i < blocks {
+        if !header_right(sheet, i, total, blocks) {
+            return i;
+        }
+        i += 1;
+    }
+    blocks
+}
+
+fn first_bad_slot(sheet: &[u8], slots: usize, total: usize) -> usize
+    requires { ⌜ length (now sheet) ≤ mostBytes ⌝ }
+    requires { ⌜ slots ≡ slotsInBlock * blockCount (now sheet) ⌝ }
+    requires { ⌜ total ≡ totalOf (now sheet) ⌝ }
+    ensures { λ r. ⌜ r ≡ firstWrong (slotRight (now (sheet .entry))) slots ⌝ }
+{
+    let mut k = 0;
+    while k < slots {
+        if !slot_right(sheet, k, total) {
+            return k;
+        }
+        k += 1;
+    }
+    slots
+}
