@@ -1,0 +1,59 @@
+// What the rewritten sheet says of a node.
+ghost use mathlib.Core.Path.{_≡_};
+ghost use Rattle.annotation.specs.Rewriting.{writtenOf, writtenAs, logicalWritten};
+use crate::conversion::forward;
+use crate::converted;
+use crate::logical;
+use crate::logical::Annotation;
+use crate::logical::LogicalType;
+use crate::logical::spelled;
+use crate::slot::Annotated;
+use crate::slot::annotation;
+
+// The annotation numbers of a rewritten slot.
+pub struct Written {
+    pub converted: u8,
+    pub logical: u8,
+    pub a: u8,
+    pub b: u8,
+}
+
+// Every logical annotation with its parameters and its forward image, INTERVAL as converted alone, else none: what the slot
+// says once it is rewritten. under_map is as for resolve.
+pub fn rewrite(n: Annotated, under_map: bool) -> Written
+    ensures { λ r. ⌜ r ≡ writtenOf n «under_map» ⌝ }
+{
+    written_as(annotation(n, under_map))
+}
+
+fn written_as(annotation: Annotation) -> Written
+    ensures { λ r. ⌜ r ≡ writtenAs annotation ⌝ }
+{
+    match annotation {
+        Annotation::Logical(l) => logical_written(l),
+        Annotation::Interval => Written {
+            converted: converted::INTERVAL,
+            logical: logical::NONE,
+            a: logical::UNUSED,
+            b: logical::UNUSED,
+        },
+        _ => Written {
+            converted: converted::NONE,
+            logical: logical::NONE,
+            a: logical::UNUSED,
+            b: logical::UNUSED,
+        },
+    }
+}
+
+fn logical_written(l: LogicalType) -> Written
+    ensures { λ r. ⌜ r ≡ logicalWritten l ⌝ }
+{
+    let codes = spelled(l);
+    Written {
+        converted: forward(l),
+        logical: codes.logical,
+        a: codes.a,
+        b: codes.b,
+    }
+}
