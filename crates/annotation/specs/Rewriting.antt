@@ -1,4 +1,5 @@
 -- What the rewritten sheet says of a node (01, "Rows and the rewritten sheet").
+use Prim.Native.Nat.{ℕ}
 use mathlib.Core.Bool.{Bool}
 use Rattle.annotation.specs.Converted as converted
 use Rattle.annotation.specs.Logical as logical
@@ -10,24 +11,21 @@ use Rattle.annotation.specs.declared.logical.Annotation.{Annotation}
 use Rattle.annotation.specs.declared.slot.Annotated.{Annotated}
 use Rattle.annotation.specs.declared.rewriting.Written.{Written}
 
--- no annotation
-abbrev pub noneWritten : Written
-noneWritten = record { converted = converted.NONE; logical = logical.NONE; a = UNUSED; b = UNUSED }
+-- a converted type alone, or none
+abbrev pub convertedWritten : ℕ → Written
+convertedWritten code = record { converted = code; logical = logical.NONE; a = UNUSED; b = UNUSED }
 
 -- "every resolved logical annotation with its parameters and its forward image"
 abbrev pub logicalWritten : LogicalType → Written
 logicalWritten l =
     record { converted = forwardOf l; logical = spelledOf l .logical; a = spelledOf l .a; b = spelledOf l .b }
 
--- "INTERVAL keeps converted alone"
-abbrev pub intervalWritten : Written
-intervalWritten = record { converted = converted.INTERVAL; logical = logical.NONE; a = UNUSED; b = UNUSED }
-
+-- what is written for an annotation: "INTERVAL keeps converted alone"; what cannot be read is never written, since rule 10 refuses it
 abbrev pub writtenAs : Annotation → Written
-writtenAs Annotation.Plain = noneWritten
+writtenAs Annotation.Plain = convertedWritten converted.NONE
 writtenAs (Annotation.Logical l) = logicalWritten l
-writtenAs Annotation.Interval = intervalWritten
-writtenAs Annotation.Unreadable = noneWritten
+writtenAs Annotation.Interval = convertedWritten converted.INTERVAL
+writtenAs Annotation.Unreadable = convertedWritten converted.NONE
 
 -- what is written for a slot; "a key_value layer has none", since MAP_KEY_VALUE counts as no annotation there
 unfoldable pub writtenOf : Annotated → Bool → Written

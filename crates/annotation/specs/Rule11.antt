@@ -44,10 +44,15 @@ isDecimal (Annotation.Logical l) = eqb (spelledOf l .logical) logical.DECIMAL
 isDecimal Annotation.Interval = false
 isDecimal Annotation.Unreadable = false
 
--- what rule 11 asks of a DECIMAL; it asks nothing of another annotation
+-- what rule 11 asks of a DECIMAL
 unfoldable pub decimalHolds : Annotated → Bool
 decimalHolds n =
     ordered (n .precision) (n .scale) && physicalHolds (n .physical) (natural (n .«type_length»)) (natural (n .precision))
 
+-- it asks nothing of another annotation
+abbrev pub digitsAllowed : Annotation → Annotated → Bool
+digitsAllowed says n = not (isDecimal says) || decimalHolds n
+
+-- "DECIMAL scale or precision" is what it refuses (01, rule 11)
 unfoldable pub rule11 : Annotated → Bool → Bool
-rule11 n underMap = not (isDecimal (annotationOf n underMap)) || decimalHolds n
+rule11 n underMap = digitsAllowed (annotationOf n underMap) n

@@ -44,8 +44,10 @@ pub fn image(annotation: Annotation) -> u8
     ensures { λ r. ⌜ r ≡ imageOf annotation ⌝ }
 {
     match annotation {
+        Annotation::Plain => converted::NONE,
         Annotation::Logical(l) => forward(l),
-        _ => converted::NONE,
+        Annotation::Interval => converted::NONE,
+        Annotation::Unreadable => converted::NONE,
     }
 }
 

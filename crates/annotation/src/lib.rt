@@ -1,13 +1,15 @@
 // Annotations of one schema node: what its converted and logical types mean, and where they may stand.
 //
 // A slot is document 01's word for the numbers of one node of a sheet. Nothing here knows bytes or trees.
+mod agreement; // rule 9: converted and logical agree
 mod converted; // codes of the converted types
 mod conversion; // forward and backward between logical and converted types
+mod decimals; // rule 11: precision and scale
 mod logical; // the logical types with their parameters and codes
 mod physical; // codes of the physical types
-mod resolution; // rules 9, 10 and 11, their order, and the kind
+mod placement; // rule 10: physical type and length
+mod resolution; // the rules in order, and the kind
 mod rewriting; // what the rewritten sheet says of a node
-mod rules; // rules 9, 10 and 11, one by one
 mod slot; // the numbers of one slot, and what its annotations mean
 
 pub use logical::Annotation;

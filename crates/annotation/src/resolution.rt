@@ -1,17 +1,17 @@
 // The outcome of a slot: its kind as rows have it, or the first of the rules 9, 10 and 11 that it breaks.
 ghost use mathlib.Core.Path.{_≡_};
-ghost use Rattle.annotation.specs.Rule11.{isDecimal};
 ghost use Rattle.annotation.specs.Kinds.{kindAs, plainKind, decimalKind, logicalKind};
 ghost use Rattle.annotation.specs.Outcome.{resolutionOf};
+use crate::agreement::agree;
 use crate::converted;
+use crate::decimals::digits_allowed;
+use crate::decimals::is_decimal;
 use crate::logical;
 use crate::logical::Annotation;
 use crate::logical::LogicalType;
 use crate::logical::spelled;
 use crate::physical;
-use crate::rules::agree;
-use crate::rules::decimal_holds;
-use crate::rules::may_stand;
+use crate::placement::may_stand;
 use crate::slot::Annotated;
 use crate::slot::annotation;
 use crate::slot::length;
@@ -51,10 +51,8 @@ pub fn resolve(n: Annotated, under_map: bool) -> Resolution
     if !may_stand(says, n.physical, length(n)) {
         return Resolution::Misplaced;
     }
-    if is_decimal(says) {
-        if !decimal_holds(n) {
-            return Resolution::BadDecimal;
-        }
+    if !digits_allowed(says, n) {
+        return Resolution::BadDecimal;
     }
     Resolution::Resolved(kind_as(says, n))
 }
@@ -64,6 +62,7 @@ fn kind_as(says: Annotation, n: Annotated) -> Kind
     ensures { λ r. ⌜ r ≡ kindAs says n ⌝ }
 {
     match says {
+        Annotation::Plain => plain_kind(n.physical),
         Annotation::Logical(l) => {
             if is_decimal(says) {
                 decimal_kind(n)
@@ -76,7 +75,7 @@ fn kind_as(says: Annotation, n: Annotated) -> Kind
             p1: 0,
             p2: 0,
         },
-        _ => plain_kind(n.physical),
+        Annotation::Unreadable => plain_kind(n.physical),
     }
 }
 
@@ -123,13 +122,4 @@ fn wide(x: u8) -> u32
     ensures { λ r. ⌜ r ≡ x ⌝ }
 {
     x as u32
-}
-
-fn is_decimal(says: Annotation) -> bool
-    ensures { λ r. ⌜ r ≡ isDecimal says ⌝ }
-{
-    match says {
-        Annotation::Logical(l) => spelled(l).logical == logical::DECIMAL,
-        _ => false,
-    }
 }

@@ -1,6 +1,6 @@
 // What the rewritten sheet says of a node.
 ghost use mathlib.Core.Path.{_≡_};
-ghost use Rattle.annotation.specs.Rewriting.{writtenOf, writtenAs, logicalWritten};
+ghost use Rattle.annotation.specs.Rewriting.{writtenOf, writtenAs, convertedWritten, logicalWritten};
 use crate::conversion::forward;
 use crate::converted;
 use crate::logical;
@@ -30,19 +30,22 @@ fn written_as(annotation: Annotation) -> Written
     ensures { λ r. ⌜ r ≡ writtenAs annotation ⌝ }
 {
     match annotation {
+        Annotation::Plain => converted_written(converted::NONE),
         Annotation::Logical(l) => logical_written(l),
-        Annotation::Interval => Written {
-            converted: converted::INTERVAL,
-            logical: logical::NONE,
-            a: logical::UNUSED,
-            b: logical::UNUSED,
-        },
-        _ => Written {
-            converted: converted::NONE,
-            logical: logical::NONE,
-            a: logical::UNUSED,
-            b: logical::UNUSED,
-        },
+        Annotation::Interval => converted_written(converted::INTERVAL),
+        Annotation::Unreadable => converted_written(converted::NONE),
+    }
+}
+
+// A converted type alone, or none.
+fn converted_written(converted: u8) -> Written
+    ensures { λ r. ⌜ r ≡ convertedWritten converted ⌝ }
+{
+    Written {
+        converted,
+        logical: logical::NONE,
+        a: logical::UNUSED,
+        b: logical::UNUSED,
     }
 }
 
