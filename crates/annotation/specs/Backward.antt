@@ -3,10 +3,10 @@ use Prim.Native.Nat.{ℕ}
 use mathlib.Core.Bool.{Bool, true, false, cond}
 use lib.Dec.{eqb}
 use Rattle.annotation.specs.Converted as converted
-use Rattle.annotation.specs.declared.logical.TimeUnit.{TimeUnit}
-use Rattle.annotation.specs.declared.logical.BitWidth.{BitWidth}
-use Rattle.annotation.specs.declared.logical.LogicalType.{LogicalType}
-use Rattle.annotation.specs.declared.logical.Annotation.{Annotation}
+use Rattle.annotation.specs.declared.types.TimeUnit.{TimeUnit}
+use Rattle.annotation.specs.declared.types.BitWidth.{BitWidth}
+use Rattle.annotation.specs.declared.types.LogicalType.{LogicalType}
+use Rattle.annotation.specs.declared.types.Annotation.{Annotation}
 
 -- "a group annotated with MAP_KEY_VALUE that is not contained by a MAP-annotated group should be handled as a MAP-annotated group" (000); on a child of a resolved MAP "it counts as no annotation" (01, rule 10)
 abbrev pub mapKeyValue : Bool → Annotation

@@ -2,10 +2,10 @@
 use Prim.Native.Nat.{ℕ}
 use mathlib.Core.Bool.{Bool, true, false}
 use Rattle.annotation.specs.Converted as converted
-use Rattle.annotation.specs.declared.logical.TimeUnit.{TimeUnit}
-use Rattle.annotation.specs.declared.logical.BitWidth.{BitWidth}
-use Rattle.annotation.specs.declared.logical.LogicalType.{LogicalType}
-use Rattle.annotation.specs.declared.logical.Annotation.{Annotation}
+use Rattle.annotation.specs.declared.types.TimeUnit.{TimeUnit}
+use Rattle.annotation.specs.declared.types.BitWidth.{BitWidth}
+use Rattle.annotation.specs.declared.types.LogicalType.{LogicalType}
+use Rattle.annotation.specs.declared.types.Annotation.{Annotation}
 
 -- "IntType isSigned bitWidth = 8 INT_8 .. !isSigned .. bitWidth = 64 UINT_64" (003); INT(64, false) is what UINT_64 means (01)
 abbrev pub forwardInteger : BitWidth → Bool → ℕ

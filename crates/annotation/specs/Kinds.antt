@@ -5,12 +5,12 @@ use lib.Dec.{eqb}
 use Rattle.annotation.specs.Physical as physical
 use Rattle.annotation.specs.Converted as converted
 use Rattle.annotation.specs.Logical as logical
-use Rattle.annotation.specs.Parameters.{spelledOf}
+use Rattle.annotation.specs.Spelling.{codeOf, aOf, bOf}
 use Rattle.annotation.specs.Signed.{natural}
 use Rattle.annotation.specs.Meaning.{annotationOf}
 use Rattle.annotation.specs.Rule11.{isDecimal}
-use Rattle.annotation.specs.declared.logical.LogicalType.{LogicalType}
-use Rattle.annotation.specs.declared.logical.Annotation.{Annotation}
+use Rattle.annotation.specs.declared.types.LogicalType.{LogicalType}
+use Rattle.annotation.specs.declared.types.Annotation.{Annotation}
 use Rattle.annotation.specs.declared.slot.Annotated.{Annotated}
 use Rattle.annotation.specs.declared.resolution.Kind.{Kind}
 
@@ -33,7 +33,7 @@ decimalKind n = record { kind = logical.DECIMAL; p1 = natural (n .precision); p2
 
 -- "or a and b, else 0"
 abbrev pub logicalKind : LogicalType → Kind
-logicalKind l = record { kind = spelledOf l .logical; p1 = spelledOf l .a; p2 = spelledOf l .b }
+logicalKind l = record { kind = codeOf l; p1 = aOf l; p2 = bOf l }
 
 -- "Kind: 0 plain leaf, logical code, 21 INTERVAL, 30 plain group"; what cannot be read counts as no annotation, and rule 10 refuses it
 abbrev pub kindAs : Annotation → Annotated → Kind

@@ -3,6 +3,7 @@ pub mod Physical
 pub mod Converted
 pub mod Logical
 pub mod Parameters
+pub mod Spelling
 pub mod Signed
 pub mod Forward
 pub mod Backward

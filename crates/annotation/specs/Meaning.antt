@@ -2,9 +2,10 @@
 use mathlib.Core.Bool.{Bool, cond}
 use lib.Dec.{eqb}
 use Rattle.annotation.specs.Logical as logical
-use Rattle.annotation.specs.Parameters.{validParameters, statedOf}
+use Rattle.annotation.specs.Parameters.{validParameters}
+use Rattle.annotation.specs.Spelling.{statedOf}
 use Rattle.annotation.specs.Backward.{backwardOf}
-use Rattle.annotation.specs.declared.logical.Annotation.{Annotation}
+use Rattle.annotation.specs.declared.types.Annotation.{Annotation}
 use Rattle.annotation.specs.declared.slot.Annotated.{Annotated}
 
 -- what the converted type says where no logical type stands: "a = b = 0, also when logical is absent" (01, rule 10)

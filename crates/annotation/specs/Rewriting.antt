@@ -3,11 +3,12 @@ use Prim.Native.Nat.{ℕ}
 use mathlib.Core.Bool.{Bool}
 use Rattle.annotation.specs.Converted as converted
 use Rattle.annotation.specs.Logical as logical
-use Rattle.annotation.specs.Parameters.{UNUSED, spelledOf}
+use Rattle.annotation.specs.Parameters.{UNUSED}
+use Rattle.annotation.specs.Spelling.{codeOf, aOf, bOf}
 use Rattle.annotation.specs.Forward.{forwardOf}
 use Rattle.annotation.specs.Meaning.{annotationOf}
-use Rattle.annotation.specs.declared.logical.LogicalType.{LogicalType}
-use Rattle.annotation.specs.declared.logical.Annotation.{Annotation}
+use Rattle.annotation.specs.declared.types.LogicalType.{LogicalType}
+use Rattle.annotation.specs.declared.types.Annotation.{Annotation}
 use Rattle.annotation.specs.declared.slot.Annotated.{Annotated}
 use Rattle.annotation.specs.declared.rewriting.Written.{Written}
 
@@ -18,7 +19,7 @@ convertedWritten code = record { converted = code; logical = logical.NONE; a = U
 -- "every resolved logical annotation with its parameters and its forward image"
 abbrev pub logicalWritten : LogicalType → Written
 logicalWritten l =
-    record { converted = forwardOf l; logical = spelledOf l .logical; a = spelledOf l .a; b = spelledOf l .b }
+    record { converted = forwardOf l; logical = codeOf l; a = aOf l; b = bOf l }
 
 -- what is written for an annotation: "INTERVAL keeps converted alone"; what cannot be read is never written, since rule 10 refuses it
 abbrev pub writtenAs : Annotation → Written

@@ -5,10 +5,10 @@ use lib.Dec.{eqb}
 use Rattle.annotation.specs.Physical as physical
 use Rattle.annotation.specs.Signed.{natural}
 use Rattle.annotation.specs.Meaning.{annotationOf}
-use Rattle.annotation.specs.declared.logical.TimeUnit.{TimeUnit}
-use Rattle.annotation.specs.declared.logical.BitWidth.{BitWidth}
-use Rattle.annotation.specs.declared.logical.LogicalType.{LogicalType}
-use Rattle.annotation.specs.declared.logical.Annotation.{Annotation}
+use Rattle.annotation.specs.declared.types.TimeUnit.{TimeUnit}
+use Rattle.annotation.specs.declared.types.BitWidth.{BitWidth}
+use Rattle.annotation.specs.declared.types.LogicalType.{LogicalType}
+use Rattle.annotation.specs.declared.types.Annotation.{Annotation}
 use Rattle.annotation.specs.declared.slot.Annotated.{Annotated}
 
 -- "UUID: FIXED 16"

@@ -6,10 +6,10 @@ use lib.IntN.{ℤ, pos}
 use lib.Signed.{leZ, ltZ}
 use Rattle.annotation.specs.Physical as physical
 use Rattle.annotation.specs.Logical as logical
-use Rattle.annotation.specs.Parameters.{spelledOf}
+use Rattle.annotation.specs.Spelling.{codeOf}
 use Rattle.annotation.specs.Signed.{natural}
 use Rattle.annotation.specs.Meaning.{annotationOf}
-use Rattle.annotation.specs.declared.logical.Annotation.{Annotation}
+use Rattle.annotation.specs.declared.types.Annotation.{Annotation}
 use Rattle.annotation.specs.declared.slot.Annotated.{Annotated}
 use Rattle.decimal.specs.Precision.{isLength, greatestPrecision}
 
@@ -40,7 +40,7 @@ physicalHolds code length precision =
 -- whether an annotation is DECIMAL
 abbrev pub isDecimal : Annotation → Bool
 isDecimal Annotation.Plain = false
-isDecimal (Annotation.Logical l) = eqb (spelledOf l .logical) logical.DECIMAL
+isDecimal (Annotation.Logical l) = eqb (codeOf l) logical.DECIMAL
 isDecimal Annotation.Interval = false
 isDecimal Annotation.Unreadable = false
 

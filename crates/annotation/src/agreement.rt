@@ -4,7 +4,7 @@ ghost use Rattle.annotation.specs.Rule9.{rule9};
 use crate::conversion::image;
 use crate::converted;
 use crate::logical;
-use crate::logical::stated;
+use crate::spelling::stated;
 use crate::slot::Annotated;
 
 // Whether, where both annotations stand, converted is the forward image of logical.

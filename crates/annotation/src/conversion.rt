@@ -4,10 +4,10 @@ ghost use mathlib.Core.Bool.{true};
 ghost use Rattle.annotation.specs.Forward.{forwardOf, forwardTime, forwardTimestamp, forwardInteger, imageOf};
 ghost use Rattle.annotation.specs.Backward.{backwardOf, mapKeyValue};
 use crate::converted;
-use crate::logical::Annotation;
-use crate::logical::BitWidth;
-use crate::logical::LogicalType;
-use crate::logical::TimeUnit;
+use crate::types::Annotation;
+use crate::types::BitWidth;
+use crate::types::LogicalType;
+use crate::types::TimeUnit;
 
 // The converted type that stands beside a logical type, whatever its UTC flag; NONE for NANOS, UNKNOWN and UUID.
 pub fn forward(l: LogicalType) -> u8

@@ -2,8 +2,8 @@
 ghost use mathlib.Core.Path.{_≡_};
 ghost use Rattle.annotation.specs.Rule11.{digitsAllowed, isDecimal, decimalHolds, ordered, physicalHolds, fixedHolds};
 use crate::logical;
-use crate::logical::Annotation;
-use crate::logical::spelled;
+use crate::types::Annotation;
+use crate::spelling::code_of;
 use crate::physical;
 use crate::slot::Annotated;
 use crate::slot::length;
@@ -29,7 +29,7 @@ pub fn is_decimal(says: Annotation) -> bool
 {
     match says {
         Annotation::Plain => false,
-        Annotation::Logical(l) => spelled(l).logical == logical::DECIMAL,
+        Annotation::Logical(l) => code_of(l) == logical::DECIMAL,
         Annotation::Interval => false,
         Annotation::Unreadable => false,
     }

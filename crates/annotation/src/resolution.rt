@@ -7,9 +7,11 @@ use crate::converted;
 use crate::decimals::digits_allowed;
 use crate::decimals::is_decimal;
 use crate::logical;
-use crate::logical::Annotation;
-use crate::logical::LogicalType;
-use crate::logical::spelled;
+use crate::types::Annotation;
+use crate::types::LogicalType;
+use crate::spelling::a_of;
+use crate::spelling::b_of;
+use crate::spelling::code_of;
 use crate::physical;
 use crate::placement::may_stand;
 use crate::slot::Annotated;
@@ -110,11 +112,10 @@ fn decimal_kind(n: Annotated) -> Kind
 fn logical_kind(l: LogicalType) -> Kind
     ensures { λ r. ⌜ r ≡ logicalKind l ⌝ }
 {
-    let codes = spelled(l);
     Kind {
-        kind: wide(codes.logical),
-        p1: wide(codes.a),
-        p2: wide(codes.b),
+        kind: wide(code_of(l)),
+        p1: wide(a_of(l)),
+        p2: wide(b_of(l)),
     }
 }
 

@@ -4,9 +4,11 @@ ghost use Rattle.annotation.specs.Rewriting.{writtenOf, writtenAs, conve
 use crate::conversion::forward;
 use crate::converted;
 use crate::logical;
-use crate::logical::Annotation;
-use crate::logical::LogicalType;
-use crate::logical::spelled;
+use crate::types::Annotation;
+use crate::types::LogicalType;
+use crate::spelling::a_of;
+use crate::spelling::b_of;
+use crate::spelling::code_of;
 use crate::slot::Annotated;
 use crate::slot::annotation;
 
@@ -52,11 +54,10 @@ fn converted_written(converted: u8) -> Written
 fn logical_written(l: LogicalType) -> Written
     ensures { λ r. ⌜ r ≡ logicalWritten l ⌝ }
 {
-    let codes = spelled(l);
     Written {
         converted: forward(l),
-        logical: codes.logical,
-        a: codes.a,
-        b: codes.b,
+        logical: code_of(l),
+        a: a_of(l),
+        b: b_of(l),
     }
 }

@@ -5,7 +5,7 @@ use Rattle.annotation.proofs.agreement.agree.Tie as tie
 use Rattle.annotation.proofs.agreement.agree.Reads as reads
 use Rattle.annotation.proofs.agreement.agree.Lts as lts
 use Rattle.annotation.proofs.conversion.image.Reads as image-reads
-use Rattle.annotation.proofs.logical.stated.Reads as stated-reads
+use Rattle.annotation.proofs.spelling.stated.Reads as stated-reads
 
 -- src/rules.rt:35:22
 stated-requires : tie.Need-stated-requires

@@ -5,7 +5,7 @@ use Rattle.annotation.proofs.slot.annotation.Statement.{statement}
 use Rattle.annotation.proofs.slot.annotation.Tie as tie
 use Rattle.annotation.proofs.slot.annotation.Reads as reads
 use Rattle.annotation.proofs.slot.annotation.Lts as lts
-use Rattle.annotation.proofs.logical.stated.Reads as stated-reads
+use Rattle.annotation.proofs.spelling.stated.Reads as stated-reads
 use Rattle.annotation.proofs.slot.converted_alone.Reads as converted-alone-reads
 
 -- src/slot.rt:28:9

@@ -4,7 +4,7 @@ use Rattle.annotation.proofs.slot.converted_alone.Tie as tie
 use Rattle.annotation.proofs.slot.converted_alone.Reads as reads
 use Rattle.annotation.proofs.slot.converted_alone.Lts as lts
 use Rattle.annotation.proofs.conversion.backward.Reads as backward-reads
-use Rattle.annotation.proofs.logical.valid_parameters.Reads as valid-parameters-reads
+use Rattle.annotation.proofs.spelling.valid_parameters.Reads as valid-parameters-reads
 
 -- src/slot.rt:37:8
 valid-parameters-requires : tie.Need-valid-parameters-requires

@@ -1,7 +1,7 @@
 use borrow.Author.Tests.{ne-eqb}
 use Rattle.annotation.specs.Parameters.{unitOf}
-use Rattle.annotation.proofs.logical.unit_of.Statement.{statement}
-use Rattle.annotation.proofs.logical.unit_of.Tie as tie
+use Rattle.annotation.proofs.spelling.unit_of.Statement.{statement}
+use Rattle.annotation.proofs.spelling.unit_of.Tie as tie
 
 returns : tie.Need-returns
 unfolding unitOf

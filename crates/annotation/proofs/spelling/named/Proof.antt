@@ -1,13 +1,13 @@
-use Rattle.annotation.specs.Parameters.{namedOf}
+use Rattle.annotation.specs.Spelling.{namedOf}
 use borrow.Author.Tests.{ne-eqb}
 use borrow.Author.Needs.{needs}
-use Rattle.annotation.proofs.logical.named.Statement.{statement}
-use Rattle.annotation.proofs.logical.named.Tie as tie
-use Rattle.annotation.proofs.logical.named.Reads as reads
-use Rattle.annotation.proofs.logical.named.Lts as lts
-use Rattle.annotation.proofs.logical.integer.Reads as integer-reads
-use Rattle.annotation.proofs.logical.time.Reads as time-reads
-use Rattle.annotation.proofs.logical.timestamp.Reads as timestamp-reads
+use Rattle.annotation.proofs.spelling.named.Statement.{statement}
+use Rattle.annotation.proofs.spelling.named.Tie as tie
+use Rattle.annotation.proofs.spelling.named.Reads as reads
+use Rattle.annotation.proofs.spelling.named.Lts as lts
+use Rattle.annotation.proofs.spelling.integer.Reads as integer-reads
+use Rattle.annotation.proofs.spelling.time.Reads as time-reads
+use Rattle.annotation.proofs.spelling.timestamp.Reads as timestamp-reads
 
 -- src/logical.rt:226:37
 time-requires : tie.Need-time-requires

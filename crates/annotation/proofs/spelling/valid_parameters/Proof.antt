@@ -1,13 +1,13 @@
 use Rattle.annotation.specs.Parameters.{validParameters}
 use borrow.Author.Tests.{ne-eqb}
 use borrow.Author.Needs.{needs}
-use Rattle.annotation.proofs.logical.valid_parameters.Statement.{statement}
-use Rattle.annotation.proofs.logical.valid_parameters.Tie as tie
-use Rattle.annotation.proofs.logical.valid_parameters.Reads as reads
-use Rattle.annotation.proofs.logical.valid_parameters.Lts as lts
-use Rattle.annotation.proofs.logical.valid_bit_width.Reads as valid-bit-width-reads
-use Rattle.annotation.proofs.logical.valid_flag.Reads as valid-flag-reads
-use Rattle.annotation.proofs.logical.valid_unit.Reads as valid-unit-reads
+use Rattle.annotation.proofs.spelling.valid_parameters.Statement.{statement}
+use Rattle.annotation.proofs.spelling.valid_parameters.Tie as tie
+use Rattle.annotation.proofs.spelling.valid_parameters.Reads as reads
+use Rattle.annotation.proofs.spelling.valid_parameters.Lts as lts
+use Rattle.annotation.proofs.spelling.valid_bit_width.Reads as valid-bit-width-reads
+use Rattle.annotation.proofs.spelling.valid_flag.Reads as valid-flag-reads
+use Rattle.annotation.proofs.spelling.valid_unit.Reads as valid-unit-reads
 
 -- src/logical.rt:131:16
 valid-bit-width-requires : tie.Need-valid-bit-width-requires

@@ -1,11 +1,11 @@
-use Rattle.annotation.specs.Parameters.{statedOf}
+use Rattle.annotation.specs.Spelling.{statedOf}
 use borrow.Author.Needs.{needs}
-use Rattle.annotation.proofs.logical.stated.Statement.{statement}
-use Rattle.annotation.proofs.logical.stated.Tie as tie
-use Rattle.annotation.proofs.logical.stated.Reads as reads
-use Rattle.annotation.proofs.logical.stated.Lts as lts
-use Rattle.annotation.proofs.logical.named.Reads as named-reads
-use Rattle.annotation.proofs.logical.valid_parameters.Reads as valid-parameters-reads
+use Rattle.annotation.proofs.spelling.stated.Statement.{statement}
+use Rattle.annotation.proofs.spelling.stated.Tie as tie
+use Rattle.annotation.proofs.spelling.stated.Reads as reads
+use Rattle.annotation.proofs.spelling.stated.Lts as lts
+use Rattle.annotation.proofs.spelling.named.Reads as named-reads
+use Rattle.annotation.proofs.spelling.valid_parameters.Reads as valid-parameters-reads
 
 -- src/logical.rt:119:8
 valid-parameters-requires : tie.Need-valid-parameters-requires

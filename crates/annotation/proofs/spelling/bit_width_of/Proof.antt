@@ -1,9 +1,9 @@
 use Rattle.annotation.specs.Parameters.{bitWidthOf}
 use borrow.Author.Tests.{ne-eqb}
-use Rattle.annotation.proofs.logical.bit_width_of.Statement.{statement}
-use Rattle.annotation.proofs.logical.bit_width_of.Tie as tie
-use Rattle.annotation.proofs.logical.bit_width_of.Reads as reads
-use Rattle.annotation.proofs.logical.bit_width_of.Lts as lts
+use Rattle.annotation.proofs.spelling.bit_width_of.Statement.{statement}
+use Rattle.annotation.proofs.spelling.bit_width_of.Tie as tie
+use Rattle.annotation.proofs.spelling.bit_width_of.Reads as reads
+use Rattle.annotation.proofs.spelling.bit_width_of.Lts as lts
 
 -- src/logical.rt:292:1
 returns : tie.Need-returns
