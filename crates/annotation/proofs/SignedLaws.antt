@@ -1,0 +1,26 @@
+-- A signed number as a count.
+-- Assumes nothing.
+use mathlib.Core.Path.{_≡_, refl, sym}
+use mathlib.Core.Bool.{Bool, true, false, true≢false}
+use native.Mathlib.Omega.{arith}
+use lib.IntN.{ℤ, pos, negsuc, natAbs}
+use lib.Dec.{T}
+use lib.Signed.{ltZ, nonNeg}
+use borrow.Author.Tests.{ltb-true}
+use Rattle.annotation.specs.Signed.{natural}
+
+-- a negative number counts 0
+pub natural-negative : (z : ℤ) → ltZ z (pos 0) ≡ true → 0 ≡ natural z
+unfolding natural
+natural-negative (pos n) e = omega (arith, ltb-true n 0 e)
+natural-negative (negsuc n) e = refl
+
+-- any other number counts its size
+pub natural-size : (z : ℤ) → ltZ z (pos 0) ≡ false → natAbs z ≡ natural z
+unfolding natural
+natural-size (pos n) e = refl
+natural-size (negsuc n) e = absurd (true≢false e)
+
+pub not-negative : (z : ℤ) → ltZ z (pos 0) ≡ false → T (nonNeg z)
+not-negative (pos n) e = tt
+not-negative (negsuc n) e = absurd (true≢false e)

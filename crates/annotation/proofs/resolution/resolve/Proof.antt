@@ -1,0 +1,98 @@
+-- `annotation::resolve` meets its contract: each test answers the rule of its number, and the first that fails is returned.
+-- Assumes nothing.
+use mathlib.Core.Path.{_≡_, sym, _∙_}
+use mathlib.Core.Bool.{true, false}
+use borrow.Author.Needs.{needs}
+use borrow.Author.Tests.{not-true, not-false}
+use Rattle.annotation.specs.Rule9.{rule9}
+use Rattle.annotation.specs.Rule10.{rule10}
+use Rattle.annotation.specs.Rule11.{rule11}
+use Rattle.annotation.specs.Kinds.{kindOf}
+use Rattle.annotation.specs.Outcome.{resolutionOf}
+use Rattle.annotation.proofs.resolution.resolve.Statement.{statement}
+use Rattle.annotation.proofs.resolution.resolve.Tie as tie
+
+-- what the three tests and the kind are, at the places where they have been asked
+
+placed : (c : tie.After-may-stand) → let n = c .before .before .before .before .before .args in c .may-stand .result ≡ rule10 (n .n) (n .under-map)
+unfolding rule10
+placed c = rw (c .may-stand .ensures, c .before .length .ensures, c .before .before .annotation .ensures)
+
+digits : (c : tie.After-digits-allowed) → let n = c .before .before .before .before .before .before .before .args in c .digits-allowed .result ≡ rule11 (n .n) (n .under-map)
+unfolding rule11
+digits c = rw (c .digits-allowed .ensures, c .before .before .before .before .annotation .ensures)
+
+kind : (c : tie.After-kind-as) → let n = c .before .before .before .before .before .before .before .before .before .args in c .kind-as .result ≡ kindOf (n .n) (n .under-map)
+unfolding kindOf
+kind c = rw (c .kind-as .ensures, c .before .before .before .before .before .before .annotation .ensures)
+
+agree-requires : tie.Need-agree-requires
+agree-requires c κs = search needs
+
+annotation-requires : tie.Need-annotation-requires
+annotation-requires c κs = search needs
+
+length-requires : tie.Need-length-requires
+length-requires c κs = search needs
+
+may-stand-requires : tie.Need-may-stand-requires
+may-stand-requires c κs = search needs
+
+digits-allowed-requires : tie.Need-digits-allowed-requires
+digits-allowed-requires c κs = search needs
+
+kind-as-requires : tie.Need-kind-as-requires
+kind-as-requires c κs = search needs
+
+-- rule 9 fails
+returns : tie.Need-returns
+unfolding resolutionOf
+returns c = rw (sym (c .before .agree .ensures) ∙ not-true _ (c .if1 .taken))
+
+-- 9 holds and 10 fails
+returns-2 : tie.Need-returns-2
+unfolding resolutionOf
+returns-2 c =
+    let at = c .before .before .before .before in
+    rw (sym (at .before .agree .ensures) ∙ not-false _ (at .if1 .left), sym (placed (c .before)) ∙ not-true _ (c .if2 .taken))
+
+-- 9 and 10 hold and 11 fails
+returns-3 : tie.Need-returns-3
+unfolding resolutionOf
+returns-3 c =
+    let second = c .before .before in
+    let first = second .before .before .before .before in
+    rw (
+      sym (first .before .agree .ensures) ∙ not-false _ (first .if1 .left),
+      sym (placed (second .before)) ∙ not-false _ (second .if2 .left),
+      sym (digits (c .before)) ∙ not-true _ (c .if3 .taken),
+    )
+
+-- all three hold
+returns-4 : tie.Need-returns-4
+unfolding resolutionOf
+returns-4 c =
+    let third = c .before in
+    let second = third .before .before in
+    let first = second .before .before .before .before in
+    rw (
+      sym (first .before .agree .ensures) ∙ not-false _ (first .if1 .left),
+      sym (placed (second .before)) ∙ not-false _ (second .if2 .left),
+      sym (digits (third .before)) ∙ not-false _ (third .if3 .left),
+      kind c,
+    )
+
+pub resolve-spec : {M : Type 1} → statement M
+resolve-spec =
+    tie.close
+    (tie.spec
+    agree-requires
+    returns
+    annotation-requires
+    length-requires
+    may-stand-requires
+    returns-2
+    digits-allowed-requires
+    returns-3
+    kind-as-requires
+    returns-4)

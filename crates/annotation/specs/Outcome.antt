@@ -1,0 +1,25 @@
+-- The outcome of a slot: its kind, or the first of the rules 9, 10 and 11 that it breaks.
+use Prim.Native.Nat.{ℕ}
+use mathlib.Core.Bool.{Bool, cond}
+use Rattle.annotation.specs.Rule9.{rule9}
+use Rattle.annotation.specs.Rule10.{rule10}
+use Rattle.annotation.specs.Rule11.{rule11}
+use Rattle.annotation.specs.Kinds.{kindOf}
+use Rattle.annotation.specs.declared.slot.Annotated.{Annotated}
+use Rattle.annotation.specs.declared.resolution.Resolution.{Resolution}
+
+-- "at one node in number order" (01, "Numbered refusals")
+unfoldable pub resolutionOf : Annotated → Bool → Resolution
+resolutionOf n underMap =
+    cond (rule9 n)
+    (cond (rule10 n underMap)
+    (cond (rule11 n underMap) (Resolution.Resolved (kindOf n underMap)) Resolution.BadDecimal)
+    Resolution.Misplaced)
+    Resolution.Disagreement
+
+-- the number of each refusal, and 0 of none (01, "Numbered refusals")
+unfoldable pub refusalOf : Resolution → ℕ
+refusalOf (Resolution.Resolved k) = 0
+refusalOf Resolution.Disagreement = 9
+refusalOf Resolution.Misplaced = 10
+refusalOf Resolution.BadDecimal = 11

@@ -1,0 +1,47 @@
+-- What the rewritten sheet says of a node (01, "Rows and the rewritten sheet").
+use Prim.Native.Nat.{ℕ}
+use mathlib.Core.Bool.{Bool}
+use Rattle.annotation.specs.Converted as converted
+use Rattle.annotation.specs.Logical as logical
+use Rattle.annotation.specs.Parameters.{UNUSED}
+use Rattle.annotation.specs.Spelling.{codeOf, aOf, bOf}
+use Rattle.annotation.specs.Forward.{forwardOf}
+use Rattle.annotation.specs.Meaning.{annotationOf}
+use Rattle.annotation.specs.declared.types.LogicalType.{LogicalType}
+use Rattle.annotation.specs.declared.types.Annotation.{Annotation}
+use Rattle.annotation.specs.declared.slot.Annotated.{Annotated}
+use Rattle.annotation.specs.declared.rewriting.Written.{Written}
+
+-- a converted type alone, or none
+abbrev pub convertedWritten : ℕ → Written
+convertedWritten code = record { converted = code; logical = logical.NONE; a = UNUSED; b = UNUSED }
+
+-- "every resolved logical annotation with its parameters and its forward image"
+abbrev pub logicalWritten : LogicalType → Written
+logicalWritten l =
+    record { converted = forwardOf l; logical = codeOf l; a = aOf l; b = bOf l }
+
+-- what is written for an annotation: "INTERVAL keeps converted alone"; what cannot be read is never written, since rule 10 refuses it
+abbrev pub writtenAs : Annotation → Written
+writtenAs Annotation.Plain = convertedWritten converted.NONE
+writtenAs (Annotation.Logical l) = logicalWritten l
+writtenAs Annotation.Interval = convertedWritten converted.INTERVAL
+writtenAs Annotation.Unreadable = convertedWritten converted.NONE
+
+-- what is written for a slot; "a key_value layer has none", since MAP_KEY_VALUE counts as no annotation there
+unfoldable pub writtenOf : Annotated → Bool → Written
+writtenOf n underMap = writtenAs (annotationOf n underMap)
+
+-- the slot's numbers with what is written: "All else .. is copied"
+unfoldable pub rewritten : Annotated → Bool → Annotated
+rewritten n underMap =
+    record {
+      physical = n .physical;
+      «type_length» = n .«type_length»;
+      converted = writtenOf n underMap .converted;
+      logical = writtenOf n underMap .logical;
+      a = writtenOf n underMap .a;
+      b = writtenOf n underMap .b;
+      scale = n .scale;
+      precision = n .precision;
+    }

@@ -1,0 +1,69 @@
+-- Rule 10: each annotation on its physical type and length.
+use Prim.Native.Nat.{ℕ}
+use mathlib.Core.Bool.{Bool, true, false, not, _&&_, _||_}
+use lib.Dec.{eqb}
+use Rattle.annotation.specs.Physical as physical
+use Rattle.annotation.specs.Signed.{natural}
+use Rattle.annotation.specs.Meaning.{annotationOf}
+use Rattle.annotation.specs.declared.types.TimeUnit.{TimeUnit}
+use Rattle.annotation.specs.declared.types.BitWidth.{BitWidth}
+use Rattle.annotation.specs.declared.types.LogicalType.{LogicalType}
+use Rattle.annotation.specs.declared.types.Annotation.{Annotation}
+use Rattle.annotation.specs.declared.slot.Annotated.{Annotated}
+
+-- "UUID: FIXED 16"
+abbrev pub UUID-LENGTH : ℕ
+UUID-LENGTH = 16
+
+-- "INTERVAL: FIXED 12"
+abbrev pub INTERVAL-LENGTH : ℕ
+INTERVAL-LENGTH = 12
+
+-- a FIXED_LEN_BYTE_ARRAY of so many bytes
+abbrev pub isFixed : ℕ → ℕ → ℕ → Bool
+isFixed bytes code length = eqb code physical.FIXED-LEN-BYTE-ARRAY && eqb length bytes
+
+-- "INT 8, 16, 32: INT32; 64: INT64"
+abbrev pub integerPhysical : BitWidth → ℕ
+integerPhysical BitWidth.Bits8 = physical.INT32
+integerPhysical BitWidth.Bits16 = physical.INT32
+integerPhysical BitWidth.Bits32 = physical.INT32
+integerPhysical BitWidth.Bits64 = physical.INT64
+
+-- "TIME MILLIS: INT32; MICROS, NANOS: INT64"
+abbrev pub timePhysical : TimeUnit → ℕ
+timePhysical TimeUnit.Millis = physical.INT32
+timePhysical TimeUnit.Micros = physical.INT64
+timePhysical TimeUnit.Nanos = physical.INT64
+
+-- "DECIMAL: INT32, INT64, FIXED, BYTE_ARRAY"
+abbrev pub decimalOn : ℕ → Bool
+decimalOn code =
+    eqb code physical.INT32 || eqb code physical.INT64 || eqb code physical.FIXED-LEN-BYTE-ARRAY || eqb code physical.BYTE-ARRAY
+
+-- whether a logical type may stand on a physical type and length: "STRING, ENUM, JSON, BSON: BYTE_ARRAY .. DATE: INT32 .. TIMESTAMP: INT64. UNKNOWN: any leaf .. LIST and MAP: groups"
+abbrev pub logicalOn : LogicalType → ℕ → ℕ → Bool
+logicalOn LogicalType.String code length = eqb code physical.BYTE-ARRAY
+logicalOn LogicalType.Map code length = eqb code physical.GROUP
+logicalOn LogicalType.List code length = eqb code physical.GROUP
+logicalOn LogicalType.Enum code length = eqb code physical.BYTE-ARRAY
+logicalOn LogicalType.Decimal code length = decimalOn code
+logicalOn LogicalType.Date code length = eqb code physical.INT32
+logicalOn (LogicalType.Time unit utc) code length = eqb code (timePhysical unit)
+logicalOn (LogicalType.Timestamp unit utc) code length = eqb code physical.INT64
+logicalOn (LogicalType.Integer width signed) code length = eqb code (integerPhysical width)
+logicalOn LogicalType.Unknown code length = not (eqb code physical.GROUP)
+logicalOn LogicalType.Json code length = eqb code physical.BYTE-ARRAY
+logicalOn LogicalType.Bson code length = eqb code physical.BYTE-ARRAY
+logicalOn LogicalType.Uuid code length = isFixed UUID-LENGTH code length
+
+-- whether an annotation may stand on a physical type and length; no annotation may stand on any
+abbrev pub annotationOn : Annotation → ℕ → ℕ → Bool
+annotationOn Annotation.Plain code length = true
+annotationOn (Annotation.Logical l) code length = logicalOn l code length
+annotationOn Annotation.Interval code length = isFixed INTERVAL-LENGTH code length
+annotationOn Annotation.Unreadable code length = false
+
+-- "annotation on the wrong physical type, length or parameters" is what it refuses (01, rule 10)
+unfoldable pub rule10 : Annotated → Bool → Bool
+rule10 n underMap = annotationOn (annotationOf n underMap) (n .physical) (natural (n .«type_length»))

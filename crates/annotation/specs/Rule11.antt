@@ -1,0 +1,58 @@
+-- Rule 11: precision and scale of a DECIMAL.
+use Prim.Native.Nat.{ℕ}
+use mathlib.Core.Bool.{Bool, true, false, not, cond, _&&_, _||_}
+use lib.Dec.{eqb, leb}
+use lib.IntN.{ℤ, pos}
+use lib.Signed.{leZ, ltZ}
+use Rattle.annotation.specs.Physical as physical
+use Rattle.annotation.specs.Logical as logical
+use Rattle.annotation.specs.Spelling.{codeOf}
+use Rattle.annotation.specs.Signed.{natural}
+use Rattle.annotation.specs.Meaning.{annotationOf}
+use Rattle.annotation.specs.declared.types.Annotation.{Annotation}
+use Rattle.annotation.specs.declared.slot.Annotated.{Annotated}
+use Rattle.decimal.specs.Precision.{isLength, greatestPrecision}
+
+-- "INT32: precision to 9"
+abbrev pub INT32-DIGITS : ℕ
+INT32-DIGITS = 9
+
+-- "INT64: to 18"
+abbrev pub INT64-DIGITS : ℕ
+INT64-DIGITS = 18
+
+-- "1 <= precision, 0 <= scale < precision"
+unfoldable pub ordered : ℤ → ℤ → Bool
+ordered precision scale = leZ (pos 1) precision && leZ (pos 0) scale && ltZ scale precision
+
+-- "FIXED n: n to 256 .., and precision to the greatest d with 10^d <= 2^(8n-1) - 1"
+abbrev pub fixedHolds : ℕ → ℕ → Bool
+fixedHolds length precision =
+    isLength length && leb precision (greatestPrecision length)
+
+-- whether a physical type of a length holds a precision: "BYTE_ARRAY: no limit"
+unfoldable pub physicalHolds : ℕ → ℕ → ℕ → Bool
+physicalHolds code length precision =
+    cond (eqb code physical.INT32) (leb precision INT32-DIGITS)
+    (cond (eqb code physical.INT64) (leb precision INT64-DIGITS)
+    (cond (eqb code physical.FIXED-LEN-BYTE-ARRAY) (fixedHolds length precision) true))
+
+-- whether an annotation is DECIMAL
+abbrev pub isDecimal : Annotation → Bool
+isDecimal Annotation.Plain = false
+isDecimal (Annotation.Logical l) = eqb (codeOf l) logical.DECIMAL
+isDecimal Annotation.Interval = false
+isDecimal Annotation.Unreadable = false
+
+-- what rule 11 asks of a DECIMAL
+unfoldable pub decimalHolds : Annotated → Bool
+decimalHolds n =
+    ordered (n .precision) (n .scale) && physicalHolds (n .physical) (natural (n .«type_length»)) (natural (n .precision))
+
+-- it asks nothing of another annotation
+abbrev pub digitsAllowed : Annotation → Annotated → Bool
+digitsAllowed says n = not (isDecimal says) || decimalHolds n
+
+-- "DECIMAL scale or precision" is what it refuses (01, rule 11)
+unfoldable pub rule11 : Annotated → Bool → Bool
+rule11 n underMap = digitsAllowed (annotationOf n underMap) n

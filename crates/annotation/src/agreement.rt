@@ -1,0 +1,16 @@
+// Rule 9: converted and logical agree.
+ghost use mathlib.Core.Path.{_≡_};
+ghost use Rattle.annotation.specs.Rule9.{rule9};
+use crate::conversion::image;
+use crate::converted;
+use crate::logical;
+use crate::spelling::stated;
+use crate::slot::Annotated;
+
+// Whether, where both annotations stand, converted is the forward image of logical.
+pub fn agree(n: Annotated) -> bool
+    ensures { λ r. ⌜ r ≡ rule9 n ⌝ }
+{
+    let says = image(stated(n.logical, n.a, n.b));
+    (n.converted == converted::NONE) | (n.logical == logical::NONE) | (says == n.converted)
+}

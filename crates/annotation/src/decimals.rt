@@ -1,0 +1,73 @@
+// Rule 11: precision and scale of a DECIMAL.
+ghost use mathlib.Core.Path.{_≡_};
+ghost use Rattle.annotation.specs.Rule11.{digitsAllowed, isDecimal, decimalHolds, ordered, physicalHolds, fixedHolds};
+use crate::logical;
+use crate::types::Annotation;
+use crate::spelling::code_of;
+use crate::physical;
+use crate::slot::Annotated;
+use crate::slot::length;
+use crate::slot::precision;
+use decimal::precision::GREATEST_LENGTH;
+use decimal::precision::greatest_precision;
+
+// The greatest precisions on INT32 and INT64.
+const INT32_DIGITS: u32 = 9;
+
+const INT64_DIGITS: u32 = 18;
+
+// Rule 11: whether precision and scale are right for an annotation, which is so for every one but DECIMAL.
+pub fn digits_allowed(says: Annotation, n: Annotated) -> bool
+    ensures { λ r. ⌜ r ≡ digitsAllowed says n ⌝ }
+{
+    !is_decimal(says) | decimal_holds(n)
+}
+
+// Whether an annotation is DECIMAL.
+pub fn is_decimal(says: Annotation) -> bool
+    ensures { λ r. ⌜ r ≡ isDecimal says ⌝ }
+{
+    match says {
+        Annotation::Plain => false,
+        Annotation::Logical(l) => code_of(l) == logical::DECIMAL,
+        Annotation::Interval => false,
+        Annotation::Unreadable => false,
+    }
+}
+
+// What rule 11 asks of a DECIMAL.
+fn decimal_holds(n: Annotated) -> bool
+    ensures { λ r. ⌜ r ≡ decimalHolds n ⌝ }
+{
+    is_ordered(n) & physical_holds(n.physical, length(n), precision(n))
+}
+
+fn is_ordered(n: Annotated) -> bool
+    ensures { λ r. ⌜ r ≡ ordered (n .precision) (n .scale) ⌝ }
+{
+    ordered_numbers(n.precision, n.scale)
+}
+
+fn ordered_numbers(precision: i32, scale: i32) -> bool
+    ensures { λ r. ⌜ r ≡ ordered precision scale ⌝ }
+{
+    (1 <= precision) & (0 <= scale) & (scale < precision)
+}
+
+// Whether a physical type of a length holds a precision.
+fn physical_holds(physical: u8, length: u32, precision: u32) -> bool
+    ensures { λ r. ⌜ r ≡ physicalHolds physical length precision ⌝ }
+{
+    match physical {
+        physical::INT32 => precision <= INT32_DIGITS,
+        physical::INT64 => precision <= INT64_DIGITS,
+        physical::FIXED_LEN_BYTE_ARRAY => fixed_holds(length, precision),
+        _ => true,
+    }
+}
+
+fn fixed_holds(length: u32, precision: u32) -> bool
+    ensures { λ r. ⌜ r ≡ fixedHolds length precision ⌝ }
+{
+    (1 <= length) & (length <= GREATEST_LENGTH) & (precision <= greatest_precision(length))
+}

@@ -1,0 +1,126 @@
+// The outcome of a slot: its kind as rows have it, or the first of the rules 9, 10 and 11 that it breaks.
+ghost use mathlib.Core.Path.{_≡_};
+ghost use Rattle.annotation.specs.Kinds.{kindAs, plainKind, decimalKind, logicalKind};
+ghost use Rattle.annotation.specs.Outcome.{resolutionOf};
+use crate::agreement::agree;
+use crate::converted;
+use crate::decimals::digits_allowed;
+use crate::decimals::is_decimal;
+use crate::logical;
+use crate::types::Annotation;
+use crate::types::LogicalType;
+use crate::spelling::a_of;
+use crate::spelling::b_of;
+use crate::spelling::code_of;
+use crate::physical;
+use crate::placement::may_stand;
+use crate::slot::Annotated;
+use crate::slot::annotation;
+use crate::slot::length;
+use crate::slot::precision;
+use crate::slot::scale;
+
+// A kind and its parameters, as a row has them: precision and scale, or a and b, else 0.
+pub struct Kind {
+    pub kind: u32,
+    pub p1: u32,
+    pub p2: u32,
+}
+
+pub enum Resolution {
+    Resolved(Kind),
+    // Refusal 9: converted and logical disagree.
+    Disagreement,
+    // Refusal 10: annotation on the wrong physical type, length or parameters.
+    Misplaced,
+    // Refusal 11: DECIMAL scale or precision.
+    BadDecimal,
+}
+
+const PLAIN_LEAF: u32 = 0;
+
+const PLAIN_GROUP: u32 = 30;
+
+// Resolves the annotations of one slot. under_map says that its parent's resolved kind is MAP. Codes outside the lists are
+// refused like parameters that a type does not take: beside the other annotation by 9, alone by 10.
+pub fn resolve(n: Annotated, under_map: bool) -> Resolution
+    ensures { λ r. ⌜ r ≡ resolutionOf n «under_map» ⌝ }
+{
+    if !agree(n) {
+        return Resolution::Disagreement;
+    }
+    let says = annotation(n, under_map);
+    if !may_stand(says, n.physical, length(n)) {
+        return Resolution::Misplaced;
+    }
+    if !digits_allowed(says, n) {
+        return Resolution::BadDecimal;
+    }
+    Resolution::Resolved(kind_as(says, n))
+}
+
+// The kind of an annotation on a slot.
+fn kind_as(says: Annotation, n: Annotated) -> Kind
+    ensures { λ r. ⌜ r ≡ kindAs says n ⌝ }
+{
+    match says {
+        Annotation::Plain => plain_kind(n.physical),
+        Annotation::Logical(l) => {
+            if is_decimal(says) {
+                decimal_kind(n)
+            } else {
+                logical_kind(l)
+            }
+        }
+        Annotation::Interval => Kind {
+            kind: converted::INTERVAL as u32,
+            p1: 0,
+            p2: 0,
+        },
+        Annotation::Unreadable => plain_kind(n.physical),
+    }
+}
+
+fn plain_kind(physical: u8) -> Kind
+    ensures { λ r. ⌜ r ≡ plainKind physical ⌝ }
+{
+    if physical == physical::GROUP {
+        Kind {
+            kind: PLAIN_GROUP,
+            p1: 0,
+            p2: 0,
+        }
+    } else {
+        Kind {
+            kind: PLAIN_LEAF,
+            p1: 0,
+            p2: 0,
+        }
+    }
+}
+
+fn decimal_kind(n: Annotated) -> Kind
+    ensures { λ r. ⌜ r ≡ decimalKind n ⌝ }
+{
+    Kind {
+        kind: logical::DECIMAL as u32,
+        p1: precision(n),
+        p2: scale(n),
+    }
+}
+
+fn logical_kind(l: LogicalType) -> Kind
+    ensures { λ r. ⌜ r ≡ logicalKind l ⌝ }
+{
+    Kind {
+        kind: wide(code_of(l)),
+        p1: wide(a_of(l)),
+        p2: wide(b_of(l)),
+    }
+}
+
+fn wide(x: u8) -> u32
+    ensures { λ r. ⌜ r ≡ x ⌝ }
+{
+    x as u32
+}

@@ -1,0 +1,63 @@
+// What the rewritten sheet says of a node.
+ghost use mathlib.Core.Path.{_≡_};
+ghost use Rattle.annotation.specs.Rewriting.{writtenOf, writtenAs, convertedWritten, logicalWritten};
+use crate::conversion::forward;
+use crate::converted;
+use crate::logical;
+use crate::types::Annotation;
+use crate::types::LogicalType;
+use crate::spelling::a_of;
+use crate::spelling::b_of;
+use crate::spelling::code_of;
+use crate::slot::Annotated;
+use crate::slot::annotation;
+
+// The annotation numbers of a rewritten slot.
+pub struct Written {
+    pub converted: u8,
+    pub logical: u8,
+    pub a: u8,
+    pub b: u8,
+}
+
+// Every logical annotation with its parameters and its forward image, INTERVAL as converted alone, else none: what the slot
+// says once it is rewritten. under_map is as for resolve.
+pub fn rewrite(n: Annotated, under_map: bool) -> Written
+    ensures { λ r. ⌜ r ≡ writtenOf n «under_map» ⌝ }
+{
+    written_as(annotation(n, under_map))
+}
+
+fn written_as(annotation: Annotation) -> Written
+    ensures { λ r. ⌜ r ≡ writtenAs annotation ⌝ }
+{
+    match annotation {
+        Annotation::Plain => converted_written(converted::NONE),
+        Annotation::Logical(l) => logical_written(l),
+        Annotation::Interval => converted_written(converted::INTERVAL),
+        Annotation::Unreadable => converted_written(converted::NONE),
+    }
+}
+
+// A converted type alone, or none.
+fn converted_written(converted: u8) -> Written
+    ensures { λ r. ⌜ r ≡ convertedWritten converted ⌝ }
+{
+    Written {
+        converted,
+        logical: logical::NONE,
+        a: logical::UNUSED,
+        b: logical::UNUSED,
+    }
+}
+
+fn logical_written(l: LogicalType) -> Written
+    ensures { λ r. ⌜ r ≡ logicalWritten l ⌝ }
+{
+    Written {
+        converted: forward(l),
+        logical: code_of(l),
+        a: a_of(l),
+        b: b_of(l),
+    }
+}

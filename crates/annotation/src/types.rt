@@ -1,0 +1,49 @@
+// Logical types with their parameters, and what the annotations of a slot say.
+pub enum TimeUnit {
+    Millis,
+    Micros,
+    Nanos,
+}
+
+pub enum BitWidth {
+    Bits8,
+    Bits16,
+    Bits32,
+    Bits64,
+}
+
+pub enum LogicalType {
+    String,
+    Map,
+    List,
+    Enum,
+    Decimal,
+    Date,
+    Time {
+        unit: TimeUnit,
+        is_adjusted_to_utc: bool,
+    },
+    Timestamp {
+        unit: TimeUnit,
+        is_adjusted_to_utc: bool,
+    },
+    Integer {
+        bit_width: BitWidth,
+        is_signed: bool,
+    },
+    Unknown,
+    Json,
+    Bson,
+    Uuid,
+}
+
+// What the annotations of a slot say of its node.
+pub enum Annotation {
+    // None.
+    Plain,
+    Logical(LogicalType),
+    // INTERVAL, which exists only as a converted type.
+    Interval,
+    // A code outside the lists, or parameters that the type does not have.
+    Unreadable,
+}

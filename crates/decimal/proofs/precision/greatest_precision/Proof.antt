@@ -1,0 +1,67 @@
+-- `decimal::precision::greatest_precision` meets its contract: one test, which antt computes over the whole table, shows the
+-- power-of-ten rule at each of its entries, and the rule has one answer for each length. Assumes nothing.
+use mathlib.Core.Path.{_≡_, refl}
+use mathlib.Core.Bool.{Bool, _&&_}
+use mathlib.Core.List.{List}
+use Prim.Native.Nat.{ℕ, _^_, _+_, _-_, _≤_}
+use lib.Dec.{T, leb, ltb, leb→le, ltb→lt}
+use lib.ListN.{getD, length}
+use native.Mathlib.Omega.{arith}
+use borrow.Author.Needs.{needs}
+use borrow.Author.Tests.{lt-leb, le-leb}
+use Rattle.decimal.specs.Precision.{greatestLength, greatestNumber, greatestPrecision}
+use Rattle.decimal.proofs.Table.{at, every, and-left, and-right}
+use Rattle.decimal.proofs.PrecisionLaws.{greatestPrecision-unique}
+use Rattle.decimal.proofs.precision.greatest_precision.Statement.{statement}
+use Rattle.decimal.proofs.precision.greatest_precision.Tie as tie
+use Rattle.decimal.proofs.precision.greatest_precision.Reads as reads
+use Rattle.decimal.proofs.precision.greatest_precision.Lts as lts
+
+-- 10^d ≤ 2^(8n-1) - 1, and 2^(8n-1) - 1 < 10^(d+1)
+abbrev low : ℕ → ℕ → Bool
+low n d = leb (10 ^ d) (greatestNumber n)
+
+abbrev high : ℕ → ℕ → Bool
+high n d = ltb (greatestNumber n) (10 ^ (d + 1))
+
+-- the rule at the entry d of the place k, which stands for k + 1 bytes
+abbrev right : ℕ → ℕ → Bool
+right k d = low (k + 1) d && high (k + 1) d
+
+-- in a table whose every entry keeps the rule, the entry at n - 1 is the greatest precision of n bytes
+entry : (table : List ℕ) → T (every right 0 table) → (n : ℕ) → 1 ≤ n → n ≤ greatestLength → length table ≡ greatestLength
+    → getD table (n - 1) 0 ≡ greatestPrecision n
+entry table t n least most h =
+    let d : ℕ = getD table (n - 1) 0 in
+    let e : n - 1 + 1 ≡ n = omega arith in
+    let r : T (low n d && high n d) = rw e at (at right table t (n - 1) (omega arith)) in
+    greatestPrecision-unique n least most d
+    (leb→le _ _ (and-left (low n d) (high n d) r)) (ltb→lt _ _ (and-right (low n d) (high n d) r))
+
+-- the table, as it stands where the code reads an entry
+abbrev table : tie.Else2 → List ℕ
+table c = borrow.Table.Row.get 5 (lts.T22 .locals) (lts.m19 reads.Pre reads.Post (c .before))
+
+returns : tie.Need-returns
+unfolding greatestPrecision
+returns c = simp (lt-leb 1 (c .before .args .length) (c .if1 .taken))
+
+returns-2 : tie.Need-returns-2
+unfolding greatestPrecision
+returns-2 c = rw (le-leb 1 (c .before .before .args .length) (c .before .if1 .left), lt-leb (c .before .before .args .length) 256 (c .if2 .taken))
+
+cast-at : tie.Need-cast-at
+cast-at c = search needs
+
+mul-result : tie.Need-mul-result
+mul-result c = search needs
+
+array-read-result : tie.Need-array-read-result
+array-read-result c = search needs
+
+returns-3 : tie.Need-returns-3
+returns-3 c = entry (table c) tt (c .before .before .args .length) (c .before .if1 .left) (c .if2 .left) refl
+
+pub greatest-precision-spec : {M : Type 1} → statement M
+greatest-precision-spec =
+    tie.close (tie.spec returns returns-2 cast-at mul-result array-read-result returns-3)

@@ -1,0 +1,2 @@
+// Decimals as big-endian two's complement numbers of any length.
+pub mod precision;
