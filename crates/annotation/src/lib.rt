@@ -17,6 +17,7 @@ mod types; // logical types with their parameters
 pub use resolution::Kind;
 pub use resolution::Resolution;
 pub use resolution::resolve;
+pub use resolution::resolved_kind;
 pub use rewriting::Written;
 pub use rewriting::rewrite;
 pub use slot::Annotated;

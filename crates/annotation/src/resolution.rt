@@ -1,6 +1,6 @@
 // The outcome of a slot: its kind as rows have it, or the first of the rules 9, 10 and 11 that it breaks.
 ghost use mathlib.Core.Path.{_≡_};
-ghost use Rattle.annotation.specs.Kinds.{kindAs, plainKind, decimalKind, logicalKind};
+ghost use Rattle.annotation.specs.Kinds.{kindOf, kindAs, plainKind, decimalKind, logicalKind};
 ghost use Rattle.annotation.specs.Outcome.{resolutionOf};
 use crate::agreement::agree;
 use crate::converted;
@@ -57,6 +57,13 @@ pub fn resolve(n: Annotated, under_map: bool) -> Resolution
         return Resolution::BadDecimal;
     }
     Resolution::Resolved(kind_as(says, n))
+}
+
+// The kind that the annotations of one slot say, whatever else is wrong with them: none where they cannot be read.
+pub fn resolved_kind(n: Annotated, under_map: bool) -> Kind
+    ensures { λ r. ⌜ r ≡ kindOf n «under_map» ⌝ }
+{
+    kind_as(annotation(n, under_map), n)
 }
 
 // The kind of an annotation on a slot.

@@ -8,3 +8,5 @@ pub mod JudgingLaws
 pub mod PlacingLaws
 pub mod RowsLaws
 pub mod ShapeLaws
+pub mod VisitLaws
+pub mod StructureLaws

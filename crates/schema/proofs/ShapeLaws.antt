@@ -1,5 +1,5 @@
 -- Signed tests of rule 8, as the machine makes them.
-use Prim.Native.Nat.{ℕ}
+use Prim.Native.Nat.{ℕ, suc, _-_, _^_, _<_}
 use mathlib.Core.Path.{_≡_, refl}
 use native.Mathlib.Omega.{arith}
 use borrow.Author.Tests.{ne-eqb}
@@ -13,4 +13,4 @@ use Rattle.schema.specs.Rules.{isNought}
 pub isNought-bits : (z : ℤ) → SFits w32 z → eqb (ofZ w32 z) 0 ≡ isNought z
 unfolding isNought
 isNought-bits (pos n) h = refl
-isNought-bits (negsuc n) h = ne-eqb _ _ (λ e. omega (arith, h .sfits))
+isNought-bits (negsuc n) h = let l : n < 2 ^ 31 = h .sfits in ne-eqb (2 ^ 32 - suc n) 0 (λ (e : 2 ^ 32 - suc n ≡ 0). omega arith)

@@ -8,21 +8,25 @@ use Rattle.annotation.specs.Rule10 as ten
 use Rattle.annotation.specs.Rule11 as eleven
 use Rattle.annotation.specs.declared.slot.Annotated.{Annotated}
 use Rattle.annotation.specs.declared.resolution.Kind.{Kind}
-use Rattle.sheet.specs.Slot.{physical, converted, logical, parameterA, parameterB, typeLength, scale, precision}
+use Rattle.sheet.specs.Slot.{numbersOf}
+use Rattle.sheet.specs.declared.slots.Slot.{Slot}
 
--- the numbers of a slot that its annotations are
-unfoldable pub annotated : List ℕ → Annotated
-annotated s =
+-- the numbers of a slot that its annotations go by
+abbrev pub annotatedBy : Slot → Annotated
+annotatedBy s =
     record
-    { physical = physical s
-    ; «type_length» = typeLength s
-    ; converted = converted s
-    ; logical = logical s
-    ; a = parameterA s
-    ; b = parameterB s
-    ; scale = scale s
-    ; precision = precision s
+    { physical = s .physical
+    ; «type_length» = s .«type_length»
+    ; converted = s .converted
+    ; logical = s .logical
+    ; a = s .a
+    ; b = s .b
+    ; scale = s .scale
+    ; precision = s .precision
     }
+
+unfoldable pub annotated : List ℕ → Annotated
+annotated s = annotatedBy (numbersOf s)
 
 -- the resolved kind of a node, its parent a resolved MAP or not, with p1 and p2
 unfoldable pub kind : Bool → List ℕ → Kind

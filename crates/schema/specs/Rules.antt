@@ -6,7 +6,8 @@ use mathlib.Core.List.{List, [], _∷_, _++_}
 use lib.Dec.{leb, eqb}
 use lib.IntN.{ℤ, pos, negsuc}
 use lib.Signed.{leZ}
-use Rattle.sheet.specs.Slot.{physical as physicalOf, repetition, converted as convertedOf, logical as logicalOf, typeLength, scale, precision, name}
+use Rattle.sheet.specs.Slot.{physical as physicalOf, repetition, name, numbersOf}
+use Rattle.sheet.specs.declared.slots.Slot.{Slot as Numbers}
 use Rattle.sheet.specs.Name.{sameBytes}
 use Rattle.annotation.specs.Physical as physical
 use Rattle.annotation.specs.Converted as converted
@@ -63,10 +64,11 @@ rootShape ph rep conv log = isGroup ph && eqb rep NO-REPETITION && eqb conv conv
 abbrev pub fieldShape : ℕ → ℕ → ℕ → Bool
 fieldShape ph rep children = not (eqb rep NO-REPETITION) && cond (isGroup ph) (leb 1 children) (eqb children 0)
 
-abbrev pub placeShape : Place → Slot → Fields → Bool
-placeShape Root s fs = rootShape (physicalOf s) (repetition s) (convertedOf s) (logicalOf s)
-placeShape Field s fs = fieldShape (physicalOf s) (repetition s) (count fs)
-placeShape MapField s fs = fieldShape (physicalOf s) (repetition s) (count fs)
+-- of a node's numbers and how many fields it has
+abbrev pub placeShape : Place → Numbers → ℕ → Bool
+placeShape Root n children = rootShape (n .physical) (n .repetition) (n .converted) (n .logical)
+placeShape Field n children = fieldShape (n .physical) (n .repetition) children
+placeShape MapField n children = fieldShape (n .physical) (n .repetition) children
 
 -- an integer is 0
 unfoldable pub isNought : ℤ → Bool
@@ -81,9 +83,13 @@ lengthShape ph length = cond (eqb ph physical.FIXED-LEN-BYTE-ARRAY) (leZ (pos 1)
 unfoldable pub decimalShape : ℕ → ℕ → ℤ → ℤ → Bool
 decimalShape conv log sc pr = (eqb conv converted.DECIMAL || eqb log logical.DECIMAL) || (isNought sc && isNought pr)
 
+unfoldable pub shape : Place → Numbers → ℕ → Bool
+shape p n children =
+    placeShape p n children && lengthShape (n .physical) (n .«type_length») && decimalShape (n .converted) (n .logical) (n .scale) (n .precision)
+
 -- rule 8
 unfoldable pub rule8 : Place → Slot → Fields → Bool
-rule8 p s fs = placeShape p s fs && lengthShape (physicalOf s) (typeLength s) && decimalShape (convertedOf s) (logicalOf s) (scale s) (precision s)
+rule8 p s fs = shape p (numbersOf s) (count fs)
 
 -- rule 12 ----------------------------------------------------------------------------------------------------------------
 

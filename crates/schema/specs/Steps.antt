@@ -1,10 +1,11 @@
 -- What the steps of judging and of writing answer, which the contracts of private functions cite. Nothing here is a promise to a caller.
-use Prim.Native.Nat.{ℕ, zero, suc, _+_, _-_, _≤_}
+use Prim.Native.Nat.{ℕ, zero, suc, _+_, _-_, _≤_, _<_}
 use mathlib.Core.Path.{_≡_}
 use mathlib.Core.List.{List, _++_, map}
 use lib.ListN.{length, take, drop}
 use Rattle.sheet.specs.Block.{totalOf, mostNodes}
-use Rattle.sheet.specs.Slot.{slots}
+use Rattle.sheet.specs.Slot.{slots, slotAt, childCount, numbersOf}
+use Rattle.sheet.specs.declared.slots.Slot.{Slot as Numbers}
 use Rattle.schema.specs.Tree.{Slot, Tree, Fields, node, empty, field, listings, size, depths, depthss, ClaimsAll}
 use Rattle.schema.specs.Rules.{faults, faultss}
 use Rattle.schema.specs.Reading.{trees, takeFields, firstTree}
@@ -27,6 +28,16 @@ pub record Claimed (bytes : List ℕ) : Type 0 where
   pub total : length (slots bytes) ≡ totalOf bytes
   pub most : totalOf bytes ≤ mostNodes
   pub claims : ClaimsAll (trees (slots bytes))
+
+-- the run of node k
+unfoldable pub fieldsAt : List ℕ → ℕ → Fields
+fieldsAt bytes k = runAt (slots bytes) (suc k) (childCount (slotAt bytes k))
+
+-- node k of such a sheet, and its numbers
+pub record Visited (bytes : List ℕ) (k : ℕ) (s : Numbers) : Type 0 where
+  pub claimed : Claimed bytes
+  pub below : k < totalOf bytes
+  pub numbers : s ≡ numbersOf (slotAt bytes k)
 
 -- how many nodes a run has
 unfoldable pub sizes : Fields → ℕ

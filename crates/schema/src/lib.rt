@@ -1,10 +1,12 @@
 // The schema of a sheet: its tree judged by refusals 5 to 13, and its rows.
+mod codes; // codes.rt: codes that the rules look at
 mod judging; // judging.rt: a tree and its run judged, too deep or at fault
 mod place; // place.rt: where a node stands for the rules
 mod refusal; // refusal.rt: numbered refusals
 mod resolving; // resolving.rt: a sheet's rows, or the refusal
 mod rows; // rows.rt: the rows of a tree and its run
 mod shape; // shape.rt: rule 8
+mod structure; // structure.rt: rules 12 and 13
 
 pub use refusal::Refusal;
 pub use refusal::Verdict;

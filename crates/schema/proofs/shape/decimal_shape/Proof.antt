@@ -1,5 +1,7 @@
 -- `schema::shape::decimal_shape` meets its contract.
 use borrow.Author.Needs.{needs}
+use mir.Facts.{toZ-ofZ}
+use mir.Syntax.{w32}
 use Rattle.schema.specs.Rules.{decimalShape}
 use Rattle.schema.proofs.shape.decimal_shape.Statement.{statement}
 use Rattle.schema.proofs.shape.decimal_shape.Tie as tie
@@ -12,7 +14,9 @@ is-nought-requires-2 c κs = search needs
 
 returns : tie.Need-returns
 unfolding decimalShape
-returns c = rw (c .before .is-nought .ensures, c .is-nought2 .ensures)
+returns c =
+    let fits = c .before .before .fits in
+    rw (rw (toZ-ofZ {w = w32} (fits .scale)) at (c .before .is-nought .ensures), rw (toZ-ofZ {w = w32} (fits .precision)) at (c .is-nought2 .ensures))
 
 pub decimal-shape-spec : {M : Type 1} → statement M
 decimal-shape-spec = tie.close (tie.spec is-nought-requires is-nought-requires-2 returns)

@@ -16,7 +16,7 @@ is-nought-requires c κs = search needs
 
 returns-2 : tie.Need-returns-2
 unfolding lengthShape
-returns-2 c = rw (ne-eqb _ _ (c .before .if1 .left)) (c .is-nought .ensures)
+returns-2 c = rw (ne-eqb _ _ (c .before .if1 .left)) (rw (toZ-ofZ {w = w32} (c .before .before .fits .type-length)) at (c .is-nought .ensures))
 
 pub length-shape-spec : {M : Type 1} → statement M
 length-shape-spec = tie.close (tie.spec returns is-nought-requires returns-2)

@@ -1,0 +1,84 @@
+-- Visiting the nodes of a sheet whose slots claim rightly.
+use Prim.Native.Nat.{ℕ, zero, suc, _+_, _-_, _≤_, _<_}
+use mathlib.Core.Path.{_≡_, refl, sym, ap, _∙_, subst}
+use mathlib.Core.List.{List, [], _∷_}
+use native.Mathlib.Omega.{arith}
+use native.Mathlib.Nat.{add-zero, add-suc, suc-add, zero-add}
+use native.Mathlib.Numerals.{add-one}
+use lib.ListN.{length, getD, drop}
+use Rattle.sheet.specs.Block.{totalOf, mostNodes}
+use Rattle.sheet.specs.Slot.{slots, slotsFrom, slotAt, childCount, repetition, numbersOf}
+use Rattle.sheet.specs.declared.slots.Slot.{Slot as Numbers}
+use Rattle.schema.specs.Tree.{Slot, Tree, Fields, node, empty, field, count, size, ClaimsAll}
+use Rattle.schema.specs.Reading.{trees}
+use Rattle.schema.specs.Steps.{treeAt, runAt, fieldsAt, Claimed}
+use Rattle.schema.proofs.StandingLaws.{treeAt-node, runAt-suc, runAt-zero, runAt-end, claimed-at, count-runAt, count-behind, size-positive}
+
+slotsFrom-at : (b : List ℕ) (n i k : ℕ) (d : Slot) → k < n → getD (slotsFrom b i n) k d ≡ slotAt b (i + k)
+unfolding slotsFrom
+slotsFrom-at b zero i k d h = absurd (omega arith)
+slotsFrom-at b (suc n) i zero d h = ap (slotAt b) (sym (add-zero i))
+slotsFrom-at b (suc n) i (suc k) d h =
+    slotsFrom-at b n (suc i) k d (omega arith) ∙ ap (slotAt b) (suc-add i k ∙ sym (add-suc i k))
+
+-- the used slots are the slots at their numbers
+pub slots-at : (b : List ℕ) (k : ℕ) (d : Slot) → k < totalOf b → getD (slots b) k d ≡ slotAt b k
+unfolding slots
+slots-at b k d h = slotsFrom-at b (totalOf b) 0 k d h ∙ ap (slotAt b) (zero-add k)
+
+length-slotsFrom : (b : List ℕ) (n i : ℕ) → length (slotsFrom b i n) ≡ n
+unfolding slotsFrom
+length-slotsFrom b zero i = refl
+length-slotsFrom b (suc n) i = ap suc (length-slotsFrom b n (suc i))
+
+pub length-slots : (b : List ℕ) → length (slots b) ≡ totalOf b
+unfolding slots
+length-slots b = length-slotsFrom b (totalOf b) 0
+
+module _ (b : List ℕ) (k : ℕ) (h : Claimed b) (l : k < totalOf b) where
+  within : k < length (slots b)
+  within = omega (arith, h .total)
+
+  -- the tree at a number is its node with its run
+  pub treeAt-slot : treeAt (slots b) k ≡ node (slotAt b k) (fieldsAt b k)
+  unfolding fieldsAt
+  treeAt-slot =
+      treeAt-node (slots b) k within
+      ∙ ap (λ (s : Slot). node s (runAt (slots b) (suc k) (childCount s))) (slots-at b k [] l)
+
+  -- as many trees stand behind a node as it claims
+  pub claimed-slot : childCount (slotAt b k) ≤ count (trees (drop (suc k) (slots b)))
+  claimed-slot = subst (λ (s : Slot). childCount s ≤ count (trees (drop (suc k) (slots b)))) (slots-at b k [] l) (claimed-at (slots b) k (h .claims) within)
+
+  pub count-fieldsAt : count (fieldsAt b k) ≡ childCount (slotAt b k)
+  unfolding fieldsAt
+  count-fieldsAt = count-runAt (slots b) (suc k) (childCount (slotAt b k)) claimed-slot
+
+  -- the first field of a node that claims one stands behind it
+  pub fieldsAt-first : (n : ℕ) → childCount (slotAt b k) ≡ suc n → fieldsAt b k ≡ field (treeAt (slots b) (suc k)) (runAt (slots b) (suc k + size (treeAt (slots b) (suc k))) n)
+  unfolding fieldsAt
+  fieldsAt-first n e =
+      ap (runAt (slots b) (suc k)) e
+      ∙ runAt-suc (slots b) (suc k) n (h .claims) (subst (λ (m : ℕ). m ≤ count (trees (drop (suc k) (slots b)))) e claimed-slot)
+
+  pub first-end : (n : ℕ) → childCount (slotAt b k) ≡ suc n → suc k + size (treeAt (slots b) (suc k)) ≤ totalOf b
+  first-end n e =
+      subst (λ (m : ℕ). suc k + size (treeAt (slots b) (suc k)) ≤ m) (h .total)
+      (runAt-end (slots b) (suc k) n (h .claims) (subst (λ (m : ℕ). m ≤ count (trees (drop (suc k) (slots b)))) e claimed-slot))
+
+  pub first-below : (n : ℕ) → childCount (slotAt b k) ≡ suc n → suc k < totalOf b
+  first-below n e = let p = size-positive (treeAt (slots b) (suc k)) in omega (arith, first-end n e)
+
+  -- and as many trees stand behind that field as are left
+  pub rest-claimed : (n : ℕ) → childCount (slotAt b k) ≡ suc n → n ≤ count (trees (drop (suc k + size (treeAt (slots b) (suc k))) (slots b)))
+  rest-claimed n e =
+      count-behind (slots b) (suc k) n (h .claims) (subst (λ (m : ℕ). m ≤ count (trees (drop (suc k) (slots b)))) e claimed-slot)
+
+-- the repetition of the slot that is read behind a number
+pub repetition-behind : (b : List ℕ) (k : ℕ) (s : Numbers) → s ≡ numbersOf (slotAt b (k + 1)) → s .repetition ≡ repetition (slotAt b (suc k))
+unfolding numbersOf
+repetition-behind b k s e = ap (λ (n : Numbers). n .repetition) e ∙ ap (λ (i : ℕ). repetition (slotAt b i)) (add-one k)
+
+pub repetition-at : (b : List ℕ) (k : ℕ) (s : Numbers) → s ≡ numbersOf (slotAt b k) → s .repetition ≡ repetition (slotAt b k)
+unfolding numbersOf
+repetition-at b k s e = ap (λ (n : Numbers). n .repetition) e
