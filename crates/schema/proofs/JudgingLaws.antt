@@ -9,7 +9,7 @@ use lib.ListN.{length, length-append, length-map}
 use Rattle.schema.specs.Tree.{Slot, Tree, Fields, node, empty, field, listing, listings, size, depths, depthss}
 use Rattle.schema.specs.Rules.{placeBelow, broken, faults, faultss}
 use Rattle.schema.specs.Outcome.{orElse, firstFault, refusal, mostDepth, deepness}
-use Rattle.schema.specs.Steps.{sizes, secondIn, secondOf, innerIn, depthAt, treeOrDeep, runOrDeep, judgedTree, judgedRun}
+use Rattle.schema.specs.Steps.{sizes, secondIn, secondOf, innerIn, depthAt, treeOrDeep, runOrDeep, judgedTree, judgedRun, ownFirst, runAfter}
 use Rattle.schema.specs.declared.place.Place.{Place}
 use Rattle.schema.specs.declared.refusal.Verdict.{Verdict}
 use Rattle.schema.specs.declared.judging.TreeJudged.{TreeJudged}
@@ -38,11 +38,6 @@ mutual
 pub judgedTree-deep : (at : ℕ) (p : Place) (t : Tree) → judgedTree at 0 p t ≡ TreeJudged.Deep at
 unfolding judgedTree treeOrDeep depthAt depths firstFault deepness
 judgedTree-deep at p (node s fs) = refl
-
--- a fault of the root's own comes before those of its run
-unfoldable pub ownFirst : ℕ → ℕ → Verdict → Verdict
-ownFirst zero at v = v
-ownFirst (suc n) at v = Verdict.Refused (refusal (suc n) at)
 
 -- what a tree's run finds is what the tree finds, with the root's own fault first
 unfoldable pub treeBy : ℕ → ℕ → RunJudged → TreeJudged
@@ -84,10 +79,6 @@ unfolding judgedRun runOrDeep depthss firstFault sizes listings secondIn innerIn
 judgedRun-empty at l p = rw add-zero
 
 -- what a run's first tree and the shorter run find is what the run finds
-unfoldable pub runAfter : ℕ → ℕ → Verdict → RunJudged → RunJudged
-runAfter next second v (RunJudged.Deep k) = RunJudged.Deep k
-runAfter next second v (RunJudged.Judged end third inner w) = RunJudged.Judged end next second (orElse v w)
-
 unfoldable pub runBy : TreeJudged → (ℕ → RunJudged) → RunJudged
 runBy (TreeJudged.Deep k) rest = RunJudged.Deep k
 runBy (TreeJudged.Judged next second v) rest = runAfter next second v (rest next)
@@ -125,3 +116,26 @@ judgedRun-field at l p t fs =
     run-parts _ _ _ _ _ _ _ _ (deep-split at (depthAt l) t fs) (sizes-field at t fs) (fault-split at p t fs)
     ∙ run-by _ _ _ _ _ _ _ (secondIn (at + size t) fs) (innerIn (at + size t) fs)
     ∙ run-next _ _ _ _ _ _ refl
+
+-- where a run is judged, the second field of its first field stands where it says
+pub judgedRun-inner : (at l : ℕ) (p : Place) (fs : Fields) (next second inner : ℕ) (v : Verdict) → judgedRun at l p fs ≡ RunJudged.Judged next second inner v → inner ≡ innerIn at fs
+unfolding judgedRun runOrDeep
+judgedRun-inner at l p fs next second inner v e = on (firstFault at (map deepness (depthss (depthAt l) fs))) e
+  where
+    on : (w : Verdict) → runOrDeep w (RunJudged.Judged (at + sizes fs) (secondIn at fs) (innerIn at fs) (firstFault at (faultss p fs))) ≡ RunJudged.Judged next second inner v → inner ≡ innerIn at fs
+    on Verdict.Lawful q = cc
+    on (Verdict.Refused r) q = absurd (let z : _≡_ {A = ℕ} 0 1 = cc in omega arith)
+
+pub judgedTree-next : (at l : ℕ) (p : Place) (t : Tree) (next second : ℕ) (v : Verdict) → judgedTree at l p t ≡ TreeJudged.Judged next second v → next ≡ at + size t
+unfolding judgedTree treeOrDeep
+judgedTree-next at l p t next second v e = on (firstFault at (map deepness (depths (depthAt l) t))) e
+  where
+    on : (w : Verdict) → treeOrDeep w (TreeJudged.Judged (at + size t) (secondOf at t) (firstFault at (faults p t))) ≡ TreeJudged.Judged next second v → next ≡ at + size t
+    on Verdict.Lawful q = cc
+    on (Verdict.Refused r) q = absurd (let z : _≡_ {A = ℕ} 0 1 = cc in omega arith)
+
+-- a fault of the root's own is found
+pub ownFirst-some : (own at : ℕ) (v : Verdict) → (own ≡ 0 → ⊥) → Verdict.Refused (refusal own at) ≡ ownFirst own at v
+unfolding ownFirst
+ownFirst-some zero at v n = absurd (n refl)
+ownFirst-some (suc k) at v n = refl

@@ -10,3 +10,5 @@ pub mod RowsLaws
 pub mod ShapeLaws
 pub mod VisitLaws
 pub mod StructureLaws
+pub mod NodeLaws
+pub mod JudgingSteps

@@ -50,9 +50,12 @@ isList p s = eqb (kind (underMap p) s .kind) logical.LIST
 unfoldable pub isMap : Place → Slot → Bool
 isMap p s = eqb (kind (underMap p) s .kind) logical.MAP
 
--- the place of a node's fields
+-- the place of the fields of a node of some kind
+abbrev pub placeUnder : ℕ → Place
+placeUnder code = cond (eqb code logical.MAP) MapField Field
+
 unfoldable pub placeBelow : Place → Slot → Place
-placeBelow p s = cond (isMap p s) MapField Field
+placeBelow p s = placeUnder (kind (underMap p) s .kind)
 
 -- rule 8 -----------------------------------------------------------------------------------------------------------------
 

@@ -1,15 +1,18 @@
 -- What the steps of judging and of writing answer, which the contracts of private functions cite. Nothing here is a promise to a caller.
 use Prim.Native.Nat.{ℕ, zero, suc, _+_, _-_, _≤_, _<_}
 use mathlib.Core.Path.{_≡_}
+use mathlib.Core.Bool.{cond, not, _||_}
 use mathlib.Core.List.{List, _++_, map}
+use lib.Dec.{eqb}
 use lib.ListN.{length, take, drop}
 use Rattle.sheet.specs.Block.{totalOf, mostNodes}
 use Rattle.sheet.specs.Slot.{slots, slotAt, childCount, numbersOf}
 use Rattle.sheet.specs.declared.slots.Slot.{Slot as Numbers}
 use Rattle.schema.specs.Tree.{Slot, Tree, Fields, node, empty, field, listings, size, depths, depthss, ClaimsAll}
-use Rattle.schema.specs.Rules.{faults, faultss}
+use Rattle.schema.specs.Rules.{faults, faultss, listKept, mapKept}
 use Rattle.schema.specs.Reading.{trees, takeFields, firstTree}
-use Rattle.schema.specs.Outcome.{mostDepth, deepness, firstFault}
+use Rattle.annotation.specs.Logical as logical
+use Rattle.schema.specs.Outcome.{mostDepth, deepness, firstFault, orElse, refusal}
 use Rattle.schema.specs.declared.place.Place.{Place}
 use Rattle.schema.specs.declared.refusal.Verdict.{Verdict}
 use Rattle.schema.specs.declared.judging.TreeJudged.{TreeJudged}
@@ -79,6 +82,22 @@ unfoldable pub judgedRun : ℕ → ℕ → Place → Fields → RunJudged
 judgedRun at levels p fs =
     runOrDeep (firstFault at (map deepness (depthss (depthAt levels) fs)))
     (RunJudged.Judged (at + sizes fs) (secondIn at fs) (innerIn at fs) (firstFault at (faultss p fs)))
+
+-- a fault of the root's own comes before those of its run
+unfoldable pub ownFirst : ℕ → ℕ → Verdict → Verdict
+ownFirst zero at v = v
+ownFirst (suc n) at v = Verdict.Refused (refusal (suc n) at)
+
+-- what a run finds, and the tree that stands before it
+unfoldable pub runAfter : ℕ → ℕ → Verdict → RunJudged → RunJudged
+runAfter next second v (RunJudged.Deep k) = RunJudged.Deep k
+runAfter next second v (RunJudged.Judged end third inner w) = RunJudged.Judged end next second (orElse v w)
+
+-- which of rules 12 and 13 a node of some kind breaks, and 0 where it breaks neither
+unfoldable pub structureBroken : ℕ → Slot → Fields → ℕ
+structureBroken code s fs =
+    cond (not (eqb code logical.LIST) || listKept s fs)
+    (cond (not (eqb code logical.MAP) || mapKept s fs) 0 13) 12
 
 -- a list with some numbers in place of those from i on
 unfoldable pub placed : List ℕ → ℕ → List ℕ → List ℕ

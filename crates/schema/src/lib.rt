@@ -1,5 +1,6 @@
 // The schema of a sheet: its tree judged by refusals 5 to 13, and its rows.
 mod codes; // codes.rt: codes that the rules look at
+mod faults; // faults.rt: the least rule that a node breaks
 mod judging; // judging.rt: a tree and its run judged, too deep or at fault
 mod place; // place.rt: where a node stands for the rules
 mod refusal; // refusal.rt: numbered refusals

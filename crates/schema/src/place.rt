@@ -1,6 +1,7 @@
 // Where a node stands, as far as rules 8 to 13 look above it.
 ghost use mathlib.Core.Path.{_≡_};
-ghost use Rattle.schema.specs.Rules.{underMap};
+ghost use Rattle.schema.specs.Rules.{underMap, placeUnder};
+use annotation::logical;
 
 pub enum Place {
     Root,
@@ -9,6 +10,8 @@ pub enum Place {
     // A field of a resolved MAP.
     MapField,
 }
+
+const MAP: u32 = logical::MAP as u32;
 
 // Whether a node's parent is a resolved MAP.
 pub fn under_map(place: Place) -> bool
@@ -19,4 +22,11 @@ pub fn under_map(place: Place) -> bool
         Place::Field => false,
         Place::MapField => true,
     }
+}
+
+// The place of the fields of a node of some kind.
+pub fn place_under(kind: u32) -> Place
+    ensures { λ r. ⌜ r ≡ placeUnder kind ⌝ }
+{
+    if kind == MAP { Place::MapField } else { Place::Field }
 }

@@ -1,4 +1,6 @@
 // Numbered refusals and their places.
+ghost use mathlib.Core.Path.{_≡_};
+ghost use Rattle.schema.specs.Outcome.{orElse};
 
 // A refusal: its number, and the block or node that it names.
 pub struct Refusal {
@@ -10,4 +12,14 @@ pub struct Refusal {
 pub enum Verdict {
     Lawful,
     Refused(Refusal),
+}
+
+// The first refusal of two.
+pub fn or_else(verdict: Verdict, next: Verdict) -> Verdict
+    ensures { λ r. ⌜ r ≡ orElse verdict next ⌝ }
+{
+    match verdict {
+        Verdict::Lawful => next,
+        Verdict::Refused(r) => Verdict::Refused(r),
+    }
 }

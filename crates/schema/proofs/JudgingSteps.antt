@@ -1,0 +1,114 @@
+-- The steps of judging at the numbers of a sheet: what a tree finds from its run, and what a run finds from its first tree and the shorter run.
+use Prim.Native.Nat.{ℕ, zero, suc, _+_, _*_, _-_, _≤_, _<_}
+use mathlib.Core.Path.{_≡_, refl, sym, ap, _∙_, subst}
+use mathlib.Core.List.{List}
+use native.Mathlib.Omega.{arith}
+use native.Mathlib.Numerals.{add-one}
+use lib.ListN.{length, drop}
+use Rattle.sheet.specs.Block.{totalOf}
+use Rattle.sheet.specs.Slot.{slots, slotAt, childCount, numbersOf}
+use Rattle.sheet.specs.declared.slots.Slot.{Slot as Numbers}
+use Rattle.schema.specs.Tree.{Tree, Fields, node, empty, field, count, size}
+use Rattle.schema.specs.Rules.{placeBelow, broken}
+use Rattle.schema.specs.Reading.{trees}
+use Rattle.schema.specs.Outcome.{mostDepth}
+use Rattle.schema.specs.Steps.{Claimed, Visited, treeAt, runAt, fieldsAt, innerIn, judgedTree, judgedRun, ownFirst, runAfter}
+use Rattle.schema.specs.declared.place.Place.{Place}
+use Rattle.schema.specs.declared.refusal.Verdict.{Verdict}
+use Rattle.schema.specs.declared.judging.TreeJudged.{TreeJudged}
+use Rattle.schema.specs.declared.judging.RunJudged.{RunJudged}
+use Rattle.schema.proofs.StandingLaws.{runAt-zero, runAt-suc, runAt-end, count-behind, size-positive}
+use Rattle.schema.proofs.VisitLaws.{treeAt-slot, claimed-slot}
+use Rattle.schema.proofs.JudgingLaws.{treeBy, runBy, judgedTree-deep, judgedTree-node, judgedRun-empty, judgedRun-field, judgedRun-inner, judgedTree-next}
+
+-- some number below another, from one that is not 0
+pub from-one : (n : ℕ) → (n ≡ 0 → ⊥) → n ≡ suc (n - 1)
+from-one n h = omega arith
+
+module _ (b : List ℕ) (at n l : ℕ) (p : Place) where
+  pub run-empty : n ≡ 0 → RunJudged.Judged at at at Verdict.Lawful ≡ judgedRun at l p (runAt (slots b) at n)
+  run-empty e = sym (rw (e, runAt-zero) (judgedRun-empty at l p))
+
+  module _ (h : Claimed b) (k : n ≡ 0 → ⊥) (c : n ≤ count (trees (drop at (slots b)))) where
+    some : suc (n - 1) ≤ count (trees (drop at (slots b)))
+    some = omega (arith, from-one n k)
+
+    pub run-below : at < totalOf b
+    run-below =
+        let p = size-positive (treeAt (slots b) at) in
+        omega (arith, h .total, runAt-end (slots b) at (n - 1) (h .claims) some)
+
+    run-step : judgedRun at l p (runAt (slots b) at n) ≡ runBy (judgedTree at l p (treeAt (slots b) at)) (λ i. judgedRun i l p (runAt (slots b) (at + size (treeAt (slots b) at)) (n - 1)))
+    run-step =
+        ap (λ (m : ℕ). judgedRun at l p (runAt (slots b) at m)) (from-one n k)
+        ∙ ap (judgedRun at l p) (runAt-suc (slots b) at (n - 1) (h .claims) some)
+        ∙ judgedRun-field at l p (treeAt (slots b) at) (runAt (slots b) (at + size (treeAt (slots b) at)) (n - 1))
+
+    pub run-deep : (i : ℕ) → judgedTree at l p (treeAt (slots b) at) ≡ TreeJudged.Deep i → RunJudged.Deep i ≡ judgedRun at l p (runAt (slots b) at n)
+    unfolding runBy
+    run-deep i e = sym (run-step ∙ rw e)
+
+    module _ (next second : ℕ) (v : Verdict) (e : judgedTree at l p (treeAt (slots b) at) ≡ TreeJudged.Judged next second v) where
+      pub next-is : next ≡ at + size (treeAt (slots b) at)
+      next-is = judgedTree-next at l p (treeAt (slots b) at) next second v e
+
+      pub next-after : at < next
+      next-after = let p = size-positive (treeAt (slots b) at) in omega (arith, next-is)
+
+      pub next-claimed : n - 1 ≤ count (trees (drop next (slots b)))
+      next-claimed = rw next-is (count-behind (slots b) at (n - 1) (h .claims) some)
+
+      pub run-judged : judgedRun at l p (runAt (slots b) at n) ≡ runAfter next second v (judgedRun next l p (runAt (slots b) next (n - 1)))
+      unfolding runBy
+      run-judged =
+          run-step ∙ rw e
+          (ap (λ (m : ℕ). runAfter next second v (judgedRun next l p (runAt (slots b) m (n - 1)))) (sym next-is))
+
+pub tree-deep : (at l : ℕ) (p : Place) (t : Tree) → l ≡ 0 → TreeJudged.Deep at ≡ judgedTree at l p t
+tree-deep at l p t e = sym (rw e (judgedTree-deep at p t))
+
+module _ (b : List ℕ) (at : ℕ) (s : Numbers) (v : Visited b at s) where
+  children-are : s .children ≡ childCount (slotAt b at)
+  unfolding numbersOf
+  children-are = ap (λ (n : Numbers). n .children) (v .numbers)
+
+  -- as many trees stand behind a node as its numbers claim
+  pub children-claimed : s .children ≤ count (trees (drop (at + 1) (slots b)))
+  children-claimed = rw (children-are, add-one) (claimed-slot b at (v .claimed) (v .below))
+
+  run-is : runAt (slots b) (at + 1) (s .children) ≡ fieldsAt b at
+  unfolding fieldsAt
+  run-is = rw (children-are, add-one)
+
+  module _ (l : ℕ) (p q : Place) (w : q ≡ placeBelow p (slotAt b at)) (k : l ≡ 0 → ⊥) (m : l ≤ suc mostDepth) (r : RunJudged) (e : r ≡ judgedRun (at + 1) (l - 1) q (runAt (slots b) (at + 1) (s .children))) where
+    run-found : judgedRun (suc at) (l - 1) (placeBelow p (slotAt b at)) (fieldsAt b at) ≡ r
+    run-found = sym (e ∙ rw (run-is, w, add-one))
+
+    tree-step : judgedTree at l p (treeAt (slots b) at) ≡ treeBy (broken p (slotAt b at) (fieldsAt b at)) at r
+    tree-step =
+        ap (judgedTree at l p) (treeAt-slot b at (v .claimed) (v .below))
+        ∙ ap (λ (i : ℕ). judgedTree at i p (node (slotAt b at) (fieldsAt b at))) (from-one l k)
+        ∙ judgedTree-node at (l - 1) p (slotAt b at) (fieldsAt b at) (omega (arith, from-one l k))
+        ∙ ap (treeBy (broken p (slotAt b at) (fieldsAt b at)) at) run-found
+
+    pub tree-run-deep : (i : ℕ) → r ≡ RunJudged.Deep i → TreeJudged.Deep i ≡ judgedTree at l p (treeAt (slots b) at)
+    unfolding treeBy
+    tree-run-deep i d = sym (tree-step ∙ rw d)
+
+    module _ (next second inner : ℕ) (u : Verdict) (d : r ≡ RunJudged.Judged next second inner u) where
+      pub tree-inner : inner ≡ innerIn (suc at) (fieldsAt b at)
+      tree-inner = judgedRun-inner (suc at) (l - 1) (placeBelow p (slotAt b at)) (fieldsAt b at) next second inner u (run-found ∙ d)
+
+      pub tree-judged : judgedTree at l p (treeAt (slots b) at) ≡ TreeJudged.Judged next second (ownFirst (broken p (slotAt b at) (fieldsAt b at)) at u)
+      unfolding treeBy
+      tree-judged = tree-step ∙ rw d
+
+-- the measures of the three calls
+pub tree-falls : (total at t : ℕ) → 2 * (total - at) + 1 ≡ t → 2 * (total - at) < t
+tree-falls total at t e = omega arith
+
+pub rest-falls : (total at next t : ℕ) → at < total → at < next → 2 * (total - at) + 1 ≡ t → 2 * (total - next) + 1 < t
+rest-falls total at next t h k e = omega arith
+
+pub run-falls : (total at t : ℕ) → at < total → 2 * (total - at) ≡ t → 2 * (total - (at + 1)) + 1 < t
+run-falls total at t h e = omega arith
