@@ -10,64 +10,21 @@ use native.Mathlib.Omega.{arith}
 use native.Mathlib.Nat.{le-refl}
 use borrow.Author.Tests.{lt-ltb, le-ltb}
 use lib.Dec.{ltb}
-use lib.IntN.{ℤ, pos}
 use lib.ListN.{length, drop}
 use Rattle.sheet.specs.Block.{totalOf}
-use Rattle.sheet.specs.First.{firstWrong}
 use Rattle.sheet.specs.Opening as sheet
 use Rattle.sheet.specs.Slot.{slots}
-use Rattle.sheet.proofs.FirstLaws.{firstWrong-at, firstWrong-none}
 use Rattle.schema.specs.Tree.{Slot, Tree, Fields, node, empty, field, listing, listings, count, Claims, ClaimsAll}
 use Rattle.schema.specs.Rows.{rows, rowWidth}
 use Rattle.schema.specs.Reading.{trees, firstTree, treeOf}
-use Rattle.schema.specs.OpenPlaces.{openPlaces, isNoPlace}
 use Rattle.schema.specs.Outcome.{orElse, refusal, leftOver, missing, tooDeep, unlawful, treeRefusal, judgedAs, judgement, answer, outcome, written}
 use Rattle.schema.specs.Demand.{IsTreeOf, Sound, EnoughOutput, Accepted}
 use Rattle.schema.specs.declared.refusal.Refusal.{Refusal}
 use Rattle.schema.specs.declared.resolving.Resolved.{Resolved}
 use Rattle.schema.proofs.TreeLaws.{listings-trees, trees-of-listing, listing-injective}
-use Rattle.schema.proofs.OpenPlacesLaws.{Fills, Lacks, Full, one-of-three, fills-trees, tree-fills, openFrom, openFrom-one, Open, fills-open, fills-end, lacks-open, full-below, full-none, full-open}
+use Rattle.schema.proofs.OpenPlacesLaws.{Fills, Lacks, Full, one-of-three, fills-trees, tree-fills, full-below}
+use Rattle.schema.proofs.PlacesLaws.{fills-leftOver, fills-missing, lacks-leftOver, lacks-missing, full-leftOver}
 use Rattle.schema.proofs.FaultLaws.{refused-not-lawful, orElse-none, none-orElse, atMostDeep-none, none-atMostDeep, keeps-none, none-keeps}
-
--- what some open place says of the test for Lawful
-open-test : (z : ℤ) → Open z → isNoPlace z ≡ false
-unfolding Open isNoPlace
-open-test z o = rw (o .1)
-
-none-test : (z : ℤ) → z ≡ pos 0 → isNoPlace z ≡ true
-unfolding isNoPlace
-none-test z e = rw e
-
-open-at : (ss : List Slot) (j : ℕ) → Open (openFrom 1 ss j) → not (isNoPlace (openPlaces ss j)) ≡ true
-open-at ss j o = rw (← openFrom-one, open-test _ o)
-
--- where a place is open before every slot, Lawful is left over
-leftOver-none : (ss : List Slot) → ((j : ℕ) → j < length ss → Open (openFrom 1 ss j)) → leftOver ss ≡ Lawful
-unfolding leftOver
-leftOver-none ss all =
-    rw (firstWrong-none (λ j. not (isNoPlace (openPlaces ss j))) (length ss) (λ j h. open-at ss j (all j h)), le-ltb (length ss) (length ss) (le-refl _))
-
-fills-leftOver : (ss : List Slot) → Fills 1 ss → leftOver ss ≡ Lawful
-fills-leftOver ss f = leftOver-none ss (fills-open f)
-
-fills-missing : (ss : List Slot) → Fills 1 ss → missing ss ≡ Lawful
-unfolding missing
-fills-missing ss f = rw (← openFrom-one, none-test _ (fills-end f))
-
--- refusal 5 holds where places are left open, refusal 6 where there is Lawful before a slot
-pub lacks-leftOver : (ss : List Slot) → Lacks 1 ss → leftOver ss ≡ Lawful
-lacks-leftOver ss l = leftOver-none ss (λ j h. lacks-open l j (omega arith))
-
-pub lacks-missing : (ss : List Slot) → Lacks 1 ss → missing ss ≡ Refused (refusal 5 (length ss))
-unfolding missing
-lacks-missing ss l = rw (← openFrom-one, open-test _ (lacks-open l (length ss) (le-refl _)))
-
-pub full-leftOver : (ss : List Slot) (k : ℕ) → Full 1 ss k → leftOver ss ≡ Refused (refusal 6 k)
-unfolding leftOver
-full-leftOver ss k f =
-    rw
-    ( firstWrong-at (λ j. not (isNoPlace (openPlaces ss j))) (length ss) k (full-below f) (λ j h. open-at ss j (full-open f j h)) (rw (← openFrom-one, none-test _ (full-none f)))
-    , lt-ltb k (length ss) (full-below f))
 
 -- a tree that claims rightly and lists the slots is the one that they stand for
 pub treeOf-listing : (t : Tree) (ss : List Slot) → Claims t → listing t ≡ ss → treeOf ss ≡ t

@@ -1,4 +1,4 @@
--- The first fault in listing order: there is Lawful exactly where every rule is kept, and Lawful is too deep exactly where no node is.
+-- The first fault in listing order: there is none exactly where every rule is kept, and none is too deep exactly where no node is.
 use Prim.Native.Nat.{ℕ, zero, suc, _+_, _≤_, _<_}
 use mathlib.Core.Path.{_≡_, refl, sym, ap, _∙_, subst}
 use mathlib.Core.Bool.{Bool, true, false, cond}
@@ -27,7 +27,7 @@ firstFault-append k (suc m ∷ ms) ns = refl
 pub refused-not-lawful : (r : Refusal) → Refused r ≡ Lawful → ⊥
 refused-not-lawful r e = let z : _≡_ {A = ℕ} 0 1 = cc in omega arith
 
--- of two refusals in order there is Lawful exactly where neither is
+-- of two refusals in order there is none exactly where neither is
 pub orElse-none : (a b : Verdict) → a ≡ Lawful → b ≡ Lawful → orElse a b ≡ Lawful
 unfolding orElse
 orElse-none Lawful b p q = q
@@ -89,7 +89,7 @@ mutual
       let z = none-orElse _ _ (sym (firstFault-append k (faults p t) (faultss p fs)) ∙ e) in
       (no-fault-keeps t p k (z .0), no-fault-keepsAll fs p (k + length (faults p t)) (z .1))
 
--- depths of which Lawful is beyond the most
+-- depths of which none is beyond the most
 shallow-none : (ds : List ℕ) (k : ℕ) → ((i : ℕ) → getD ds i 0 ≤ mostDepth) → firstFault k (map deepness ds) ≡ Lawful
 unfolding firstFault deepness
 shallow-none [] k h = refl

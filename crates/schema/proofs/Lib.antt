@@ -1,6 +1,7 @@
 -- What the proofs of several functions use.
 pub mod TreeLaws
 pub mod OpenPlacesLaws
+pub mod PlacesLaws
 pub mod FaultLaws
 pub mod DemandLaws
 pub mod StandingLaws
@@ -12,3 +13,4 @@ pub mod VisitLaws
 pub mod StructureLaws
 pub mod NodeLaws
 pub mod JudgingSteps
+pub mod CountingLaws

@@ -73,7 +73,7 @@ unfolding openFrom openPlaces
 openFrom-one ss k = refl
 
 -- one place is filled, and as many open as the slot claims
-place-filled : (n c : ℕ) → pos (suc n) +ℤ (pos c -ℤ pos 1) ≡ pos (c + n)
+pub place-filled : (n c : ℕ) → pos (suc n) +ℤ (pos c -ℤ pos 1) ≡ pos (c + n)
 place-filled n c =
     ap (λ (z : ℤ). pos (suc n) +ℤ z) (-ℤ-one (pos c))
     ∙ +ℤ-predℤ (pos (suc n)) (pos c)

@@ -3,6 +3,7 @@ mod codes; // codes.rt: codes that the rules look at
 mod faults; // faults.rt: the least rule that a node breaks
 mod judging; // judging.rt: a tree and its run judged, too deep or at fault
 mod place; // place.rt: where a node stands for the rules
+mod places; // places.rt: refusals 5 and 6
 mod refusal; // refusal.rt: numbered refusals
 mod resolving; // resolving.rt: a sheet's rows, or the refusal
 mod rows; // rows.rt: the rows of a tree and its run
