@@ -21,6 +21,7 @@ pub use resolution::resolved_kind;
 pub use rewriting::Written;
 pub use rewriting::rewrite;
 pub use slot::Annotated;
+pub use slot::length;
 pub use types::Annotation;
 pub use types::BitWidth;
 pub use types::LogicalType;

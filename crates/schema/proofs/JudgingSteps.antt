@@ -17,31 +17,18 @@ use Rattle.schema.specs.declared.place.Place.{Place}
 use Rattle.schema.specs.declared.refusal.Verdict.{Verdict}
 use Rattle.schema.specs.declared.judging.TreeJudged.{TreeJudged}
 use Rattle.schema.specs.declared.judging.RunJudged.{RunJudged}
-use Rattle.schema.proofs.StandingLaws.{runAt-zero, runAt-suc, runAt-end, count-behind, size-positive}
-use Rattle.schema.proofs.VisitLaws.{treeAt-slot, claimed-slot}
+use Rattle.schema.proofs.StandingLaws.{runAt-zero}
+use Rattle.schema.proofs.VisitLaws.{treeAt-slot, claimed-slot, from-one, runAt-first}
 use Rattle.schema.proofs.JudgingLaws.{treeBy, runBy, judgedTree-deep, judgedTree-node, judgedRun-empty, judgedRun-field, judgedRun-inner, judgedTree-next}
-
--- some number below another, from one that is not 0
-pub from-one : (n : ℕ) → (n ≡ 0 → ⊥) → n ≡ suc (n - 1)
-from-one n h = omega arith
 
 module _ (b : List ℕ) (at n l : ℕ) (p : Place) where
   pub run-empty : n ≡ 0 → RunJudged.Judged at at at Verdict.Lawful ≡ judgedRun at l p (runAt (slots b) at n)
   run-empty e = sym (rw (e, runAt-zero) (judgedRun-empty at l p))
 
   module _ (h : Claimed b) (k : n ≡ 0 → ⊥) (c : n ≤ count (trees (drop at (slots b)))) where
-    some : suc (n - 1) ≤ count (trees (drop at (slots b)))
-    some = omega (arith, from-one n k)
-
-    pub run-below : at < totalOf b
-    run-below =
-        let p = size-positive (treeAt (slots b) at) in
-        omega (arith, h .total, runAt-end (slots b) at (n - 1) (h .claims) some)
-
     run-step : judgedRun at l p (runAt (slots b) at n) ≡ runBy (judgedTree at l p (treeAt (slots b) at)) (λ i. judgedRun i l p (runAt (slots b) (at + size (treeAt (slots b) at)) (n - 1)))
     run-step =
-        ap (λ (m : ℕ). judgedRun at l p (runAt (slots b) at m)) (from-one n k)
-        ∙ ap (judgedRun at l p) (runAt-suc (slots b) at (n - 1) (h .claims) some)
+        ap (judgedRun at l p) (runAt-first b at n h k c)
         ∙ judgedRun-field at l p (treeAt (slots b) at) (runAt (slots b) (at + size (treeAt (slots b) at)) (n - 1))
 
     pub run-deep : (i : ℕ) → judgedTree at l p (treeAt (slots b) at) ≡ TreeJudged.Deep i → RunJudged.Deep i ≡ judgedRun at l p (runAt (slots b) at n)
@@ -51,12 +38,6 @@ module _ (b : List ℕ) (at n l : ℕ) (p : Place) where
     module _ (next second : ℕ) (v : Verdict) (e : judgedTree at l p (treeAt (slots b) at) ≡ TreeJudged.Judged next second v) where
       pub next-is : next ≡ at + size (treeAt (slots b) at)
       next-is = judgedTree-next at l p (treeAt (slots b) at) next second v e
-
-      pub next-after : at < next
-      next-after = let p = size-positive (treeAt (slots b) at) in omega (arith, next-is)
-
-      pub next-claimed : n - 1 ≤ count (trees (drop next (slots b)))
-      next-claimed = rw next-is (count-behind (slots b) at (n - 1) (h .claims) some)
 
       pub run-judged : judgedRun at l p (runAt (slots b) at n) ≡ runAfter next second v (judgedRun next l p (runAt (slots b) next (n - 1)))
       unfolding runBy

@@ -14,3 +14,5 @@ pub mod StructureLaws
 pub mod NodeLaws
 pub mod JudgingSteps
 pub mod CountingLaws
+pub mod RolesLaws
+pub mod RowsSteps

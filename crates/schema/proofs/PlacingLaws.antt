@@ -4,7 +4,8 @@ use mathlib.Core.Path.{_≡_, refl, sym, ap, _∙_, subst}
 use mathlib.Core.List.{List, [], _∷_, _++_, append-assoc, append-nil}
 use native.Mathlib.Omega.{arith}
 use native.Mathlib.Nat.{add-assoc, zero-add, add-zero, min-eq-left}
-use lib.ListN.{length, take, drop, length-append, length-take, length-drop, take-append-drop}
+use native.Mathlib.Numerals.{add-one, add-two, add-three, add-four, add-five, add-six, add-seven, add-eight}
+use lib.ListN.{length, take, drop, set, length-append, length-take, length-drop, take-append-drop}
 use lib.Seq.{length-take-le, take-append-le, take-at, drop-at, drop-drop, take-take, sets, sets-eq}
 use Rattle.schema.specs.Steps.{placed}
 
@@ -58,3 +59,11 @@ placed-before l i us vs h =
     ∙ ap (λ (x : List ℕ). take i l ++ us ++ x) back
     ∙ sym (append-assoc (take i l ++ us) vs (drop (i + length (us ++ vs)) l))
     ∙ ap (λ (x : List ℕ). x ++ drop (i + length (us ++ vs)) l) (append-assoc (take i l) us vs)
+
+-- nine numbers stored one after the other
+pub nine-placed : (l : List ℕ) (i a b c d e f g h j : ℕ) → i + 9 ≤ length l
+    → set (set (set (set (set (set (set (set (set l i a) (i + 1) b) (i + 2) c) (i + 3) d) (i + 4) e) (i + 5) f) (i + 6) g) (i + 7) h) (i + 8) j
+    ≡ placed l i (a ∷ b ∷ c ∷ d ∷ e ∷ f ∷ g ∷ h ∷ j ∷ [])
+nine-placed l i a b c d e f g h j k =
+    rw (add-one, add-two, add-three, add-four, add-five, add-six, add-seven, add-eight)
+    (sets-placed (a ∷ b ∷ c ∷ d ∷ e ∷ f ∷ g ∷ h ∷ j ∷ []) l i k)

@@ -7,7 +7,7 @@ use lib.ListN.{length, length-append}
 use Rattle.schema.specs.Tree.{Slot, Tree, Fields, node, empty, field, listing, listings, size}
 use Rattle.schema.specs.Rows.{row, rowsFrom, rowssFrom, parentOf, afterFirst, rowWidth}
 use Rattle.schema.specs.Steps.{sizes}
-use Rattle.schema.specs.declared.rows.Parent.{Parent}
+use Rattle.schema.specs.declared.roles.Parent.{Parent}
 
 pub length-row : (at up : ℕ) (p : Parent) (above s : Slot) (fs : Fields) → length (row at up p above s fs) ≡ rowWidth
 unfolding row

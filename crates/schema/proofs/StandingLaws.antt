@@ -118,3 +118,8 @@ module _ (ss : List Slot) (k n : ℕ) (c : ClaimsAll (trees ss)) (h : suc n ≤ 
       let e = size-split (drop k ss) (treeAt ss k) (some-tree (trees (drop k ss)) n h .0) (some-tree (trees (drop k ss)) n h .1) in
       let p = size-positive (treeAt ss k) in
       omega (arith, length-drop k ss)
+
+-- some tree stands at the number of a slot
+pub count-some : (ss : List Slot) (k : ℕ) → k < length ss → 1 ≤ count (trees (drop k ss))
+unfolding trees count
+count-some ss k h = rw (drop-cons ss k [] h) (omega arith)

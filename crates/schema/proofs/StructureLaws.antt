@@ -159,10 +159,10 @@ module _ (b : List ℕ) (layer : ℕ) (s : Numbers) (h : Claimed b) (l : layer <
   repeats : s .repetition ≡ REPEATED → eqb (repetition (slotAt b layer)) REPEATED ≡ true
   repeats q = eq-eqb _ _ (sym repetition-is ∙ q)
 
-  leaf : (s .physical ≡ physical.GROUP → ⊥) → isGroup (physical (slotAt b layer)) ≡ false
+  pub leaf : (s .physical ≡ physical.GROUP → ⊥) → isGroup (physical (slotAt b layer)) ≡ false
   leaf n = ne-eqb _ _ (λ q. n (physical-is ∙ q))
 
-  group : s .physical ≡ physical.GROUP → isGroup (physical (slotAt b layer)) ≡ true
+  pub group : s .physical ≡ physical.GROUP → isGroup (physical (slotAt b layer)) ≡ true
   group q = eq-eqb _ _ (sym physical-is ∙ q)
 
   -- the one field of a group that has one
@@ -263,7 +263,7 @@ module _ (b : List ℕ) (layer : ℕ) (s : Numbers) (h : Claimed b) (l : layer <
 
 -- rules 12 and 13 at the LIST or the MAP itself, which has one child
 module _ (b : List ℕ) (at : ℕ) (s : Numbers) (v : Visited b at s) where
-  own-repetition : s .repetition ≡ repetition (slotAt b at)
+  pub own-repetition : s .repetition ≡ repetition (slotAt b at)
   unfolding numbersOf
   own-repetition = ap (λ (n : Numbers). n .repetition) (v .numbers)
 
@@ -271,7 +271,7 @@ module _ (b : List ℕ) (at : ℕ) (s : Numbers) (v : Visited b at s) where
   unfolding numbersOf
   own-children = sym (ap (λ (n : Numbers). n .children) (v .numbers))
 
-  own-count : count (fieldsAt b at) ≡ s .children
+  pub own-count : count (fieldsAt b at) ≡ s .children
   own-count = count-fieldsAt b at (v .claimed) (v .below) ∙ own-children
 
   pub one-below : s .children ≡ 1 → at + 1 < totalOf b

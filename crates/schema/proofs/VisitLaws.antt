@@ -82,3 +82,27 @@ repetition-behind b k s e = ap (λ (n : Numbers). n .repetition) e ∙ ap (λ (i
 pub repetition-at : (b : List ℕ) (k : ℕ) (s : Numbers) → s ≡ numbersOf (slotAt b k) → s .repetition ≡ repetition (slotAt b k)
 unfolding numbersOf
 repetition-at b k s e = ap (λ (n : Numbers). n .repetition) e
+
+-- some number from one that is not 0
+pub from-one : (n : ℕ) → (n ≡ 0 → ⊥) → n ≡ suc (n - 1)
+from-one n h = omega arith
+
+module _ (b : List ℕ) (at n : ℕ) (h : Claimed b) (k : n ≡ 0 → ⊥) (c : n ≤ count (trees (drop at (slots b)))) where
+  some-tree : suc (n - 1) ≤ count (trees (drop at (slots b)))
+  some-tree = omega (arith, from-one n k)
+
+  -- a run that is not empty is its first tree and the shorter run behind it
+  pub runAt-first : runAt (slots b) at n ≡ field (treeAt (slots b) at) (runAt (slots b) (at + size (treeAt (slots b) at)) (n - 1))
+  runAt-first = ap (runAt (slots b) at) (from-one n k) ∙ runAt-suc (slots b) at (n - 1) (h .claims) some-tree
+
+  pub run-below : at < totalOf b
+  run-below =
+      let p = size-positive (treeAt (slots b) at) in
+      omega (arith, h .total, runAt-end (slots b) at (n - 1) (h .claims) some-tree)
+
+  module _ (next : ℕ) (e : next ≡ at + size (treeAt (slots b) at)) where
+    pub next-after : at < next
+    next-after = let p = size-positive (treeAt (slots b) at) in omega (arith, e)
+
+    pub next-claimed : n - 1 ≤ count (trees (drop next (slots b)))
+    next-claimed = rw e (count-behind (slots b) at (n - 1) (h .claims) some-tree)

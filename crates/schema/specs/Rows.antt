@@ -9,11 +9,11 @@ use Rattle.sheet.specs.Slot.{physical, repetition, typeLength}
 use Rattle.schema.specs.Annotated.{kind}
 use Rattle.schema.specs.Tree.{Slot, Tree, Fields, node, empty, field, size}
 use Rattle.schema.specs.Rules.{isGroup, REPEATED, isElementGroup}
-use Rattle.schema.specs.declared.rows.Parent.{Parent}
-use Rattle.schema.specs.declared.rows.Parent.the-variants as parent
+use Rattle.schema.specs.declared.roles.Parent.{Parent}
+use Rattle.schema.specs.declared.roles.Parent.the-variants as parent
 
 -- whether a parent is a resolved MAP
-unfoldable pub isMapParent : Parent → Bool
+abbrev pub isMapParent : Parent → Bool
 isMapParent parent.Other = false
 isMapParent parent.List = false
 isMapParent parent.ListLayer = false
@@ -21,10 +21,18 @@ isMapParent parent.Map = true
 isMapParent parent.KeyValue = false
 isMapParent parent.KeyValueRest = false
 
+-- the role of a LIST's child: 2 for a leaf, 3 for a group that is the element, 1 for one that holds it
+unfoldable pub listRole : Slot → Slot → Fields → ℕ
+listRole list s fs = cond (isGroup (physical s)) (cond (isElementGroup list s fs) 3 1) 2
+
+-- the role of a node to which rules 12 and 13 give none
+abbrev pub ownRole : ℕ → ℕ
+ownRole rep = cond (eqb rep REPEATED) 7 0
+
 -- roles: 0 field, 1 list layer, 2 element, 3 group layer that is the element, 4 key_value layer, 5 key, 6 value, 7 bare repeated
 unfoldable pub role : Parent → Slot → Slot → Fields → ℕ
-role parent.Other above s fs = cond (eqb (repetition s) REPEATED) 7 0
-role parent.List above s fs = cond (isGroup (physical s)) (cond (isElementGroup above s fs) 3 1) 2
+role parent.Other above s fs = ownRole (repetition s)
+role parent.List above s fs = listRole above s fs
 role parent.ListLayer above s fs = 2
 role parent.Map above s fs = 4
 role parent.KeyValue above s fs = 5
@@ -39,7 +47,7 @@ parentBy kind role =
     (cond (eqb role 4) parent.KeyValue parent.Other)))
 
 -- what it is to the fields after the first: "key first; then value"
-unfoldable pub afterFirst : Parent → Parent
+abbrev pub afterFirst : Parent → Parent
 afterFirst parent.Other = parent.Other
 afterFirst parent.List = parent.List
 afterFirst parent.ListLayer = parent.ListLayer

@@ -2,7 +2,7 @@
 use Prim.Native.Nat.{ℕ, zero, suc, _+_, _-_, _≤_, _<_}
 use mathlib.Core.Path.{_≡_}
 use mathlib.Core.Bool.{cond, not, _||_}
-use mathlib.Core.List.{List, _++_, map}
+use mathlib.Core.List.{List, [], _∷_, _++_, map}
 use lib.Dec.{eqb}
 use lib.ListN.{length, take, drop}
 use Rattle.sheet.specs.Block.{totalOf, mostNodes}
@@ -14,6 +14,7 @@ use Rattle.schema.specs.Reading.{trees, takeFields, firstTree}
 use Rattle.annotation.specs.Logical as logical
 use Rattle.schema.specs.Outcome.{mostDepth, deepness, firstFault, orElse, refusal}
 use Rattle.schema.specs.declared.place.Place.{Place}
+use Rattle.schema.specs.declared.rows.Row.{Row}
 use Rattle.schema.specs.declared.refusal.Verdict.{Verdict}
 use Rattle.schema.specs.declared.judging.TreeJudged.{TreeJudged}
 use Rattle.schema.specs.declared.judging.RunJudged.{RunJudged}
@@ -102,3 +103,8 @@ structureBroken code s fs =
 -- a list with some numbers in place of those from i on
 unfoldable pub placed : List ℕ → ℕ → List ℕ → List ℕ
 placed l i vs = take i l ++ vs ++ drop (i + length vs) l
+
+-- a row's numbers in their order
+unfoldable pub rowNumbers : Row → List ℕ
+rowNumbers r =
+    r .physical ∷ r .«type_length» ∷ r .repetition ∷ r .kind ∷ r .p1 ∷ r .p2 ∷ r .parent ∷ r .end ∷ r .role ∷ []

@@ -6,6 +6,7 @@ mod place; // place.rt: where a node stands for the rules
 mod places; // places.rt: refusals 5 and 6
 mod refusal; // refusal.rt: numbered refusals
 mod resolving; // resolving.rt: a sheet's rows, or the refusal
+mod roles; // roles.rt: the role of a node
 mod rows; // rows.rt: the rows of a tree and its run
 mod shape; // shape.rt: rule 8
 mod structure; // structure.rt: rules 12 and 13

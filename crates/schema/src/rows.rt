@@ -1,13 +1,96 @@
-// The rows of a tree, written node by node.
+// The rows of a tree, written from a node to its run and back.
+ghost use mathlib.Core.Path.{_≡_};
+ghost use Prim.Native.Nat.{_+_, _*_, _≤_, _<_};
+ghost use lib.ListN.{length, drop};
+ghost use Rattle.sheet.specs.Block.{totalOf};
+ghost use Rattle.sheet.specs.Slot.{slots, slotAt};
+ghost use Rattle.schema.specs.Tree.{count as Tree·count, size};
+ghost use Rattle.schema.specs.Rows.{rowWidth, rowsFrom, rowssFrom};
+ghost use Rattle.schema.specs.Reading.{trees};
+ghost use Rattle.schema.specs.Steps.{Claimed, treeAt, runAt, sizes, placed, rowNumbers};
+use crate::faults::annotated;
+use crate::roles::Parent;
+use crate::roles::after_first;
+use crate::roles::is_map_parent;
+use crate::roles::parent_by;
+use crate::roles::role;
 
-// What a node's parent is to it, as far as roles go.
-pub enum Parent {
-    // Neither LIST nor MAP, and no layer of one.
-    Other,
-    List,
-    ListLayer,
-    Map,
-    // A key_value layer, whose first field this is, or a later one.
-    KeyValue,
-    KeyValueRest,
+// How many numbers a row has.
+pub const ROW_WIDTH: usize = 9;
+
+// A node's row.
+struct Row {
+    physical: u32,
+    type_length: u32,
+    repetition: u32,
+    kind: u32,
+    p1: u32,
+    p2: u32,
+    parent: u32,
+    end: u32,
+    role: u32,
+}
+
+// Writes the rows of the tree at a number, under the node at up, and answers where the next tree stands.
+pub fn write_tree(sheet: &[u8], rows: &mut [u32], at: usize, up: usize, parent: Parent) -> usize
+    requires { ⌜ Claimed (now sheet) ⌝ }
+    requires { ⌜ at < totalOf (now sheet) ⌝ }
+    requires { ⌜ up < totalOf (now sheet) ⌝ }
+    requires { ⌜ rowWidth * totalOf (now sheet) ≤ length (now rows) ⌝ }
+    ensures { λ r. ⌜ r ≡ at + size (treeAt (slots (now (sheet .entry))) at) ⌝ }
+    ensures { λ _. ⌜ now (rows .exit) ≡ placed (now (rows .entry)) (rowWidth * at) (rowsFrom at up parent (slotAt (now (sheet .entry)) up) (treeAt (slots (now (sheet .entry))) at)) ⌝ }
+{
+    let s = sheet::slot_at(sheet, at);
+    let n = annotated(s);
+    let kind = annotation::resolved_kind(n, is_map_parent(parent));
+    let own = role(sheet, up, at, s, parent);
+    let next = write_run(sheet, rows, at + 1, s.children as usize, at, parent_by(kind.kind, own));
+    write_row(
+        rows,
+        ROW_WIDTH * at,
+        Row {
+            physical: s.physical as u32,
+            type_length: annotation::length(n),
+            repetition: s.repetition as u32,
+            kind: kind.kind,
+            p1: kind.p1,
+            p2: kind.p2,
+            parent: up as u32,
+            end: next as u32,
+            role: own,
+        },
+    );
+    next
+}
+
+// Writes the rows of the run of so many fields at a number, and answers where the next tree stands.
+fn write_run(sheet: &[u8], rows: &mut [u32], at: usize, count: usize, up: usize, parent: Parent) -> usize
+    requires { ⌜ Claimed (now sheet) ⌝ }
+    requires { ⌜ count ≤ Tree·count (trees (drop at (slots (now sheet)))) ⌝ }
+    requires { ⌜ up < totalOf (now sheet) ⌝ }
+    requires { ⌜ rowWidth * totalOf (now sheet) ≤ length (now rows) ⌝ }
+    ensures { λ r. ⌜ r ≡ at + sizes (runAt (slots (now (sheet .entry))) at count) ⌝ }
+    ensures { λ _. ⌜ now (rows .exit) ≡ placed (now (rows .entry)) (rowWidth * at) (rowssFrom at up parent (slotAt (now (sheet .entry)) up) (runAt (slots (now (sheet .entry))) at count)) ⌝ }
+{
+    if count == 0 {
+        return at;
+    }
+    let next = write_tree(sheet, rows, at, up, parent);
+    write_run(sheet, rows, next, count - 1, up, after_first(parent))
+}
+
+// Writes a row's numbers from base on.
+fn write_row(rows: &mut [u32], base: usize, row: Row)
+    requires { ⌜ base + rowWidth ≤ length (now rows) ⌝ }
+    ensures { λ _. ⌜ now (rows .exit) ≡ placed (now (rows .entry)) base (rowNumbers row) ⌝ }
+{
+    rows[base] = row.physical;
+    rows[base + 1] = row.type_length;
+    rows[base + 2] = row.repetition;
+    rows[base + 3] = row.kind;
+    rows[base + 4] = row.p1;
+    rows[base + 5] = row.p2;
+    rows[base + 6] = row.parent;
+    rows[base + 7] = row.end;
+    rows[base + 8] = row.role;
 }

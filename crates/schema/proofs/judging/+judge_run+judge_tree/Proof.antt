@@ -1,6 +1,7 @@
 -- The proof of the cycle of calls {judge_run, judge_tree}. Nodes fall: a tree at k hands on to its run at k + 1, a run at k to the tree at k and then
 -- to the shorter run behind that tree. With r nodes from k on, a tree's measure is 2r and a run's 2r + 1.
-use Rattle.schema.proofs.JudgingSteps.{run-empty, run-below, run-deep, run-judged, next-after, next-claimed, tree-deep, tree-inner, tree-run-deep, tree-judged, children-claimed, tree-falls, rest-falls, run-falls}
+use Rattle.schema.proofs.VisitLaws.{run-below, next-after, next-claimed}
+use Rattle.schema.proofs.JudgingSteps.{run-empty, run-deep, run-judged, next-is, tree-deep, tree-inner, tree-run-deep, tree-judged, children-claimed, tree-falls, rest-falls, run-falls}
 use Rattle.schema.proofs.NodeLaws.{placeBelow-is}
 use Rattle.schema.specs.declared.judging.TreeJudged.{TreeJudged}
 use Rattle.schema.specs.Steps.{Visited, ownFirst, runAfter}
@@ -69,7 +70,7 @@ judge-run-judge-tree-requires : (t : ℕ) → judge-run-lts.Need-judge-tree-requ
 ) (judge-run-at t) judge-run.Post
 judge-run-judge-tree-requires t c κs = 
     let start = c .before .before in
-    let below = run-below (start .args .sheet .now) (start .args .at) (start .args .count) (start .args .levels) (start .args .place) (start .pre .1 .0) (c .if1 .left) (start .pre .1 .1 .0) in
+    let below = run-below (start .args .sheet .now) (start .args .at) (start .args .count) (start .pre .1 .0) (c .if1 .left) (start .pre .1 .1 .0) in
     (tree-falls _ _ _ (start .pre .0), (start .pre .1 .0, (below, start .pre .1 .1 .1)))
 
 judge-run-enum-known-first : (t : ℕ) → judge-run-lts.Need-enum-known-first (
@@ -114,9 +115,10 @@ judge-run-judge-run-requires t c κs =
     let start = c .before .before .before .before .before .before in
     let found = sym (c .before .before .before .judge-tree .ensures) ∙ c .before .first2 .given .1 in
     let some = c .before .before .before .before .if1 .left in
-    let below = run-below (start .args .sheet .now) (start .args .at) (start .args .count) (start .args .levels) (start .args .place) (start .pre .1 .0) some (start .pre .1 .1 .0) in
-    let after = next-after _ _ _ _ _ (start .pre .1 .0) some (start .pre .1 .1 .0) _ _ _ found in
-    let claimed = next-claimed _ _ _ _ _ (start .pre .1 .0) some (start .pre .1 .1 .0) _ _ _ found in
+    let below = run-below (start .args .sheet .now) (start .args .at) (start .args .count) (start .pre .1 .0) some (start .pre .1 .1 .0) in
+    let next = next-is _ _ _ _ _ (start .pre .1 .0) some (start .pre .1 .1 .0) _ _ _ found in
+    let after = next-after _ _ _ (start .pre .1 .0) some (start .pre .1 .1 .0) _ next in
+    let claimed = next-claimed _ _ _ (start .pre .1 .0) some (start .pre .1 .1 .0) _ next in
     (rest-falls _ _ _ _ below after (start .pre .0), (start .pre .1 .0, (claimed, start .pre .1 .1 .1)))
 
 judge-run-run-after-requires : (t : ℕ) → judge-run-lts.Need-run-after-requires (

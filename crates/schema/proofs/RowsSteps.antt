@@ -1,0 +1,153 @@
+-- The steps of writing rows at the numbers of a sheet: a tree's rows are its root's and its run's, a run's those of its first tree and of the shorter run.
+use Prim.Native.Nat.{ℕ, zero, suc, _+_, _*_, _-_, _≤_, _<_}
+use mathlib.Core.Path.{_≡_, refl, sym, ap, _∙_, subst}
+use mathlib.Core.Bool.{Bool}
+use mathlib.Core.List.{List, [], _∷_, _++_}
+use native.Mathlib.Omega.{arith}
+use native.Mathlib.Nat.{add-zero}
+use native.Mathlib.Numerals.{add-one}
+use lib.ListN.{length, drop, length-append}
+use Rattle.sheet.specs.Block.{totalOf}
+use Rattle.sheet.specs.Slot.{slots, slotAt, childCount, numbersOf}
+use Rattle.sheet.specs.declared.slots.Slot.{Slot as Numbers}
+use Rattle.annotation.specs.Kinds.{kindOf}
+use Rattle.annotation.specs.Signed.{natural}
+use Rattle.annotation.specs.declared.slot.Annotated.{Annotated}
+use Rattle.annotation.specs.declared.resolution.Kind.{Kind}
+use Rattle.schema.specs.Annotated.{annotatedBy, annotated, kind}
+use Rattle.schema.specs.Tree.{Slot, Tree, Fields, node, empty, field, listing, listings, count, size}
+use Rattle.schema.specs.Reading.{trees}
+use Rattle.schema.specs.Rows.{isMapParent, role, parentBy, parentOf, afterFirst, row, rowsFrom, rowssFrom, rows, rowWidth}
+use Rattle.schema.specs.Steps.{Claimed, Visited, treeAt, runAt, fieldsAt, sizes, placed, rowNumbers}
+use Rattle.schema.specs.declared.roles.Parent.{Parent}
+use Rattle.schema.specs.declared.rows.Row.{Row}
+use Rattle.schema.proofs.StandingLaws.{runAt-zero, runAt-end, count-some}
+use Rattle.schema.proofs.VisitLaws.{treeAt-slot, runAt-first}
+use Rattle.schema.proofs.PlacingLaws.{placed-empty, placed-after, placed-before, length-placed}
+use Rattle.schema.proofs.RowsLaws.{length-row, length-rowsFrom, length-rowssFrom}
+
+sizes-empty : sizes empty ≡ 0
+unfolding sizes listings
+sizes-empty = refl
+
+sizes-field : (t : Tree) (fs : Fields) → sizes (field t fs) ≡ size t + sizes fs
+unfolding sizes size listings
+sizes-field t fs = length-append (listing t) (listings fs)
+
+size-node : (s : Slot) (fs : Fields) → size (node s fs) ≡ suc (sizes fs)
+unfolding size listing sizes
+size-node s fs = refl
+
+-- the tree at a number ends within the sheet
+pub tree-within : (b : List ℕ) (at : ℕ) → Claimed b → at < totalOf b → at + size (treeAt (slots b) at) ≤ totalOf b
+tree-within b at h l =
+    subst (λ (n : ℕ). at + size (treeAt (slots b) at) ≤ n) (h .total)
+    (runAt-end (slots b) at 0 (h .claims) (count-some (slots b) at (omega (arith, h .total))))
+
+module _ (b l : List ℕ) (at n up : ℕ) (p : Parent) (above : Slot) where
+  pub run-end-empty : n ≡ 0 → at ≡ at + sizes (runAt (slots b) at n)
+  run-end-empty e = sym (rw (e, runAt-zero, sizes-empty) (add-zero at))
+
+  pub run-rows-empty : n ≡ 0 → l ≡ placed l (rowWidth * at) (rowssFrom at up p above (runAt (slots b) at n))
+  unfolding rowssFrom
+  run-rows-empty e = sym (rw (e, runAt-zero) (placed-empty l (rowWidth * at)))
+
+  module _ (h : Claimed b) (k : n ≡ 0 → ⊥) (c : n ≤ count (trees (drop at (slots b)))) (next : ℕ) (e : next ≡ at + size (treeAt (slots b) at)) where
+    run-is : runAt (slots b) at n ≡ field (treeAt (slots b) at) (runAt (slots b) next (n - 1))
+    run-is =
+        runAt-first b at n h k c
+        ∙ ap (λ (i : ℕ). field (treeAt (slots b) at) (runAt (slots b) i (n - 1))) (sym e)
+
+    pub run-end : (end : ℕ) → end ≡ next + sizes (runAt (slots b) next (n - 1)) → end ≡ at + sizes (runAt (slots b) at n)
+    run-end end q = rw run-is (omega (arith, q, e, sizes-field (treeAt (slots b) at) (runAt (slots b) next (n - 1))))
+
+    module _ (f : rowWidth * totalOf b ≤ length l) (below : at < totalOf b) (m : List ℕ) (w : m ≡ placed l (rowWidth * at) (rowsFrom at up p above (treeAt (slots b) at))) where
+      first : List ℕ
+      first = rowsFrom at up p above (treeAt (slots b) at)
+
+      first-fits : rowWidth * at + length first ≤ length l
+      unfolding first
+      first-fits = omega (arith, length-rowsFrom (treeAt (slots b) at) at up p above, tree-within b at h below)
+
+      -- the rows of the first tree keep the length
+      pub run-length : length m ≡ length l
+      unfolding first
+      run-length = ap length w ∙ length-placed l (rowWidth * at) first first-fits
+
+      next-base : rowWidth * next ≡ rowWidth * at + length first
+      unfolding first
+      next-base = omega (arith, e, length-rowsFrom (treeAt (slots b) at) at up p above)
+
+      pub run-rows : (q : Parent) (r : List ℕ) → q ≡ afterFirst p → r ≡ placed m (rowWidth * next) (rowssFrom next up q above (runAt (slots b) next (n - 1))) → r ≡ placed l (rowWidth * at) (rowssFrom at up p above (runAt (slots b) at n))
+      unfolding rowssFrom first
+      run-rows q r u v =
+          v
+          ∙ ap (λ (i : ℕ). placed m i (rowssFrom next up q above (runAt (slots b) next (n - 1)))) next-base
+          ∙ ap (λ (x : List ℕ). placed x (rowWidth * at + length first) (rowssFrom next up q above (runAt (slots b) next (n - 1)))) w
+          ∙ placed-after l (rowWidth * at) first (rowssFrom next up q above (runAt (slots b) next (n - 1))) first-fits
+          ∙ ap (λ (x : Parent). placed l (rowWidth * at) (first ++ rowssFrom next up x above (runAt (slots b) next (n - 1)))) u
+          ∙ ap (λ (i : ℕ). placed l (rowWidth * at) (first ++ rowssFrom i up (afterFirst p) above (runAt (slots b) next (n - 1)))) e
+          ∙ ap (λ (fs : Fields). placed l (rowWidth * at) (rowssFrom at up p above fs)) (sym run-is)
+
+module _ (b l : List ℕ) (at up : ℕ) (s : Numbers) (p : Parent) (above : Slot) (v : Visited b at s) where
+  children-are : s .children ≡ childCount (slotAt b at)
+  unfolding numbersOf
+  children-are = ap (λ (n : Numbers). n .children) (v .numbers)
+
+  fields-are : runAt (slots b) (at + 1) (s .children) ≡ fieldsAt b at
+  unfolding fieldsAt
+  fields-are = rw (children-are, add-one)
+
+  pub tree-end : (next : ℕ) → next ≡ at + 1 + sizes (runAt (slots b) (at + 1) (s .children)) → next ≡ at + size (treeAt (slots b) at)
+  tree-end next e =
+      rw (treeAt-slot b at (v .claimed) (v .below), size-node) (omega (arith, e, ap sizes fields-are))
+
+  -- what a node is to its fields
+  pub parent-is : (n : Annotated) (u : Bool) (k : Kind) (own : ℕ) (q : Parent) → n ≡ annotatedBy s → u ≡ isMapParent p → k ≡ kindOf n u → own ≡ role p above (slotAt b at) (fieldsAt b at) → q ≡ parentBy (k .kind) own → q ≡ parentOf p above (slotAt b at) (fieldsAt b at)
+  unfolding parentOf kind annotated
+  parent-is n u k own q a w d o e = e ∙ rw (d, a, w, o, v .numbers)
+
+  -- a node's row
+  pub row-is : (n : Annotated) (u : Bool) (k : Kind) (own next bytes : ℕ) → n ≡ annotatedBy s → u ≡ isMapParent p → k ≡ kindOf n u → own ≡ role p above (slotAt b at) (fieldsAt b at) → next ≡ at + size (treeAt (slots b) at) → bytes ≡ natural (n .«type_length»)
+      → s .physical ∷ bytes ∷ s .repetition ∷ k .kind ∷ k .p1 ∷ k .p2 ∷ up ∷ next ∷ own ∷ [] ≡ row at up p above (slotAt b at) (fieldsAt b at)
+  unfolding row kind annotated numbersOf
+  row-is n u k own next bytes a w d o e t =
+      rw (t, d, a, w, o, v .numbers, e, treeAt-slot b at (v .claimed) (v .below))
+
+  module _ (f : rowWidth * totalOf b ≤ length l) (q : Parent) (w : q ≡ parentOf p above (slotAt b at) (fieldsAt b at)) (m : List ℕ) (e : m ≡ placed l (rowWidth * (at + 1)) (rowssFrom (at + 1) at q (slotAt b at) (runAt (slots b) (at + 1) (s .children)))) where
+    rest : List ℕ
+    rest = rowssFrom (suc at) at (parentOf p above (slotAt b at) (fieldsAt b at)) (slotAt b at) (fieldsAt b at)
+
+    rest-is : m ≡ placed l (rowWidth * (at + 1)) rest
+    unfolding rest
+    rest-is = e ∙ ap (placed l (rowWidth * (at + 1))) (rw (fields-are, w, add-one))
+
+    end-within : suc at + sizes (fieldsAt b at) ≤ totalOf b
+    end-within =
+        omega (arith, tree-within b at (v .claimed) (v .below), ap size (treeAt-slot b at (v .claimed) (v .below)), size-node (slotAt b at) (fieldsAt b at))
+
+    rest-fits : rowWidth * (at + 1) + length rest ≤ length l
+    unfolding rest sizes
+    rest-fits = omega (arith, length-rowssFrom (fieldsAt b at) (suc at) at (parentOf p above (slotAt b at) (fieldsAt b at)) (slotAt b at), end-within)
+
+    -- the rows of the run keep the length
+    pub tree-length : length m ≡ length l
+    tree-length = ap length rest-is ∙ length-placed l (rowWidth * (at + 1)) rest rest-fits
+
+    pub tree-rows : (r ns : List ℕ) → ns ≡ row at up p above (slotAt b at) (fieldsAt b at) → r ≡ placed m (rowWidth * at) ns → r ≡ placed l (rowWidth * at) (rowsFrom at up p above (treeAt (slots b) at))
+    unfolding rowsFrom rest
+    tree-rows r ns x y =
+        let own = row at up p above (slotAt b at) (fieldsAt b at) in
+        let base : rowWidth * (at + 1) ≡ rowWidth * at + length own = omega (arith, length-row at up p above (slotAt b at) (fieldsAt b at)) in
+        y
+        ∙ ap (placed m (rowWidth * at)) x
+        ∙ ap (λ (z : List ℕ). placed z (rowWidth * at) own) (rest-is ∙ ap (λ (i : ℕ). placed l i rest) base)
+        ∙ placed-before l (rowWidth * at) own rest (omega (arith, rest-fits, base))
+        ∙ ap (λ (t : Tree). placed l (rowWidth * at) (rowsFrom at up p above t)) (sym (treeAt-slot b at (v .claimed) (v .below)))
+
+-- room for the rows, in what is as long as it was
+pub long-enough : (total m l : ℕ) → rowWidth * total ≤ l → m ≡ l → rowWidth * total ≤ m
+long-enough total m l h e = omega arith
+
+pub row-fits : (at total m l : ℕ) → at < total → rowWidth * total ≤ l → m ≡ l → rowWidth * at + rowWidth ≤ m
+row-fits at total m l h k e = omega arith

@@ -1,0 +1,612 @@
+-- The proof of the cycle of calls {write_run, write_tree}. Nodes fall as they do in judging: with r nodes from k on, a tree's measure is 2r and a
+-- run's 2r + 1.
+use Rattle.schema.proofs.RowsSteps.{run-end-empty, run-rows-empty, run-end, run-rows, tree-end, tree-within, tree-rows, parent-is, row-is, long-enough, row-fits}
+use Rattle.schema.proofs.JudgingSteps.{children-claimed, tree-falls, rest-falls, run-falls}
+use Rattle.schema.proofs.VisitLaws.{run-below, next-after, next-claimed}
+use Rattle.schema.specs.Steps.{Visited, rowNumbers}
+use Rattle.sheet.specs.Slot.{slotAt}
+use Rattle.sheet.specs.Block.{totalOf}
+use borrow.Author.Needs.{needs}
+use native.Mathlib.Omega.{arith}
+use mathlib.Core.Path.{_∙_, ap}
+use Prim.Native.Nat.{ℕ, _+_, _*_, _-_, _<_}
+use borrow.Fn.Kinds.{In}
+use borrow.Fn.PlainCycle.{Measures, is, falls, and}
+use Rattle.schema.proofs.rows.write_run.Reads as write-run
+use Rattle.schema.proofs.rows.write_run.Kinds as write-run-kinds
+use Rattle.schema.proofs.rows.+write_run+write_tree.Lts-write_run as write-run-lts
+use Rattle.schema.proofs.rows.write_tree.Reads as write-tree
+use Rattle.schema.proofs.rows.write_tree.Kinds as write-tree-kinds
+use Rattle.schema.proofs.rows.+write_run+write_tree.Lts-write_tree as write-tree-lts
+use Rattle.annotation.proofs.resolved_kind.Reads as resolved-kind-reads
+use Rattle.annotation.proofs.length.Reads as length-reads
+use Rattle.schema.proofs.faults.annotated.Reads as annotated-reads
+use Rattle.schema.proofs.roles.after_first.Reads as after-first-reads
+use Rattle.schema.proofs.roles.is_map_parent.Reads as is-map-parent-reads
+use Rattle.schema.proofs.roles.parent_by.Reads as parent-by-reads
+use Rattle.schema.proofs.roles.role.Reads as role-reads
+use Rattle.schema.proofs.rows.write_row.Reads as write-row-reads
+use Rattle.sheet.proofs.slot_at.Reads as slot-at-reads
+use Rattle.schema.proofs.rows.+write_run+write_tree.{statement}
+use Rattle.schema.proofs.rows.+write_run+write_tree.Tie.{close}
+
+abbrev μ-write-run : Measures 2 write-run-kinds.ps ℕ
+μ-write-run κs a = 2 * (totalOf (a .0 .now) - a .1 .1 .0) + 1
+
+abbrev μ-write-tree : Measures 2 write-tree-kinds.ps ℕ
+μ-write-tree κs a = 2 * (totalOf (a .0 .now) - a .1 .1 .0)
+
+abbrev write-run-at : ℕ → In 2 write-run-kinds.ps
+write-run-at t = and 2 write-run-kinds.ps (is 2 write-run-kinds.ps μ-write-run t) write-run.Pre
+
+abbrev write-run-below : ℕ → In 2 write-run-kinds.ps
+write-run-below t =
+    and 2 write-run-kinds.ps (falls 2 write-run-kinds.ps _<_ μ-write-run t) write-run.Pre
+
+abbrev write-tree-at : ℕ → In 2 write-tree-kinds.ps
+write-tree-at t =
+    and 2 write-tree-kinds.ps (is 2 write-tree-kinds.ps μ-write-tree t) write-tree.Pre
+
+abbrev write-tree-below : ℕ → In 2 write-tree-kinds.ps
+write-tree-below t =
+    and 2 write-tree-kinds.ps (falls 2 write-tree-kinds.ps _<_ μ-write-tree t) write-tree.Pre
+
+write-run-returns : (t : ℕ) → write-run-lts.Need-returns (
+  write-tree-below t,
+  write-tree.Post,
+  after-first-reads.Asked,
+  after-first-reads.Learnt,
+  write-run-below t,
+  write-run.Post,
+) (write-run-at t) write-run.Post
+write-run-returns t c = 
+    let start = c .before .before .before in
+    (run-end-empty (start .args .sheet .now) (start .args .rows .now) (start .args .at) (start .args .count) (start .args .up) (start .args .parent) (slotAt (start .args .sheet .now) (start .args .up)) (c .if1 .taken), run-rows-empty (start .args .sheet .now) (start .args .rows .now) (start .args .at) (start .args .count) (start .args .up) (start .args .parent) (slotAt (start .args .sheet .now) (start .args .up)) (c .if1 .taken))
+
+write-run-write-tree-requires : (t : ℕ) → write-run-lts.Need-write-tree-requires (
+  write-tree-below t,
+  write-tree.Post,
+  after-first-reads.Asked,
+  after-first-reads.Learnt,
+  write-run-below t,
+  write-run.Post,
+) (write-run-at t) write-run.Post
+write-run-write-tree-requires t c κs = 
+    let start = c .before .before .before .before in
+    let below = run-below (start .args .sheet .now) (start .args .at) (start .args .count) (start .pre .1 .0) (c .before .if1 .left) (start .pre .1 .1 .0) in
+    (tree-falls _ _ _ (start .pre .0), (start .pre .1 .0, (below, (start .pre .1 .1 .1 .0, start .pre .1 .1 .1 .1))))
+
+write-run-sub-write-run : (t : ℕ) → write-run-lts.Need-sub-write-run (
+  write-tree-below t,
+  write-tree.Post,
+  after-first-reads.Asked,
+  after-first-reads.Learnt,
+  write-run-below t,
+  write-run.Post,
+) (write-run-at t) write-run.Post
+write-run-sub-write-run t c = omega (arith, c .before .before .before .before .before .if1 .left)
+
+write-run-after-first-requires : (t : ℕ) → write-run-lts.Need-after-first-requires (
+  write-tree-below t,
+  write-tree.Post,
+  after-first-reads.Asked,
+  after-first-reads.Learnt,
+  write-run-below t,
+  write-run.Post,
+) (write-run-at t) write-run.Post
+write-run-after-first-requires t c κs = search needs
+
+write-run-write-run-requires : (t : ℕ) → write-run-lts.Need-write-run-requires (
+  write-tree-below t,
+  write-tree.Post,
+  after-first-reads.Asked,
+  after-first-reads.Learnt,
+  write-run-below t,
+  write-run.Post,
+) (write-run-at t) write-run.Post
+write-run-write-run-requires t c κs = 
+    let start = c .before .before .before .before .before .before .before .before .before in
+    let some = c .before .before .before .before .before .before .if1 .left in
+    let tree = c .before .before .before .before .write-tree in
+    let below = run-below (start .args .sheet .now) (start .args .at) (start .args .count) (start .pre .1 .0) some (start .pre .1 .1 .0) in
+    let after = next-after _ _ _ (start .pre .1 .0) some (start .pre .1 .1 .0) _ (tree .ensures .0) in
+    let claimed = next-claimed _ _ _ (start .pre .1 .0) some (start .pre .1 .1 .0) _ (tree .ensures .0) in
+    (rest-falls _ _ _ _ below after (start .pre .0), (start .pre .1 .0, (claimed, (start .pre .1 .1 .1 .0, long-enough _ _ _ (start .pre .1 .1 .1 .1) (tree .kept .1 .0)))))
+
+write-run-same-length : (t : ℕ) → write-run-lts.Need-same-length (
+  write-tree-below t,
+  write-tree.Post,
+  after-first-reads.Asked,
+  after-first-reads.Learnt,
+  write-run-below t,
+  write-run.Post,
+) (write-run-at t) write-run.Post
+write-run-same-length t c = c .before .before .write-run .kept .1 .0 ∙ c .before .before .before .before .before .before .before .write-tree .kept .1 .0
+
+write-run-returns-2 : (t : ℕ) → write-run-lts.Need-returns-2 (
+  write-tree-below t,
+  write-tree.Post,
+  after-first-reads.Asked,
+  after-first-reads.Learnt,
+  write-run-below t,
+  write-run.Post,
+) (write-run-at t) write-run.Post
+write-run-returns-2 t c = 
+    let start = c .before .before .before .before .before .before .before .before .before .before .before .before in
+    let some = c .before .before .before .before .before .before .before .before .before .if1 .left in
+    let tree = c .before .before .before .before .before .before .before .write-tree in
+    let rest = c .before .before .write-run in
+    let below = run-below (start .args .sheet .now) (start .args .at) (start .args .count) (start .pre .1 .0) some (start .pre .1 .1 .0) in
+    ( run-end (start .args .sheet .now) (start .args .rows .now) (start .args .at) (start .args .count) (start .args .up) (start .args .parent) (slotAt (start .args .sheet .now) (start .args .up)) (start .pre .1 .0) some (start .pre .1 .1 .0) _ (tree .ensures .0) _ (rest .ensures .0)
+    , run-rows (start .args .sheet .now) (start .args .rows .now) (start .args .at) (start .args .count) (start .args .up) (start .args .parent) (slotAt (start .args .sheet .now) (start .args .up)) (start .pre .1 .0) some (start .pre .1 .1 .0) _ (tree .ensures .0) (start .pre .1 .1 .1 .1) below _ (tree .ensures .1) _ _ (c .before .before .before .after-first .ensures) (rest .ensures .1))
+
+write-tree-slot-at-requires : (t : ℕ) → write-tree-lts.Need-slot-at-requires (
+  slot-at-reads.Asked,
+  slot-at-reads.Learnt,
+  annotated-reads.Asked,
+  annotated-reads.Learnt,
+  is-map-parent-reads.Asked,
+  is-map-parent-reads.Learnt,
+  resolved-kind-reads.Asked,
+  resolved-kind-reads.Learnt,
+  role-reads.Asked,
+  role-reads.Learnt,
+  parent-by-reads.Asked,
+  parent-by-reads.Learnt,
+  write-run-below t,
+  write-run.Post,
+  length-reads.Asked,
+  length-reads.Learnt,
+  write-row-reads.Asked,
+  write-row-reads.Learnt,
+) (write-tree-at t) write-tree.Post
+write-tree-slot-at-requires t c κs = search needs
+
+write-tree-annotated-requires : (t : ℕ) → write-tree-lts.Need-annotated-requires (
+  slot-at-reads.Asked,
+  slot-at-reads.Learnt,
+  annotated-reads.Asked,
+  annotated-reads.Learnt,
+  is-map-parent-reads.Asked,
+  is-map-parent-reads.Learnt,
+  resolved-kind-reads.Asked,
+  resolved-kind-reads.Learnt,
+  role-reads.Asked,
+  role-reads.Learnt,
+  parent-by-reads.Asked,
+  parent-by-reads.Learnt,
+  write-run-below t,
+  write-run.Post,
+  length-reads.Asked,
+  length-reads.Learnt,
+  write-row-reads.Asked,
+  write-row-reads.Learnt,
+) (write-tree-at t) write-tree.Post
+write-tree-annotated-requires t c κs = search needs
+
+write-tree-is-map-parent-requires : (t : ℕ) → write-tree-lts.Need-is-map-parent-requires (
+  slot-at-reads.Asked,
+  slot-at-reads.Learnt,
+  annotated-reads.Asked,
+  annotated-reads.Learnt,
+  is-map-parent-reads.Asked,
+  is-map-parent-reads.Learnt,
+  resolved-kind-reads.Asked,
+  resolved-kind-reads.Learnt,
+  role-reads.Asked,
+  role-reads.Learnt,
+  parent-by-reads.Asked,
+  parent-by-reads.Learnt,
+  write-run-below t,
+  write-run.Post,
+  length-reads.Asked,
+  length-reads.Learnt,
+  write-row-reads.Asked,
+  write-row-reads.Learnt,
+) (write-tree-at t) write-tree.Post
+write-tree-is-map-parent-requires t c κs = search needs
+
+write-tree-resolved-kind-requires : (t : ℕ) → write-tree-lts.Need-resolved-kind-requires (
+  slot-at-reads.Asked,
+  slot-at-reads.Learnt,
+  annotated-reads.Asked,
+  annotated-reads.Learnt,
+  is-map-parent-reads.Asked,
+  is-map-parent-reads.Learnt,
+  resolved-kind-reads.Asked,
+  resolved-kind-reads.Learnt,
+  role-reads.Asked,
+  role-reads.Learnt,
+  parent-by-reads.Asked,
+  parent-by-reads.Learnt,
+  write-run-below t,
+  write-run.Post,
+  length-reads.Asked,
+  length-reads.Learnt,
+  write-row-reads.Asked,
+  write-row-reads.Learnt,
+) (write-tree-at t) write-tree.Post
+write-tree-resolved-kind-requires t c κs = search needs
+
+write-tree-role-requires : (t : ℕ) → write-tree-lts.Need-role-requires (
+  slot-at-reads.Asked,
+  slot-at-reads.Learnt,
+  annotated-reads.Asked,
+  annotated-reads.Learnt,
+  is-map-parent-reads.Asked,
+  is-map-parent-reads.Learnt,
+  resolved-kind-reads.Asked,
+  resolved-kind-reads.Learnt,
+  role-reads.Asked,
+  role-reads.Learnt,
+  parent-by-reads.Asked,
+  parent-by-reads.Learnt,
+  write-run-below t,
+  write-run.Post,
+  length-reads.Asked,
+  length-reads.Learnt,
+  write-row-reads.Asked,
+  write-row-reads.Learnt,
+) (write-tree-at t) write-tree.Post
+write-tree-role-requires t c κs = record { claimed = c .before .before .before .before .before .before .pre .1 .0; below = c .before .before .before .before .before .before .pre .1 .1 .0; numbers = c .before .before .before .slot-at .ensures }
+
+write-tree-add-write-run : (t : ℕ) → write-tree-lts.Need-add-write-run (
+  slot-at-reads.Asked,
+  slot-at-reads.Learnt,
+  annotated-reads.Asked,
+  annotated-reads.Learnt,
+  is-map-parent-reads.Asked,
+  is-map-parent-reads.Learnt,
+  resolved-kind-reads.Asked,
+  resolved-kind-reads.Learnt,
+  role-reads.Asked,
+  role-reads.Learnt,
+  parent-by-reads.Asked,
+  parent-by-reads.Learnt,
+  write-run-below t,
+  write-run.Post,
+  length-reads.Asked,
+  length-reads.Learnt,
+  write-row-reads.Asked,
+  write-row-reads.Learnt,
+) (write-tree-at t) write-tree.Post
+write-tree-add-write-run t c = omega (arith, c .before .before .before .before .before .before .before .before .pre .1 .1 .0, c .before .before .before .before .before .before .before .before .pre .1 .0 .most)
+
+write-tree-cast-write-run : (t : ℕ) → write-tree-lts.Need-cast-write-run (
+  slot-at-reads.Asked,
+  slot-at-reads.Learnt,
+  annotated-reads.Asked,
+  annotated-reads.Learnt,
+  is-map-parent-reads.Asked,
+  is-map-parent-reads.Learnt,
+  resolved-kind-reads.Asked,
+  resolved-kind-reads.Learnt,
+  role-reads.Asked,
+  role-reads.Learnt,
+  parent-by-reads.Asked,
+  parent-by-reads.Learnt,
+  write-run-below t,
+  write-run.Post,
+  length-reads.Asked,
+  length-reads.Learnt,
+  write-row-reads.Asked,
+  write-row-reads.Learnt,
+) (write-tree-at t) write-tree.Post
+write-tree-cast-write-run t c = search needs
+
+write-tree-parent-by-requires : (t : ℕ) → write-tree-lts.Need-parent-by-requires (
+  slot-at-reads.Asked,
+  slot-at-reads.Learnt,
+  annotated-reads.Asked,
+  annotated-reads.Learnt,
+  is-map-parent-reads.Asked,
+  is-map-parent-reads.Learnt,
+  resolved-kind-reads.Asked,
+  resolved-kind-reads.Learnt,
+  role-reads.Asked,
+  role-reads.Learnt,
+  parent-by-reads.Asked,
+  parent-by-reads.Learnt,
+  write-run-below t,
+  write-run.Post,
+  length-reads.Asked,
+  length-reads.Learnt,
+  write-row-reads.Asked,
+  write-row-reads.Learnt,
+) (write-tree-at t) write-tree.Post
+write-tree-parent-by-requires t c κs = search needs
+
+write-tree-write-run-requires : (t : ℕ) → write-tree-lts.Need-write-run-requires (
+  slot-at-reads.Asked,
+  slot-at-reads.Learnt,
+  annotated-reads.Asked,
+  annotated-reads.Learnt,
+  is-map-parent-reads.Asked,
+  is-map-parent-reads.Learnt,
+  resolved-kind-reads.Asked,
+  resolved-kind-reads.Learnt,
+  role-reads.Asked,
+  role-reads.Learnt,
+  parent-by-reads.Asked,
+  parent-by-reads.Learnt,
+  write-run-below t,
+  write-run.Post,
+  length-reads.Asked,
+  length-reads.Learnt,
+  write-row-reads.Asked,
+  write-row-reads.Learnt,
+) (write-tree-at t) write-tree.Post
+write-tree-write-run-requires t c κs = 
+    let start = c .before .before .before .before .before .before .before .before .before .before in
+    let visited : Visited (start .args .sheet .now) (start .args .at) (c .before .before .before .before .before .before .before .slot-at .result) = record { claimed = start .pre .1 .0; below = start .pre .1 .1 .0; numbers = c .before .before .before .before .before .before .before .slot-at .ensures } in
+    (run-falls _ _ _ (start .pre .1 .1 .0) (start .pre .0), (start .pre .1 .0, (children-claimed _ _ _ visited, (start .pre .1 .1 .0, start .pre .1 .1 .1 .1))))
+
+write-tree-mul-write-row : (t : ℕ) → write-tree-lts.Need-mul-write-row (
+  slot-at-reads.Asked,
+  slot-at-reads.Learnt,
+  annotated-reads.Asked,
+  annotated-reads.Learnt,
+  is-map-parent-reads.Asked,
+  is-map-parent-reads.Learnt,
+  resolved-kind-reads.Asked,
+  resolved-kind-reads.Learnt,
+  role-reads.Asked,
+  role-reads.Learnt,
+  parent-by-reads.Asked,
+  parent-by-reads.Learnt,
+  write-run-below t,
+  write-run.Post,
+  length-reads.Asked,
+  length-reads.Learnt,
+  write-row-reads.Asked,
+  write-row-reads.Learnt,
+) (write-tree-at t) write-tree.Post
+write-tree-mul-write-row t c = omega (arith, c .before .before .before .before .before .before .before .before .before .before .before .before .before .before .pre .1 .1 .0, c .before .before .before .before .before .before .before .before .before .before .before .before .before .before .pre .1 .0 .most)
+
+write-tree-cast-t20 : (t : ℕ) → write-tree-lts.Need-cast-t20 (
+  slot-at-reads.Asked,
+  slot-at-reads.Learnt,
+  annotated-reads.Asked,
+  annotated-reads.Learnt,
+  is-map-parent-reads.Asked,
+  is-map-parent-reads.Learnt,
+  resolved-kind-reads.Asked,
+  resolved-kind-reads.Learnt,
+  role-reads.Asked,
+  role-reads.Learnt,
+  parent-by-reads.Asked,
+  parent-by-reads.Learnt,
+  write-run-below t,
+  write-run.Post,
+  length-reads.Asked,
+  length-reads.Learnt,
+  write-row-reads.Asked,
+  write-row-reads.Learnt,
+) (write-tree-at t) write-tree.Post
+write-tree-cast-t20 t c = search needs
+
+write-tree-length-requires : (t : ℕ) → write-tree-lts.Need-length-requires (
+  slot-at-reads.Asked,
+  slot-at-reads.Learnt,
+  annotated-reads.Asked,
+  annotated-reads.Learnt,
+  is-map-parent-reads.Asked,
+  is-map-parent-reads.Learnt,
+  resolved-kind-reads.Asked,
+  resolved-kind-reads.Learnt,
+  role-reads.Asked,
+  role-reads.Learnt,
+  parent-by-reads.Asked,
+  parent-by-reads.Learnt,
+  write-run-below t,
+  write-run.Post,
+  length-reads.Asked,
+  length-reads.Learnt,
+  write-row-reads.Asked,
+  write-row-reads.Learnt,
+) (write-tree-at t) write-tree.Post
+write-tree-length-requires t c κs = search needs
+
+write-tree-cast-t22 : (t : ℕ) → write-tree-lts.Need-cast-t22 (
+  slot-at-reads.Asked,
+  slot-at-reads.Learnt,
+  annotated-reads.Asked,
+  annotated-reads.Learnt,
+  is-map-parent-reads.Asked,
+  is-map-parent-reads.Learnt,
+  resolved-kind-reads.Asked,
+  resolved-kind-reads.Learnt,
+  role-reads.Asked,
+  role-reads.Learnt,
+  parent-by-reads.Asked,
+  parent-by-reads.Learnt,
+  write-run-below t,
+  write-run.Post,
+  length-reads.Asked,
+  length-reads.Learnt,
+  write-row-reads.Asked,
+  write-row-reads.Learnt,
+) (write-tree-at t) write-tree.Post
+write-tree-cast-t22 t c = search needs
+
+write-tree-cast-t23 : (t : ℕ) → write-tree-lts.Need-cast-t23 (
+  slot-at-reads.Asked,
+  slot-at-reads.Learnt,
+  annotated-reads.Asked,
+  annotated-reads.Learnt,
+  is-map-parent-reads.Asked,
+  is-map-parent-reads.Learnt,
+  resolved-kind-reads.Asked,
+  resolved-kind-reads.Learnt,
+  role-reads.Asked,
+  role-reads.Learnt,
+  parent-by-reads.Asked,
+  parent-by-reads.Learnt,
+  write-run-below t,
+  write-run.Post,
+  length-reads.Asked,
+  length-reads.Learnt,
+  write-row-reads.Asked,
+  write-row-reads.Learnt,
+) (write-tree-at t) write-tree.Post
+write-tree-cast-t23 t c = omega (arith, c .before .before .before .before .before .before .before .before .before .before .before .before .before .before .before .before .before .pre .1 .1 .1 .0, c .before .before .before .before .before .before .before .before .before .before .before .before .before .before .before .before .before .pre .1 .0 .most)
+
+write-tree-cast-t24 : (t : ℕ) → write-tree-lts.Need-cast-t24 (
+  slot-at-reads.Asked,
+  slot-at-reads.Learnt,
+  annotated-reads.Asked,
+  annotated-reads.Learnt,
+  is-map-parent-reads.Asked,
+  is-map-parent-reads.Learnt,
+  resolved-kind-reads.Asked,
+  resolved-kind-reads.Learnt,
+  role-reads.Asked,
+  role-reads.Learnt,
+  parent-by-reads.Asked,
+  parent-by-reads.Learnt,
+  write-run-below t,
+  write-run.Post,
+  length-reads.Asked,
+  length-reads.Learnt,
+  write-row-reads.Asked,
+  write-row-reads.Learnt,
+) (write-tree-at t) write-tree.Post
+write-tree-cast-t24 t c = 
+    let start = c .before .before .before .before .before .before .before .before .before .before .before .before .before .before .before .before .before in
+    let visited : Visited (start .args .sheet .now) (start .args .at) (c .before .before .before .before .before .before .before .before .before .before .before .before .before .before .slot-at .result) = record { claimed = start .pre .1 .0; below = start .pre .1 .1 .0; numbers = c .before .before .before .before .before .before .before .before .before .before .before .before .before .before .slot-at .ensures } in
+    let end = tree-end (start .args .sheet .now) (start .args .rows .now) (start .args .at) (start .args .up) _ (start .args .parent) (slotAt (start .args .sheet .now) (start .args .up)) visited _ (c .before .before .before .before .before .before .write-run .ensures .0) in
+    omega (arith, tree-within (start .args .sheet .now) (start .args .at) (start .pre .1 .0) (start .pre .1 .1 .0), start .pre .1 .0 .most, end)
+
+write-tree-write-row-requires : (t : ℕ) → write-tree-lts.Need-write-row-requires (
+  slot-at-reads.Asked,
+  slot-at-reads.Learnt,
+  annotated-reads.Asked,
+  annotated-reads.Learnt,
+  is-map-parent-reads.Asked,
+  is-map-parent-reads.Learnt,
+  resolved-kind-reads.Asked,
+  resolved-kind-reads.Learnt,
+  role-reads.Asked,
+  role-reads.Learnt,
+  parent-by-reads.Asked,
+  parent-by-reads.Learnt,
+  write-run-below t,
+  write-run.Post,
+  length-reads.Asked,
+  length-reads.Learnt,
+  write-row-reads.Asked,
+  write-row-reads.Learnt,
+) (write-tree-at t) write-tree.Post
+write-tree-write-row-requires t c κs = row-fits _ _ _ _ (c .before .before .before .before .before .before .before .before .before .before .before .before .before .before .before .before .before .pre .1 .1 .0) (c .before .before .before .before .before .before .before .before .before .before .before .before .before .before .before .before .before .pre .1 .1 .1 .1) (c .before .before .before .before .before .before .write-run .kept .1 .0)
+
+write-tree-same-length : (t : ℕ) → write-tree-lts.Need-same-length (
+  slot-at-reads.Asked,
+  slot-at-reads.Learnt,
+  annotated-reads.Asked,
+  annotated-reads.Learnt,
+  is-map-parent-reads.Asked,
+  is-map-parent-reads.Learnt,
+  resolved-kind-reads.Asked,
+  resolved-kind-reads.Learnt,
+  role-reads.Asked,
+  role-reads.Learnt,
+  parent-by-reads.Asked,
+  parent-by-reads.Learnt,
+  write-run-below t,
+  write-run.Post,
+  length-reads.Asked,
+  length-reads.Learnt,
+  write-row-reads.Asked,
+  write-row-reads.Learnt,
+) (write-tree-at t) write-tree.Post
+write-tree-same-length t c = c .before .before .write-row .kept .0 ∙ c .before .before .before .before .before .before .before .before .before .write-run .kept .1 .0
+
+write-tree-returns : (t : ℕ) → write-tree-lts.Need-returns (
+  slot-at-reads.Asked,
+  slot-at-reads.Learnt,
+  annotated-reads.Asked,
+  annotated-reads.Learnt,
+  is-map-parent-reads.Asked,
+  is-map-parent-reads.Learnt,
+  resolved-kind-reads.Asked,
+  resolved-kind-reads.Learnt,
+  role-reads.Asked,
+  role-reads.Learnt,
+  parent-by-reads.Asked,
+  parent-by-reads.Learnt,
+  write-run-below t,
+  write-run.Post,
+  length-reads.Asked,
+  length-reads.Learnt,
+  write-row-reads.Asked,
+  write-row-reads.Learnt,
+) (write-tree-at t) write-tree.Post
+unfolding rowNumbers
+write-tree-returns t c = 
+    let start = c .before .before .before .before .before .before .before .before .before .before .before .before .before .before .before .before .before .before .before .before in
+    let visited : Visited (start .args .sheet .now) (start .args .at) (c .before .before .before .before .before .before .before .before .before .before .before .before .before .before .before .before .before .slot-at .result) = record { claimed = start .pre .1 .0; below = start .pre .1 .1 .0; numbers = c .before .before .before .before .before .before .before .before .before .before .before .before .before .before .before .before .before .slot-at .ensures } in
+    let run = c .before .before .before .before .before .before .before .before .before .write-run in
+    let end = tree-end (start .args .sheet .now) (start .args .rows .now) (start .args .at) (start .args .up) _ (start .args .parent) (slotAt (start .args .sheet .now) (start .args .up)) visited _ (run .ensures .0) in
+    let own = c .before .before .before .before .before .before .before .before .before .before .before .before .before .role .ensures in
+    let above = parent-is (start .args .sheet .now) (start .args .rows .now) (start .args .at) (start .args .up) _ (start .args .parent) (slotAt (start .args .sheet .now) (start .args .up)) visited _ _ _ _ _ (c .before .before .before .before .before .before .before .before .before .before .before .before .before .before .before .before .annotated .ensures) (c .before .before .before .before .before .before .before .before .before .before .before .before .before .before .before .is-map-parent .ensures) (c .before .before .before .before .before .before .before .before .before .before .before .before .before .before .resolved-kind .ensures) own (c .before .before .before .before .before .before .before .before .before .before .parent-by .ensures) in
+    let numbers = row-is (start .args .sheet .now) (start .args .rows .now) (start .args .at) (start .args .up) _ (start .args .parent) (slotAt (start .args .sheet .now) (start .args .up)) visited _ _ _ _ _ _ (c .before .before .before .before .before .before .before .before .before .before .before .before .before .before .before .before .annotated .ensures) (c .before .before .before .before .before .before .before .before .before .before .before .before .before .before .before .is-map-parent .ensures) (c .before .before .before .before .before .before .before .before .before .before .before .before .before .before .resolved-kind .ensures) own end (c .before .before .before .before .length .ensures) in
+    (end, tree-rows (start .args .sheet .now) (start .args .rows .now) (start .args .at) (start .args .up) _ (start .args .parent) (slotAt (start .args .sheet .now) (start .args .up)) visited (start .pre .1 .1 .1 .1) _ above _ (run .ensures .1) _ _ numbers (c .before .before .write-row .ensures))
+
+pub +write-run+write-tree-spec : {M : Type 1} → statement M
++write-run+write-tree-spec = close μ-write-run μ-write-tree (λ t. write-run-lts.spec (
+  write-tree-below t,
+  write-tree.Post,
+  after-first-reads.Asked,
+  after-first-reads.Learnt,
+  write-run-below t,
+  write-run.Post,
+)
+    (write-run-at t)
+    write-run.Post
+    (write-run-returns t)
+    (write-run-write-tree-requires t)
+    (write-run-sub-write-run t)
+    (write-run-after-first-requires t)
+    (write-run-write-run-requires t)
+    (write-run-same-length t)
+    (write-run-returns-2 t))
+    λ t. write-tree-lts.spec (
+      slot-at-reads.Asked,
+      slot-at-reads.Learnt,
+      annotated-reads.Asked,
+      annotated-reads.Learnt,
+      is-map-parent-reads.Asked,
+      is-map-parent-reads.Learnt,
+      resolved-kind-reads.Asked,
+      resolved-kind-reads.Learnt,
+      role-reads.Asked,
+      role-reads.Learnt,
+      parent-by-reads.Asked,
+      parent-by-reads.Learnt,
+      write-run-below t,
+      write-run.Post,
+      length-reads.Asked,
+      length-reads.Learnt,
+      write-row-reads.Asked,
+      write-row-reads.Learnt,
+    )
+    (write-tree-at t)
+    write-tree.Post
+    (write-tree-slot-at-requires t)
+    (write-tree-annotated-requires t)
+    (write-tree-is-map-parent-requires t)
+    (write-tree-resolved-kind-requires t)
+    (write-tree-role-requires t)
+    (write-tree-add-write-run t)
+    (write-tree-cast-write-run t)
+    (write-tree-parent-by-requires t)
+    (write-tree-write-run-requires t)
+    (write-tree-mul-write-row t)
+    (write-tree-cast-t20 t)
+    (write-tree-length-requires t)
+    (write-tree-cast-t22 t)
+    (write-tree-cast-t23 t)
+    (write-tree-cast-t24 t)
+    (write-tree-write-row-requires t)
+    (write-tree-same-length t)
+    (write-tree-returns t)
