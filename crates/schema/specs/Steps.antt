@@ -12,12 +12,13 @@ use Rattle.schema.specs.Tree.{Slot, Tree, Fields, node, empty, field, li
 use Rattle.schema.specs.Rules.{faults, faultss, listKept, mapKept}
 use Rattle.schema.specs.Reading.{trees, takeFields, firstTree}
 use Rattle.annotation.specs.Logical as logical
-use Rattle.schema.specs.Outcome.{mostDepth, deepness, firstFault, orElse, refusal}
+use Rattle.schema.specs.Outcome.{mostDepth, deepness, firstFault, orElse, refusal, judgement}
 use Rattle.schema.specs.declared.place.Place.{Place}
 use Rattle.schema.specs.declared.rows.Row.{Row}
 use Rattle.schema.specs.declared.refusal.Verdict.{Verdict}
 use Rattle.schema.specs.declared.judging.TreeJudged.{TreeJudged}
 use Rattle.schema.specs.declared.judging.RunJudged.{RunJudged}
+use Rattle.schema.specs.declared.judgement.Judgement.{Judgement}
 
 -- the tree that stands at number k of some slots
 unfoldable pub treeAt : List Slot → ℕ → Tree
@@ -108,3 +109,11 @@ placed l i vs = take i l ++ vs ++ drop (i + length vs) l
 unfoldable pub rowNumbers : Row → List ℕ
 rowNumbers r =
     r .physical ∷ r .«type_length» ∷ r .repetition ∷ r .kind ∷ r .p1 ∷ r .p2 ∷ r .parent ∷ r .end ∷ r .role ∷ []
+
+-- what judging a sheet answers: its number of nodes, or the refusal
+unfoldable pub judgedNodes : Verdict → ℕ → Judgement
+judgedNodes Verdict.Lawful total = Judgement.Nodes total
+judgedNodes (Verdict.Refused r) total = Judgement.Refused r
+
+unfoldable pub judgementOf : List ℕ → Judgement
+judgementOf bytes = judgedNodes (judgement bytes) (totalOf bytes)

@@ -2,15 +2,15 @@
 ghost use mathlib.Core.Path.{_≡_};
 ghost use Rattle.schema.specs.Rules.{isRequiredOrOptional};
 
-pub const REQUIRED: u8 = 0;
+pub(crate) const REQUIRED: u8 = 0;
 
-pub const OPTIONAL: u8 = 1;
+pub(crate) const OPTIONAL: u8 = 1;
 
-pub const REPEATED: u8 = 2;
+pub(crate) const REPEATED: u8 = 2;
 
-pub const NO_REPETITION: u8 = 255;
+pub(crate) const NO_REPETITION: u8 = 255;
 
-pub fn required_or_optional(repetition: u8) -> bool
+pub(crate) fn required_or_optional(repetition: u8) -> bool
     ensures { λ r. ⌜ r ≡ isRequiredOrOptional repetition ⌝ }
 {
     (repetition == REQUIRED) | (repetition == OPTIONAL)

@@ -16,7 +16,7 @@ use crate::structure::map_kept;
 use sheet::Slot;
 
 // Every rule is kept.
-pub const KEPT: u32 = 0;
+pub(crate) const KEPT: u32 = 0;
 
 const SHAPE: u32 = 8;
 
@@ -36,7 +36,7 @@ const MAP: u32 = logical::MAP as u32;
 
 // The number of the first rule that the node at a number breaks, or KEPT. Where it is a MAP, the second field of its child
 // stands at value.
-pub fn broken(sheet: &[u8], at: usize, place: Place, s: Slot, value: usize) -> u32
+pub(crate) fn broken(sheet: &[u8], at: usize, place: Place, s: Slot, value: usize) -> u32
     requires { ⌜ Visited (now sheet) at s ⌝ }
     requires { ⌜ value ≡ innerIn (suc at) (fieldsAt (now sheet) at) ⌝ }
     ensures { λ r. ⌜ r ≡ Rules·broken place (slotAt (now (sheet .entry)) at) (fieldsAt (now (sheet .entry)) at) ⌝ }
@@ -54,7 +54,7 @@ pub fn broken(sheet: &[u8], at: usize, place: Place, s: Slot, value: usize) -> u
 }
 
 // The numbers of a slot that its annotations go by.
-pub fn annotated(s: Slot) -> Annotated
+pub(crate) fn annotated(s: Slot) -> Annotated
     ensures { λ r. ⌜ r ≡ annotatedBy s ⌝ }
 {
     Annotated {

@@ -19,7 +19,7 @@ use crate::refusal::Verdict;
 use crate::refusal::or_else;
 
 // Levels that a tree may have: depths 0 to 32.
-pub const LEVELS: usize = 33;
+pub(crate) const LEVELS: usize = 33;
 
 // What judging a tree finds: the first node that is too deep; or where the next tree and the root's second field stand, and
 // the first fault.
@@ -44,7 +44,7 @@ pub enum RunJudged {
 }
 
 // Judges the tree at a number, its root's place known, with so many levels left.
-pub fn judge_tree(sheet: &[u8], at: usize, levels: usize, place: Place) -> TreeJudged
+pub(crate) fn judge_tree(sheet: &[u8], at: usize, levels: usize, place: Place) -> TreeJudged
     requires { ⌜ Claimed (now sheet) ⌝ }
     requires { ⌜ at < totalOf (now sheet) ⌝ }
     requires { ⌜ levels ≤ suc mostDepth ⌝ }

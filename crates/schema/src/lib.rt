@@ -1,6 +1,7 @@
 // The schema of a sheet: its tree judged by refusals 5 to 13, and its rows.
 mod codes; // codes.rt: codes that the rules look at
 mod faults; // faults.rt: the least rule that a node breaks
+mod judgement; // judgement.rt: a sheet judged by refusals 1 to 13
 mod judging; // judging.rt: a tree and its run judged, too deep or at fault
 mod place; // place.rt: where a node stands for the rules
 mod places; // places.rt: refusals 5 and 6
@@ -14,3 +15,4 @@ mod structure; // structure.rt: rules 12 and 13
 pub use refusal::Refusal;
 pub use refusal::Verdict;
 pub use resolving::Resolved;
+pub use resolving::resolve;

@@ -12,7 +12,7 @@ const MISSING: u32 = 5;
 const LEFT_OVER: u32 = 6;
 
 // Whether nodes are left over after the root's tree, or more children are claimed than nodes exist.
-pub fn places_filled(sheet: &[u8], total: usize) -> Verdict
+pub(crate) fn places_filled(sheet: &[u8], total: usize) -> Verdict
     requires { ⌜ total ≡ totalOf (now sheet) ⌝ }
     requires { ⌜ total ≤ mostNodes ⌝ }
     ensures { λ r. ⌜ r ≡ orElse (leftOver (slots (now (sheet .entry)))) (missing (slots (now (sheet .entry)))) ⌝ }

@@ -15,7 +15,7 @@ pub enum Verdict {
 }
 
 // The first refusal of two.
-pub fn or_else(verdict: Verdict, next: Verdict) -> Verdict
+pub(crate) fn or_else(verdict: Verdict, next: Verdict) -> Verdict
     ensures { λ r. ⌜ r ≡ orElse verdict next ⌝ }
 {
     match verdict {

@@ -1,8 +1,43 @@
 // A sheet resolved into rows.
+ghost use mathlib.Core.Path.{_≡_};
+ghost use Prim.Native.Nat.{_*_, _≤_, _<_};
+ghost use lib.ListN.{length};
+ghost use Rattle.sheet.specs.Block.{totalOf};
+ghost use Rattle.schema.specs.Rows.{rowWidth};
+ghost use Rattle.schema.specs.Outcome.{outcome, written};
+use crate::judgement::Judgement;
+use crate::judgement::judge;
 use crate::refusal::Refusal;
+use crate::roles::Parent;
+use crate::rows::ROW_WIDTH;
+use crate::rows::write_tree;
 
 // What resolving answers: the number of nodes, whose rows are written, or the refusal.
 pub enum Resolved {
     Rows(usize),
     Refused(Refusal),
+}
+
+const SHORT_OUTPUT: u32 = 14;
+
+// Judges a sheet and writes its rows, nine numbers for each node in listing order. Where the sheet is refused or fewer numbers
+// are lent than its rows need, nothing is written.
+pub fn resolve(sheet: &[u8], rows: &mut [u32]) -> Resolved
+    ensures { λ r. ⌜ r ≡ outcome (now (sheet .entry)) (length (now (rows .entry))) ⌝ }
+    ensures { λ _. ⌜ now (rows .exit) ≡ written (outcome (now (sheet .entry)) (length (now (rows .entry)))) (now (sheet .entry)) (now (rows .entry)) ⌝ }
+{
+    let judgement = judge(sheet);
+    match judgement {
+        Judgement::Refused(r) => Resolved::Refused(r),
+        Judgement::Nodes(total) => {
+            if rows.len() < ROW_WIDTH * total {
+                return Resolved::Refused(Refusal {
+                    number: SHORT_OUTPUT,
+                    place: 0,
+                });
+            }
+            write_tree(sheet, rows, 0, 0, Parent::Other);
+            Resolved::Rows(total)
+        }
+    }
 }

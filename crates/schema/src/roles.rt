@@ -42,7 +42,7 @@ const LIST: u32 = logical::LIST as u32;
 const MAP: u32 = logical::MAP as u32;
 
 // Whether a parent is a resolved MAP.
-pub fn is_map_parent(parent: Parent) -> bool
+pub(crate) fn is_map_parent(parent: Parent) -> bool
     ensures { λ r. ⌜ r ≡ isMapParent parent ⌝ }
 {
     match parent {
@@ -56,7 +56,7 @@ pub fn is_map_parent(parent: Parent) -> bool
 }
 
 // The role of the node at a number, under the node at up.
-pub fn role(sheet: &[u8], up: usize, at: usize, s: Slot, parent: Parent) -> u32
+pub(crate) fn role(sheet: &[u8], up: usize, at: usize, s: Slot, parent: Parent) -> u32
     requires { ⌜ Visited (now sheet) at s ⌝ }
     ensures { λ r. ⌜ r ≡ Rows·role parent (slotAt (now (sheet .entry)) up) (slotAt (now (sheet .entry)) at) (fieldsAt (now (sheet .entry)) at) ⌝ }
 {
@@ -98,7 +98,7 @@ fn list_role(sheet: &[u8], up: usize, at: usize, s: Slot) -> u32
 }
 
 // What a node of some kind and role is to its fields.
-pub fn parent_by(kind: u32, role: u32) -> Parent
+pub(crate) fn parent_by(kind: u32, role: u32) -> Parent
     ensures { λ r. ⌜ r ≡ parentBy kind role ⌝ }
 {
     if kind == LIST {
@@ -117,7 +117,7 @@ pub fn parent_by(kind: u32, role: u32) -> Parent
 }
 
 // What it is to the fields after the first.
-pub fn after_first(parent: Parent) -> Parent
+pub(crate) fn after_first(parent: Parent) -> Parent
     ensures { λ r. ⌜ r ≡ afterFirst parent ⌝ }
 {
     match parent {

@@ -16,7 +16,7 @@ use crate::roles::parent_by;
 use crate::roles::role;
 
 // How many numbers a row has.
-pub const ROW_WIDTH: usize = 9;
+pub(crate) const ROW_WIDTH: usize = 9;
 
 // A node's row.
 struct Row {
@@ -32,7 +32,7 @@ struct Row {
 }
 
 // Writes the rows of the tree at a number, under the node at up, and answers where the next tree stands.
-pub fn write_tree(sheet: &[u8], rows: &mut [u32], at: usize, up: usize, parent: Parent) -> usize
+pub(crate) fn write_tree(sheet: &[u8], rows: &mut [u32], at: usize, up: usize, parent: Parent) -> usize
     requires { ⌜ Claimed (now sheet) ⌝ }
     requires { ⌜ at < totalOf (now sheet) ⌝ }
     requires { ⌜ up < totalOf (now sheet) ⌝ }

@@ -9,7 +9,7 @@ use annotation::physical;
 use sheet::Slot;
 
 // Whether a node keeps rule 8.
-pub fn shape_kept(place: Place, s: Slot) -> bool
+pub(crate) fn shape_kept(place: Place, s: Slot) -> bool
     ensures { λ r. ⌜ r ≡ shape place s (s .children) ⌝ }
 {
     place_shape(place, s) & length_shape(s.physical, s.type_length) & decimal_shape(s.converted, s.logical, s.scale, s.precision)

@@ -13,7 +13,7 @@ use crate::codes::required_or_optional;
 use sheet::Slot;
 
 // Whether the LIST at a number keeps rule 12.
-pub fn list_kept(sheet: &[u8], at: usize, list: Slot) -> bool
+pub(crate) fn list_kept(sheet: &[u8], at: usize, list: Slot) -> bool
     requires { ⌜ Visited (now sheet) at list ⌝ }
     ensures { λ r. ⌜ r ≡ listKept (slotAt (now (sheet .entry)) at) (fieldsAt (now (sheet .entry)) at) ⌝ }
 {
@@ -53,7 +53,7 @@ fn list_child(sheet: &[u8], list: usize, layer: usize) -> bool
 }
 
 // Whether a LIST's repeated group has the name of an element: `array`, or the list's name plus `_tuple`.
-pub fn named_element(sheet: &[u8], list: usize, layer: usize) -> bool
+pub(crate) fn named_element(sheet: &[u8], list: usize, layer: usize) -> bool
     ensures { λ r. ⌜ r ≡ namedElement (slotAt (now (sheet .entry)) list) (slotAt (now (sheet .entry)) layer) ⌝ }
 {
     if sheet::name_is(sheet, layer, b"array") {
@@ -63,7 +63,7 @@ pub fn named_element(sheet: &[u8], list: usize, layer: usize) -> bool
 }
 
 // Whether the MAP at a number keeps rule 13, where the second field of its child stands at value.
-pub fn map_kept(sheet: &[u8], at: usize, map: Slot, value: usize) -> bool
+pub(crate) fn map_kept(sheet: &[u8], at: usize, map: Slot, value: usize) -> bool
     requires { ⌜ Visited (now sheet) at map ⌝ }
     requires { ⌜ value ≡ innerIn (suc at) (fieldsAt (now sheet) at) ⌝ }
     ensures { λ r. ⌜ r ≡ mapKept (slotAt (now (sheet .entry)) at) (fieldsAt (now (sheet .entry)) at) ⌝ }
