@@ -1,6 +1,5 @@
 -- Worked examples: what the definitions compute.
 use mathlib.Core.Path.{_≡_, refl}
-use mathlib.Core.Bool.{true, false}
 use mathlib.Core.List.{List, [], _∷_, _++_}
 use Prim.Native.Nat.{ℕ, _-_, _^_}
 use lib.IntN.{pos, negsuc}
@@ -8,12 +7,12 @@ use lib.ListN.{replicate, set}
 use Rattle.sheet.specs.Number.{numberAt, signed32}
 use Rattle.sheet.specs.Block.{blockSize, blockCount, blockAt, blockNumber, nodesHere, version, total, storedCheck, totalOf}
 use Rattle.sheet.specs.Check.{sumBelow, weighted, check, checkRight}
-use Rattle.sheet.specs.Slot.{physical, repetition, converted, logical, nameLength, name, slotStart, reaches, slotAt, slotsFrom, slots}
+use Rattle.sheet.specs.Slot.{physical, repetition, converted, logical, nameLength, slotStart, reaches, slotAt}
 use Rattle.sheet.specs.Sound.{listed, physicalListed, repetitionListed, convertedListed, logicalListed, nameLengthRight, allZero, reservedZero, tailZero, codesListed, nameRight, slotSound, slotRight}
 use Rattle.sheet.specs.Header.{lengthRight, blocksFor, nodesIn, totalRight, fieldsRight, headerRight}
 use Rattle.sheet.specs.First.{firstWrongFrom, firstWrong}
-use Rattle.sheet.specs.Opening.{atFirst, openOf, outcomeOf, outcome, Outcome}
-use Rattle.sheet.specs.declared.opening.Opened.the-variants.{Nodes, BadLength, BadCheck, BadHeader, BadSlot}
+use Rattle.sheet.specs.Opening.{atFirst, openOf}
+use Rattle.sheet.specs.declared.opening.Opened.the-variants.{Nodes, BadLength}
 
 -- "Byte 509 equal to 255, all others zero, gives 64,529"
 check-last-byte : check (set (replicate blockSize 0) 509 255) ≡ 64529

@@ -8,7 +8,6 @@ use lib.Dec.{eqb}
 use lib.ListN.{length, take, drop, length-take, length-drop}
 use lib.Seq.{drop-drop}
 use borrow.Author.Tests.{eqb-true, eq-eqb}
-use Rattle.sheet.specs.Block.{slotSize}
 use Rattle.sheet.specs.Slot.{nameAt, nameLength, name, slotStart, reaches, emptySlot, slotAt}
 use Rattle.sheet.specs.Sound.{mostNameLength, slotSound}
 use Rattle.sheet.specs.Name.{stretchOf, sameBytes}

@@ -11,7 +11,7 @@ const HALF: u32 = 0x8000_0000;
 const WHOLE: i64 = 0x1_0000_0000;
 
 // The number of two bytes from at on.
-pub fn number16(s: &[u8], at: usize) -> u32
+pub(crate) fn number16(s: &[u8], at: usize) -> u32
     requires { ⌜ at + 2 ≤ length (now s) ⌝ }
     ensures { λ r. ⌜ r ≡ numberAt (now (s .entry)) at 2 ⌝ }
     ensures { λ r. ⌜ r < 2 ^ 16 ⌝ }
@@ -20,7 +20,7 @@ pub fn number16(s: &[u8], at: usize) -> u32
 }
 
 // The number of four bytes from at on.
-pub fn number32(s: &[u8], at: usize) -> u32
+pub(crate) fn number32(s: &[u8], at: usize) -> u32
     requires { ⌜ at + 4 ≤ length (now s) ⌝ }
     ensures { λ r. ⌜ r ≡ numberAt (now (s .entry)) at 4 ⌝ }
 {
@@ -28,7 +28,7 @@ pub fn number32(s: &[u8], at: usize) -> u32
 }
 
 // The signed number that the 32 bits of n stand for.
-pub fn signed32(n: u32) -> i32
+pub(crate) fn signed32(n: u32) -> i32
     ensures { λ r. ⌜ r ≡ Number·signed32 n ⌝ }
 {
     if n < HALF {
@@ -38,7 +38,7 @@ pub fn signed32(n: u32) -> i32
 }
 
 // A byte as a number.
-pub fn wide(byte: u8) -> u32
+pub(crate) fn wide(byte: u8) -> u32
     ensures { λ r. ⌜ r ≡ byte ⌝ }
     ensures { λ r. ⌜ r < 256 ⌝ }
 {

@@ -12,9 +12,6 @@ use mir.Facts.{toZ-ofZ}
 use borrow.Author.Needs.{needs}
 use Rattle.sheet_vectors.proofs.print_signed.Statement.{statement}
 use Rattle.sheet_vectors.proofs.print_signed.Tie as tie
-use Rattle.sheet_vectors.proofs.print_signed.Reads as reads
-use Rattle.sheet_vectors.proofs.print_signed.Lts as lts
-use Rattle.sheet_vectors.proofs.print_number.Reads as print-number-reads
 
 wider : (z : ℤ) → SFits w32 z → SFits w64 z
 wider z h = record { sfits = omega (arith, h .sfits) }

@@ -5,9 +5,6 @@ use lib.ListN.{length}
 use borrow.Author.Needs.{needs}
 use Rattle.sheet_vectors.proofs.run.Statement.{statement}
 use Rattle.sheet_vectors.proofs.run.Tie as tie
-use Rattle.sheet_vectors.proofs.run.Reads as reads
-use Rattle.sheet_vectors.proofs.run.Lts as lts
-use Rattle.sheet_vectors.proofs.run_next.Reads as run-next-reads
 
 abbrev Inv-loop : tie.InvT-loop
 Inv-loop sheet₀ text₀ count done₀ sheet text done = (done ≤ count) × (length sheet ≡ length sheet₀) × (length text ≡ length text₀)

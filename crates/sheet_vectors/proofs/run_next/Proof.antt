@@ -5,10 +5,6 @@ use lib.Seq.{length-take-le}
 use borrow.Author.Needs.{needs}
 use Rattle.sheet_vectors.proofs.run_next.Statement.{statement}
 use Rattle.sheet_vectors.proofs.run_next.Tie as tie
-use Rattle.sheet_vectors.proofs.run_next.Reads as reads
-use Rattle.sheet_vectors.proofs.run_next.Lts as lts
-use Rattle.sheet_vectors.proofs.read_and_answer.Reads as read-and-answer-reads
-use Rattle.sheet_vectors.proofs.read_number.Reads as read-number-reads
 
 read-number-requires : tie.Need-read-number-requires
 read-number-requires c κs = search needs

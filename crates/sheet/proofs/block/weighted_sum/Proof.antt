@@ -1,18 +1,14 @@
 -- `sheet::block::weighted_sum` meets its contract. The invariant: the sum so far is that of the bytes passed, and at most 510 times 255 for each.
-use mathlib.Core.Path.{_≡_, sym, ap, _∙_}
-use Prim.Native.Nat.{ℕ, _+_, _*_, _≤_, _<_, _-_}
+use mathlib.Core.Path.{_≡_, ap, _∙_}
+use Prim.Native.Nat.{_+_, _*_, _≤_, _-_}
 use native.Mathlib.Numerals.{add-one}
 use native.Mathlib.Omega.{arith}
-use lib.ListN.{length, getD}
 use borrow.Author.Needs.{needs}
 use Rattle.sheet.specs.Block.{checkAt}
 use Rattle.sheet.specs.Check.{sumBelow, weighted}
 use Rattle.sheet.proofs.CheckLaws.{weight-le}
 use Rattle.sheet.proofs.block.weighted_sum.Statement.{statement}
 use Rattle.sheet.proofs.block.weighted_sum.Tie as tie
-use Rattle.sheet.proofs.block.weighted_sum.Reads as reads
-use Rattle.sheet.proofs.block.weighted_sum.Lts as lts
-use Rattle.sheet.proofs.number.wide.Reads as wide-reads
 
 abbrev Inv-loop : tie.InvT-loop
 Inv-loop block sum₀ i₀ sum i = (i ≤ checkAt) × (sum ≡ sumBelow (weighted block) i) × (sum ≤ checkAt * 255 * i)

@@ -5,7 +5,7 @@ use mathlib.Core.Bool.{Bool, false, _&&_}
 use mathlib.Core.List.{List, _++_}
 use Prim.Native.Nat.{ℕ, _<_}
 use native.Mathlib.Omega.{arith}
-use lib.ListN.{length, length-append, take, drop}
+use lib.ListN.{length, length-append, drop}
 use lib.Seq.{length-take-le}
 use Rattle.sheet.specs.Name.{sameBytes}
 use Rattle.sheet.proofs.TestLaws.{failed, passed}
@@ -13,10 +13,6 @@ use Rattle.sheet.proofs.PartLaws.{take-rest}
 use Rattle.sheet.proofs.NameLaws.{sameBytes-false, sameBytes-append}
 use Rattle.sheet.proofs.names.name_is_with.Statement.{statement}
 use Rattle.sheet.proofs.names.name_is_with.Tie as tie
-use Rattle.sheet.proofs.names.name_is_with.Reads as reads
-use Rattle.sheet.proofs.names.name_is_with.Lts as lts
-use Rattle.sheet.proofs.names.name_of.Reads as name-of-reads
-use Rattle.sheet.proofs.names.same.Reads as same-reads
 
 -- what is shorter than the front is not the front and a suffix
 too-short : (whole front suffix : List ℕ) → length whole < length front → sameBytes whole (front ++ suffix) ≡ false

@@ -9,10 +9,6 @@ use Rattle.sheet.proofs.SlotLaws.{slotStart-most, reaches-true, reaches
 use Rattle.sheet.proofs.NameLaws.{stretch-is, stretchOf-nowhere, stretchOf-there}
 use Rattle.sheet.proofs.names.name_stretch.Statement.{statement}
 use Rattle.sheet.proofs.names.name_stretch.Tie as tie
-use Rattle.sheet.proofs.names.name_stretch.Reads as reads
-use Rattle.sheet.proofs.names.name_stretch.Lts as lts
-use Rattle.sheet.proofs.number.wide.Reads as wide-reads
-use Rattle.sheet.proofs.slots.slot_start.Reads as slot-start-reads
 
 returns : tie.Need-returns
 returns c =

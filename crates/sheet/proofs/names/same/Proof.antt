@@ -10,8 +10,6 @@ use borrow.Author.Needs.{needs}
 use Rattle.sheet.proofs.NameLaws.{sameBytes-true, sameBytes-false}
 use Rattle.sheet.proofs.names.same.Statement.{statement}
 use Rattle.sheet.proofs.names.same.Tie as tie
-use Rattle.sheet.proofs.names.same.Reads as reads
-use Rattle.sheet.proofs.names.same.Lts as lts
 
 abbrev Inv-loop : tie.InvT-loop
 Inv-loop a b i₀ i = (i ≤ length a) × ((k : ℕ) → k < i → getD a k 0 ≡ getD b k 0)

@@ -9,13 +9,6 @@ use Rattle.sheet.proofs.HeaderLaws.{lengthRight-least, lengthRight-most
 use Rattle.sheet.proofs.OpeningLaws.{openOf-length, openOf-check, openOf-header, openOf-slot, openOf-nodes}
 use Rattle.sheet.proofs.opening.open.Statement.{statement}
 use Rattle.sheet.proofs.opening.open.Tie as tie
-use Rattle.sheet.proofs.opening.open.Reads as reads
-use Rattle.sheet.proofs.opening.open.Lts as lts
-use Rattle.sheet.proofs.block.total_of.Reads as total-of-reads
-use Rattle.sheet.proofs.opening.first_bad_check.Reads as first-bad-check-reads
-use Rattle.sheet.proofs.opening.first_bad_header.Reads as first-bad-header-reads
-use Rattle.sheet.proofs.opening.first_bad_slot.Reads as first-bad-slot-reads
-use Rattle.sheet.proofs.opening.length_right.Reads as length-right-reads
 
 length-right-requires : tie.Need-length-right-requires
 length-right-requires c κs = search needs
