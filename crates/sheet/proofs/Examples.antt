@@ -11,8 +11,8 @@ use Rattle.sheet.specs.Slot.{physical, repetition, converted, logical, n
 use Rattle.sheet.specs.Sound.{listed, physicalListed, repetitionListed, convertedListed, logicalListed, nameLengthRight, allZero, reservedZero, tailZero, codesListed, nameRight, slotSound, slotRight}
 use Rattle.sheet.specs.Header.{lengthRight, blocksFor, nodesIn, totalRight, fieldsRight, headerRight}
 use Rattle.sheet.specs.First.{firstWrongFrom, firstWrong}
-use Rattle.sheet.specs.Opening.{atFirst, openOf}
-use Rattle.sheet.specs.declared.opening.Opened.the-variants.{Nodes, BadLength}
+use Rattle.sheet.specs.Opening.{atFirst, openOf, outcomeOf, outcome, refused}
+use Rattle.sheet.specs.declared.opening.Opened.the-variants.{Nodes}
 
 -- "Byte 509 equal to 255, all others zero, gives 64,529"
 check-last-byte : check (set (replicate blockSize 0) 509 255) ≡ 64529
@@ -34,10 +34,10 @@ open-root : openOf rootSheet ≡ Nodes 1
 unfolding rootSheet openOf lengthRight atFirst firstWrong firstWrongFrom blockCount blockAt checkRight check storedCheck sumBelow weighted numberAt headerRight fieldsRight blockNumber version total totalOf nodesHere nodesIn totalRight blocksFor slotRight slotAt reaches slotStart slotSound codesListed nameRight physicalListed repetitionListed convertedListed logicalListed listed physical repetition converted logical nameLength nameLengthRight reservedZero tailZero allZero
 open-root = refl
 
--- no bytes are no sheet
-open-none : openOf [] ≡ BadLength
-unfolding openOf lengthRight
-open-none = refl
+-- no bytes are refusal 1 at 0
+outcome-none : outcome [] ≡ refused 1 0
+unfolding outcome outcomeOf openOf lengthRight
+outcome-none = refl
 
 -- two's complement
 signed32-most : signed32 (2 ^ 31 - 1) ≡ pos 2147483647

@@ -2,7 +2,7 @@
 ghost use mathlib.Core.Path.{_≡_};
 ghost use Prim.Native.Nat.{_+_, _≤_, _<_, _^_};
 ghost use lib.ListN.{length};
-ghost use Rattle.sheet.specs.Number.{numberAt, signed32 as Number·signed32};
+ghost use Rattle.sheet.specs.Number.{number16 as Number·number16, number32 as Number·number32, signed32 as Number·signed32};
 
 const BYTE: u32 = 256;
 
@@ -13,7 +13,7 @@ const WHOLE: i64 = 0x1_0000_0000;
 // The number of two bytes from at on.
 pub(crate) fn number16(s: &[u8], at: usize) -> u32
     requires { ⌜ at + 2 ≤ length (now s) ⌝ }
-    ensures { λ r. ⌜ r ≡ numberAt (now (s .entry)) at 2 ⌝ }
+    ensures { λ r. ⌜ r ≡ Number·number16 (now (s .entry)) at ⌝ }
     ensures { λ r. ⌜ r < 2 ^ 16 ⌝ }
 {
     wide(s[at]) + BYTE * wide(s[at + 1])
@@ -22,7 +22,7 @@ pub(crate) fn number16(s: &[u8], at: usize) -> u32
 // The number of four bytes from at on.
 pub(crate) fn number32(s: &[u8], at: usize) -> u32
     requires { ⌜ at + 4 ≤ length (now s) ⌝ }
-    ensures { λ r. ⌜ r ≡ numberAt (now (s .entry)) at 4 ⌝ }
+    ensures { λ r. ⌜ r ≡ Number·number32 (now (s .entry)) at ⌝ }
 {
     wide(s[at]) + BYTE * (wide(s[at + 1]) + BYTE * (wide(s[at + 2]) + BYTE * wide(s[at + 3])))
 }

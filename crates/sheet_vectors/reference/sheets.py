@@ -124,10 +124,10 @@ def vector(sheet, node=0, other=0, text=b""):
 
 def lengths():
     one, full = sheet_of(nodes(1)), sheet_of(nodes(896))
-    for sheet in (b"", one[:511], one, one + b"\0", bytes(512), one[:1], full, bytes(65536), full[:-1], full + b"\0", full + one):
+    for sheet in (b"", one[:1], one[:511], one, one + b"\0", bytes(512), full[:-1], bytes(65536)):
         vector(sheet)
     vector(full, 895)
-    vector(full, 896)
+    vector(full + one, 896)
 
 
 def checks():
@@ -179,12 +179,11 @@ def headers():
 def totals():
     vector(changed(sheet_of(nodes(1)), 4, 0))
     vector(changed(sheet_of(nodes(1)), 2, 0, 1, 0))
-    for count in (1, 2, 6, 7, 8, 13, 14, 15, 21, 889, 890, 895, 896):
+    for count in (1, 2, 6, 7, 8, 13, 14, 15, 21, 890):
         vector(sheet_of(nodes(count)), count - 1)
     for count in (6, 8):
         vector(sheet_of(nodes(7), count))
     vector(sheet_of(nodes(896), 897))
-    vector(sheet_of(nodes(896), 889))
     vector(sheet_of(nodes(889), 896))
     vector(sheet_of(nodes(14))[:BLOCK])
 

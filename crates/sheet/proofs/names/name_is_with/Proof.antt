@@ -29,7 +29,7 @@ returns : tie.Need-returns
 returns c =
     let whole = c .before .before .name-of .result .now in
     let front = c .before .name-of2 .result .now in
-    sym (too-short whole front (c .before .before .before .before .before .args .suffix .now) (c .if1 .taken))
+    sym (too-short whole front (c .before .before .before .before .before .args .suffix .now) (omega arith))
     ∙ ap₂ (λ (w f : List ℕ). sameBytes w (f ++ c .before .before .before .before .before .args .suffix .now)) (c .before .before .name-of .ensures) (c .before .name-of2 .ensures)
 
 slice-aggregate-same : tie.Need-slice-aggregate-same

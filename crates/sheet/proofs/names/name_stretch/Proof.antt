@@ -13,7 +13,7 @@ use Rattle.sheet.proofs.names.name_stretch.Tie as tie
 returns : tie.Need-returns
 returns c =
     let a = c .before .before .args in
-    sym (stretchOf-nowhere (a .sheet .now) (a .node) (reaches-past (a .sheet .now) (a .node) (c .if1 .taken)))
+    sym (stretchOf-nowhere (a .sheet .now) (a .node) (reaches-past (a .sheet .now) (a .node) (omega arith)))
 
 slot-start-requires : tie.Need-slot-start-requires
 slot-start-requires c κs = search needs

@@ -13,7 +13,7 @@ empty-slot-requires c κs = search needs
 returns : tie.Need-returns
 returns c =
     let a = c .before .before .before .args in
-    c .empty-slot .ensures ∙ ap numbersOf (sym (slotAt-empty (a .sheet .now) (a .node) (reaches-past (a .sheet .now) (a .node) (c .before .if1 .taken))))
+    c .empty-slot .ensures ∙ ap numbersOf (sym (slotAt-empty (a .sheet .now) (a .node) (reaches-past (a .sheet .now) (a .node) (omega arith))))
 
 slot-start-requires : tie.Need-slot-start-requires
 slot-start-requires c κs = search needs
