@@ -1,5 +1,5 @@
 -- Laws of the first number at which a test fails.
-use mathlib.Core.Path.{_≡_, sym, _∙_, subst}
+use mathlib.Core.Path.{_≡_, refl, sym, _∙_, subst}
 use mathlib.Core.Bool.{Bool, true, false}
 use Prim.Native.Nat.{ℕ, zero, suc, _+_, _≤_, _<_}
 use mathlib.Core.Logic.{⊎-elim}
@@ -40,3 +40,21 @@ module _ (right : ℕ → Bool) where
   pub firstWrong-none : (n : ℕ) → ((j : ℕ) → j < n → right j ≡ true) → firstWrong right n ≡ n
   unfolding firstWrong
   firstWrong-none n all = from-none n 0 (λ j _ h. all j (omega arith)) ∙ zero-add n
+
+  from-all : (n k : ℕ) → k + n ≤ firstWrongFrom right k n → (j : ℕ) → k ≤ j → j < k + n → right j ≡ true
+  from-all zero k h j l u = absurd (omega arith)
+  from-all (suc n) k h j l u = cases (right k) refl (from-all n (suc k))
+    where
+      cases : (t : Bool)
+          → right k ≡ t
+          → (suc k + n ≤ firstWrongFrom right (suc k) n → (i : ℕ) → suc k ≤ i → i < suc k + n → right i ≡ true)
+          → right j ≡ true
+      cases true e rest =
+          ⊎-elim (λ q. subst (λ (m : ℕ). right m ≡ true) q e) (λ q. rest (omega (arith, from-right k n e)) j q (omega arith))
+          (eq-or-lt-of-le l)
+      cases false e rest = absurd (omega (arith, from-wrong k n e))
+
+  -- where the bound is the answer, the test fails at none
+  pub firstWrong-all : (n : ℕ) → n ≤ firstWrong right n → (j : ℕ) → j < n → right j ≡ true
+  unfolding firstWrong
+  firstWrong-all n h j l = from-all n 0 (omega arith) j (omega arith) (omega arith)

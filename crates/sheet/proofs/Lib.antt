@@ -4,8 +4,10 @@ pub mod PartLaws
 pub mod NumberLaws
 pub mod CheckLaws
 pub mod SlotLaws
+pub mod FieldLaws
 pub mod SoundLaws
 pub mod HeaderLaws
 pub mod FirstLaws
 pub mod OpeningLaws
 pub mod NameLaws
+pub mod Examples

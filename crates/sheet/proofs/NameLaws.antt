@@ -8,18 +8,22 @@ use lib.Dec.{eqb}
 use lib.ListN.{length, take, drop, length-take, length-drop}
 use lib.Seq.{drop-drop}
 use borrow.Author.Tests.{eqb-true, eq-eqb}
-use Rattle.sheet.specs.Block.{slotSize}
 use Rattle.sheet.specs.Slot.{nameAt, nameLength, name, slotStart, reaches, emptySlot, slotAt}
-use Rattle.sheet.specs.Sound.{mostNameLength}
+use Rattle.sheet.specs.Sound.{mostNameLength, slotSound}
 use Rattle.sheet.specs.Name.{stretchOf, sameBytes}
 use Rattle.sheet.specs.declared.names.Stretch.{Stretch}
 use Rattle.sheet.proofs.PartLaws.{drop-take, take-min}
+use Rattle.sheet.proofs.SoundLaws.{sound-nameLength-most}
 use Rattle.sheet.proofs.SlotLaws.{reaches-within, slotAt-there, slotAt-empty, slotAt-length}
 
 -- a name is at most as long as the slot has room
 pub name-length : (sheet : List ℕ) (k : ℕ) → length (name (slotAt sheet k)) ≡ min (nameLength (slotAt sheet k)) mostNameLength
 unfolding name
 name-length sheet k = simp (length-take, length-drop, slotAt-length sheet k)
+
+-- the name of a sound slot has the length that the slot says
+pub name-length-sound : (sheet : List ℕ) (k : ℕ) → slotSound (slotAt sheet k) ≡ true → length (name (slotAt sheet k)) ≡ nameLength (slotAt sheet k)
+name-length-sound sheet k sound = omega (arith, name-length sheet k, sound-nameLength-most (slotAt sheet k) sound)
 
 -- a slot that the bytes do not reach has no name
 pub name-nowhere : (sheet : List ℕ) (k : ℕ) → reaches sheet k ≡ false → name (slotAt sheet k) ≡ []

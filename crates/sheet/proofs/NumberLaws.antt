@@ -3,11 +3,17 @@ use mathlib.Core.Path.{_≡_}
 use mathlib.Core.List.{List}
 use Prim.Native.Nat.{ℕ, suc, _+_, _-_, _*_, _^_, _≤_, _<_}
 use native.Mathlib.Numerals.{towards-suc}
+use native.Mathlib.Decide.{decLt}
 use native.Mathlib.Omega.{arith}
-use lib.IntN.{ℤ, pos, negsuc, _-ℤ_}
+use lib.IntN.{pos, negsuc}
 use lib.ListN.{getD}
+use lib.Signed.{mag}
 use borrow.Author.Tests.{lt-ltb, le-ltb}
 use Rattle.sheet.specs.Number.{numberAt, signed32}
+
+-- every element is a byte
+abbrev pub Bytes : List ℕ → Type 0
+Bytes bytes = (i : ℕ) → getD bytes i 0 < 256
 
 -- a number of two bytes, written out
 pub numberAt-two : (bytes : List ℕ) (at : ℕ) → numberAt bytes at 2 ≡ getD bytes at 0 + 256 * getD bytes (at + 1) 0
@@ -29,3 +35,20 @@ signed32-low n h = rw (lt-ltb n (2 ^ 31) h)
 pub signed32-high : (n : ℕ) → 2 ^ 31 ≤ n → n < 2 ^ 32 → signed32 n ≡ negsuc (2 ^ 32 - suc n)
 unfolding signed32
 signed32-high n l h = rw (le-ltb n (2 ^ 31) l, lt-ltb n (2 ^ 32) h)
+
+-- a number of two bytes
+pub numberAt-two-lt : (bytes : List ℕ) (at : ℕ) → Bytes bytes → numberAt bytes at 2 < 2 ^ 16
+numberAt-two-lt bytes at all = omega (arith, numberAt-two bytes at, all at, all (at + 1))
+
+-- and of four
+pub numberAt-four-lt : (bytes : List ℕ) (at : ℕ) → Bytes bytes → numberAt bytes at 4 < 2 ^ 32
+numberAt-four-lt bytes at all =
+    omega (arith, numberAt-four bytes at, all at, all (at + 1), all (at + 2), all (at + 3))
+
+-- a signed number of 32 bits is within their range
+pub signed32-mag : (n : ℕ) → n < 2 ^ 32 → mag (signed32 n) < 2 ^ 31
+signed32-mag n h = cases (decLt n (2 ^ 31))
+  where
+    cases : Dec (n < 2 ^ 31) → mag (signed32 n) < 2 ^ 31
+    cases (yes l) = rw (signed32-low n l) l
+    cases (no l) = rw (signed32-high n (omega arith) h) (omega arith)

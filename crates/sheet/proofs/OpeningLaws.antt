@@ -1,17 +1,24 @@
 -- Laws of opening a sheet.
-use mathlib.Core.Path.{_≡_, sym, ap, _∙_}
-use mathlib.Core.Bool.{Bool, true, false, cond}
+use mathlib.Core.Path.{_≡_, refl, sym, _∙_}
+use mathlib.Core.Bool.{Bool, true, false, and-eq-true-iff}
 use mathlib.Core.List.{List}
 use Prim.Native.Nat.{ℕ, _*_, _≤_, _<_}
-use lib.Dec.{ltb}
+use native.Mathlib.Nat.{le-of-eq}
+use native.Mathlib.Decide.{decLe}
+use native.Mathlib.Omega.{arith}
 use lib.ListN.{length}
 use borrow.Author.Tests.{lt-ltb, le-ltb}
-use Rattle.sheet.specs.Block.{slotsInBlock, blockCount, totalOf}
+use Rattle.sheet.specs.Block.{mostNodes, slotsInBlock, blockCount, blockAt, totalOf}
 use Rattle.sheet.specs.Check.{checkRight}
-use Rattle.sheet.specs.Header.{lengthRight, headerRight}
-use Rattle.sheet.specs.Sound.{slotRight}
+use Rattle.sheet.specs.Header.{lengthRight, totalRight, fieldsRight, headerRight}
+use Rattle.sheet.specs.Slot.{slotAt, slots}
+use Rattle.sheet.specs.Sound.{slotSound, slotRight}
 use Rattle.sheet.specs.First.{firstWrong}
-use Rattle.sheet.specs.Opening.{atFirst, openOf}
+use Rattle.sheet.specs.Opening.{atFirst, openOf, BlocksSound, SlotsSound}
+use Rattle.sheet.proofs.FirstLaws.{firstWrong-none, firstWrong-all}
+use Rattle.sheet.proofs.SlotLaws.{slots-length}
+use Rattle.sheet.proofs.SoundLaws.{slotRight-used}
+use Rattle.sheet.proofs.HeaderLaws.{lengthRight-least, blockCount-least, totalRight-least, totalRight-most, totalRight-within}
 use Rattle.sheet.specs.declared.opening.Opened.{Opened}
 use Rattle.sheet.specs.declared.opening.Opened.the-variants.{Nodes, BadLength, BadCheck, BadHeader, BadSlot}
 
@@ -55,3 +62,104 @@ module _ (sheet : List ℕ) (right : lengthRight (length sheet) ≡ true) {check
       unfolding openOf
       openOf-nodes h =
           rw right (atFirst-none _ _ _ _ check-is checks ∙ atFirst-none _ _ _ _ header-is headers ∙ atFirst-none _ _ _ _ slot-is h)
+
+-- an answer of nodes comes past every test
+atFirst-nodes : (right : ℕ → Bool) (n : ℕ) (refusal : ℕ → Opened) (next : Opened) (t : ℕ)
+    → ((i : ℕ) → refusal i ≡ Nodes t → ⊥)
+    → atFirst right n refusal next ≡ Nodes t
+    → ((k : ℕ) → k < n → right k ≡ true) × (next ≡ Nodes t)
+atFirst-nodes right n refusal next t other e = cases (decLe n (firstWrong right n))
+  where
+    cases : Dec (n ≤ firstWrong right n) → ((k : ℕ) → k < n → right k ≡ true) × (next ≡ Nodes t)
+    cases (yes h) = (firstWrong-all right n h, sym (atFirst-none right n refusal next refl h) ∙ e)
+    cases (no h) = absurd (other (firstWrong right n) (sym (atFirst-at right n refusal next refl (omega arith)) ∙ e))
+
+check-other : (t i : ℕ) → BadCheck i ≡ Nodes t → ⊥
+check-other t i e = let z : _≡_ {A = ℕ} 0 1 = cc in omega arith
+
+header-other : (t i : ℕ) → BadHeader i ≡ Nodes t → ⊥
+header-other t i e = let z : _≡_ {A = ℕ} 0 1 = cc in omega arith
+
+slot-other : (t i : ℕ) → BadSlot i ≡ Nodes t → ⊥
+slot-other t i e = let z : _≡_ {A = ℕ} 0 1 = cc in omega arith
+
+length-other : (t : ℕ) → BadLength ≡ Nodes t → ⊥
+length-other t e = let z : _≡_ {A = ℕ} 0 1 = cc in omega arith
+
+module _ (sheet : List ℕ) (t : ℕ) (opened : openOf sheet ≡ Nodes t) where
+  -- a sheet that opens has a right length
+  openOf-length-right : lengthRight (length sheet) ≡ true
+  openOf-length-right = cases (lengthRight (length sheet)) refl
+    where
+      cases : (b : Bool) → lengthRight (length sheet) ≡ b → lengthRight (length sheet) ≡ true
+      cases true e = e
+      cases false e = absurd (length-other t (sym (openOf-length sheet e) ∙ opened))
+
+  past-length : atFirst (checkRight sheet) (blockCount sheet) BadCheck
+      (atFirst (headerRight sheet) (blockCount sheet) BadHeader
+      (atFirst (slotRight sheet) (slotsInBlock * blockCount sheet) BadSlot
+      (Nodes (totalOf sheet))))
+      ≡ Nodes t
+  unfolding openOf
+  past-length = rw openOf-length-right at opened
+
+  past-checks : ((i : ℕ) → i < blockCount sheet → checkRight sheet i ≡ true)
+      × (atFirst (headerRight sheet) (blockCount sheet) BadHeader
+      (atFirst (slotRight sheet) (slotsInBlock * blockCount sheet) BadSlot
+      (Nodes (totalOf sheet)))
+      ≡ Nodes t)
+  past-checks = atFirst-nodes _ _ _ _ t (check-other t) past-length
+
+  past-headers : ((i : ℕ) → i < blockCount sheet → headerRight sheet i ≡ true)
+      × (atFirst (slotRight sheet) (slotsInBlock * blockCount sheet) BadSlot (Nodes (totalOf sheet)) ≡ Nodes t)
+  past-headers = atFirst-nodes _ _ _ _ t (header-other t) (past-checks .1)
+
+  past-slots : ((k : ℕ) → k < slotsInBlock * blockCount sheet → slotRight sheet k ≡ true) × (Nodes (totalOf sheet) ≡ Nodes t)
+  past-slots = atFirst-nodes _ _ _ _ t (slot-other t) (past-headers .1)
+
+  -- a sheet that opens has sound blocks
+  pub openOf-blocks : BlocksSound sheet
+  openOf-blocks = record { length-right = openOf-length-right; checks-right = past-checks .0; headers-right = past-headers .0 }
+
+  -- and sound slots
+  pub openOf-slots : SlotsSound sheet
+  openOf-slots = record { slots-right = past-slots .0 }
+
+  -- and as many nodes as block 0 says
+  pub openOf-total : t ≡ totalOf sheet
+  openOf-total = let e = past-slots .1 in cc
+
+  openOf-total-right : totalRight (totalOf sheet) (blockCount sheet) ≡ true
+  unfolding headerRight
+  openOf-total-right =
+      and-eq-true-iff (fieldsRight (totalOf sheet) 0 (blockAt sheet 0)) (totalRight (totalOf sheet) (blockCount sheet)) .0
+      (past-headers .0 0 (blockCount-least sheet (lengthRight-least (length sheet) openOf-length-right)))
+      .1
+
+  -- at least one
+  pub openOf-least : 1 ≤ t
+  openOf-least = omega (arith, openOf-total, totalRight-least (totalOf sheet) (blockCount sheet) openOf-total-right)
+
+  -- at most 896
+  pub openOf-most : t ≤ mostNodes
+  openOf-most = omega (arith, openOf-total, totalRight-most (totalOf sheet) (blockCount sheet) openOf-total-right)
+
+  -- all of them in the blocks
+  pub openOf-within : t ≤ slotsInBlock * blockCount sheet
+  openOf-within = omega (arith, openOf-total, totalRight-within (totalOf sheet) (blockCount sheet) openOf-total-right)
+
+  -- the used slots are as many
+  pub openOf-slots-length : length (slots sheet) ≡ t
+  openOf-slots-length = slots-length sheet ∙ sym openOf-total
+
+  -- each of them is sound
+  pub openOf-sound : (k : ℕ) → k < t → slotSound (slotAt sheet k) ≡ true
+  openOf-sound k h =
+      sym (slotRight-used sheet k (omega (arith, openOf-total))) ∙ past-slots .0 k (omega (arith, openOf-within))
+
+-- a sheet of sound blocks and slots opens
+pub openOf-accepts : (sheet : List ℕ) → BlocksSound sheet → SlotsSound sheet → openOf sheet ≡ Nodes (totalOf sheet)
+openOf-accepts sheet blocks slots-sound =
+    openOf-nodes sheet (blocks .length-right) refl (le-of-eq (sym (firstWrong-none _ _ (blocks .checks-right))))
+    refl (le-of-eq (sym (firstWrong-none _ _ (blocks .headers-right))))
+    refl (le-of-eq (sym (firstWrong-none _ _ (slots-sound .slots-right))))

@@ -1,15 +1,18 @@
 -- Laws of a sheet's slots.
 use mathlib.Core.Path.{_≡_, refl, sym, ap, _∙_}
-use mathlib.Core.Bool.{Bool, true, false, _&&_, and-eq-true-iff}
-use mathlib.Core.List.{List}
-use Prim.Native.Nat.{ℕ, _+_, _-_, _*_, _≤_, _<_}
+use mathlib.Core.Bool.{Bool, true, false, and-eq-true-iff}
+use mathlib.Core.List.{List, _∷_}
+use Prim.Native.Nat.{ℕ, zero, suc, _+_, _-_, _*_, _≤_, _<_}
+use native.Mathlib.Nat.{add-zero, zero-add, add-suc, suc-add}
+use native.Mathlib.Decide.{decLt}
 use native.Mathlib.Omega.{arith}
 use lib.Dec.{leb, ltb}
-use lib.ListN.{length, getD, take, drop}
-use lib.Seq.{getD-take, getD-drop}
+use lib.ListN.{length, getD, take, drop, getD-replicate, List·getD-eq-default}
+use lib.Seq.{getD-take, getD-drop, drop-cons}
 use borrow.Author.Tests.{lt-ltb, le-ltb, le-leb, lt-leb, leb-true}
-use Rattle.sheet.specs.Block.{mostBytes, mostNodes, slotsInBlock, slotSize, blockCount}
-use Rattle.sheet.specs.Slot.{slotStart, reaches, emptySlot, slotAt}
+use Rattle.sheet.specs.Block.{mostBytes, mostNodes, slotsInBlock, slotSize, blockCount, totalOf}
+use Rattle.sheet.specs.Slot.{slotStart, reaches, emptySlot, slotAt, slotsFrom, slots}
+use Rattle.sheet.proofs.NumberLaws.{Bytes}
 use Rattle.sheet.proofs.PartLaws.{take-to, length-part}
 
 -- every node's slot lies within the longest sheet
@@ -76,3 +79,46 @@ slotAt-length sheet k = cases (reaches sheet k) refl
     cases : (t : Bool) → reaches sheet k ≡ t → length (slotAt sheet k) ≡ slotSize
     cases true r = ap length (slotAt-there sheet k r) ∙ length-part sheet (slotStart k) slotSize (reaches-within sheet k r)
     cases false r = ap length (slotAt-empty sheet k r)
+
+slotsFrom-length : (n : ℕ) (sheet : List ℕ) (k : ℕ) → length (slotsFrom sheet k n) ≡ n
+unfolding slotsFrom
+slotsFrom-length zero sheet k = refl
+slotsFrom-length (suc n) sheet k = ap suc (slotsFrom-length n sheet (suc k))
+
+slotsFrom-at : (n i : ℕ) (sheet : List ℕ) (k : ℕ) (other : List ℕ) → i < n → getD (slotsFrom sheet k n) i other ≡ slotAt sheet (k + i)
+unfolding slotsFrom
+slotsFrom-at zero i sheet k other h = absurd (omega arith)
+slotsFrom-at (suc n) zero sheet k other h = ap (slotAt sheet) (sym (add-zero k))
+slotsFrom-at (suc n) (suc i) sheet k other h =
+    slotsFrom-at n i sheet (suc k) other (omega arith) ∙ ap (slotAt sheet) (suc-add k i ∙ sym (add-suc k i))
+
+-- the used slots are T
+pub slots-length : (sheet : List ℕ) → length (slots sheet) ≡ totalOf sheet
+unfolding slots
+slots-length sheet = slotsFrom-length (totalOf sheet) sheet 0
+
+-- the k-th of them is node k's
+pub slots-at : (sheet : List ℕ) (k : ℕ) (other : List ℕ) → k < totalOf sheet → getD (slots sheet) k other ≡ slotAt sheet k
+unfolding slots
+slots-at sheet k other h = slotsFrom-at (totalOf sheet) k sheet 0 other h ∙ ap (slotAt sheet) (zero-add k)
+
+-- from the k-th on they are node k's and those after it
+pub slots-drop : (sheet : List ℕ) (k : ℕ) → k < totalOf sheet → drop k (slots sheet) ≡ slotAt sheet k ∷ drop (suc k) (slots sheet)
+slots-drop sheet k h =
+    drop-cons (slots sheet) k emptySlot (omega (arith, slots-length sheet))
+    ∙ ap (λ (slot : List ℕ). slot ∷ drop (suc k) (slots sheet)) (slots-at sheet k emptySlot h)
+
+emptySlot-byte : (i : ℕ) → i < slotSize → getD emptySlot i 0 ≡ 0
+unfolding emptySlot
+emptySlot-byte i h = getD-replicate slotSize i 0 0 h
+
+-- a slot of bytes is bytes
+pub slotAt-bytes : (sheet : List ℕ) (k : ℕ) → Bytes sheet → Bytes (slotAt sheet k)
+slotAt-bytes sheet k bytes i = cases (decLt i slotSize) (reaches sheet k) refl
+  where
+    cases : Dec (i < slotSize) → (t : Bool) → reaches sheet k ≡ t → getD (slotAt sheet k) i 0 < 256
+    cases (yes h) true r = omega (arith, slotAt-byte sheet k i r h, bytes (slotStart k + i))
+    cases (yes h) false r =
+        omega (arith, ap (λ (slot : List ℕ). getD slot i 0) (slotAt-empty sheet k r), emptySlot-byte i h)
+    cases (no h) t r =
+        omega (arith, List·getD-eq-default (slotAt sheet k) 0 {n = i} (omega (arith, slotAt-length sheet k)))

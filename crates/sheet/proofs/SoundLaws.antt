@@ -1,16 +1,17 @@
 -- Laws of sound slots.
-use mathlib.Core.Path.{_≡_, refl, ap, _∙_}
-use mathlib.Core.Bool.{Bool, true, false, _&&_, and-false}
+use mathlib.Core.Path.{_≡_, refl, sym, ap, _∙_}
+use mathlib.Core.Logic.{_⊎_, inl, inr}
+use mathlib.Core.Bool.{Bool, true, false, So, _&&_, and-false, and-eq-true-iff}
 use mathlib.Core.List.{List, [], _∷_}
 use Prim.Native.Nat.{ℕ, zero, suc, _≤_, _<_}
-use native.Mathlib.Nat.{le-of-suc-le-suc}
+use native.Mathlib.Decide.{decLe}
 use native.Mathlib.Omega.{arith}
-use lib.Dec.{eqb}
+use lib.Dec.{leb, eqb}
 use lib.ListN.{length, getD}
-use borrow.Author.Tests.{eq-eqb, ne-eqb, lt-ltb, le-ltb}
+use borrow.Author.Tests.{eq-eqb, ne-eqb, lt-ltb, le-ltb, lt-leb, leb-true, eqb-true}
 use Rattle.sheet.specs.Block.{totalOf}
-use Rattle.sheet.specs.Slot.{slotAt}
-use Rattle.sheet.specs.Sound.{allZero, slotSound, slotRight}
+use Rattle.sheet.specs.Slot.{physical, repetition, converted, logical, nameLength, slotAt}
+use Rattle.sheet.specs.Sound.{listed, fixedLenByteArray, group, physicalListed, repeated, noRepetition, repetitionListed, interval, noConverted, convertedListed, timestamp, integer, uuid, logicalListed, mostNameLength, nameLengthRight, allZero, reservedZero, tailZero, codesListed, nameRight, slotSound, slotRight}
 
 pub allZero-true : (bytes : List ℕ) → ((k : ℕ) → k < length bytes → getD bytes k 0 ≡ 0) → allZero bytes ≡ true
 unfolding allZero
@@ -32,3 +33,86 @@ slotRight-used sheet k h = rw (lt-ltb k (totalOf sheet) h)
 pub slotRight-unused : (sheet : List ℕ) (k : ℕ) → totalOf sheet ≤ k → slotRight sheet k ≡ allZero (slotAt sheet k)
 unfolding slotRight
 slotRight-unused sheet k h = rw (le-ltb k (totalOf sheet) h)
+
+listed-beside : (last beside code : ℕ) → last < code → listed last beside code ≡ eqb code beside
+unfolding listed
+listed-beside last beside code h = rw (lt-leb code last h)
+
+-- a listed code, taken apart
+pub listed-cases : (last beside code : ℕ) → listed last beside code ≡ true → (code ≤ last) ⊎ (code ≡ beside)
+listed-cases last beside code e = cases (decLe code last)
+  where
+    cases : Dec (code ≤ last) → (code ≤ last) ⊎ (code ≡ beside)
+    cases (yes h) = inl h
+    cases (no h) = inr (eqb-true code beside (sym (listed-beside last beside code (omega arith)) ∙ e))
+
+logicalListed-upper : (code : ℕ) → timestamp < code → logicalListed code ≡ leb integer code && leb code uuid
+unfolding logicalListed
+logicalListed-upper code h = rw (lt-leb code timestamp h)
+
+-- a logical type's code, taken apart
+pub logicalListed-cases : (code : ℕ) → logicalListed code ≡ true → (code ≤ timestamp) ⊎ ((integer ≤ code) × (code ≤ uuid))
+logicalListed-cases code e = cases (decLe code timestamp)
+  where
+    cases : Dec (code ≤ timestamp) → (code ≤ timestamp) ⊎ ((integer ≤ code) × (code ≤ uuid))
+    cases (yes h) = inl h
+    cases (no h) =
+        let both = and-eq-true-iff (leb integer code) (leb code uuid) .0 (sym (logicalListed-upper code (omega arith)) ∙ e) in
+        inr (leb-true integer code (both .0), leb-true code uuid (both .1))
+
+-- a sound slot, taken apart
+module _ (slot : List ℕ) (sound : slotSound slot ≡ true) where
+  halves : So (codesListed slot) × So (nameRight slot)
+  unfolding slotSound
+  halves = and-eq-true-iff (codesListed slot) (nameRight slot) .0 sound
+
+  codes : So (physicalListed (physical slot) && repetitionListed (repetition slot) && convertedListed (converted slot)) × So (logicalListed (logical slot))
+  unfolding codesListed
+  codes =
+      and-eq-true-iff (physicalListed (physical slot) && repetitionListed (repetition slot) && convertedListed (converted slot)) (logicalListed (logical slot)) .0
+      (halves .0)
+
+  listed-two : So (physicalListed (physical slot) && repetitionListed (repetition slot)) × So (convertedListed (converted slot))
+  listed-two =
+      and-eq-true-iff (physicalListed (physical slot) && repetitionListed (repetition slot)) (convertedListed (converted slot)) .0 (codes .0)
+
+  listed-one : So (physicalListed (physical slot)) × So (repetitionListed (repetition slot))
+  listed-one = and-eq-true-iff (physicalListed (physical slot)) (repetitionListed (repetition slot)) .0 (listed-two .0)
+
+  name-parts : So (nameLengthRight (nameLength slot) && reservedZero slot) × So (tailZero slot)
+  unfolding nameRight
+  name-parts = and-eq-true-iff (nameLengthRight (nameLength slot) && reservedZero slot) (tailZero slot) .0 (halves .1)
+
+  name-front : So (nameLengthRight (nameLength slot)) × So (reservedZero slot)
+  name-front = and-eq-true-iff (nameLengthRight (nameLength slot)) (reservedZero slot) .0 (name-parts .0)
+
+  name-bounds : So (leb 1 (nameLength slot)) × So (leb (nameLength slot) mostNameLength)
+  unfolding nameLengthRight
+  name-bounds = and-eq-true-iff (leb 1 (nameLength slot)) (leb (nameLength slot) mostNameLength) .0 (name-front .0)
+
+  pub sound-physical : (physical slot ≤ fixedLenByteArray) ⊎ (physical slot ≡ group)
+  unfolding physicalListed
+  sound-physical = listed-cases fixedLenByteArray group (physical slot) (listed-one .0)
+
+  pub sound-repetition : (repetition slot ≤ repeated) ⊎ (repetition slot ≡ noRepetition)
+  unfolding repetitionListed
+  sound-repetition = listed-cases repeated noRepetition (repetition slot) (listed-one .1)
+
+  pub sound-converted : (converted slot ≤ interval) ⊎ (converted slot ≡ noConverted)
+  unfolding convertedListed
+  sound-converted = listed-cases interval noConverted (converted slot) (listed-two .1)
+
+  pub sound-logical : (logical slot ≤ timestamp) ⊎ ((integer ≤ logical slot) × (logical slot ≤ uuid))
+  sound-logical = logicalListed-cases (logical slot) (codes .1)
+
+  pub sound-nameLength-least : 1 ≤ nameLength slot
+  sound-nameLength-least = leb-true 1 (nameLength slot) (name-bounds .0)
+
+  pub sound-nameLength-most : nameLength slot ≤ mostNameLength
+  sound-nameLength-most = leb-true (nameLength slot) mostNameLength (name-bounds .1)
+
+  pub sound-reserved : reservedZero slot ≡ true
+  sound-reserved = name-front .1
+
+  pub sound-tail : tailZero slot ≡ true
+  sound-tail = name-parts .1

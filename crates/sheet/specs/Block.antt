@@ -3,7 +3,7 @@
 use Prim.Native.Nat.{ℕ, _*_, _/_}
 use mathlib.Core.List.{List}
 use lib.ListN.{length, getD, take, drop}
-use Rattle.sheet.specs.Number.{numberAt}
+use Rattle.sheet.specs.Number.{number16}
 
 -- "1 to 128 blocks of 512 bytes", and no sheet over 65,536 bytes
 abbrev pub blockSize : ℕ
@@ -56,7 +56,7 @@ blockAt sheet i = take blockSize (drop (blockSize * i) sheet)
 
 -- a block's fields
 unfoldable pub blockNumber : List ℕ → ℕ
-blockNumber block = numberAt block blockNumberAt 2
+blockNumber block = number16 block blockNumberAt
 
 unfoldable pub nodesHere : List ℕ → ℕ
 nodesHere block = getD block nodesHereAt 0
@@ -65,10 +65,10 @@ unfoldable pub version : List ℕ → ℕ
 version block = getD block versionAt 0
 
 unfoldable pub total : List ℕ → ℕ
-total block = numberAt block totalAt 2
+total block = number16 block totalAt
 
 unfoldable pub storedCheck : List ℕ → ℕ
-storedCheck block = numberAt block checkAt 2
+storedCheck block = number16 block checkAt
 
 -- T ("T is read from block 0")
 unfoldable pub totalOf : List ℕ → ℕ

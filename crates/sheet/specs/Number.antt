@@ -1,4 +1,4 @@
--- Numbers in a list of bytes: little-endian, and the signed ones in two's complement.
+-- Numbers in a list of bytes ("All numbers are little-endian").
 use Prim.Native.Nat.{ℕ, zero, suc, _+_, _*_, _^_}
 use mathlib.Core.Bool.{cond}
 use mathlib.Core.List.{List}
@@ -11,6 +11,13 @@ unfoldable pub numberAt : List ℕ → ℕ → ℕ → ℕ
 numberAt bytes at zero = 0
 numberAt bytes at (suc size) = getD bytes at 0 + 256 * numberAt bytes (suc at) size
 
--- the signed number that 32 bits stand for
+-- a number of 16 bits, and one of 32
+abbrev pub number16 : List ℕ → ℕ → ℕ
+number16 bytes at = numberAt bytes at 2
+
+abbrev pub number32 : List ℕ → ℕ → ℕ
+number32 bytes at = numberAt bytes at 4
+
+-- the signed number that 32 bits stand for in two's complement
 unfoldable pub signed32 : ℕ → ℤ
 signed32 n = cond (ltb n (2 ^ 31)) (pos n) (pos n -ℤ pos (2 ^ 32))

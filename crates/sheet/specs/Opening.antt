@@ -1,6 +1,7 @@
 -- What opening a sheet gives: its nodes, or one of refusals 1 to 4 with its place.
-use Prim.Native.Nat.{ℕ, _*_}
-use mathlib.Core.Bool.{Bool, cond}
+use mathlib.Core.Path.{_≡_}
+use Prim.Native.Nat.{ℕ, _*_, _<_}
+use mathlib.Core.Bool.{Bool, true, cond}
 use mathlib.Core.List.{List}
 use lib.Dec.{ltb}
 use lib.ListN.{length}
@@ -26,6 +27,16 @@ openOf sheet =
     (atFirst (slotRight sheet) (slotsInBlock * blockCount sheet) BadSlot
     (Nodes (totalOf sheet)))))
     BadLength
+
+-- "blocks are sound where refusals 1 to 3 don't hold"
+pub record BlocksSound (sheet : List ℕ) : Type 0 where
+  pub length-right : lengthRight (length sheet) ≡ true
+  pub checks-right : (i : ℕ) → i < blockCount sheet → checkRight sheet i ≡ true
+  pub headers-right : (i : ℕ) → i < blockCount sheet → headerRight sheet i ≡ true
+
+-- "node slots where 4 doesn't"
+pub record SlotsSound (sheet : List ℕ) : Type 0 where
+  pub slots-right : (k : ℕ) → k < slotsInBlock * blockCount sheet → slotRight sheet k ≡ true
 
 -- the paper's outcome: T with the used slots, or a refusal's number and place
 pub data Outcome : Type 0 where

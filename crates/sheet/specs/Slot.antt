@@ -5,7 +5,7 @@ use mathlib.Core.List.{List, [], _∷_}
 use lib.Dec.{leb, ltb}
 use lib.IntN.{ℤ}
 use lib.ListN.{length, getD, take, drop, replicate}
-use Rattle.sheet.specs.Number.{numberAt, signed32}
+use Rattle.sheet.specs.Number.{number16, number32, signed32}
 use Rattle.sheet.specs.Block.{blockSize, firstSlotAt, slotsInBlock, slotSize, mostNodes, totalOf}
 use Rattle.sheet.specs.declared.slots.Slot.{Slot}
 
@@ -70,16 +70,16 @@ unfoldable pub parameterB : List ℕ → ℕ
 parameterB slot = getD slot parameterBAt 0
 
 unfoldable pub childCount : List ℕ → ℕ
-childCount slot = numberAt slot childCountAt 2
+childCount slot = number16 slot childCountAt
 
 unfoldable pub typeLength : List ℕ → ℤ
-typeLength slot = signed32 (numberAt slot typeLengthAt 4)
+typeLength slot = signed32 (number32 slot typeLengthAt)
 
 unfoldable pub scale : List ℕ → ℤ
-scale slot = signed32 (numberAt slot scaleAt 4)
+scale slot = signed32 (number32 slot scaleAt)
 
 unfoldable pub precision : List ℕ → ℤ
-precision slot = signed32 (numberAt slot precisionAt 4)
+precision slot = signed32 (number32 slot precisionAt)
 
 unfoldable pub nameLength : List ℕ → ℕ
 nameLength slot = getD slot nameLengthAt 0

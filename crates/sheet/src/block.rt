@@ -1,45 +1,29 @@
 // A block: its bytes, its check and its header.
 ghost use mathlib.Core.Path.{_≡_};
-ghost use mathlib.Core.Bool.{true};
 ghost use Prim.Native.Nat.{_+_, _*_, _^_, _≤_, _<_};
 ghost use lib.ListN.{length};
 ghost use Rattle.sheet.specs.Block.{blockSize, slotsInBlock, blockCount, checkAt, blockAt, totalOf};
 ghost use Rattle.sheet.specs.Check.{sumBelow, weighted, checkRight};
 ghost use Rattle.sheet.specs.Header.{nodesIn, totalRight, fieldsRight, headerRight};
+use crate::layout;
 use crate::number::number16;
 use crate::number::wide;
-
-pub const BLOCK_SIZE: usize = 512;
-
-pub const SLOTS_IN_BLOCK: usize = 7;
-
-pub const MOST_NODES: usize = 896;
-
-const BLOCK_NUMBER: usize = 0;
-
-const NODES_HERE: usize = 2;
-
-const VERSION: usize = 3;
-
-const TOTAL: usize = 4;
-
-const CHECK: usize = 510;
 
 const VERSION_NOW: u32 = 1;
 
 const CHECK_MODULUS: u32 = 65521;
 
 // Whether the stored check of block i is its check.
-pub fn check_right(sheet: &[u8], i: usize) -> bool
+pub(crate) fn check_right(sheet: &[u8], i: usize) -> bool
     requires { ⌜ blockSize * (i + 1) ≤ length (now sheet) ⌝ }
     ensures { λ r. ⌜ r ≡ checkRight (now (sheet .entry)) i ⌝ }
 {
     let block = block_at(sheet, i);
-    number16(block, CHECK) == weighted_sum(block) % CHECK_MODULUS
+    number16(block, layout::CHECK) == weighted_sum(block) % CHECK_MODULUS
 }
 
 // Whether the header of block i is right, where block 0 says total and there are so many blocks.
-pub fn header_right(sheet: &[u8], i: usize, total: usize, blocks: usize) -> bool
+pub(crate) fn header_right(sheet: &[u8], i: usize, total: usize, blocks: usize) -> bool
     requires { ⌜ blockSize * (i + 1) ≤ length (now sheet) ⌝ }
     requires { ⌜ total ≡ totalOf (now sheet) ⌝ }
     requires { ⌜ blocks ≡ blockCount (now sheet) ⌝ }
@@ -55,11 +39,11 @@ pub fn header_right(sheet: &[u8], i: usize, total: usize, blocks: usize) -> bool
 }
 
 // T, which stands in block 0.
-pub fn total_of(sheet: &[u8]) -> usize
+pub(crate) fn total_of(sheet: &[u8]) -> usize
     requires { ⌜ blockSize ≤ length (now sheet) ⌝ }
     ensures { λ r. ⌜ r ≡ totalOf (now (sheet .entry)) ⌝ }
 {
-    number16(block_at(sheet, 0), TOTAL) as usize
+    number16(block_at(sheet, 0), layout::TOTAL) as usize
 }
 
 fn block_at(sheet: &[u8], i: usize) -> &[u8]
@@ -67,8 +51,8 @@ fn block_at(sheet: &[u8], i: usize) -> &[u8]
     ensures { λ r. ⌜ now r ≡ blockAt (now (sheet .entry)) i ⌝ }
     ensures { λ r. ⌜ length (now r) ≡ blockSize ⌝ }
 {
-    let start = BLOCK_SIZE * i;
-    &sheet[start..start + BLOCK_SIZE]
+    let start = layout::BLOCK_SIZE * i;
+    &sheet[start..start + layout::BLOCK_SIZE]
 }
 
 // The sum of (i + 1) times byte i over the bytes before the check: below 2^27, so it is reduced once, by the caller.
@@ -78,7 +62,7 @@ fn weighted_sum(block: &[u8]) -> u32
 {
     let mut sum: u32 = 0;
     let mut i: usize = 0;
-    while i < CHECK {
+    while i < layout::CHECK {
         sum += (i as u32 + 1) * wide(block[i]);
         i += 1;
     }
@@ -91,16 +75,16 @@ fn fields_right(block: &[u8], i: usize, total: usize) -> bool
     requires { ⌜ slotsInBlock * i < 2 ^ 64 ⌝ }
     ensures { λ r. ⌜ r ≡ fieldsRight total i (now (block .entry)) ⌝ }
 {
-    if number16(block, BLOCK_NUMBER) as usize != i {
+    if number16(block, layout::BLOCK_NUMBER) as usize != i {
         return false;
     }
-    if wide(block[VERSION]) != VERSION_NOW {
+    if wide(block[layout::VERSION]) != VERSION_NOW {
         return false;
     }
-    if number16(block, TOTAL) as usize != total {
+    if number16(block, layout::TOTAL) as usize != total {
         return false;
     }
-    wide(block[NODES_HERE]) as usize == nodes_in(total, i)
+    wide(block[layout::NODES_HERE]) as usize == nodes_in(total, i)
 }
 
 // How many of total nodes block i holds.
@@ -108,14 +92,14 @@ fn nodes_in(total: usize, i: usize) -> usize
     requires { ⌜ slotsInBlock * i < 2 ^ 64 ⌝ }
     ensures { λ r. ⌜ r ≡ nodesIn total i ⌝ }
 {
-    let before = SLOTS_IN_BLOCK * i;
+    let before = layout::SLOTS_IN_BLOCK * i;
     if total <= before {
         return 0;
     }
-    if total - before < SLOTS_IN_BLOCK {
+    if total - before < layout::SLOTS_IN_BLOCK {
         return total - before;
     }
-    SLOTS_IN_BLOCK
+    layout::SLOTS_IN_BLOCK
 }
 
 // Whether total is 1 to 896 and needs just so many blocks.
@@ -125,8 +109,8 @@ fn total_right(total: usize, blocks: usize) -> bool
     if total < 1 {
         return false;
     }
-    if total > MOST_NODES {
+    if total > layout::MOST_NODES {
         return false;
     }
-    (total + (SLOTS_IN_BLOCK - 1)) / SLOTS_IN_BLOCK == blocks
+    (total + (layout::SLOTS_IN_BLOCK - 1)) / layout::SLOTS_IN_BLOCK == blocks
 }

@@ -1,17 +1,10 @@
 // A node's name: where it stands, and whether it is some bytes.
 ghost use mathlib.Core.Path.{_≡_};
 ghost use mathlib.Core.List.{_++_};
-ghost use Prim.Native.Nat.{_≤_};
-ghost use lib.ListN.{length};
 ghost use Rattle.sheet.specs.Slot.{slotAt, name};
-ghost use Rattle.sheet.specs.Sound.{mostNameLength};
 ghost use Rattle.sheet.specs.Name.{stretchOf, sameBytes};
-use crate::block::MOST_NODES;
+use crate::layout;
 use crate::number::wide;
-use crate::slots::MOST_NAME_LENGTH;
-use crate::slots::NAME;
-use crate::slots::NAME_LENGTH;
-use crate::slots::SLOT_SIZE;
 use crate::slots::slot_start;
 
 // A part of the sheet's bytes.
@@ -24,22 +17,22 @@ pub struct Stretch {
 pub fn name_stretch(sheet: &[u8], node: usize) -> Stretch
     ensures { λ r. ⌜ r ≡ stretchOf (now (sheet .entry)) node ⌝ }
 {
-    if node >= MOST_NODES {
+    if node >= layout::MOST_NODES {
         return Stretch { start: 0, len: 0 };
     }
     let start = slot_start(node);
-    if sheet.len() < start + SLOT_SIZE {
+    if sheet.len() < start + layout::SLOT_SIZE {
         return Stretch { start: 0, len: 0 };
     }
-    let len = wide(sheet[start + NAME_LENGTH]) as usize;
-    if len > MOST_NAME_LENGTH {
+    let len = wide(sheet[start + layout::NAME_LENGTH]) as usize;
+    if len > layout::MOST_NAME_LENGTH {
         return Stretch {
-            start: start + NAME,
-            len: MOST_NAME_LENGTH,
+            start: start + layout::NAME,
+            len: layout::MOST_NAME_LENGTH,
         };
     }
     Stretch {
-        start: start + NAME,
+        start: start + layout::NAME,
         len,
     }
 }

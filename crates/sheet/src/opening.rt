@@ -8,14 +8,11 @@ ghost use Rattle.sheet.specs.Header.{lengthRight, headerRight};
 ghost use Rattle.sheet.specs.Sound.{slotRight};
 ghost use Rattle.sheet.specs.First.{firstWrong};
 ghost use Rattle.sheet.specs.Opening.{openOf};
-use crate::block::BLOCK_SIZE;
-use crate::block::SLOTS_IN_BLOCK;
 use crate::block::check_right;
 use crate::block::header_right;
 use crate::block::total_of;
-use crate::slots::slot_right;
-
-const MOST_BYTES: usize = 65536;
+use crate::layout;
+use crate::soundness::slot_right;
 
 // What opening finds.
 pub enum Opened {
@@ -38,7 +35,7 @@ pub fn open(sheet: &[u8]) -> Opened
     if !length_right(sheet.len()) {
         return Opened::BadLength;
     }
-    let blocks = sheet.len() / BLOCK_SIZE;
+    let blocks = sheet.len() / layout::BLOCK_SIZE;
     let check = first_bad_check(sheet, blocks);
     if check < blocks {
         return Opened::BadCheck(check);
@@ -48,7 +45,7 @@ pub fn open(sheet: &[u8]) -> Opened
     if header < blocks {
         return Opened::BadHeader(header);
     }
-    let slots = SLOTS_IN_BLOCK * blocks;
+    let slots = layout::SLOTS_IN_BLOCK * blocks;
     let slot = first_bad_slot(sheet, slots, total);
     if slot < slots {
         return Opened::BadSlot(slot);
@@ -62,10 +59,10 @@ fn length_right(n: usize) -> bool
     if n < 1 {
         return false;
     }
-    if n % BLOCK_SIZE != 0 {
+    if n % layout::BLOCK_SIZE != 0 {
         return false;
     }
-    n <= MOST_BYTES
+    n <= layout::MOST_BYTES
 }
 
 fn first_bad_check(sheet: &[u8], blocks: usize) -> usize

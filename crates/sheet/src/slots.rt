@@ -1,57 +1,13 @@
-// A node's slot: its bytes, its numbers, and whether it is sound.
+// A node's slot: where it lies, and its numbers.
 ghost use mathlib.Core.Path.{_≡_};
-ghost use Prim.Native.Nat.{_+_, _≤_, _<_};
-ghost use lib.ListN.{length, take, drop};
-ghost use Rattle.sheet.specs.Block.{slotSize, mostNodes, totalOf};
+ghost use Prim.Native.Nat.{_<_};
+ghost use lib.ListN.{length};
+ghost use Rattle.sheet.specs.Block.{slotSize, mostNodes};
 ghost use Rattle.sheet.specs.Slot.{numbersOf, slotAt, slotStart, emptySlot};
-ghost use Rattle.sheet.specs.Sound.{allZero, codesListed, nameRight, slotSound, slotRight};
-use crate::block::BLOCK_SIZE;
-use crate::block::MOST_NODES;
-use crate::block::SLOTS_IN_BLOCK;
-use crate::codes::FIXED_LEN_BYTE_ARRAY;
-use crate::codes::GROUP;
-use crate::codes::INTERVAL;
-use crate::codes::NO_CONVERTED;
-use crate::codes::NO_REPETITION;
-use crate::codes::REPEATED;
-use crate::codes::listed;
-use crate::codes::logical_listed;
+use crate::layout;
 use crate::number::number16;
 use crate::number::number32;
 use crate::number::signed32;
-use crate::number::wide;
-
-pub const SLOT_SIZE: usize = 72;
-
-pub const NAME_LENGTH: usize = 20;
-
-pub const NAME: usize = 24;
-
-pub const MOST_NAME_LENGTH: usize = 48;
-
-const FIRST_SLOT: usize = 6;
-
-const PHYSICAL: usize = 0;
-
-const REPETITION: usize = 1;
-
-const CONVERTED: usize = 2;
-
-const LOGICAL: usize = 3;
-
-const PARAMETER_A: usize = 4;
-
-const PARAMETER_B: usize = 5;
-
-const CHILD_COUNT: usize = 6;
-
-const TYPE_LENGTH: usize = 8;
-
-const SCALE: usize = 12;
-
-const PRECISION: usize = 16;
-
-const RESERVED: usize = 21;
 
 // A slot's numbers, as its bytes have them.
 pub struct Slot {
@@ -72,58 +28,45 @@ pub struct Slot {
 pub fn slot_at(sheet: &[u8], node: usize) -> Slot
     ensures { λ r. ⌜ r ≡ numbersOf (slotAt (now (sheet .entry)) node) ⌝ }
 {
-    if node >= MOST_NODES {
+    if node >= layout::MOST_NODES {
         return empty_slot();
     }
     let start = slot_start(node);
-    if sheet.len() < start + SLOT_SIZE {
+    if sheet.len() < start + layout::SLOT_SIZE {
         return empty_slot();
     }
-    numbers_of(&sheet[start..start + SLOT_SIZE])
-}
-
-// Whether the slot of number k is sound where k is a node's, and zero where it is not.
-pub fn slot_right(sheet: &[u8], k: usize, total: usize) -> bool
-    requires { ⌜ k < mostNodes ⌝ }
-    requires { ⌜ slotStart k + slotSize ≤ length (now sheet) ⌝ }
-    requires { ⌜ total ≡ totalOf (now sheet) ⌝ }
-    ensures { λ r. ⌜ r ≡ slotRight (now (sheet .entry)) k ⌝ }
-{
-    let start = slot_start(k);
-    let slot = &sheet[start..start + SLOT_SIZE];
-    if k < total {
-        return slot_sound(slot);
-    }
-    all_zero(slot)
+    numbers_of(&sheet[start..start + layout::SLOT_SIZE])
 }
 
 // Where the slot of a node starts.
-pub fn slot_start(node: usize) -> usize
+pub(crate) fn slot_start(node: usize) -> usize
     requires { ⌜ node < mostNodes ⌝ }
     ensures { λ r. ⌜ r ≡ slotStart node ⌝ }
 {
-    BLOCK_SIZE * (node / SLOTS_IN_BLOCK) + FIRST_SLOT + SLOT_SIZE * (node % SLOTS_IN_BLOCK)
+    layout::BLOCK_SIZE * (node / layout::SLOTS_IN_BLOCK)
+        + layout::FIRST_SLOT
+        + layout::SLOT_SIZE * (node % layout::SLOTS_IN_BLOCK)
 }
 
 fn numbers_of(slot: &[u8]) -> Slot
     requires { ⌜ length (now slot) ≡ slotSize ⌝ }
     ensures { λ r. ⌜ r ≡ numbersOf (now (slot .entry)) ⌝ }
 {
-    let type_length = signed32(number32(slot, TYPE_LENGTH));
-    let scale = signed32(number32(slot, SCALE));
-    let precision = signed32(number32(slot, PRECISION));
+    let type_length = signed32(number32(slot, layout::TYPE_LENGTH));
+    let scale = signed32(number32(slot, layout::SCALE));
+    let precision = signed32(number32(slot, layout::PRECISION));
     Slot {
-        physical: slot[PHYSICAL],
-        repetition: slot[REPETITION],
-        converted: slot[CONVERTED],
-        logical: slot[LOGICAL],
-        a: slot[PARAMETER_A],
-        b: slot[PARAMETER_B],
-        children: number16(slot, CHILD_COUNT) as u16,
+        physical: slot[layout::PHYSICAL],
+        repetition: slot[layout::REPETITION],
+        converted: slot[layout::CONVERTED],
+        logical: slot[layout::LOGICAL],
+        a: slot[layout::PARAMETER_A],
+        b: slot[layout::PARAMETER_B],
+        children: number16(slot, layout::CHILD_COUNT) as u16,
         type_length,
         scale,
         precision,
-        name_length: slot[NAME_LENGTH],
+        name_length: slot[layout::NAME_LENGTH],
     }
 }
 
@@ -143,60 +86,4 @@ fn empty_slot() -> Slot
         precision: 0,
         name_length: 0,
     }
-}
-
-fn slot_sound(slot: &[u8]) -> bool
-    requires { ⌜ length (now slot) ≡ slotSize ⌝ }
-    ensures { λ r. ⌜ r ≡ slotSound (now (slot .entry)) ⌝ }
-{
-    if !codes_listed(slot) {
-        return false;
-    }
-    name_right(slot)
-}
-
-fn codes_listed(slot: &[u8]) -> bool
-    requires { ⌜ length (now slot) ≡ slotSize ⌝ }
-    ensures { λ r. ⌜ r ≡ codesListed (now (slot .entry)) ⌝ }
-{
-    if !listed(FIXED_LEN_BYTE_ARRAY, GROUP, slot[PHYSICAL]) {
-        return false;
-    }
-    if !listed(REPEATED, NO_REPETITION, slot[REPETITION]) {
-        return false;
-    }
-    if !listed(INTERVAL, NO_CONVERTED, slot[CONVERTED]) {
-        return false;
-    }
-    logical_listed(slot[LOGICAL])
-}
-
-fn name_right(slot: &[u8]) -> bool
-    requires { ⌜ length (now slot) ≡ slotSize ⌝ }
-    ensures { λ r. ⌜ r ≡ nameRight (now (slot .entry)) ⌝ }
-{
-    let n = wide(slot[NAME_LENGTH]) as usize;
-    if n < 1 {
-        return false;
-    }
-    if n > MOST_NAME_LENGTH {
-        return false;
-    }
-    if !all_zero(&slot[RESERVED..NAME]) {
-        return false;
-    }
-    all_zero(&slot[NAME + n..])
-}
-
-fn all_zero(bytes: &[u8]) -> bool
-    ensures { λ r. ⌜ r ≡ allZero (now (bytes .entry)) ⌝ }
-{
-    let mut i = 0;
-    while i < bytes.len() {
-        if bytes[i] != 0 {
-            return false;
-        }
-        i += 1;
-    }
-    true
 }

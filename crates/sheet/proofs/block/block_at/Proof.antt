@@ -1,3 +1,4 @@
+-- `sheet::block::block_at` meets its contract: the slice is the block, whole.
 use borrow.Author.Needs.{needs}
 use mathlib.Core.Path.{ap, _∙_}
 use Prim.Native.Nat.{_*_}
@@ -7,8 +8,6 @@ use Rattle.sheet.specs.Block.{blockAt}
 use Rattle.sheet.proofs.PartLaws.{take-to, length-part}
 use Rattle.sheet.proofs.block.block_at.Statement.{statement}
 use Rattle.sheet.proofs.block.block_at.Tie as tie
-use Rattle.sheet.proofs.block.block_at.Reads as reads
-use Rattle.sheet.proofs.block.block_at.Lts as lts
 
 mul-start : tie.Need-mul-start
 mul-start c = search needs

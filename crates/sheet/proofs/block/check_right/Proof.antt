@@ -1,13 +1,13 @@
+-- `sheet::block::check_right` meets its contract: the sum is reduced once, and compared with what is stored.
 use borrow.Author.Needs.{needs}
+use mathlib.Core.Path.{ap, ap₂, _∙_}
+use mathlib.Core.List.{List}
+use Prim.Native.Nat.{ℕ, _%_}
+use lib.Dec.{eqb}
 use Rattle.sheet.specs.Block.{storedCheck}
-use Rattle.sheet.specs.Check.{checkRight, check}
+use Rattle.sheet.specs.Check.{checkModulus, checkRight, check}
 use Rattle.sheet.proofs.block.check_right.Statement.{statement}
 use Rattle.sheet.proofs.block.check_right.Tie as tie
-use Rattle.sheet.proofs.block.check_right.Reads as reads
-use Rattle.sheet.proofs.block.check_right.Lts as lts
-use Rattle.sheet.proofs.block.block_at.Reads as block-at-reads
-use Rattle.sheet.proofs.block.weighted_sum.Reads as weighted-sum-reads
-use Rattle.sheet.proofs.number.number16.Reads as number16-reads
 
 block-at-requires : tie.Need-block-at-requires
 block-at-requires c κs = search needs
@@ -20,7 +20,9 @@ weighted-sum-requires c κs = search needs
 
 returns : tie.Need-returns
 unfolding checkRight check storedCheck
-returns c = cc
+returns c =
+    ap₂ (λ (stored sum : ℕ). eqb stored (sum % checkModulus)) (c .before .number16 .ensures .0) (c .weighted-sum .ensures)
+    ∙ ap (λ (block : List ℕ). eqb (storedCheck block) (check block)) (c .before .before .block-at .ensures .0)
 
 pub check-right-spec : {M : Type 1} → statement M
 check-right-spec =

@@ -10,11 +10,6 @@ use Rattle.sheet.specs.Header.{fieldsRight, nodesIn}
 use Rattle.sheet.proofs.TestLaws.{differs, agrees}
 use Rattle.sheet.proofs.block.fields_right.Statement.{statement}
 use Rattle.sheet.proofs.block.fields_right.Tie as tie
-use Rattle.sheet.proofs.block.fields_right.Reads as reads
-use Rattle.sheet.proofs.block.fields_right.Lts as lts
-use Rattle.sheet.proofs.block.nodes_in.Reads as nodes-in-reads
-use Rattle.sheet.proofs.number.number16.Reads as number16-reads
-use Rattle.sheet.proofs.number.wide.Reads as wide-reads
 
 -- where all but the count of nodes is right, that count decides
 rest-right : (t i : ℕ) (block : List ℕ) → eqb (blockNumber block) i ≡ true → eqb (version block) versionNow ≡ true → eqb (total block) t ≡ true

@@ -1,19 +1,22 @@
 -- `sheet::block::header_right` meets its contract: the tests on the way are those of the definition.
+use mathlib.Core.Path.{_≡_, ap₂, _∙_}
+use mathlib.Core.List.{List}
+use Prim.Native.Nat.{ℕ}
 use borrow.Author.Needs.{needs}
-use mathlib.Core.Path.{_∙_, ap}
-use native.Mathlib.Omega.{arith}
 use borrow.Author.Tests.{eq-eqb, ne-eqb}
-use Rattle.sheet.specs.Header.{headerRight, fieldsRight, totalRight}
-use Rattle.sheet.proofs.TestLaws.{failed, passed}
-use mathlib.Core.Path.{_≡_}
 use Rattle.sheet.specs.Block.{blockAt, totalOf}
+use Rattle.sheet.specs.Header.{totalRight, fieldsRight, headerRight}
+use Rattle.sheet.proofs.TestLaws.{failed, passed}
 use Rattle.sheet.proofs.block.header_right.Statement.{statement}
 use Rattle.sheet.proofs.block.header_right.Tie as tie
-use Rattle.sheet.proofs.block.header_right.Reads as reads
-use Rattle.sheet.proofs.block.header_right.Lts as lts
-use Rattle.sheet.proofs.block.block_at.Reads as block-at-reads
-use Rattle.sheet.proofs.block.fields_right.Reads as fields-right-reads
-use Rattle.sheet.proofs.block.total_right.Reads as total-right-reads
+
+-- what the call answers, said of the sheet
+fields : (c : tie.After-fields-right)
+    → c .fields-right .result ≡ fieldsRight (totalOf (c .before .before .before .args .sheet .now)) (c .before .before .before .args .i) (blockAt (c .before .before .before .args .sheet .now) (c .before .before .before .args .i))
+fields c =
+    c .fields-right .ensures
+    ∙ ap₂ (λ (t : ℕ) (block : List ℕ). fieldsRight t (c .before .before .before .args .i) block) (c .before .before .before .pre .1 .0)
+    (c .before .block-at .ensures .0)
 
 block-at-requires : tie.Need-block-at-requires
 block-at-requires c κs = search needs
@@ -23,11 +26,7 @@ fields-right-requires c κs = search needs
 
 returns : tie.Need-returns
 unfolding headerRight
-returns c =
-    let s = c .before .before .before .before .args .sheet .now in
-    let i = c .before .before .before .before .args .i in
-    let e : c .before .fields-right .result ≡ fieldsRight (totalOf s) i (blockAt s i) = cc in
-    simp (failed e (c .if1 .taken))
+returns c = simp (failed (fields (c .before)) (c .if1 .taken))
 
 total-right-requires : tie.Need-total-right-requires
 total-right-requires c κs = search needs
@@ -35,18 +34,13 @@ total-right-requires c κs = search needs
 returns-2 : tie.Need-returns-2
 unfolding headerRight
 returns-2 c =
-    let s = c .before .before .before .before .before .before .args .sheet .now in
-    let i = c .before .before .before .before .before .before .args .i in
-    let e : c .before .before .before .fields-right .result ≡ fieldsRight (totalOf s) i (blockAt s i) = cc in
-    simp (passed e (c .before .before .if1 .left), eq-eqb _ _ (c .before .if2 .taken)) (cc)
+    simp (passed (fields (c .before .before .before)) (c .before .before .if1 .left), eq-eqb _ _ (c .before .if2 .taken))
+    (c .total-right .ensures
+    ∙ ap₂ totalRight (c .before .before .before .before .before .before .pre .1 .0) (c .before .before .before .before .before .before .pre .1 .1))
 
 returns-3 : tie.Need-returns-3
 unfolding headerRight
-returns-3 c =
-    let s = c .before .before .before .before .before .args .sheet .now in
-    let i = c .before .before .before .before .before .args .i in
-    let e : c .before .before .fields-right .result ≡ fieldsRight (totalOf s) i (blockAt s i) = cc in
-    simp (passed e (c .before .if1 .left), ne-eqb _ _ (c .if2 .left))
+returns-3 c = simp (passed (fields (c .before .before)) (c .before .if1 .left), ne-eqb _ _ (c .if2 .left))
 
 pub header-right-spec : {M : Type 1} → statement M
 header-right-spec =

@@ -1,18 +1,13 @@
 -- `sheet::block::weighted_sum` meets its contract. The invariant: the sum so far is that of the bytes passed, and at most 510 times 255 for each.
-use mathlib.Core.Path.{_≡_, sym, ap, _∙_}
-use Prim.Native.Nat.{ℕ, _+_, _*_, _≤_, _<_, _-_}
-use native.Mathlib.Numerals.{add-one}
+use mathlib.Core.Path.{_≡_, sym, ap, ap₂, _∙_}
+use Prim.Native.Nat.{ℕ, _+_, _*_, _≤_, _-_}
 use native.Mathlib.Omega.{arith}
-use lib.ListN.{length, getD}
 use borrow.Author.Needs.{needs}
 use Rattle.sheet.specs.Block.{checkAt}
 use Rattle.sheet.specs.Check.{sumBelow, weighted}
-use Rattle.sheet.proofs.CheckLaws.{weight-le}
+use Rattle.sheet.proofs.CheckLaws.{weight-le, sumBelow-more}
 use Rattle.sheet.proofs.block.weighted_sum.Statement.{statement}
 use Rattle.sheet.proofs.block.weighted_sum.Tie as tie
-use Rattle.sheet.proofs.block.weighted_sum.Reads as reads
-use Rattle.sheet.proofs.block.weighted_sum.Lts as lts
-use Rattle.sheet.proofs.number.wide.Reads as wide-reads
 
 abbrev Inv-loop : tie.InvT-loop
 Inv-loop block sum₀ i₀ sum i = (i ≤ checkAt) × (sum ≡ sumBelow (weighted block) i) × (sum ≤ checkAt * 255 * i)
@@ -51,16 +46,12 @@ add-i c = omega arith
 loop-less : tie.Need-loop-less Inv-loop μ-loop
 loop-less c = omega arith
 
--- one more byte
-more : (c : tie.After-wide Inv-loop μ-loop)
-    → let own = c .before .before .before .loop in
-    let block = c .before .before .before .before .before .args .block .now in
-    own .sum + (own .i + 1) * c .wide .result ≡ sumBelow (weighted block) (own .i + 1)
-unfolding sumBelow weighted
-more c = simp add-one (cc)
-
 loop-again : tie.Need-loop-again Inv-loop μ-loop
-loop-again c = (omega arith, more c, omega (arith, bound c))
+unfolding weighted
+loop-again c =
+    let own = c .before .before .before .loop in
+    let more = ap₂ _+_ (own .inv .1) (ap (λ (byte : ℕ). (own .i + 1) * byte) (c .wide .ensures .0)) in
+    (omega arith, more ∙ sym (sumBelow-more _ (own .i)), omega (arith, bound c))
 
 returns : tie.Need-returns Inv-loop μ-loop
 returns c = c .before .loop .inv .1 ∙ ap (sumBelow _) (omega arith)

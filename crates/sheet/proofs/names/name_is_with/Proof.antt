@@ -1,27 +1,43 @@
 -- `sheet::names::name_is_with` meets its contract: a name is a front and a suffix where its beginning is the front and its rest the suffix.
 use borrow.Author.Needs.{needs}
 use mathlib.Core.Path.{_≡_, sym, ap, ap₂, _∙_}
-use mathlib.Core.Bool.{Bool, false, _&&_}
+use mathlib.Core.Bool.{Bool, true, false, _&&_}
 use mathlib.Core.List.{List, _++_}
 use Prim.Native.Nat.{ℕ, _<_}
 use native.Mathlib.Omega.{arith}
 use lib.ListN.{length, length-append, take, drop}
 use lib.Seq.{length-take-le}
+use Rattle.sheet.specs.Slot.{slotAt, name}
 use Rattle.sheet.specs.Name.{sameBytes}
 use Rattle.sheet.proofs.TestLaws.{failed, passed}
 use Rattle.sheet.proofs.PartLaws.{take-rest}
 use Rattle.sheet.proofs.NameLaws.{sameBytes-false, sameBytes-append}
 use Rattle.sheet.proofs.names.name_is_with.Statement.{statement}
 use Rattle.sheet.proofs.names.name_is_with.Tie as tie
-use Rattle.sheet.proofs.names.name_is_with.Reads as reads
-use Rattle.sheet.proofs.names.name_is_with.Lts as lts
-use Rattle.sheet.proofs.names.name_of.Reads as name-of-reads
-use Rattle.sheet.proofs.names.same.Reads as same-reads
 
 -- what is shorter than the front is not the front and a suffix
 too-short : (whole front suffix : List ℕ) → length whole < length front → sameBytes whole (front ++ suffix) ≡ false
 too-short whole front suffix h =
     sameBytes-false whole (front ++ suffix) (λ e. omega (arith, ap length e, length-append front suffix))
+
+-- nor is what begins otherwise
+front-wrong : (whole front suffix : List ℕ) → sameBytes (take (length front) whole) front ≡ false → sameBytes whole (front ++ suffix) ≡ false
+front-wrong whole front suffix e =
+    sameBytes-append whole front suffix ∙ ap (λ (t : Bool). t && sameBytes (drop (length front) whole) suffix) e
+
+-- and of what begins so the rest decides
+front-right : (whole front suffix : List ℕ) → sameBytes (take (length front) whole) front ≡ true
+    → sameBytes whole (front ++ suffix) ≡ sameBytes (drop (length front) whole) suffix
+front-right whole front suffix e =
+    sameBytes-append whole front suffix ∙ ap (λ (t : Bool). t && sameBytes (drop (length front) whole) suffix) e
+
+-- the two slices are the two names
+named : (c : tie.After-name-of2)
+    → let a = c .before .before .before .before .args in
+    sameBytes (c .before .name-of .result .now) (c .name-of2 .result .now ++ a .suffix .now)
+    ≡ sameBytes (name (slotAt (a .sheet .now) (a .node))) (name (slotAt (a .sheet .now) (a .other)) ++ a .suffix .now)
+named c =
+    ap₂ (λ (whole front : List ℕ). sameBytes whole (front ++ c .before .before .before .before .args .suffix .now)) (c .before .name-of .ensures) (c .name-of2 .ensures)
 
 name-of-requires : tie.Need-name-of-requires
 name-of-requires c κs = search needs
@@ -31,10 +47,9 @@ name-of-requires-2 c κs = search needs
 
 returns : tie.Need-returns
 returns c =
-    let whole = c .before .before .name-of .result .now in
-    let front = c .before .name-of2 .result .now in
-    sym (too-short whole front (c .before .before .before .before .before .args .suffix .now) (c .if1 .taken))
-    ∙ ap₂ (λ (w f : List ℕ). sameBytes w (f ++ c .before .before .before .before .before .args .suffix .now)) (c .before .before .name-of .ensures) (c .before .name-of2 .ensures)
+    let names = c .before in
+    sym (too-short (names .before .name-of .result .now) (names .name-of2 .result .now) (names .before .before .before .before .args .suffix .now) (omega arith))
+    ∙ named names
 
 slice-aggregate-same : tie.Need-slice-aggregate-same
 slice-aggregate-same c = sym (length-take-le _ _ (omega arith))
@@ -44,11 +59,10 @@ same-requires c κs = search needs
 
 returns-2 : tie.Need-returns-2
 returns-2 c =
-    let whole = c .before .before .before .before .before .name-of .result .now in
-    let front = c .before .before .before .before .name-of2 .result .now in
-    let suffix = c .before .before .before .before .before .before .before .before .args .suffix .now in
-    sym (sameBytes-append whole front suffix ∙ ap (λ (t : Bool). t && sameBytes (drop (length front) whole) suffix) (failed (c .before .same .ensures) (c .if2 .taken)))
-    ∙ ap₂ (λ (w f : List ℕ). sameBytes w (f ++ suffix)) (c .before .before .before .before .before .name-of .ensures) (c .before .before .before .before .name-of2 .ensures)
+    let names = c .before .before .before .before in
+    sym (front-wrong (names .before .name-of .result .now) (names .name-of2 .result .now) (names .before .before .before .before .args .suffix .now)
+    (failed (c .before .same .ensures) (c .if2 .taken)))
+    ∙ named names
 
 sub-same : tie.Need-sub-same
 sub-same c = search needs
@@ -64,13 +78,14 @@ same-requires-2 c κs = search needs
 
 returns-3 : tie.Need-returns-3
 returns-3 c =
-    let whole = c .before .before .before .before .before .before .before .name-of .result .now in
-    let front = c .before .before .before .before .before .before .name-of2 .result .now in
-    let suffix = c .before .before .before .before .before .before .before .before .before .before .args .suffix .now in
+    let names = c .before .before .before .before .before .before in
+    let whole = names .before .name-of .result .now in
+    let front = names .name-of2 .result .now in
+    let suffix = names .before .before .before .before .args .suffix .now in
     c .same2 .ensures
-    ∙ ap (λ (l : List ℕ). sameBytes l suffix) (take-rest whole (length front))
-    ∙ sym (sameBytes-append whole front suffix ∙ ap (λ (t : Bool). t && sameBytes (drop (length front) whole) suffix) (passed (c .before .before .before .same .ensures) (c .before .before .if2 .left)))
-    ∙ ap₂ (λ (w f : List ℕ). sameBytes w (f ++ suffix)) (c .before .before .before .before .before .before .before .name-of .ensures) (c .before .before .before .before .before .before .name-of2 .ensures)
+    ∙ ap (λ (rest : List ℕ). sameBytes rest suffix) (take-rest whole (length front))
+    ∙ sym (front-right whole front suffix (passed (c .before .before .before .same .ensures) (c .before .before .if2 .left)))
+    ∙ named names
 
 pub name-is-with-spec : {M : Type 1} → statement M
 name-is-with-spec =

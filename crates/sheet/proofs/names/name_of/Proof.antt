@@ -1,7 +1,6 @@
 -- `sheet::names::name_of` meets its contract: the stretch lies within the sheet, and its bytes are the name.
 use borrow.Author.Needs.{needs}
 use mathlib.Core.Path.{ap, sym, subst, _∙_}
-use mathlib.Core.List.{List}
 use Prim.Native.Nat.{_+_, _≤_}
 use native.Mathlib.Omega.{arith}
 use lib.ListN.{length, take, drop}
@@ -10,9 +9,6 @@ use Rattle.sheet.proofs.PartLaws.{take-to}
 use Rattle.sheet.proofs.NameLaws.{stretchOf-within, stretchOf-name}
 use Rattle.sheet.proofs.names.name_of.Statement.{statement}
 use Rattle.sheet.proofs.names.name_of.Tie as tie
-use Rattle.sheet.proofs.names.name_of.Reads as reads
-use Rattle.sheet.proofs.names.name_of.Lts as lts
-use Rattle.sheet.proofs.names.name_stretch.Reads as name-stretch-reads
 
 within : (c : tie.After-name-stretch) → c .name-stretch .result .start + c .name-stretch .result .len ≤ length (c .before .before .args .sheet .now)
 within c =

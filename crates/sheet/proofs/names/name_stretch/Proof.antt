@@ -1,23 +1,20 @@
 -- `sheet::names::name_stretch` meets its contract: the tests on the way say whether the bytes reach the slot.
 use borrow.Author.Needs.{needs}
 use mathlib.Core.Path.{_≡_, sym, ap, _∙_}
+use mathlib.Core.Bool.{true}
 use Prim.Native.Nat.{ℕ, _+_}
 use lib.ListN.{getD}
 use native.Mathlib.Omega.{arith}
-use Rattle.sheet.specs.Slot.{nameAt, nameLengthAt, nameLength, slotAt}
+use Rattle.sheet.specs.Slot.{nameAt, nameLengthAt, nameLength, reaches, slotAt}
 use Rattle.sheet.proofs.SlotLaws.{slotStart-most, reaches-true, reaches-past, reaches-short, slotAt-byte}
 use Rattle.sheet.proofs.NameLaws.{stretch-is, stretchOf-nowhere, stretchOf-there}
 use Rattle.sheet.proofs.names.name_stretch.Statement.{statement}
 use Rattle.sheet.proofs.names.name_stretch.Tie as tie
-use Rattle.sheet.proofs.names.name_stretch.Reads as reads
-use Rattle.sheet.proofs.names.name_stretch.Lts as lts
-use Rattle.sheet.proofs.number.wide.Reads as wide-reads
-use Rattle.sheet.proofs.slots.slot_start.Reads as slot-start-reads
 
 returns : tie.Need-returns
 returns c =
     let a = c .before .before .args in
-    sym (stretchOf-nowhere (a .sheet .now) (a .node) (reaches-past (a .sheet .now) (a .node) (c .if1 .taken)))
+    sym (stretchOf-nowhere (a .sheet .now) (a .node) (reaches-past (a .sheet .now) (a .node) (omega arith)))
 
 slot-start-requires : tie.Need-slot-start-requires
 slot-start-requires c κs = search needs
@@ -45,33 +42,31 @@ cast-len c = search needs
 add-t11 : tie.Need-add-t11
 add-t11 c = search needs
 
-returns-3 : tie.Need-returns-3
+-- the length was read where the slot has it
+length-read : (c : tie.After-wide) (there : reaches (c .before .before .before .before .before .before .args .sheet .now) (c .before .before .before .before .before .before .args .node) ≡ true)
+    → c .wide .result ≡ nameLength (slotAt (c .before .before .before .before .before .before .args .sheet .now) (c .before .before .before .before .before .before .args .node))
 unfolding nameLength
+length-read c there =
+    let a = c .before .before .before .before .before .before .args in
+    c .wide .ensures .0
+    ∙ ap (λ (at : ℕ). getD (a .sheet .now) (at + nameLengthAt) 0) (c .before .before .before .slot-start .ensures)
+    ∙ sym (slotAt-byte (a .sheet .now) (a .node) nameLengthAt there (omega arith))
+
+returns-3 : tie.Need-returns-3
 returns-3 c =
     let a = c .before .before .before .before .before .before .before .args in
     let there = reaches-true (a .sheet .now) (a .node) (omega arith) (omega arith) in
-    let start = c .before .before .before .before .slot-start .ensures in
-    let n : c .before .wide .result ≡ nameLength (slotAt (a .sheet .now) (a .node)) =
-    c .before .wide .ensures .0
-    ∙ ap (λ (at : ℕ). getD (a .sheet .now) (at + nameLengthAt) 0) start
-    ∙ sym (slotAt-byte (a .sheet .now) (a .node) nameLengthAt there (omega arith)) in
-    stretch-is (ap (λ (at : ℕ). at + nameAt) start) (omega arith)
+    stretch-is (ap (λ (at : ℕ). at + nameAt) (c .before .before .before .before .slot-start .ensures)) (omega (arith, length-read (c .before) there))
     ∙ sym (stretchOf-there (a .sheet .now) (a .node) there)
 
 add-t7 : tie.Need-add-t7
 add-t7 c = search needs
 
 returns-4 : tie.Need-returns-4
-unfolding nameLength
 returns-4 c =
     let a = c .before .before .before .before .before .before .before .args in
     let there = reaches-true (a .sheet .now) (a .node) (omega arith) (omega arith) in
-    let start = c .before .before .before .before .slot-start .ensures in
-    let n : c .before .wide .result ≡ nameLength (slotAt (a .sheet .now) (a .node)) =
-    c .before .wide .ensures .0
-    ∙ ap (λ (at : ℕ). getD (a .sheet .now) (at + nameLengthAt) 0) start
-    ∙ sym (slotAt-byte (a .sheet .now) (a .node) nameLengthAt there (omega arith)) in
-    stretch-is (ap (λ (at : ℕ). at + nameAt) start) (omega arith)
+    stretch-is (ap (λ (at : ℕ). at + nameAt) (c .before .before .before .before .slot-start .ensures)) (omega (arith, length-read (c .before) there))
     ∙ sym (stretchOf-there (a .sheet .now) (a .node) there)
 
 pub name-stretch-spec : {M : Type 1} → statement M

@@ -10,8 +10,6 @@ use borrow.Author.Needs.{needs}
 use Rattle.sheet.proofs.NameLaws.{sameBytes-true, sameBytes-false}
 use Rattle.sheet.proofs.names.same.Statement.{statement}
 use Rattle.sheet.proofs.names.same.Tie as tie
-use Rattle.sheet.proofs.names.same.Reads as reads
-use Rattle.sheet.proofs.names.same.Lts as lts
 
 abbrev Inv-loop : tie.InvT-loop
 Inv-loop a b i₀ i = (i ≤ length a) × ((k : ℕ) → k < i → getD a k 0 ≡ getD b k 0)
@@ -20,7 +18,7 @@ abbrev μ-loop : tie.MeasureT-loop
 μ-loop a b i₀ i = length a - i
 
 returns : tie.Need-returns Inv-loop μ-loop
-returns c = sym (sameBytes-false _ _ (λ e. c .if1 .taken (ap length e)))
+returns c = sym (sameBytes-false _ _ (λ e. omega (arith, ap length e)))
 
 loop-holds : tie.Need-loop-holds Inv-loop μ-loop
 loop-holds c = (search needs, below-none _)
@@ -32,7 +30,7 @@ shared-slice-read-if2-2 : tie.Need-shared-slice-read-if2-2 Inv-loop μ-loop
 shared-slice-read-if2-2 c = omega arith
 
 returns-2 : tie.Need-returns-2 Inv-loop μ-loop
-returns-2 c = sym (sameBytes-false _ _ (λ e. c .if2 .taken (ap (λ (l : List ℕ). getD l (c .before .before .before .before .loop .i) 0) e)))
+returns-2 c = sym (sameBytes-false _ _ (λ e. omega (arith, ap (λ (l : List ℕ). getD l (c .before .before .before .before .loop .i) 0) e)))
 
 add-i : tie.Need-add-i Inv-loop μ-loop
 add-i c = omega arith

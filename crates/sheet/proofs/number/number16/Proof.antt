@@ -4,9 +4,6 @@ use native.Mathlib.Omega.{arith}
 use Rattle.sheet.proofs.NumberLaws.{numberAt-two}
 use Rattle.sheet.proofs.number.number16.Statement.{statement}
 use Rattle.sheet.proofs.number.number16.Tie as tie
-use Rattle.sheet.proofs.number.number16.Reads as reads
-use Rattle.sheet.proofs.number.number16.Lts as lts
-use Rattle.sheet.proofs.number.wide.Reads as wide-reads
 
 shared-slice-read-wide : tie.Need-shared-slice-read-wide
 shared-slice-read-wide c = search needs

@@ -1,11 +1,9 @@
+-- `sheet::number::number32` meets its contract: four bytes, each below 256.
 use borrow.Author.Needs.{needs}
 use native.Mathlib.Omega.{arith}
 use Rattle.sheet.proofs.NumberLaws.{numberAt-four}
 use Rattle.sheet.proofs.number.number32.Statement.{statement}
 use Rattle.sheet.proofs.number.number32.Tie as tie
-use Rattle.sheet.proofs.number.number32.Reads as reads
-use Rattle.sheet.proofs.number.number32.Lts as lts
-use Rattle.sheet.proofs.number.wide.Reads as wide-reads
 
 shared-slice-read-wide : tie.Need-shared-slice-read-wide
 shared-slice-read-wide c = search needs

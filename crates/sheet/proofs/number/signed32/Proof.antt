@@ -11,8 +11,6 @@ use borrow.Author.Tests.{lt-ltb}
 use Rattle.sheet.proofs.NumberLaws.{signed32-low, signed32-high}
 use Rattle.sheet.proofs.number.signed32.Statement.{statement}
 use Rattle.sheet.proofs.number.signed32.Tie as tie
-use Rattle.sheet.proofs.number.signed32.Reads as reads
-use Rattle.sheet.proofs.number.signed32.Lts as lts
 
 -- what is left of n after 2^32 is taken off
 less : (n : ℕ) → n < 2 ^ 32 → toZ w64 n -ℤ pos (2 ^ 32) ≡ negsuc (2 ^ 32 - suc n)

@@ -10,9 +10,6 @@ use Rattle.sheet.proofs.FirstLaws.{firstWrong-at, firstWrong-none}
 use Rattle.sheet.proofs.TestLaws.{failed, passed}
 use Rattle.sheet.proofs.opening.first_bad_check.Statement.{statement}
 use Rattle.sheet.proofs.opening.first_bad_check.Tie as tie
-use Rattle.sheet.proofs.opening.first_bad_check.Reads as reads
-use Rattle.sheet.proofs.opening.first_bad_check.Lts as lts
-use Rattle.sheet.proofs.block.check_right.Reads as check-right-reads
 
 abbrev Inv-loop : tie.InvT-loop
 Inv-loop sheet blocks i₀ i = (i ≤ blocks) × ((j : ℕ) → j < i → checkRight sheet j ≡ true)

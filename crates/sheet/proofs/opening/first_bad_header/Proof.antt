@@ -10,9 +10,6 @@ use Rattle.sheet.proofs.FirstLaws.{firstWrong-at, firstWrong-none}
 use Rattle.sheet.proofs.TestLaws.{failed, passed}
 use Rattle.sheet.proofs.opening.first_bad_header.Statement.{statement}
 use Rattle.sheet.proofs.opening.first_bad_header.Tie as tie
-use Rattle.sheet.proofs.opening.first_bad_header.Reads as reads
-use Rattle.sheet.proofs.opening.first_bad_header.Lts as lts
-use Rattle.sheet.proofs.block.header_right.Reads as header-right-reads
 
 abbrev Inv-loop : tie.InvT-loop
 Inv-loop sheet blocks total i₀ i = (i ≤ blocks) × ((j : ℕ) → j < i → headerRight sheet j ≡ true)

@@ -11,9 +11,6 @@ use Rattle.sheet.proofs.TestLaws.{failed, passed}
 use Rattle.sheet.proofs.SlotLaws.{slotStart-within, blockCount-most}
 use Rattle.sheet.proofs.opening.first_bad_slot.Statement.{statement}
 use Rattle.sheet.proofs.opening.first_bad_slot.Tie as tie
-use Rattle.sheet.proofs.opening.first_bad_slot.Reads as reads
-use Rattle.sheet.proofs.opening.first_bad_slot.Lts as lts
-use Rattle.sheet.proofs.slots.slot_right.Reads as slot-right-reads
 
 abbrev Inv-loop : tie.InvT-loop
 Inv-loop sheet slots total k₀ k = (k ≤ slots) × ((j : ℕ) → j < k → slotRight sheet j ≡ true)

@@ -1,21 +1,21 @@
 -- `sheet::opening::open` meets its contract: each test on the way says which case of the definition holds.
 use borrow.Author.Needs.{needs}
-use mathlib.Core.Path.{refl, sym, ap, _∙_}
+use mathlib.Core.Path.{_≡_, refl, sym, ap, _∙_}
+use mathlib.Core.Bool.{true}
+use lib.ListN.{length}
 use native.Mathlib.Omega.{arith}
 use Rattle.sheet.specs.Block.{blockCount}
+use Rattle.sheet.specs.Header.{lengthRight}
 use Rattle.sheet.specs.declared.opening.Opened.the-variants.{Nodes}
 use Rattle.sheet.proofs.TestLaws.{failed, passed}
 use Rattle.sheet.proofs.HeaderLaws.{lengthRight-least, lengthRight-most}
 use Rattle.sheet.proofs.OpeningLaws.{openOf-length, openOf-check, openOf-header, openOf-slot, openOf-nodes}
 use Rattle.sheet.proofs.opening.open.Statement.{statement}
 use Rattle.sheet.proofs.opening.open.Tie as tie
-use Rattle.sheet.proofs.opening.open.Reads as reads
-use Rattle.sheet.proofs.opening.open.Lts as lts
-use Rattle.sheet.proofs.block.total_of.Reads as total-of-reads
-use Rattle.sheet.proofs.opening.first_bad_check.Reads as first-bad-check-reads
-use Rattle.sheet.proofs.opening.first_bad_header.Reads as first-bad-header-reads
-use Rattle.sheet.proofs.opening.first_bad_slot.Reads as first-bad-slot-reads
-use Rattle.sheet.proofs.opening.length_right.Reads as length-right-reads
+
+-- past the first test the length is right
+length-is-right : (c : tie.Else1) → lengthRight (length (c .before .before .before .args .sheet .now)) ≡ true
+length-is-right c = passed (c .before .length-right .ensures) (c .if1 .left)
 
 length-right-requires : tie.Need-length-right-requires
 length-right-requires c κs = search needs
@@ -28,10 +28,10 @@ first-bad-check-requires c κs = search needs
 
 returns-2 : tie.Need-returns-2
 unfolding blockCount
-returns-2 c = sym (openOf-check _ (passed (c .before .before .before .length-right .ensures) (c .before .before .if1 .left)) (c .before .first-bad-check .ensures) (c .if2 .taken))
+returns-2 c = sym (openOf-check _ (length-is-right (c .before .before)) (c .before .first-bad-check .ensures) (c .if2 .taken))
 
 total-of-requires : tie.Need-total-of-requires
-total-of-requires c κs = lengthRight-least _ (passed (c .before .before .before .length-right .ensures) (c .before .before .if1 .left))
+total-of-requires c κs = lengthRight-least _ (length-is-right (c .before .before))
 
 first-bad-header-requires : tie.Need-first-bad-header-requires
 unfolding blockCount
@@ -39,22 +39,37 @@ first-bad-header-requires c κs = (omega arith, (refl, c .total-of .ensures))
 
 returns-3 : tie.Need-returns-3
 unfolding blockCount
-returns-3 c = sym (openOf-header _ (passed (c .before .before .before .before .before .before .length-right .ensures) (c .before .before .before .before .before .if1 .left)) (c .before .before .before .before .first-bad-check .ensures) (c .before .before .before .if2 .left) (c .before .first-bad-header .ensures) (c .if3 .taken))
+returns-3 c =
+    let checks = c .before .before .before in
+    sym (openOf-header _ (length-is-right (checks .before .before)) (checks .before .first-bad-check .ensures) (checks .if2 .left)
+    (c .before .first-bad-header .ensures) (c .if3 .taken))
 
 mul-slots : tie.Need-mul-slots
 mul-slots c = search needs
 
 first-bad-slot-requires : tie.Need-first-bad-slot-requires
 unfolding blockCount
-first-bad-slot-requires c κs = (lengthRight-most _ (passed (c .before .before .before .before .before .before .length-right .ensures) (c .before .before .before .before .before .if1 .left)), (refl, c .before .before .total-of .ensures))
+first-bad-slot-requires c κs =
+    (lengthRight-most _ (length-is-right (c .before .before .before .before .before)), (refl, c .before .before .total-of .ensures))
 
 returns-4 : tie.Need-returns-4
 unfolding blockCount
-returns-4 c = sym (openOf-slot _ (passed (c .before .before .before .before .before .before .before .before .length-right .ensures) (c .before .before .before .before .before .before .before .if1 .left)) (c .before .before .before .before .before .before .first-bad-check .ensures) (c .before .before .before .before .before .if2 .left) (c .before .before .before .first-bad-header .ensures) (c .before .before .if3 .left) (c .before .first-bad-slot .ensures) (c .if4 .taken))
+returns-4 c =
+    let headers = c .before .before in
+    let checks = headers .before .before .before in
+    sym (openOf-slot _ (length-is-right (checks .before .before)) (checks .before .first-bad-check .ensures) (checks .if2 .left)
+    (headers .before .first-bad-header .ensures) (headers .if3 .left)
+    (c .before .first-bad-slot .ensures) (c .if4 .taken))
 
 returns-5 : tie.Need-returns-5
 unfolding blockCount
-returns-5 c = ap Nodes (c .before .before .before .before .total-of .ensures) ∙ sym (openOf-nodes _ (passed (c .before .before .before .before .before .before .before .before .length-right .ensures) (c .before .before .before .before .before .before .before .if1 .left)) (c .before .before .before .before .before .before .first-bad-check .ensures) (c .before .before .before .before .before .if2 .left) (c .before .before .before .first-bad-header .ensures) (c .before .before .if3 .left) (c .before .first-bad-slot .ensures) (c .if4 .left))
+returns-5 c =
+    let headers = c .before .before in
+    let checks = headers .before .before .before in
+    ap Nodes (headers .before .before .total-of .ensures)
+    ∙ sym (openOf-nodes _ (length-is-right (checks .before .before)) (checks .before .first-bad-check .ensures) (checks .if2 .left)
+    (headers .before .first-bad-header .ensures) (headers .if3 .left)
+    (c .before .first-bad-slot .ensures) (c .if4 .left))
 
 pub open-spec : {M : Type 1} → statement M
 open-spec =

@@ -1,10 +1,9 @@
+-- `sheet::slots::empty_slot` meets its contract: every field of zeros is 0.
 use mathlib.Core.Path.{refl}
 use Rattle.sheet.specs.Number.{numberAt, signed32}
 use Rattle.sheet.specs.Slot.{numbersOf, physical, repetition, converted, logical, parameterA, parameterB, childCount, typeLength, scale, precision, nameLength, emptySlot}
 use Rattle.sheet.proofs.slots.empty_slot.Statement.{statement}
 use Rattle.sheet.proofs.slots.empty_slot.Tie as tie
-use Rattle.sheet.proofs.slots.empty_slot.Reads as reads
-use Rattle.sheet.proofs.slots.empty_slot.Lts as lts
 
 returns : tie.Need-returns
 unfolding numbersOf physical repetition converted logical parameterA parameterB childCount typeLength scale precision nameLength numberAt signed32 emptySlot

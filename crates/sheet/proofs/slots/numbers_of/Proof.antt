@@ -12,11 +12,6 @@ use Rattle.sheet.specs.Number.{signed32}
 use Rattle.sheet.specs.Slot.{physicalAt, repetitionAt, convertedAt, logicalAt, parameterAAt, parameterBAt, nameLengthAt, numbersOf, physical, repetition, converted, logical, parameterA, parameterB, childCount, typeLength, scale, precision, nameLength}
 use Rattle.sheet.proofs.slots.numbers_of.Statement.{statement}
 use Rattle.sheet.proofs.slots.numbers_of.Tie as tie
-use Rattle.sheet.proofs.slots.numbers_of.Reads as reads
-use Rattle.sheet.proofs.slots.numbers_of.Lts as lts
-use Rattle.sheet.proofs.number.number16.Reads as number16-reads
-use Rattle.sheet.proofs.number.number32.Reads as number32-reads
-use Rattle.sheet.proofs.number.signed32.Reads as signed32-reads
 
 -- a signed field, read back from its bits
 field : {z : ℤ} {n m : ℕ} → mag z < 2 ^ 31 → z ≡ signed32 n → n ≡ m → toZ w32 (ofZ w32 z) ≡ signed32 m

@@ -6,11 +6,6 @@ use Rattle.sheet.specs.Slot.{numbersOf}
 use Rattle.sheet.proofs.SlotLaws.{slotStart-most, reaches-true, reaches-past, reaches-short, slotAt-empty, slotAt-slice}
 use Rattle.sheet.proofs.slots.slot_at.Statement.{statement}
 use Rattle.sheet.proofs.slots.slot_at.Tie as tie
-use Rattle.sheet.proofs.slots.slot_at.Reads as reads
-use Rattle.sheet.proofs.slots.slot_at.Lts as lts
-use Rattle.sheet.proofs.slots.empty_slot.Reads as empty-slot-reads
-use Rattle.sheet.proofs.slots.numbers_of.Reads as numbers-of-reads
-use Rattle.sheet.proofs.slots.slot_start.Reads as slot-start-reads
 
 empty-slot-requires : tie.Need-empty-slot-requires
 empty-slot-requires c κs = search needs
@@ -18,7 +13,7 @@ empty-slot-requires c κs = search needs
 returns : tie.Need-returns
 returns c =
     let a = c .before .before .before .args in
-    c .empty-slot .ensures ∙ ap numbersOf (sym (slotAt-empty (a .sheet .now) (a .node) (reaches-past (a .sheet .now) (a .node) (c .before .if1 .taken))))
+    c .empty-slot .ensures ∙ ap numbersOf (sym (slotAt-empty (a .sheet .now) (a .node) (reaches-past (a .sheet .now) (a .node) (omega arith))))
 
 slot-start-requires : tie.Need-slot-start-requires
 slot-start-requires c κs = search needs

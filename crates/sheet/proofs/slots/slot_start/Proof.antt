@@ -1,9 +1,8 @@
+-- `sheet::slots::slot_start` meets its contract: it computes what the definition says, within 64 bits.
 use borrow.Author.Needs.{needs}
 use Rattle.sheet.specs.Slot.{slotStart}
 use Rattle.sheet.proofs.slots.slot_start.Statement.{statement}
 use Rattle.sheet.proofs.slots.slot_start.Tie as tie
-use Rattle.sheet.proofs.slots.slot_start.Reads as reads
-use Rattle.sheet.proofs.slots.slot_start.Lts as lts
 
 mul-result : tie.Need-mul-result
 mul-result c = search needs

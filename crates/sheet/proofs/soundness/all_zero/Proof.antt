@@ -1,4 +1,4 @@
--- `sheet::slots::all_zero` meets its contract. The invariant: every byte passed is zero.
+-- `sheet::soundness::all_zero` meets its contract. The invariant: every byte passed is zero.
 use mathlib.Core.Path.{_≡_, sym}
 use Prim.Native.Nat.{ℕ, _≤_, _<_, _-_}
 use native.Mathlib.Omega.{arith}
@@ -6,10 +6,8 @@ use lib.ListN.{length, getD}
 use borrow.Author.Count.{below-more}
 use borrow.Author.Needs.{needs}
 use Rattle.sheet.proofs.SoundLaws.{allZero-true, allZero-false}
-use Rattle.sheet.proofs.slots.all_zero.Statement.{statement}
-use Rattle.sheet.proofs.slots.all_zero.Tie as tie
-use Rattle.sheet.proofs.slots.all_zero.Reads as reads
-use Rattle.sheet.proofs.slots.all_zero.Lts as lts
+use Rattle.sheet.proofs.soundness.all_zero.Statement.{statement}
+use Rattle.sheet.proofs.soundness.all_zero.Tie as tie
 
 abbrev Inv-loop : tie.InvT-loop
 Inv-loop bytes i₀ i = (i ≤ length bytes) × ((k : ℕ) → k < i → getD bytes k 0 ≡ 0)

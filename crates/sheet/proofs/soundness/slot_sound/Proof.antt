@@ -1,13 +1,9 @@
--- `sheet::slots::slot_sound` meets its contract: the tests on the way are those of the definition.
+-- `sheet::soundness::slot_sound` meets its contract: the tests on the way are those of the definition.
 use borrow.Author.Needs.{needs}
 use Rattle.sheet.specs.Sound.{slotSound}
 use Rattle.sheet.proofs.TestLaws.{failed, passed}
-use Rattle.sheet.proofs.slots.slot_sound.Statement.{statement}
-use Rattle.sheet.proofs.slots.slot_sound.Tie as tie
-use Rattle.sheet.proofs.slots.slot_sound.Reads as reads
-use Rattle.sheet.proofs.slots.slot_sound.Lts as lts
-use Rattle.sheet.proofs.slots.codes_listed.Reads as codes-listed-reads
-use Rattle.sheet.proofs.slots.name_right.Reads as name-right-reads
+use Rattle.sheet.proofs.soundness.slot_sound.Statement.{statement}
+use Rattle.sheet.proofs.soundness.slot_sound.Tie as tie
 
 codes-listed-requires : tie.Need-codes-listed-requires
 codes-listed-requires c κs = search needs

@@ -1,7 +1,7 @@
--- `sheet::slots::name_right` meets its contract: the tests on the way are those of the definition.
+-- `sheet::soundness::name_right` meets its contract: the tests on the way are those of the definition.
 use borrow.Author.Needs.{needs}
 use mathlib.Core.Path.{_≡_, sym, ap, _∙_}
-use mathlib.Core.Bool.{Bool, true, false, _&&_}
+use mathlib.Core.Bool.{Bool, false, _&&_}
 use mathlib.Core.List.{List}
 use Prim.Native.Nat.{ℕ, _+_, _≤_, _<_}
 use native.Mathlib.Omega.{arith}
@@ -11,12 +11,8 @@ use Rattle.sheet.specs.Slot.{nameAt, nameLength}
 use Rattle.sheet.specs.Sound.{mostNameLength, allZero, nameRight, nameLengthRight, reservedZero, tailZero}
 use Rattle.sheet.proofs.PartLaws.{take-rest}
 use Rattle.sheet.proofs.TestLaws.{failed, passed}
-use Rattle.sheet.proofs.slots.name_right.Statement.{statement}
-use Rattle.sheet.proofs.slots.name_right.Tie as tie
-use Rattle.sheet.proofs.slots.name_right.Reads as reads
-use Rattle.sheet.proofs.slots.name_right.Lts as lts
-use Rattle.sheet.proofs.number.wide.Reads as wide-reads
-use Rattle.sheet.proofs.slots.all_zero.Reads as all-zero-reads
+use Rattle.sheet.proofs.soundness.name_right.Statement.{statement}
+use Rattle.sheet.proofs.soundness.name_right.Tie as tie
 
 length-low : (slot : List ℕ) → nameLength slot < 1 → nameRight slot ≡ false
 unfolding nameRight nameLengthRight

@@ -1,8 +1,8 @@
--- `sheet::codes::listed` meets its contract: the tests on the way are those of the definition.
+-- `sheet::soundness::listed` meets its contract: the tests on the way are those of the definition.
 use borrow.Author.Tests.{le-leb, lt-leb}
 use Rattle.sheet.specs.Sound.{listed}
-use Rattle.sheet.proofs.codes.listed.Statement.{statement}
-use Rattle.sheet.proofs.codes.listed.Tie as tie
+use Rattle.sheet.proofs.soundness.listed.Statement.{statement}
+use Rattle.sheet.proofs.soundness.listed.Tie as tie
 
 returns : tie.Need-returns
 unfolding listed

@@ -1,8 +1,8 @@
--- `sheet::codes::logical_listed` meets its contract: the tests on the way are those of the definition.
+-- `sheet::soundness::logical_listed` meets its contract: the tests on the way are those of the definition.
 use borrow.Author.Tests.{le-leb, lt-leb}
 use Rattle.sheet.specs.Sound.{logicalListed}
-use Rattle.sheet.proofs.codes.logical_listed.Statement.{statement}
-use Rattle.sheet.proofs.codes.logical_listed.Tie as tie
+use Rattle.sheet.proofs.soundness.logical_listed.Statement.{statement}
+use Rattle.sheet.proofs.soundness.logical_listed.Tie as tie
 
 returns : tie.Need-returns
 unfolding logicalListed

@@ -1,14 +1,10 @@
--- `sheet::slots::codes_listed` meets its contract: the tests on the way are those of the definition.
+-- `sheet::soundness::codes_listed` meets its contract: the tests on the way are those of the definition.
 use borrow.Author.Needs.{needs}
 use Rattle.sheet.specs.Slot.{physical, repetition, converted, logical}
 use Rattle.sheet.specs.Sound.{codesListed, physicalListed, repetitionListed, convertedListed}
 use Rattle.sheet.proofs.TestLaws.{failed, passed}
-use Rattle.sheet.proofs.slots.codes_listed.Statement.{statement}
-use Rattle.sheet.proofs.slots.codes_listed.Tie as tie
-use Rattle.sheet.proofs.slots.codes_listed.Reads as reads
-use Rattle.sheet.proofs.slots.codes_listed.Lts as lts
-use Rattle.sheet.proofs.codes.listed.Reads as listed-reads
-use Rattle.sheet.proofs.codes.logical_listed.Reads as logical-listed-reads
+use Rattle.sheet.proofs.soundness.codes_listed.Statement.{statement}
+use Rattle.sheet.proofs.soundness.codes_listed.Tie as tie
 
 shared-slice-read-listed : tie.Need-shared-slice-read-listed
 shared-slice-read-listed c = search needs

@@ -1,17 +1,12 @@
--- `sheet::slots::slot_right` meets its contract: the slice is the slot, and the test on the way says whether it is used.
+-- `sheet::soundness::slot_right` meets its contract: the slice is the slot, and the test on the way says whether it is used.
 use borrow.Author.Needs.{needs}
 use mathlib.Core.Path.{ap, sym, _∙_}
 use native.Mathlib.Omega.{arith}
 use Rattle.sheet.specs.Sound.{allZero, slotSound}
 use Rattle.sheet.proofs.SoundLaws.{slotRight-used, slotRight-unused}
 use Rattle.sheet.proofs.SlotLaws.{reaches-true, slotAt-slice}
-use Rattle.sheet.proofs.slots.slot_right.Statement.{statement}
-use Rattle.sheet.proofs.slots.slot_right.Tie as tie
-use Rattle.sheet.proofs.slots.slot_right.Reads as reads
-use Rattle.sheet.proofs.slots.slot_right.Lts as lts
-use Rattle.sheet.proofs.slots.all_zero.Reads as all-zero-reads
-use Rattle.sheet.proofs.slots.slot_sound.Reads as slot-sound-reads
-use Rattle.sheet.proofs.slots.slot_start.Reads as slot-start-reads
+use Rattle.sheet.proofs.soundness.slot_right.Statement.{statement}
+use Rattle.sheet.proofs.soundness.slot_right.Tie as tie
 
 slot-start-requires : tie.Need-slot-start-requires
 slot-start-requires c κs = search needs

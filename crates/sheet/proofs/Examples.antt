@@ -1,0 +1,53 @@
+-- Worked examples: what the definitions compute.
+use mathlib.Core.Path.{_≡_, refl}
+use mathlib.Core.List.{List, [], _∷_, _++_}
+use Prim.Native.Nat.{ℕ, _-_, _^_}
+use lib.IntN.{pos, negsuc}
+use lib.ListN.{replicate, set}
+use Rattle.sheet.specs.Number.{numberAt, signed32}
+use Rattle.sheet.specs.Block.{blockSize, blockCount, blockAt, blockNumber, nodesHere, version, total, storedCheck, totalOf}
+use Rattle.sheet.specs.Check.{sumBelow, weighted, check, checkRight}
+use Rattle.sheet.specs.Slot.{physical, repetition, converted, logical, nameLength, slotStart, reaches, slotAt}
+use Rattle.sheet.specs.Sound.{listed, physicalListed, repetitionListed, convertedListed, logicalListed, nameLengthRight, allZero, reservedZero, tailZero, codesListed, nameRight, slotSound, slotRight}
+use Rattle.sheet.specs.Header.{lengthRight, blocksFor, nodesIn, totalRight, fieldsRight, headerRight}
+use Rattle.sheet.specs.First.{firstWrongFrom, firstWrong}
+use Rattle.sheet.specs.Opening.{atFirst, openOf, outcomeOf, outcome, refused}
+use Rattle.sheet.specs.declared.opening.Opened.the-variants.{Nodes}
+
+-- "Byte 509 equal to 255, all others zero, gives 64,529"
+check-last-byte : check (set (replicate blockSize 0) 509 255) ≡ 64529
+unfolding check sumBelow weighted
+check-last-byte = refl
+
+-- a sheet of the root alone, named `r`
+rootSheet : List ℕ
+rootSheet =
+    (0 ∷ 0 ∷ 1 ∷ 1 ∷ 1 ∷ 0 ∷ [])
+    ++ (255 ∷ 255 ∷ 255 ∷ [])
+    ++ replicate 17 0
+    ++ (1 ∷ 0 ∷ 0 ∷ 0 ∷ 114 ∷ [])
+    ++ replicate 479 0
+    ++ (221 ∷ 37 ∷ [])
+
+-- "One root alone" is a sound sheet
+open-root : openOf rootSheet ≡ Nodes 1
+unfolding rootSheet openOf lengthRight atFirst firstWrong firstWrongFrom blockCount blockAt checkRight check storedCheck sumBelow weighted numberAt headerRight fieldsRight blockNumber version total totalOf nodesHere nodesIn totalRight blocksFor slotRight slotAt reaches slotStart slotSound codesListed nameRight physicalListed repetitionListed convertedListed logicalListed listed physical repetition converted logical nameLength nameLengthRight reservedZero tailZero allZero
+open-root = refl
+
+-- no bytes are refusal 1 at 0
+outcome-none : outcome [] ≡ refused 1 0
+unfolding outcome outcomeOf openOf lengthRight
+outcome-none = refl
+
+-- two's complement
+signed32-most : signed32 (2 ^ 31 - 1) ≡ pos 2147483647
+unfolding signed32
+signed32-most = refl
+
+signed32-least : signed32 (2 ^ 31) ≡ negsuc 2147483647
+unfolding signed32
+signed32-least = refl
+
+signed32-minus-one : signed32 (2 ^ 32 - 1) ≡ negsuc 0
+unfolding signed32
+signed32-minus-one = refl
