@@ -1,14 +1,10 @@
 use borrow.Author.Tests.{ne-eqb}
 use Rattle.annotation.proofs.resolution.plain_kind.Statement.{statement}
 use Rattle.annotation.proofs.resolution.plain_kind.Tie as tie
-use Rattle.annotation.proofs.resolution.plain_kind.Reads as reads
-use Rattle.annotation.proofs.resolution.plain_kind.Lts as lts
 
--- src/resolution.rt:84:1
 returns : tie.Need-returns
 returns c = rw (c .if1 .taken)
 
--- src/resolution.rt:84:1
 returns-2 : tie.Need-returns-2
 returns-2 c = rw (ne-eqb _ _ (c .if1 .left))
 

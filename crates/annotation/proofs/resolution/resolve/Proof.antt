@@ -26,24 +26,6 @@ kind : (c : tie.After-kind-as) → let n = c .before .before .before .before .be
 unfolding kindOf
 kind c = rw (c .kind-as .ensures, c .before .before .before .before .before .before .annotation .ensures)
 
-agree-requires : tie.Need-agree-requires
-agree-requires c κs = search needs
-
-annotation-requires : tie.Need-annotation-requires
-annotation-requires c κs = search needs
-
-length-requires : tie.Need-length-requires
-length-requires c κs = search needs
-
-may-stand-requires : tie.Need-may-stand-requires
-may-stand-requires c κs = search needs
-
-digits-allowed-requires : tie.Need-digits-allowed-requires
-digits-allowed-requires c κs = search needs
-
-kind-as-requires : tie.Need-kind-as-requires
-kind-as-requires c κs = search needs
-
 -- rule 9 fails
 returns : tie.Need-returns
 unfolding resolutionOf
@@ -86,13 +68,13 @@ pub resolve-spec : {M : Type 1} → statement M
 resolve-spec =
     tie.close
     (tie.spec
-    agree-requires
+    (λ c κs. search needs)
     returns
-    annotation-requires
-    length-requires
-    may-stand-requires
+    (λ c κs. search needs)
+    (λ c κs. search needs)
+    (λ c κs. search needs)
     returns-2
-    digits-allowed-requires
+    (λ c κs. search needs)
     returns-3
-    kind-as-requires
+    (λ c κs. search needs)
     returns-4)
