@@ -7,11 +7,6 @@ use crate::converted;
 use crate::decimals::digits_allowed;
 use crate::decimals::is_decimal;
 use crate::logical;
-use crate::types::Annotation;
-use crate::types::LogicalType;
-use crate::spelling::a_of;
-use crate::spelling::b_of;
-use crate::spelling::code_of;
 use crate::physical;
 use crate::placement::may_stand;
 use crate::slot::Annotated;
@@ -19,6 +14,11 @@ use crate::slot::annotation;
 use crate::slot::length;
 use crate::slot::precision;
 use crate::slot::scale;
+use crate::spelling::a_of;
+use crate::spelling::b_of;
+use crate::spelling::code_of;
+use crate::types::Annotation;
+use crate::types::LogicalType;
 
 // A kind and its parameters, as a row has them: precision and scale, or a and b, else 0.
 pub struct Kind {

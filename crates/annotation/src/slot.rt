@@ -4,9 +4,9 @@ ghost use Rattle.annotation.specs.Signed.{natural};
 ghost use Rattle.annotation.specs.Meaning.{annotationOf, convertedAlone};
 use crate::conversion::backward;
 use crate::logical;
-use crate::types::Annotation;
 use crate::spelling::stated;
 use crate::spelling::valid_parameters;
+use crate::types::Annotation;
 
 pub struct Annotated {
     pub physical: u8,

@@ -1,5 +1,6 @@
-use Rattle.annotation.specs.Spelling.{namedOf}
-use borrow.Author.Tests.{ne-eqb}
+use Rattle.annotation.specs.declared.types.Annotation.{Annotation}
+use Rattle.annotation.specs.Spelling.{logicalTable, namedOf}
+use Rattle.annotation.proofs.TableLaws.{lookup-default}
 use borrow.Author.Needs.{needs}
 use Rattle.annotation.proofs.spelling.named.Statement.{statement}
 use Rattle.annotation.proofs.spelling.named.Tie as tie
@@ -25,4 +26,4 @@ named-spec =
     (λ c. rw (c .match .keys11))
     (λ c. rw (c .match .keys12))
     (λ c. rw (c .match .keys13))
-    (λ c. rw (ne-eqb _ _ (c .match .rest .0 .0 .0 .0 .0 .0 .0 .0 .0 .0 .0 .0 .1), ne-eqb _ _ (c .match .rest .0 .0 .0 .0 .0 .0 .0 .0 .0 .0 .0 .1), ne-eqb _ _ (c .match .rest .0 .0 .0 .0 .0 .0 .0 .0 .0 .0 .1), ne-eqb _ _ (c .match .rest .0 .0 .0 .0 .0 .0 .0 .0 .0 .1), ne-eqb _ _ (c .match .rest .0 .0 .0 .0 .0 .0 .0 .0 .1), ne-eqb _ _ (c .match .rest .0 .0 .0 .0 .0 .0 .0 .1), ne-eqb _ _ (c .match .rest .0 .0 .0 .0 .0 .0 .1), ne-eqb _ _ (c .match .rest .0 .0 .0 .0 .0 .1), ne-eqb _ _ (c .match .rest .0 .0 .0 .0 .1), ne-eqb _ _ (c .match .rest .0 .0 .0 .1), ne-eqb _ _ (c .match .rest .0 .0 .1), ne-eqb _ _ (c .match .rest .0 .1), ne-eqb _ _ (c .match .rest .1))))
+    (λ c. lookup-default (c .before .args .logical) (logicalTable (c .before .args .a) (c .before .args .b)) Annotation.Unreadable (c .match .rest)))
