@@ -1,3 +1,6 @@
--- Laws that the proofs cite.
+-- Laws that other crates cite, and those that the proofs here share.
+pub mod ConversionLaws
+pub mod OutcomeLaws
+pub mod RewritingLaws
 mod SignedLaws
 mod TableLaws
