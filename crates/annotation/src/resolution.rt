@@ -1,7 +1,7 @@
 // The outcome of a slot: its kind as rows have it, or the first of the rules 9, 10 and 11 that it breaks.
 ghost use mathlib.Core.Path.{_≡_};
 ghost use Rattle.annotation.specs.Kinds.{kindAs, plainKind, decimalKind, logicalKind};
-ghost use Rattle.annotation.specs.Outcome.{resolutionOf};
+ghost use Rattle.annotation.specs.Outcome.{resolutionOf, refusalOf};
 use crate::agreement::agree;
 use crate::converted;
 use crate::decimals::digits_allowed;
@@ -37,6 +37,16 @@ pub enum Resolution {
     BadDecimal,
 }
 
+// Document 01's numbers of the refusals.
+const NO_REFUSAL: u32 = 0;
+
+const DISAGREEMENT: u32 = 9;
+
+const MISPLACED: u32 = 10;
+
+const BAD_DECIMAL: u32 = 11;
+
+// The kinds of nodes without annotation.
 const PLAIN_LEAF: u32 = 0;
 
 const PLAIN_GROUP: u32 = 30;
@@ -57,6 +67,18 @@ pub fn resolve(n: Annotated, under_map: bool) -> Resolution
         return Resolution::BadDecimal;
     }
     Resolution::Resolved(kind_as(says, n))
+}
+
+// The number of a refusal: 9, 10 or 11, and 0 for a slot that resolves.
+pub fn refusal(r: Resolution) -> u32
+    ensures { λ number. ⌜ number ≡ refusalOf r ⌝ }
+{
+    match r {
+        Resolution::Resolved(_) => NO_REFUSAL,
+        Resolution::Disagreement => DISAGREEMENT,
+        Resolution::Misplaced => MISPLACED,
+        Resolution::BadDecimal => BAD_DECIMAL,
+    }
 }
 
 // The kind of an annotation on a slot.
