@@ -8,4 +8,4 @@ unfolding rule9
 returns c = rw (c .before .before .before .image .ensures, c .before .before .before .before .stated .ensures)
 
 pub agree-spec : {M : Type 1} → statement M
-agree-spec = tie.close (tie.spec (λ c κs. search needs) (λ c κs. search needs) returns)
+agree-spec = tie.close (tie.spec (λ c κs. tt) (λ c κs. search needs) returns)

@@ -2,9 +2,6 @@ use borrow.Author.Needs.{needs}
 use Rattle.annotation.proofs.conversion.forward.Statement.{statement}
 use Rattle.annotation.proofs.conversion.forward.Tie as tie
 
-returns-9 : tie.Need-returns-9
-returns-9 c = rw (c .before .before .l3 .given .1, c .forward-integer .ensures)
-
 pub forward-spec : {M : Type 1} → statement M
 forward-spec =
     tie.close
@@ -16,25 +13,25 @@ forward-spec =
     (λ c. search needs)
     (λ c. search needs)
     (λ c. search needs)
-    (λ c κs. search needs)
+    (λ c κs. tt)
     (λ c. search needs)
-    (λ c κs. search needs)
+    (λ c κs. tt)
     (λ c. search needs)
-    (λ c κs. search needs)
-    (λ c. search needs)
-    (λ c. search needs)
+    (λ c κs. tt)
     (λ c. search needs)
     (λ c. search needs)
     (λ c. search needs)
     (λ c. search needs)
-    (λ c. search needs)
-    (λ c. search needs)
-    (λ c. search needs)
-    (λ c. search needs)
-    (λ c. search needs)
-    (λ c. search needs)
-    returns-9
-    (λ c. search needs)
-    (λ c. search needs)
-    (λ c. search needs)
-    (λ c. search needs))
+    (λ c. rw (c .enum-told .given .1))
+    (λ c. rw (c .enum-told2 .given .1))
+    (λ c. rw (c .enum-told3 .given .1))
+    (λ c. rw (c .enum-told4 .given .1))
+    (λ c. rw (c .enum-told5 .given .1))
+    (λ c. rw (c .enum-told6 .given .1))
+    (λ c. rw (c .before .before .l .given .1, c .forward-time .ensures))
+    (λ c. rw (c .before .before .l2 .given .1, c .forward-timestamp .ensures))
+    (λ c. rw (c .before .before .l3 .given .1, c .forward-integer .ensures))
+    (λ c. rw (c .enum-told7 .given .1))
+    (λ c. rw (c .enum-told8 .given .1))
+    (λ c. rw (c .enum-told9 .given .1))
+    (λ c. rw (c .enum-told10 .given .1)))

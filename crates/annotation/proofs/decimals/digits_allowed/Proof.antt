@@ -6,4 +6,4 @@ returns : tie.Need-returns
 returns c = rw (c .before .is-decimal .ensures, c .decimal-holds .ensures)
 
 pub digits-allowed-spec : {M : Type 1} → statement M
-digits-allowed-spec = tie.close (tie.spec (λ c κs. search needs) (λ c κs. search needs) returns)
+digits-allowed-spec = tie.close (tie.spec (λ c κs. tt) (λ c κs. search needs) returns)

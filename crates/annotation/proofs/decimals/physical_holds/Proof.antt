@@ -22,4 +22,4 @@ returns-4 c = rw (ne-eqb _ _ (c .match .rest .0 .0 .1), ne-eqb _ _ (c .match .re
 
 pub physical-holds-spec : {M : Type 1} → statement M
 physical-holds-spec =
-    tie.close (tie.spec (λ c κs. search needs) returns returns-2 returns-3 returns-4)
+    tie.close (tie.spec (λ c κs. tt) returns returns-2 returns-3 returns-4)

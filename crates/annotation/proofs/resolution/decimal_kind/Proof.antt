@@ -6,4 +6,4 @@ returns : tie.Need-returns
 returns c = rw (c .before .precision .ensures, c .scale .ensures)
 
 pub decimal-kind-spec : {M : Type 1} → statement M
-decimal-kind-spec = tie.close (tie.spec (λ c. search needs) (λ c κs. search needs) (λ c κs. search needs) returns)
+decimal-kind-spec = tie.close (tie.spec (λ c. search needs) (λ c κs. tt) (λ c κs. search needs) returns)

@@ -7,4 +7,4 @@ returns c = rw (c .before .before .before .forward .ensures, c .before .before .
 
 pub logical-written-spec : {M : Type 1} → statement M
 logical-written-spec =
-    tie.close (tie.spec (λ c κs. search needs) (λ c κs. search needs) (λ c κs. search needs) (λ c κs. search needs) returns)
+    tie.close (tie.spec (λ c κs. tt) (λ c κs. search needs) (λ c κs. search needs) (λ c κs. search needs) returns)

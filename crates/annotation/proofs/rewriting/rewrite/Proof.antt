@@ -8,4 +8,4 @@ unfolding writtenOf
 returns c = rw (c .written-as .ensures, c .before .annotation .ensures)
 
 pub rewrite-spec : {M : Type 1} → statement M
-rewrite-spec = tie.close (tie.spec (λ c κs. search needs) (λ c κs. search needs) returns)
+rewrite-spec = tie.close (tie.spec (λ c κs. tt) (λ c κs. search needs) returns)

@@ -10,4 +10,4 @@ returns-2 c = rw (← c .before .valid-parameters .ensures, c .if1 .left)
 
 pub converted-alone-spec : {M : Type 1} → statement M
 converted-alone-spec =
-    tie.close (tie.spec (λ c κs. search needs) (λ c κs. search needs) returns returns-2)
+    tie.close (tie.spec (λ c κs. tt) (λ c κs. search needs) returns returns-2)

@@ -8,4 +8,4 @@ returns : tie.Need-returns
 returns c = rw (c .count .ensures, toZ-ofZ {w = w32} (record { sfits = c .before .struct-told .given .1 .0 .1 }))
 
 pub length-spec : {M : Type 1} → statement M
-length-spec = tie.close (tie.spec (λ c κs. search needs) returns)
+length-spec = tie.close (tie.spec (λ c κs. tt) returns)

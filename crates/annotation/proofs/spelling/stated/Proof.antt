@@ -12,4 +12,4 @@ unfolding statedOf
 returns-2 c = rw (← c .before .valid-parameters .ensures, c .if1 .left)
 
 pub stated-spec : {M : Type 1} → statement M
-stated-spec = tie.close (tie.spec (λ c κs. search needs) (λ c κs. search needs) returns returns-2)
+stated-spec = tie.close (tie.spec (λ c κs. tt) (λ c κs. search needs) returns returns-2)
