@@ -7,7 +7,7 @@ use native.Mathlib.Decide.{decLt}
 use mathlib.Core.Path.{_≡_, refl, sym, ap, _∙_}
 use mathlib.Core.Bool.{Bool, true, false, true≢false, _||_, _&&_}
 use lib.Dec.{eqb, T, eqb→eq}
-use borrow.Author.Tests.{eqb-true, eqb-false, ne-eqb}
+use borrow.Author.Tests.{eqb-false, ne-eqb}
 use Rattle.annotation.specs.Converted as converted
 use Rattle.annotation.specs.Logical as logical
 use Rattle.annotation.specs.Spelling.{codeOf}

@@ -1,9 +1,8 @@
 -- How three numbers of a slot (logical, a, b) spell a logical type with its parameters, and how they are read.
 use Prim.Native.Nat.{ℕ}
-use mathlib.Core.Bool.{Bool, cond}
+use mathlib.Core.Bool.{cond}
 use mathlib.Core.List.{List, [], _∷_}
 use Rattle.annotation.specs.Table.{lookup}
-use lib.Dec.{eqb}
 use Rattle.annotation.specs.Logical as logical
 use Rattle.annotation.specs.Parameters.{UNUSED, unitCode, bitWidthCode, flagCode, unitOf, bitWidthOf, flagOf, validParameters}
 use Rattle.annotation.specs.declared.types.LogicalType.{LogicalType}

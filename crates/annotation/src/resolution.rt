@@ -1,6 +1,6 @@
 // The outcome of a slot: its kind as rows have it, or the first of the rules 9, 10 and 11 that it breaks.
 ghost use mathlib.Core.Path.{_≡_};
-ghost use Rattle.annotation.specs.Kinds.{kindAs, plainKind, decimalKind, logicalKind};
+ghost use Rattle.annotation.specs.Kinds.{kindAs, bareKind, plainKind, decimalKind, logicalKind};
 ghost use Rattle.annotation.specs.Outcome.{resolutionOf, refusalOf};
 use crate::agreement::agree;
 use crate::converted;
@@ -94,11 +94,7 @@ fn kind_as(says: Annotation, n: Annotated) -> Kind
                 logical_kind(l)
             }
         }
-        Annotation::Interval => Kind {
-            kind: converted::INTERVAL as u32,
-            p1: 0,
-            p2: 0,
-        },
+        Annotation::Interval => bare_kind(wide(converted::INTERVAL)),
         Annotation::Unreadable => plain_kind(n.physical),
     }
 }
@@ -107,17 +103,9 @@ fn plain_kind(physical: u8) -> Kind
     ensures { λ r. ⌜ r ≡ plainKind physical ⌝ }
 {
     if physical == physical::GROUP {
-        Kind {
-            kind: PLAIN_GROUP,
-            p1: 0,
-            p2: 0,
-        }
+        bare_kind(PLAIN_GROUP)
     } else {
-        Kind {
-            kind: PLAIN_LEAF,
-            p1: 0,
-            p2: 0,
-        }
+        bare_kind(PLAIN_LEAF)
     }
 }
 
@@ -125,7 +113,7 @@ fn decimal_kind(n: Annotated) -> Kind
     ensures { λ r. ⌜ r ≡ decimalKind n ⌝ }
 {
     Kind {
-        kind: logical::DECIMAL as u32,
+        kind: wide(logical::DECIMAL),
         p1: precision(n),
         p2: scale(n),
     }
@@ -139,6 +127,13 @@ fn logical_kind(l: LogicalType) -> Kind
         p1: wide(a_of(l)),
         p2: wide(b_of(l)),
     }
+}
+
+// A kind without parameters.
+fn bare_kind(kind: u32) -> Kind
+    ensures { λ r. ⌜ r ≡ bareKind kind ⌝ }
+{
+    Kind { kind, p1: 0, p2: 0 }
 }
 
 fn wide(x: u8) -> u32

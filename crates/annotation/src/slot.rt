@@ -8,6 +8,7 @@ use crate::spelling::stated;
 use crate::spelling::valid_parameters;
 use crate::types::Annotation;
 
+// Physical GROUP is a group, converted NONE and logical NONE are no annotation; any other number may stand in a field.
 pub struct Annotated {
     pub physical: u8,
     pub type_length: i32,

@@ -1,3 +1,5 @@
+-- `annotation::conversion::forward` meets its contract: each arm knows the logical type, and those with parameters what their own function ensures.
+-- Assumes nothing.
 use borrow.Author.Needs.{needs}
 use Rattle.annotation.proofs.conversion.forward.Statement.{statement}
 use Rattle.annotation.proofs.conversion.forward.Tie as tie

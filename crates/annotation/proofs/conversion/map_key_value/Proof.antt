@@ -1,3 +1,5 @@
+-- `annotation::conversion::map_key_value` meets its contract: the two branches are the definition's two cases.
+-- Assumes nothing.
 use borrow.Author.Needs.{needs}
 use Rattle.annotation.proofs.conversion.map_key_value.Statement.{statement}
 use Rattle.annotation.proofs.conversion.map_key_value.Tie as tie

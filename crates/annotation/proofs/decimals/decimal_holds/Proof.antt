@@ -1,5 +1,6 @@
+-- `annotation::decimals::decimal_holds` meets its contract: its result is the definition, by what its four callees ensure.
+-- Assumes nothing.
 use Rattle.annotation.specs.Rule11.{decimalHolds}
-use borrow.Author.Needs.{needs}
 use Rattle.annotation.proofs.decimals.decimal_holds.Statement.{statement}
 use Rattle.annotation.proofs.decimals.decimal_holds.Tie as tie
 

@@ -1,4 +1,5 @@
-use borrow.Author.Needs.{needs}
+-- `annotation::decimals::fixed_holds` meets its contract: its result is the definition, with the table of `decimal`.
+-- Assumes nothing.
 use Rattle.annotation.proofs.decimals.fixed_holds.Statement.{statement}
 use Rattle.annotation.proofs.decimals.fixed_holds.Tie as tie
 

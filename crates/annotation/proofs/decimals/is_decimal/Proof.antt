@@ -1,3 +1,5 @@
+-- `annotation::decimals::is_decimal` meets its contract: the arm of a logical type knows it, and its code.
+-- Assumes nothing.
 use borrow.Author.Needs.{needs}
 use Rattle.annotation.proofs.decimals.is_decimal.Statement.{statement}
 use Rattle.annotation.proofs.decimals.is_decimal.Tie as tie

@@ -1,6 +1,7 @@
+-- `annotation::decimals::is_ordered` meets its contract: the two fields are passed as bits, whose numbers they are again.
+-- Assumes nothing.
 use mir.Facts.{toZ-ofZ}
 use mir.Syntax.{w32}
-use borrow.Author.Needs.{needs}
 use Rattle.annotation.proofs.decimals.is_ordered.Statement.{statement}
 use Rattle.annotation.proofs.decimals.is_ordered.Tie as tie
 

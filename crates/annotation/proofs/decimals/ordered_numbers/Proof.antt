@@ -1,6 +1,8 @@
-use Rattle.annotation.specs.Rule11.{ordered}
+-- `annotation::decimals::ordered_numbers` meets its contract: the two parameters' bits have their numbers.
+-- Assumes nothing.
 use mir.Facts.{toZ-ofZ}
 use mir.Syntax.{w32}
+use Rattle.annotation.specs.Rule11.{ordered}
 use Rattle.annotation.proofs.decimals.ordered_numbers.Statement.{statement}
 use Rattle.annotation.proofs.decimals.ordered_numbers.Tie as tie
 

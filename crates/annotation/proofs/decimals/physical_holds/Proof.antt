@@ -1,6 +1,7 @@
-use Rattle.annotation.specs.Rule11.{physicalHolds}
+-- `annotation::decimals::physical_holds` meets its contract: each arm knows the code, and the last that it is none of the three.
+-- Assumes nothing.
 use borrow.Author.Tests.{ne-eqb}
-use borrow.Author.Needs.{needs}
+use Rattle.annotation.specs.Rule11.{physicalHolds}
 use Rattle.annotation.proofs.decimals.physical_holds.Statement.{statement}
 use Rattle.annotation.proofs.decimals.physical_holds.Tie as tie
 

@@ -1,3 +1,5 @@
+-- `annotation::placement::logical_on` meets its contract: each arm knows the logical type, and what its callee ensures.
+-- Assumes nothing.
 use borrow.Author.Needs.{needs}
 use Rattle.annotation.proofs.placement.logical_on.Statement.{statement}
 use Rattle.annotation.proofs.placement.logical_on.Tie as tie

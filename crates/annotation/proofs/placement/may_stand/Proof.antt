@@ -1,3 +1,5 @@
+-- `annotation::placement::may_stand` meets its contract: each arm knows the annotation, and what its callee ensures.
+-- Assumes nothing.
 use borrow.Author.Needs.{needs}
 use Rattle.annotation.proofs.placement.may_stand.Statement.{statement}
 use Rattle.annotation.proofs.placement.may_stand.Tie as tie

@@ -1,4 +1,5 @@
-use borrow.Author.Needs.{needs}
+-- `annotation::resolution::logical_kind` meets its contract: each number is what its callees ensure.
+-- Assumes nothing.
 use Rattle.annotation.proofs.resolution.logical_kind.Statement.{statement}
 use Rattle.annotation.proofs.resolution.logical_kind.Tie as tie
 

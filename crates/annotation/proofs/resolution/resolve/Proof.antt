@@ -1,10 +1,7 @@
--- `annotation::resolve` meets its contract: each test answers the rule of its number, and the first that fails is returned.
+-- `annotation::resolution::resolve` meets its contract: each test answers the rule of its number, and the first that fails is returned.
 -- Assumes nothing.
 use mathlib.Core.Path.{_≡_, sym, _∙_}
-use mathlib.Core.Bool.{true, false}
-use borrow.Author.Needs.{needs}
 use borrow.Author.Tests.{not-true, not-false}
-use Rattle.annotation.specs.Rule9.{rule9}
 use Rattle.annotation.specs.Rule10.{rule10}
 use Rattle.annotation.specs.Rule11.{rule11}
 use Rattle.annotation.specs.Kinds.{kindOf}

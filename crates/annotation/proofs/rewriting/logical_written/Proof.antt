@@ -1,3 +1,5 @@
+-- `annotation::rewriting::logical_written` meets its contract: each number is what its callee ensures.
+-- Assumes nothing.
 use borrow.Author.Needs.{needs}
 use Rattle.annotation.proofs.rewriting.logical_written.Statement.{statement}
 use Rattle.annotation.proofs.rewriting.logical_written.Tie as tie
@@ -7,4 +9,4 @@ returns c = rw (c .before .before .before .forward .ensures, c .before .before .
 
 pub logical-written-spec : {M : Type 1} → statement M
 logical-written-spec =
-    tie.close (tie.spec (λ c κs. tt) (λ c κs. search needs) (λ c κs. search needs) (λ c κs. search needs) returns)
+    tie.close (tie.spec (λ c κs. tt) (λ c κs. tt) (λ c κs. search needs) (λ c κs. search needs) returns)

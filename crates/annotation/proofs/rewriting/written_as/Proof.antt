@@ -1,3 +1,5 @@
+-- `annotation::rewriting::written_as` meets its contract: each arm knows the annotation, and what its callee ensures.
+-- Assumes nothing.
 use borrow.Author.Needs.{needs}
 use Rattle.annotation.proofs.rewriting.written_as.Statement.{statement}
 use Rattle.annotation.proofs.rewriting.written_as.Tie as tie

@@ -1,7 +1,9 @@
+-- `annotation::slot::count` meets its contract: the parameter's bits have its number, which the branch knows to be negative or not.
+-- Assumes nothing.
 use mir.Facts.{fits-natAbs}
-use Rattle.annotation.proofs.SignedLaws.{natural-negative, natural-size, not-negative}
 use mir.Facts.{toZ-ofZ}
 use mir.Syntax.{w32}
+use Rattle.annotation.proofs.SignedLaws.{natural-negative, natural-size, not-negative}
 use Rattle.annotation.proofs.slot.count.Statement.{statement}
 use Rattle.annotation.proofs.slot.count.Tie as tie
 

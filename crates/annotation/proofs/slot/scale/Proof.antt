@@ -1,6 +1,7 @@
+-- `annotation::slot::scale` meets its contract: the field is passed as bits, whose number it is again.
+-- Assumes nothing.
 use mir.Facts.{toZ-ofZ}
 use mir.Syntax.{w32}
-use borrow.Author.Needs.{needs}
 use Rattle.annotation.proofs.slot.scale.Statement.{statement}
 use Rattle.annotation.proofs.slot.scale.Tie as tie
 

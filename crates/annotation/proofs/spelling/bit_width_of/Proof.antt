@@ -1,5 +1,7 @@
-use Rattle.annotation.specs.Parameters.{bitWidthOf}
+-- `annotation::spelling::bit_width_of` meets its contract: each arm knows the code, and the last that it is none of the others.
+-- Assumes nothing.
 use borrow.Author.Tests.{ne-eqb}
+use Rattle.annotation.specs.Parameters.{bitWidthOf}
 use Rattle.annotation.proofs.spelling.bit_width_of.Statement.{statement}
 use Rattle.annotation.proofs.spelling.bit_width_of.Tie as tie
 

@@ -1,7 +1,8 @@
-use Rattle.annotation.specs.declared.types.Annotation.{Annotation}
+-- `annotation::spelling::named` meets its contract: each arm knows the code, and the last that it is none of the table's.
+-- Assumes nothing.
 use Rattle.annotation.specs.Spelling.{logicalTable, namedOf}
+use Rattle.annotation.specs.declared.types.Annotation.{Annotation}
 use Rattle.annotation.proofs.TableLaws.{lookup-default}
-use borrow.Author.Needs.{needs}
 use Rattle.annotation.proofs.spelling.named.Statement.{statement}
 use Rattle.annotation.proofs.spelling.named.Tie as tie
 

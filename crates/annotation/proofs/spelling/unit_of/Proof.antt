@@ -1,3 +1,5 @@
+-- `annotation::spelling::unit_of` meets its contract: each arm knows the code, and the last that it is none of the others.
+-- Assumes nothing.
 use borrow.Author.Tests.{ne-eqb}
 use Rattle.annotation.specs.Parameters.{unitOf}
 use Rattle.annotation.proofs.spelling.unit_of.Statement.{statement}

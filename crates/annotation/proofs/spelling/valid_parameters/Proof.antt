@@ -1,6 +1,7 @@
-use Rattle.annotation.specs.Parameters.{validParameters}
+-- `annotation::spelling::valid_parameters` meets its contract: each return rewrites with the tests that led there.
+-- Assumes nothing.
 use borrow.Author.Tests.{ne-eqb}
-use borrow.Author.Needs.{needs}
+use Rattle.annotation.specs.Parameters.{validParameters}
 use Rattle.annotation.proofs.spelling.valid_parameters.Statement.{statement}
 use Rattle.annotation.proofs.spelling.valid_parameters.Tie as tie
 

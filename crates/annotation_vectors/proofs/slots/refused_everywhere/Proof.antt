@@ -1,3 +1,5 @@
+-- `annotation_vectors::slots::refused_everywhere` is safe and ends: the loop counts up to its bound.
+-- Assumes nothing.
 use Prim.Native.Nat.{_≤_, _-_}
 use borrow.Author.Needs.{needs}
 use Rattle.annotation_vectors.proofs.slots.refused_everywhere.Statement.{statement}
