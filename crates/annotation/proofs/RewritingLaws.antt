@@ -4,11 +4,11 @@ use Prim.Native.Nat.{ℕ}
 use mathlib.Core.Path.{_≡_, refl, sym, ap, _∙_}
 use mathlib.Core.Bool.{Bool, true, false, true≢false, cond, _||_, or-true}
 use lib.Dec.{eqb}
-use borrow.Author.Tests.{eq-eqb, eqb-true}
+use borrow.Author.Tests.{eq-eqb, eqb-true, eqb-false}
 use Rattle.annotation.specs.Converted as converted
 use Rattle.annotation.specs.Logical as logical
-use Rattle.annotation.specs.Parameters.{unitOf, bitWidthOf, flagOf, unitCode, bitWidthCode, flagCode, validUnit, validBitWidth, validFlag, validParameters}
-use Rattle.annotation.specs.Spelling.{codeOf, aOf, bOf, namedOf, statedOf}
+use Rattle.annotation.specs.Parameters.{validParameters}
+use Rattle.annotation.specs.Spelling.{codeOf, namedOf, statedOf}
 use Rattle.annotation.specs.Signed.{natural}
 use Rattle.annotation.specs.Forward.{forwardOf, imageOf}
 use Rattle.annotation.specs.Backward.{backwardOf}
@@ -16,11 +16,9 @@ use Rattle.annotation.specs.Meaning.{annotationOf}
 use Rattle.annotation.specs.Rule9.{rule9}
 use Rattle.annotation.specs.Rule10.{annotationOn, rule10}
 use Rattle.annotation.specs.Rule11.{isDecimal, decimalHolds, rule11}
-use Rattle.annotation.specs.Kinds.{kindOf, kindAs}
+use Rattle.annotation.specs.Kinds.{PLAIN-GROUP, kindAs, kindOf}
 use Rattle.annotation.specs.Outcome.{resolutionOf}
 use Rattle.annotation.specs.Rewriting.{writtenAs, writtenOf, withWritten, rewritten}
-use Rattle.annotation.specs.declared.types.TimeUnit.{TimeUnit}
-use Rattle.annotation.specs.declared.types.BitWidth.{BitWidth}
 use Rattle.annotation.specs.declared.types.LogicalType.{LogicalType}
 use Rattle.annotation.specs.declared.types.Annotation.{Annotation}
 use Rattle.annotation.specs.declared.slot.Annotated.{Annotated}
@@ -28,77 +26,9 @@ use Rattle.annotation.specs.declared.resolution.Kind.{Kind}
 use Rattle.annotation.specs.declared.resolution.Resolution.{Resolution}
 use Rattle.annotation.specs.declared.rewriting.Written.{Written}
 use Rattle.annotation.proofs.ConversionLaws.{forward-decimal}
+use Rattle.annotation.proofs.SpellingLaws.{stated-spelled, code-stands}
+use Rattle.annotation.proofs.PlacementLaws.{kind-logical}
 use Rattle.annotation.proofs.OutcomeLaws.{resolved-of-keeps, keeps-of-resolved, kind-of-resolved}
-
--- parameters that are spelled are read as they were
-
-unit-read : (unit : TimeUnit) → unitOf (unitCode unit) ≡ unit
-unfolding unitOf
-unit-read TimeUnit.Millis = refl
-unit-read TimeUnit.Micros = refl
-unit-read TimeUnit.Nanos = refl
-
-bit-width-read : (width : BitWidth) → bitWidthOf (bitWidthCode width) ≡ width
-unfolding bitWidthOf
-bit-width-read BitWidth.Bits8 = refl
-bit-width-read BitWidth.Bits16 = refl
-bit-width-read BitWidth.Bits32 = refl
-bit-width-read BitWidth.Bits64 = refl
-
-flag-read : (flag : Bool) → flagOf (flagCode flag) ≡ flag
-flag-read true = refl
-flag-read false = refl
-
--- and they are valid
-
-unit-valid : (unit : TimeUnit) → validUnit (unitCode unit) ≡ true
-unit-valid TimeUnit.Millis = refl
-unit-valid TimeUnit.Micros = refl
-unit-valid TimeUnit.Nanos = refl
-
-bit-width-valid : (width : BitWidth) → validBitWidth (bitWidthCode width) ≡ true
-bit-width-valid BitWidth.Bits8 = refl
-bit-width-valid BitWidth.Bits16 = refl
-bit-width-valid BitWidth.Bits32 = refl
-bit-width-valid BitWidth.Bits64 = refl
-
-flag-valid : (flag : Bool) → validFlag (flagCode flag) ≡ true
-flag-valid true = refl
-flag-valid false = refl
-
--- a logical type that is spelled is read as it was
-pub stated-spelled : (l : LogicalType) → statedOf (codeOf l) (aOf l) (bOf l) ≡ Annotation.Logical l
-unfolding statedOf validParameters namedOf
-stated-spelled LogicalType.String = refl
-stated-spelled LogicalType.Map = refl
-stated-spelled LogicalType.List = refl
-stated-spelled LogicalType.Enum = refl
-stated-spelled LogicalType.Decimal = refl
-stated-spelled LogicalType.Date = refl
-stated-spelled (LogicalType.Time unit utc) = rw (unit-valid unit, flag-valid utc, unit-read unit, flag-read utc)
-stated-spelled (LogicalType.Timestamp unit utc) = rw (unit-valid unit, flag-valid utc, unit-read unit, flag-read utc)
-stated-spelled (LogicalType.Integer width signed) =
-    rw (bit-width-valid width, flag-valid signed, bit-width-read width, flag-read signed)
-stated-spelled LogicalType.Unknown = refl
-stated-spelled LogicalType.Json = refl
-stated-spelled LogicalType.Bson = refl
-stated-spelled LogicalType.Uuid = refl
-
--- the code of a logical type says that one stands
-code-stands : (l : LogicalType) → eqb (codeOf l) logical.NONE ≡ false
-code-stands LogicalType.String = refl
-code-stands LogicalType.Map = refl
-code-stands LogicalType.List = refl
-code-stands LogicalType.Enum = refl
-code-stands LogicalType.Decimal = refl
-code-stands LogicalType.Date = refl
-code-stands (LogicalType.Time unit utc) = refl
-code-stands (LogicalType.Timestamp unit utc) = refl
-code-stands (LogicalType.Integer width signed) = refl
-code-stands LogicalType.Unknown = refl
-code-stands LogicalType.Json = refl
-code-stands LogicalType.Bson = refl
-code-stands LogicalType.Uuid = refl
 
 -- an annotation as it is after rewriting: what cannot be read is written as none
 abbrev settled : Annotation → Annotation
@@ -111,7 +41,7 @@ settled Annotation.Unreadable = Annotation.Plain
 annotation-written : (says : Annotation) (n : Annotated) (underMap : Bool) → annotationOf (withWritten n (writtenAs says)) underMap ≡ settled says
 unfolding annotationOf validParameters backwardOf
 annotation-written Annotation.Plain n underMap = refl
-annotation-written (Annotation.Logical l) n underMap = rw (code-stands l) (stated-spelled l)
+annotation-written (Annotation.Logical l) n underMap = rw (code-stands l .0) (stated-spelled l)
 annotation-written Annotation.Interval n underMap = refl
 annotation-written Annotation.Unreadable n underMap = refl
 
@@ -182,6 +112,18 @@ written-plain n underMap c l = rw (l, c) (plain-either (validParameters logical.
     plain-either : (valid : Bool) → writtenAs (cond valid Annotation.Plain Annotation.Unreadable) ≡ writtenAs Annotation.Plain
     plain-either true = refl
     plain-either false = refl
+
+-- a plain group is written without annotation, also where MAP_KEY_VALUE stood on it
+pub written-plain-group : (n : Annotated) (underMap : Bool) → kindOf n underMap .kind ≡ PLAIN-GROUP → writtenOf n underMap ≡ writtenAs Annotation.Plain
+unfolding kindOf writtenOf
+written-plain-group n underMap e = by-kind (annotationOf n underMap) e
+  where
+    by-kind : (says : Annotation) → kindAs says n .kind ≡ PLAIN-GROUP → writtenAs says ≡ writtenAs Annotation.Plain
+    by-kind Annotation.Plain h = refl
+    by-kind (Annotation.Logical l) h =
+        absurd (eqb-false (codeOf l) PLAIN-GROUP (code-stands l .1) (sym (kind-logical l n) ∙ h))
+    by-kind Annotation.Interval h = absurd (eqb-false converted.INTERVAL PLAIN-GROUP refl h)
+    by-kind Annotation.Unreadable h = refl
 
 -- DECIMAL where it can be read, and nothing readable elsewhere, is DECIMAL where rule 10 lets it stand
 decimal-read : (valid : Bool) (code length : ℕ) → annotationOn (cond valid (Annotation.Logical LogicalType.Decimal) Annotation.Unreadable) code length ≡ true → isDecimal (cond valid (Annotation.Logical LogicalType.Decimal) Annotation.Unreadable) ≡ true
