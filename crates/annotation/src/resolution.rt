@@ -112,11 +112,10 @@ fn plain_kind(physical: u8) -> Kind
 fn decimal_kind(n: Annotated) -> Kind
     ensures { λ r. ⌜ r ≡ decimalKind n ⌝ }
 {
-    Kind {
-        kind: wide(logical::DECIMAL),
-        p1: precision(n),
-        p2: scale(n),
-    }
+    let kind = wide(logical::DECIMAL);
+    let p1 = precision(n);
+    let p2 = scale(n);
+    Kind { kind, p1, p2 }
 }
 
 fn logical_kind(l: LogicalType) -> Kind
