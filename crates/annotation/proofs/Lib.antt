@@ -1,2 +1,8 @@
--- Laws that the proofs cite.
+-- Laws that other crates cite, and those that the proofs here share.
+pub mod ConversionLaws
+pub mod OutcomeLaws
+pub mod PlacementLaws
+pub mod RewritingLaws
 mod SignedLaws
+pub mod SpellingLaws
+mod TableLaws

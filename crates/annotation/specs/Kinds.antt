@@ -22,16 +22,19 @@ PLAIN-LEAF = 0
 abbrev pub PLAIN-GROUP : ℕ
 PLAIN-GROUP = 30
 
+-- a kind without parameters: "else 0"
+abbrev pub bareKind : ℕ → Kind
+bareKind code = record { kind = code; p1 = 0; p2 = 0 }
+
 -- a node without annotation
 abbrev pub plainKind : ℕ → Kind
-plainKind code =
-    cond (eqb code physical.GROUP) (record { kind = PLAIN-GROUP; p1 = 0; p2 = 0 }) (record { kind = PLAIN-LEAF; p1 = 0; p2 = 0 })
+plainKind code = cond (eqb code physical.GROUP) (bareKind PLAIN-GROUP) (bareKind PLAIN-LEAF)
 
 -- "p1, p2: precision and scale"
 abbrev pub decimalKind : Annotated → Kind
 decimalKind n = record { kind = logical.DECIMAL; p1 = natural (n .precision); p2 = natural (n .scale) }
 
--- "or a and b, else 0"
+-- "or a and b"
 abbrev pub logicalKind : LogicalType → Kind
 logicalKind l = record { kind = codeOf l; p1 = aOf l; p2 = bOf l }
 
@@ -39,7 +42,7 @@ logicalKind l = record { kind = codeOf l; p1 = aOf l; p2 = bOf l }
 abbrev pub kindAs : Annotation → Annotated → Kind
 kindAs Annotation.Plain n = plainKind (n .physical)
 kindAs (Annotation.Logical l) n = cond (isDecimal (Annotation.Logical l)) (decimalKind n) (logicalKind l)
-kindAs Annotation.Interval n = record { kind = converted.INTERVAL; p1 = 0; p2 = 0 }
+kindAs Annotation.Interval n = bareKind converted.INTERVAL
 kindAs Annotation.Unreadable n = plainKind (n .physical)
 
 -- the kind of a slot, whatever else is wrong with it

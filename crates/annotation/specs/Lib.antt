@@ -1,4 +1,5 @@
 -- What the contracts of `annotation` cite, in the order of document 01.
+pub mod Table
 pub mod Physical
 pub mod Converted
 pub mod Logical

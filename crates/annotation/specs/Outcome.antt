@@ -18,7 +18,7 @@ resolutionOf n underMap =
     Resolution.Disagreement
 
 -- the number of each refusal, and 0 of none (01, "Numbered refusals")
-unfoldable pub refusalOf : Resolution → ℕ
+abbrev pub refusalOf : Resolution → ℕ
 refusalOf (Resolution.Resolved k) = 0
 refusalOf Resolution.Disagreement = 9
 refusalOf Resolution.Misplaced = 10

@@ -28,29 +28,33 @@ flagCode false = 0
 abbrev pub UNUSED : ℕ
 UNUSED = 0
 
--- whether a number is the code of a bit width, of a unit, of a truth value
+-- whether a number is the code of a bit width
 abbrev pub validBitWidth : ℕ → Bool
 validBitWidth a =
     eqb a (bitWidthCode BitWidth.Bits8) || eqb a (bitWidthCode BitWidth.Bits16) || eqb a (bitWidthCode BitWidth.Bits32) || eqb a (bitWidthCode BitWidth.Bits64)
 
+-- whether a number is the code of a unit
 abbrev pub validUnit : ℕ → Bool
 validUnit a = eqb a (unitCode TimeUnit.Millis) || eqb a (unitCode TimeUnit.Micros) || eqb a (unitCode TimeUnit.Nanos)
 
+-- whether a number is the code of a truth value
 abbrev pub validFlag : ℕ → Bool
 validFlag b = eqb b (flagCode false) || eqb b (flagCode true)
 
--- the bit width, the unit and the truth value of a valid code
+-- the bit width of a valid code
 unfoldable pub bitWidthOf : ℕ → BitWidth
 bitWidthOf a =
     cond (eqb a (bitWidthCode BitWidth.Bits8)) BitWidth.Bits8
     (cond (eqb a (bitWidthCode BitWidth.Bits16)) BitWidth.Bits16
     (cond (eqb a (bitWidthCode BitWidth.Bits32)) BitWidth.Bits32 BitWidth.Bits64))
 
+-- the unit of a valid code
 unfoldable pub unitOf : ℕ → TimeUnit
 unitOf a =
     cond (eqb a (unitCode TimeUnit.Millis)) TimeUnit.Millis
     (cond (eqb a (unitCode TimeUnit.Micros)) TimeUnit.Micros TimeUnit.Nanos)
 
+-- the truth value of a valid code
 abbrev pub flagOf : ℕ → Bool
 flagOf b = eqb b (flagCode true)
 

@@ -32,16 +32,20 @@ writtenAs Annotation.Unreadable = convertedWritten converted.NONE
 unfoldable pub writtenOf : Annotated → Bool → Written
 writtenOf n underMap = writtenAs (annotationOf n underMap)
 
--- the slot's numbers with what is written: "All else .. is copied"
-unfoldable pub rewritten : Annotated → Bool → Annotated
-rewritten n underMap =
+-- a slot's numbers with others for its annotations: "All else .. is copied"
+abbrev pub withWritten : Annotated → Written → Annotated
+withWritten n w =
     record {
       physical = n .physical;
       «type_length» = n .«type_length»;
-      converted = writtenOf n underMap .converted;
-      logical = writtenOf n underMap .logical;
-      a = writtenOf n underMap .a;
-      b = writtenOf n underMap .b;
+      converted = w .converted;
+      logical = w .logical;
+      a = w .a;
+      b = w .b;
       scale = n .scale;
       precision = n .precision;
     }
+
+-- a slot's numbers as the rewritten sheet has them
+unfoldable pub rewritten : Annotated → Bool → Annotated
+rewritten n underMap = withWritten n (writtenOf n underMap)

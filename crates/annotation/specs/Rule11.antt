@@ -4,6 +4,7 @@ use mathlib.Core.Bool.{Bool, true, false, not, cond, _&&_, _||_}
 use lib.Dec.{eqb, leb}
 use lib.IntN.{ℤ, pos}
 use lib.Signed.{leZ, ltZ}
+use Rattle.decimal.specs.Precision.{isLength, greatestPrecision}
 use Rattle.annotation.specs.Physical as physical
 use Rattle.annotation.specs.Logical as logical
 use Rattle.annotation.specs.Spelling.{codeOf}
@@ -11,7 +12,6 @@ use Rattle.annotation.specs.Signed.{natural}
 use Rattle.annotation.specs.Meaning.{annotationOf}
 use Rattle.annotation.specs.declared.types.Annotation.{Annotation}
 use Rattle.annotation.specs.declared.slot.Annotated.{Annotated}
-use Rattle.decimal.specs.Precision.{isLength, greatestPrecision}
 
 -- "INT32: precision to 9"
 abbrev pub INT32-DIGITS : ℕ

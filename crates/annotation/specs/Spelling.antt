@@ -1,7 +1,8 @@
 -- How three numbers of a slot (logical, a, b) spell a logical type with its parameters, and how they are read.
 use Prim.Native.Nat.{ℕ}
-use mathlib.Core.Bool.{Bool, cond}
-use lib.Dec.{eqb}
+use mathlib.Core.Bool.{cond}
+use mathlib.Core.List.{List, [], _∷_}
+use Rattle.annotation.specs.Table.{lookup}
 use Rattle.annotation.specs.Logical as logical
 use Rattle.annotation.specs.Parameters.{UNUSED, unitCode, bitWidthCode, flagCode, unitOf, bitWidthOf, flagOf, validParameters}
 use Rattle.annotation.specs.declared.types.LogicalType.{LogicalType}
@@ -55,22 +56,27 @@ bOf LogicalType.Json = UNUSED
 bOf LogicalType.Bson = UNUSED
 bOf LogicalType.Uuid = UNUSED
 
+-- the logical type of each code, with parameters as they stand
+abbrev pub logicalTable : ℕ → ℕ → List (ℕ × Annotation)
+logicalTable a b =
+    (logical.STRING, Annotation.Logical LogicalType.String)
+    ∷ (logical.MAP, Annotation.Logical LogicalType.Map)
+    ∷ (logical.LIST, Annotation.Logical LogicalType.List)
+    ∷ (logical.ENUM, Annotation.Logical LogicalType.Enum)
+    ∷ (logical.DECIMAL, Annotation.Logical LogicalType.Decimal)
+    ∷ (logical.DATE, Annotation.Logical LogicalType.Date)
+    ∷ (logical.TIME, Annotation.Logical (LogicalType.Time (unitOf a) (flagOf b)))
+    ∷ (logical.TIMESTAMP, Annotation.Logical (LogicalType.Timestamp (unitOf a) (flagOf b)))
+    ∷ (logical.INTEGER, Annotation.Logical (LogicalType.Integer (bitWidthOf a) (flagOf b)))
+    ∷ (logical.UNKNOWN, Annotation.Logical LogicalType.Unknown)
+    ∷ (logical.JSON, Annotation.Logical LogicalType.Json)
+    ∷ (logical.BSON, Annotation.Logical LogicalType.Bson)
+    ∷ (logical.UUID, Annotation.Logical LogicalType.Uuid)
+    ∷ []
+
 -- the logical type of a code, with parameters as they stand; a code outside the list is unreadable
 unfoldable pub namedOf : ℕ → ℕ → ℕ → Annotation
-namedOf code a b =
-    cond (eqb code logical.STRING) (Annotation.Logical LogicalType.String)
-    (cond (eqb code logical.MAP) (Annotation.Logical LogicalType.Map)
-    (cond (eqb code logical.LIST) (Annotation.Logical LogicalType.List)
-    (cond (eqb code logical.ENUM) (Annotation.Logical LogicalType.Enum)
-    (cond (eqb code logical.DECIMAL) (Annotation.Logical LogicalType.Decimal)
-    (cond (eqb code logical.DATE) (Annotation.Logical LogicalType.Date)
-    (cond (eqb code logical.TIME) (Annotation.Logical (LogicalType.Time (unitOf a) (flagOf b)))
-    (cond (eqb code logical.TIMESTAMP) (Annotation.Logical (LogicalType.Timestamp (unitOf a) (flagOf b)))
-    (cond (eqb code logical.INTEGER) (Annotation.Logical (LogicalType.Integer (bitWidthOf a) (flagOf b)))
-    (cond (eqb code logical.UNKNOWN) (Annotation.Logical LogicalType.Unknown)
-    (cond (eqb code logical.JSON) (Annotation.Logical LogicalType.Json)
-    (cond (eqb code logical.BSON) (Annotation.Logical LogicalType.Bson)
-    (cond (eqb code logical.UUID) (Annotation.Logical LogicalType.Uuid) Annotation.Unreadable))))))))))))
+namedOf code a b = lookup code (logicalTable a b) Annotation.Unreadable
 
 -- what a logical code says with its parameters: nothing readable where the type does not take them
 unfoldable pub statedOf : ℕ → ℕ → ℕ → Annotation

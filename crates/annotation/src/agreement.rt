@@ -4,8 +4,8 @@ ghost use Rattle.annotation.specs.Rule9.{rule9};
 use crate::conversion::image;
 use crate::converted;
 use crate::logical;
-use crate::spelling::stated;
 use crate::slot::Annotated;
+use crate::spelling::stated;
 
 // Whether, where both annotations stand, converted is the forward image of logical.
 pub fn agree(n: Annotated) -> bool

@@ -2,12 +2,12 @@
 ghost use mathlib.Core.Path.{_≡_};
 ghost use Rattle.annotation.specs.Rule11.{digitsAllowed, isDecimal, decimalHolds, ordered, physicalHolds, fixedHolds};
 use crate::logical;
-use crate::types::Annotation;
-use crate::spelling::code_of;
 use crate::physical;
 use crate::slot::Annotated;
 use crate::slot::length;
 use crate::slot::precision;
+use crate::spelling::code_of;
+use crate::types::Annotation;
 use decimal::precision::GREATEST_LENGTH;
 use decimal::precision::greatest_precision;
 

@@ -16,6 +16,7 @@ mod types; // logical types with their parameters
 
 pub use resolution::Kind;
 pub use resolution::Resolution;
+pub use resolution::refusal;
 pub use resolution::resolve;
 pub use resolution::resolved_kind;
 pub use rewriting::Written;

@@ -1,11 +1,11 @@
 // Rule 10: each annotation on its physical type and length.
 ghost use mathlib.Core.Path.{_≡_};
 ghost use Rattle.annotation.specs.Rule10.{annotationOn, logicalOn, decimalOn, integerPhysical, timePhysical, isFixed};
+use crate::physical;
 use crate::types::Annotation;
 use crate::types::BitWidth;
 use crate::types::LogicalType;
 use crate::types::TimeUnit;
-use crate::physical;
 
 const UUID_LENGTH: u32 = 16;
 

@@ -1,17 +1,12 @@
 // The outcome of a slot: its kind as rows have it, or the first of the rules 9, 10 and 11 that it breaks.
 ghost use mathlib.Core.Path.{_≡_};
-ghost use Rattle.annotation.specs.Kinds.{kindOf, kindAs, plainKind, decimalKind, logicalKind};
-ghost use Rattle.annotation.specs.Outcome.{resolutionOf};
+ghost use Rattle.annotation.specs.Kinds.{kindOf, kindAs, bareKind, plainKind, decimalKind, logicalKind};
+ghost use Rattle.annotation.specs.Outcome.{resolutionOf, refusalOf};
 use crate::agreement::agree;
 use crate::converted;
 use crate::decimals::digits_allowed;
 use crate::decimals::is_decimal;
 use crate::logical;
-use crate::types::Annotation;
-use crate::types::LogicalType;
-use crate::spelling::a_of;
-use crate::spelling::b_of;
-use crate::spelling::code_of;
 use crate::physical;
 use crate::placement::may_stand;
 use crate::slot::Annotated;
@@ -19,6 +14,11 @@ use crate::slot::annotation;
 use crate::slot::length;
 use crate::slot::precision;
 use crate::slot::scale;
+use crate::spelling::a_of;
+use crate::spelling::b_of;
+use crate::spelling::code_of;
+use crate::types::Annotation;
+use crate::types::LogicalType;
 
 // A kind and its parameters, as a row has them: precision and scale, or a and b, else 0.
 pub struct Kind {
@@ -37,6 +37,16 @@ pub enum Resolution {
     BadDecimal,
 }
 
+// Document 01's numbers of the refusals.
+const NO_REFUSAL: u32 = 0;
+
+const DISAGREEMENT: u32 = 9;
+
+const MISPLACED: u32 = 10;
+
+const BAD_DECIMAL: u32 = 11;
+
+// The kinds of nodes without annotation.
 const PLAIN_LEAF: u32 = 0;
 
 const PLAIN_GROUP: u32 = 30;
@@ -66,6 +76,18 @@ pub fn resolved_kind(n: Annotated, under_map: bool) -> Kind
     kind_as(annotation(n, under_map), n)
 }
 
+// The number of a refusal: 9, 10 or 11, and 0 for a slot that resolves.
+pub fn refusal(r: Resolution) -> u32
+    ensures { λ number. ⌜ number ≡ refusalOf r ⌝ }
+{
+    match r {
+        Resolution::Resolved(_) => NO_REFUSAL,
+        Resolution::Disagreement => DISAGREEMENT,
+        Resolution::Misplaced => MISPLACED,
+        Resolution::BadDecimal => BAD_DECIMAL,
+    }
+}
+
 // The kind of an annotation on a slot.
 fn kind_as(says: Annotation, n: Annotated) -> Kind
     ensures { λ r. ⌜ r ≡ kindAs says n ⌝ }
@@ -79,11 +101,7 @@ fn kind_as(says: Annotation, n: Annotated) -> Kind
                 logical_kind(l)
             }
         }
-        Annotation::Interval => Kind {
-            kind: converted::INTERVAL as u32,
-            p1: 0,
-            p2: 0,
-        },
+        Annotation::Interval => bare_kind(wide(converted::INTERVAL)),
         Annotation::Unreadable => plain_kind(n.physical),
     }
 }
@@ -92,28 +110,19 @@ fn plain_kind(physical: u8) -> Kind
     ensures { λ r. ⌜ r ≡ plainKind physical ⌝ }
 {
     if physical == physical::GROUP {
-        Kind {
-            kind: PLAIN_GROUP,
-            p1: 0,
-            p2: 0,
-        }
+        bare_kind(PLAIN_GROUP)
     } else {
-        Kind {
-            kind: PLAIN_LEAF,
-            p1: 0,
-            p2: 0,
-        }
+        bare_kind(PLAIN_LEAF)
     }
 }
 
 fn decimal_kind(n: Annotated) -> Kind
     ensures { λ r. ⌜ r ≡ decimalKind n ⌝ }
 {
-    Kind {
-        kind: logical::DECIMAL as u32,
-        p1: precision(n),
-        p2: scale(n),
-    }
+    let kind = wide(logical::DECIMAL);
+    let p1 = precision(n);
+    let p2 = scale(n);
+    Kind { kind, p1, p2 }
 }
 
 fn logical_kind(l: LogicalType) -> Kind
@@ -124,6 +133,13 @@ fn logical_kind(l: LogicalType) -> Kind
         p1: wide(a_of(l)),
         p2: wide(b_of(l)),
     }
+}
+
+// A kind without parameters.
+fn bare_kind(kind: u32) -> Kind
+    ensures { λ r. ⌜ r ≡ bareKind kind ⌝ }
+{
+    Kind { kind, p1: 0, p2: 0 }
 }
 
 fn wide(x: u8) -> u32

@@ -4,13 +4,13 @@ ghost use Rattle.annotation.specs.Rewriting.{writtenOf, writtenAs, conve
 use crate::conversion::forward;
 use crate::converted;
 use crate::logical;
-use crate::types::Annotation;
-use crate::types::LogicalType;
+use crate::slot::Annotated;
+use crate::slot::annotation;
 use crate::spelling::a_of;
 use crate::spelling::b_of;
 use crate::spelling::code_of;
-use crate::slot::Annotated;
-use crate::slot::annotation;
+use crate::types::Annotation;
+use crate::types::LogicalType;
 
 // The annotation numbers of a rewritten slot.
 pub struct Written {

@@ -44,9 +44,18 @@ pub fn code_of(l: LogicalType) -> u8
         LogicalType::Enum => logical::ENUM,
         LogicalType::Decimal => logical::DECIMAL,
         LogicalType::Date => logical::DATE,
-        LogicalType::Time { unit: _, is_adjusted_to_utc: _ } => logical::TIME,
-        LogicalType::Timestamp { unit: _, is_adjusted_to_utc: _ } => logical::TIMESTAMP,
-        LogicalType::Integer { bit_width: _, is_signed: _ } => logical::INTEGER,
+        LogicalType::Time {
+            unit: _,
+            is_adjusted_to_utc: _,
+        } => logical::TIME,
+        LogicalType::Timestamp {
+            unit: _,
+            is_adjusted_to_utc: _,
+        } => logical::TIMESTAMP,
+        LogicalType::Integer {
+            bit_width: _,
+            is_signed: _,
+        } => logical::INTEGER,
         LogicalType::Unknown => logical::UNKNOWN,
         LogicalType::Json => logical::JSON,
         LogicalType::Bson => logical::BSON,
@@ -65,9 +74,18 @@ pub fn a_of(l: LogicalType) -> u8
         LogicalType::Enum => logical::UNUSED,
         LogicalType::Decimal => logical::UNUSED,
         LogicalType::Date => logical::UNUSED,
-        LogicalType::Time { unit, is_adjusted_to_utc: _ } => unit_code(unit),
-        LogicalType::Timestamp { unit, is_adjusted_to_utc: _ } => unit_code(unit),
-        LogicalType::Integer { bit_width, is_signed: _ } => bit_width_code(bit_width),
+        LogicalType::Time {
+            unit,
+            is_adjusted_to_utc: _,
+        } => unit_code(unit),
+        LogicalType::Timestamp {
+            unit,
+            is_adjusted_to_utc: _,
+        } => unit_code(unit),
+        LogicalType::Integer {
+            bit_width,
+            is_signed: _,
+        } => bit_width_code(bit_width),
         LogicalType::Unknown => logical::UNUSED,
         LogicalType::Json => logical::UNUSED,
         LogicalType::Bson => logical::UNUSED,
@@ -86,9 +104,18 @@ pub fn b_of(l: LogicalType) -> u8
         LogicalType::Enum => logical::UNUSED,
         LogicalType::Decimal => logical::UNUSED,
         LogicalType::Date => logical::UNUSED,
-        LogicalType::Time { unit: _, is_adjusted_to_utc } => flag_code(is_adjusted_to_utc),
-        LogicalType::Timestamp { unit: _, is_adjusted_to_utc } => flag_code(is_adjusted_to_utc),
-        LogicalType::Integer { bit_width: _, is_signed } => flag_code(is_signed),
+        LogicalType::Time {
+            unit: _,
+            is_adjusted_to_utc,
+        } => flag_code(is_adjusted_to_utc),
+        LogicalType::Timestamp {
+            unit: _,
+            is_adjusted_to_utc,
+        } => flag_code(is_adjusted_to_utc),
+        LogicalType::Integer {
+            bit_width: _,
+            is_signed,
+        } => flag_code(is_signed),
         LogicalType::Unknown => logical::UNUSED,
         LogicalType::Json => logical::UNUSED,
         LogicalType::Bson => logical::UNUSED,
@@ -148,7 +175,10 @@ fn integer(a: u8, b: u8) -> LogicalType
 fn valid_bit_width(a: u8) -> bool
     ensures { λ r. ⌜ r ≡ validBitWidth a ⌝ }
 {
-    (a == logical::BITS_8) | (a == logical::BITS_16) | (a == logical::BITS_32) | (a == logical::BITS_64)
+    (a == logical::BITS_8)
+        | (a == logical::BITS_16)
+        | (a == logical::BITS_32)
+        | (a == logical::BITS_64)
 }
 
 fn valid_unit(a: u8) -> bool

@@ -1,19 +1,12 @@
+-- `annotation::decimals::is_ordered` meets its contract: the two fields are passed as bits, whose numbers they are again.
+-- Assumes nothing.
 use mir.Facts.{toZ-ofZ}
 use mir.Syntax.{w32}
-use borrow.Author.Needs.{needs}
 use Rattle.annotation.proofs.decimals.is_ordered.Statement.{statement}
 use Rattle.annotation.proofs.decimals.is_ordered.Tie as tie
-use Rattle.annotation.proofs.decimals.is_ordered.Reads as reads
-use Rattle.annotation.proofs.decimals.is_ordered.Lts as lts
-use Rattle.annotation.proofs.decimals.ordered_numbers.Reads as ordered-numbers-reads
 
--- src/rules.rt:126:5
-ordered-numbers-requires : tie.Need-ordered-numbers-requires
-ordered-numbers-requires c κs = search needs
-
--- src/rules.rt:123:1
 returns : tie.Need-returns
 returns c = rw (c .ordered-numbers .ensures, toZ-ofZ {w = w32} {z = c .before .before .before .args .n .scale} (record { sfits = c .before .struct-told2 .given .1 .1 .1 .1 .1 .1 .0 .1 }), toZ-ofZ {w = w32} {z = c .before .before .before .args .n .precision} (record { sfits = c .before .before .struct-told .given .1 .1 .1 .1 .1 .1 .1 .0 .1 }))
 
 pub is-ordered-spec : {M : Type 1} → statement M
-is-ordered-spec = tie.close (tie.spec ordered-numbers-requires returns)
+is-ordered-spec = tie.close (tie.spec (λ c κs. tt) returns)

@@ -1,12 +1,11 @@
-use Rattle.annotation.specs.Rule11.{ordered}
+-- `annotation::decimals::ordered_numbers` meets its contract: the two parameters' bits have their numbers.
+-- Assumes nothing.
 use mir.Facts.{toZ-ofZ}
 use mir.Syntax.{w32}
+use Rattle.annotation.specs.Rule11.{ordered}
 use Rattle.annotation.proofs.decimals.ordered_numbers.Statement.{statement}
 use Rattle.annotation.proofs.decimals.ordered_numbers.Tie as tie
-use Rattle.annotation.proofs.decimals.ordered_numbers.Reads as reads
-use Rattle.annotation.proofs.decimals.ordered_numbers.Lts as lts
 
--- src/rules.rt:129:1
 returns : tie.Need-returns
 unfolding ordered
 returns c = rw (toZ-ofZ {w = w32} (c .fits .precision), toZ-ofZ {w = w32} (c .fits .scale))

@@ -1,16 +1,15 @@
+-- `annotation::resolution::plain_kind` meets its contract: each branch rewrites with the test that led there.
+-- Assumes nothing.
 use borrow.Author.Tests.{ne-eqb}
+use borrow.Author.Needs.{needs}
 use Rattle.annotation.proofs.resolution.plain_kind.Statement.{statement}
 use Rattle.annotation.proofs.resolution.plain_kind.Tie as tie
-use Rattle.annotation.proofs.resolution.plain_kind.Reads as reads
-use Rattle.annotation.proofs.resolution.plain_kind.Lts as lts
 
--- src/resolution.rt:84:1
 returns : tie.Need-returns
-returns c = rw (c .if1 .taken)
+returns c = rw (c .before .if1 .taken, c .bare-kind .ensures)
 
--- src/resolution.rt:84:1
 returns-2 : tie.Need-returns-2
-returns-2 c = rw (ne-eqb _ _ (c .if1 .left))
+returns-2 c = rw (ne-eqb _ _ (c .before .if1 .left), c .bare-kind2 .ensures)
 
 pub plain-kind-spec : {M : Type 1} → statement M
-plain-kind-spec = tie.close (tie.spec returns returns-2)
+plain-kind-spec = tie.close (tie.spec (λ c κs. tt) (λ c κs. search needs) returns returns-2)

@@ -1,10 +1,7 @@
--- `annotation::resolve` meets its contract: each test answers the rule of its number, and the first that fails is returned.
+-- `annotation::resolution::resolve` meets its contract: each test answers the rule of its number, and the first that fails is returned.
 -- Assumes nothing.
 use mathlib.Core.Path.{_≡_, sym, _∙_}
-use mathlib.Core.Bool.{true, false}
-use borrow.Author.Needs.{needs}
 use borrow.Author.Tests.{not-true, not-false}
-use Rattle.annotation.specs.Rule9.{rule9}
 use Rattle.annotation.specs.Rule10.{rule10}
 use Rattle.annotation.specs.Rule11.{rule11}
 use Rattle.annotation.specs.Kinds.{kindOf}
@@ -25,24 +22,6 @@ digits c = rw (c .digits-allowed .ensures, c .before .before .before .before .an
 kind : (c : tie.After-kind-as) → let n = c .before .before .before .before .before .before .before .before .before .args in c .kind-as .result ≡ kindOf (n .n) (n .under-map)
 unfolding kindOf
 kind c = rw (c .kind-as .ensures, c .before .before .before .before .before .before .annotation .ensures)
-
-agree-requires : tie.Need-agree-requires
-agree-requires c κs = search needs
-
-annotation-requires : tie.Need-annotation-requires
-annotation-requires c κs = search needs
-
-length-requires : tie.Need-length-requires
-length-requires c κs = search needs
-
-may-stand-requires : tie.Need-may-stand-requires
-may-stand-requires c κs = search needs
-
-digits-allowed-requires : tie.Need-digits-allowed-requires
-digits-allowed-requires c κs = search needs
-
-kind-as-requires : tie.Need-kind-as-requires
-kind-as-requires c κs = search needs
 
 -- rule 9 fails
 returns : tie.Need-returns
@@ -86,13 +65,13 @@ pub resolve-spec : {M : Type 1} → statement M
 resolve-spec =
     tie.close
     (tie.spec
-    agree-requires
+    (λ c κs. tt)
     returns
-    annotation-requires
-    length-requires
-    may-stand-requires
+    (λ c κs. tt)
+    (λ c κs. tt)
+    (λ c κs. tt)
     returns-2
-    digits-allowed-requires
+    (λ c κs. tt)
     returns-3
-    kind-as-requires
+    (λ c κs. tt)
     returns-4)

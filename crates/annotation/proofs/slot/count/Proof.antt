@@ -1,21 +1,18 @@
+-- `annotation::slot::count` meets its contract: the parameter's bits have its number, which the branch knows to be negative or not.
+-- Assumes nothing.
 use mir.Facts.{fits-natAbs}
-use Rattle.annotation.proofs.SignedLaws.{natural-negative, natural-size, not-negative}
 use mir.Facts.{toZ-ofZ}
 use mir.Syntax.{w32}
+use Rattle.annotation.proofs.SignedLaws.{natural-negative, natural-size, not-negative}
 use Rattle.annotation.proofs.slot.count.Statement.{statement}
 use Rattle.annotation.proofs.slot.count.Tie as tie
-use Rattle.annotation.proofs.slot.count.Reads as reads
-use Rattle.annotation.proofs.slot.count.Lts as lts
 
--- src/slot.rt:69:27
 cast-result : tie.Need-cast-result
 cast-result c = rw (toZ-ofZ {w = w32} (c .before .fits .x)) (not-negative (c .before .args .x) (rw (toZ-ofZ {w = w32} (c .before .fits .x)) at (c .if1 .left)), fits-natAbs tt (c .before .fits .x))
 
--- src/slot.rt:66:1
 returns : tie.Need-returns
 returns c = natural-negative (c .before .args .x) (rw (toZ-ofZ {w = w32} (c .before .fits .x)) at (c .if1 .taken))
 
--- src/slot.rt:66:1
 returns-2 : tie.Need-returns-2
 returns-2 c = rw (toZ-ofZ {w = w32} (c .before .fits .x)) (natural-size (c .before .args .x) (rw (toZ-ofZ {w = w32} (c .before .fits .x)) at (c .if1 .left)))
 

@@ -1,0 +1,142 @@
+-- Forward and backward undo one another, as far as document 01 says.
+-- Assumes nothing.
+use Prim.Native.Nat.{ℕ, zero, suc, _<_}
+use native.Mathlib.Nat.{not-suc-le-zero}
+use native.Mathlib.Omega.{arith}
+use native.Mathlib.Decide.{decLt}
+use mathlib.Core.Path.{_≡_, refl, sym, ap, _∙_}
+use mathlib.Core.Bool.{Bool, true, false, true≢false, _||_, _&&_}
+use lib.Dec.{eqb, T, eqb→eq}
+use borrow.Author.Tests.{eqb-false, ne-eqb}
+use Rattle.annotation.specs.Converted as converted
+use Rattle.annotation.specs.Logical as logical
+use Rattle.annotation.specs.Spelling.{codeOf}
+use Rattle.annotation.specs.Forward.{forwardOf, imageOf}
+use Rattle.annotation.specs.Backward.{backwardOf}
+use Rattle.annotation.specs.declared.types.TimeUnit.{TimeUnit}
+use Rattle.annotation.specs.declared.types.BitWidth.{BitWidth}
+use Rattle.annotation.specs.declared.types.LogicalType.{LogicalType}
+use Rattle.annotation.specs.declared.types.Annotation.{Annotation}
+
+-- a logical type with its UTC flag true, where it has one
+abbrev pub adjusted : LogicalType → LogicalType
+adjusted LogicalType.String = LogicalType.String
+adjusted LogicalType.Map = LogicalType.Map
+adjusted LogicalType.List = LogicalType.List
+adjusted LogicalType.Enum = LogicalType.Enum
+adjusted LogicalType.Decimal = LogicalType.Decimal
+adjusted LogicalType.Date = LogicalType.Date
+adjusted (LogicalType.Time unit utc) = LogicalType.Time unit true
+adjusted (LogicalType.Timestamp unit utc) = LogicalType.Timestamp unit true
+adjusted (LogicalType.Integer width signed) = LogicalType.Integer width signed
+adjusted LogicalType.Unknown = LogicalType.Unknown
+adjusted LogicalType.Json = LogicalType.Json
+adjusted LogicalType.Bson = LogicalType.Bson
+adjusted LogicalType.Uuid = LogicalType.Uuid
+
+-- backward after forward is the type again, but that the UTC flag comes back true
+pub backward-forward : (l : LogicalType) (underMap : Bool) → (forwardOf l ≡ converted.NONE → ⊥) → backwardOf (forwardOf l) underMap ≡ Annotation.Logical (adjusted l)
+unfolding backwardOf
+backward-forward LogicalType.String underMap h = refl
+backward-forward LogicalType.Map underMap h = refl
+backward-forward LogicalType.List underMap h = refl
+backward-forward LogicalType.Enum underMap h = refl
+backward-forward LogicalType.Decimal underMap h = refl
+backward-forward LogicalType.Date underMap h = refl
+backward-forward (LogicalType.Time TimeUnit.Millis utc) underMap h = refl
+backward-forward (LogicalType.Time TimeUnit.Micros utc) underMap h = refl
+backward-forward (LogicalType.Time TimeUnit.Nanos utc) underMap h = absurd (h refl)
+backward-forward (LogicalType.Timestamp TimeUnit.Millis utc) underMap h = refl
+backward-forward (LogicalType.Timestamp TimeUnit.Micros utc) underMap h = refl
+backward-forward (LogicalType.Timestamp TimeUnit.Nanos utc) underMap h = absurd (h refl)
+backward-forward (LogicalType.Integer BitWidth.Bits8 true) underMap h = refl
+backward-forward (LogicalType.Integer BitWidth.Bits8 false) underMap h = refl
+backward-forward (LogicalType.Integer BitWidth.Bits16 true) underMap h = refl
+backward-forward (LogicalType.Integer BitWidth.Bits16 false) underMap h = refl
+backward-forward (LogicalType.Integer BitWidth.Bits32 true) underMap h = refl
+backward-forward (LogicalType.Integer BitWidth.Bits32 false) underMap h = refl
+backward-forward (LogicalType.Integer BitWidth.Bits64 true) underMap h = refl
+backward-forward (LogicalType.Integer BitWidth.Bits64 false) underMap h = refl
+backward-forward LogicalType.Unknown underMap h = absurd (h refl)
+backward-forward LogicalType.Json underMap h = refl
+backward-forward LogicalType.Bson underMap h = refl
+backward-forward LogicalType.Uuid underMap h = absurd (h refl)
+
+-- a test that passes at each number below n
+abbrev allBelow : (ℕ → Bool) → ℕ → Bool
+allBelow test zero = true
+allBelow test (suc n) = test n && allBelow test n
+
+and-left : (a b : Bool) → T (a && b) → T a
+and-left true b t = tt
+and-left false b t = t
+
+and-right : (a b : Bool) → T (a && b) → T b
+and-right true b t = t
+and-right false b t = absurd t
+
+below : (test : ℕ → Bool) (n : ℕ) → T (allBelow test n) → (k : ℕ) → k < n → T (test k)
+below test zero t k h = absurd (not-suc-le-zero h)
+below test (suc n) t k h = last (decLt k n) (below test n (and-right (test n) (allBelow test n) t) k)
+  where
+    last : Dec (k < n) → (k < n → T (test k)) → T (test k)
+    last (yes earlier) f = f earlier
+    last (no here) f = let e : k ≡ n = omega arith in rw e (and-left (test n) (allBelow test n) t)
+
+-- a converted code is MAP_KEY_VALUE, or comes back from its backward reading
+comesBack : Bool → ℕ → Bool
+comesBack underMap code = eqb code converted.MAP-KEY-VALUE || eqb (imageOf (backwardOf code underMap)) code
+
+or-right : (a b : Bool) → a ≡ false → T (a || b) → T b
+or-right true b e t = absurd (true≢false e)
+or-right false b e t = t
+
+-- forward after backward is the converted type again, for every converted type but MAP_KEY_VALUE and INTERVAL, the last of the codes
+pub forward-backward : (code : ℕ) (underMap : Bool) → code < converted.INTERVAL → (code ≡ converted.MAP-KEY-VALUE → ⊥) → imageOf (backwardOf code underMap) ≡ code
+unfolding comesBack backwardOf
+forward-backward code underMap h ne =
+    eqb→eq _ _ (or-right _ _ (ne-eqb code converted.MAP-KEY-VALUE ne) (below (comesBack underMap) converted.INTERVAL tt code h))
+
+-- a code other than NONE is the image only of types that its backward reading gives
+image-read : (code : ℕ) (l : LogicalType) (underMap : Bool) → eqb code converted.NONE ≡ false → forwardOf l ≡ code → backwardOf code underMap ≡ Annotation.Logical (adjusted l)
+image-read code l underMap stands e =
+    rw (← e) (backward-forward l underMap (λ none. eqb-false code converted.NONE stands (sym e ∙ none)))
+
+-- "MAP_KEY_VALUE is never a forward image"
+pub forward-not-map-key-value : (l : LogicalType) → forwardOf l ≡ converted.MAP-KEY-VALUE → ⊥
+unfolding backwardOf
+forward-not-map-key-value l e =
+    let read = image-read converted.MAP-KEY-VALUE l true refl e in
+    let z : _≡_ {A = ℕ} 0 1 = cc in
+    omega arith
+
+-- "INTERVAL exists only as converted"
+pub forward-not-interval : (l : LogicalType) → forwardOf l ≡ converted.INTERVAL → ⊥
+unfolding backwardOf
+forward-not-interval l e =
+    let read = image-read converted.INTERVAL l true refl e in
+    let z : _≡_ {A = ℕ} 0 1 = cc in
+    omega arith
+
+code-adjusted : (l : LogicalType) → codeOf (adjusted l) ≡ codeOf l
+code-adjusted LogicalType.String = refl
+code-adjusted LogicalType.Map = refl
+code-adjusted LogicalType.List = refl
+code-adjusted LogicalType.Enum = refl
+code-adjusted LogicalType.Decimal = refl
+code-adjusted LogicalType.Date = refl
+code-adjusted (LogicalType.Time unit utc) = refl
+code-adjusted (LogicalType.Timestamp unit utc) = refl
+code-adjusted (LogicalType.Integer width signed) = refl
+code-adjusted LogicalType.Unknown = refl
+code-adjusted LogicalType.Json = refl
+code-adjusted LogicalType.Bson = refl
+code-adjusted LogicalType.Uuid = refl
+
+-- only DECIMAL has the image DECIMAL
+pub forward-decimal : (l : LogicalType) → forwardOf l ≡ converted.DECIMAL → codeOf l ≡ logical.DECIMAL
+unfolding backwardOf
+forward-decimal l e =
+    let read = image-read converted.DECIMAL l true refl e in
+    let same : LogicalType.Decimal ≡ adjusted l = cc in
+    sym (ap codeOf same ∙ code-adjusted l)

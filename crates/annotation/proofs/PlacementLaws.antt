@@ -1,0 +1,100 @@
+-- Rule 10 holds a group to LIST, MAP or no annotation, and keeps LIST and MAP off leaves.
+-- Assumes nothing.
+use Prim.Native.Nat.{ℕ}
+use mathlib.Core.Path.{_≡_, refl, sym, _∙_, subst}
+use mathlib.Core.Bool.{Bool, true, false, true≢false, _||_}
+use lib.Dec.{eqb}
+use Rattle.annotation.specs.Physical as physical
+use Rattle.annotation.specs.Logical as logical
+use Rattle.annotation.specs.Spelling.{codeOf}
+use Rattle.annotation.specs.Signed.{natural}
+use Rattle.annotation.specs.Meaning.{annotationOf}
+use Rattle.annotation.specs.Rule10.{logicalOn, annotationOn, rule10}
+use Rattle.annotation.specs.Kinds.{PLAIN-GROUP, kindAs, kindOf}
+use Rattle.annotation.specs.declared.types.TimeUnit.{TimeUnit}
+use Rattle.annotation.specs.declared.types.BitWidth.{BitWidth}
+use Rattle.annotation.specs.declared.types.LogicalType.{LogicalType}
+use Rattle.annotation.specs.declared.types.Annotation.{Annotation}
+use Rattle.annotation.specs.declared.slot.Annotated.{Annotated}
+
+-- the kinds of groups: plain, LIST and MAP
+abbrev pub groupKind : ℕ → Bool
+groupKind kind = eqb kind PLAIN-GROUP || eqb kind logical.LIST || eqb kind logical.MAP
+
+-- a logical type that may stand on a group is LIST or MAP
+logical-group : (l : LogicalType) (length : ℕ) → logicalOn l physical.GROUP length ≡ true → groupKind (codeOf l) ≡ true
+logical-group LogicalType.String length e = e
+logical-group LogicalType.Map length e = refl
+logical-group LogicalType.List length e = refl
+logical-group LogicalType.Enum length e = e
+logical-group LogicalType.Decimal length e = e
+logical-group LogicalType.Date length e = e
+logical-group (LogicalType.Time TimeUnit.Millis utc) length e = e
+logical-group (LogicalType.Time TimeUnit.Micros utc) length e = e
+logical-group (LogicalType.Time TimeUnit.Nanos utc) length e = e
+logical-group (LogicalType.Timestamp unit utc) length e = e
+logical-group (LogicalType.Integer BitWidth.Bits8 signed) length e = e
+logical-group (LogicalType.Integer BitWidth.Bits16 signed) length e = e
+logical-group (LogicalType.Integer BitWidth.Bits32 signed) length e = e
+logical-group (LogicalType.Integer BitWidth.Bits64 signed) length e = e
+logical-group LogicalType.Unknown length e = e
+logical-group LogicalType.Json length e = e
+logical-group LogicalType.Bson length e = e
+logical-group LogicalType.Uuid length e = e
+
+-- a logical type that may stand on a leaf is neither
+logical-leaf : (l : LogicalType) (code length : ℕ) → eqb code physical.GROUP ≡ false → logicalOn l code length ≡ true → groupKind (codeOf l) ≡ false
+logical-leaf LogicalType.String code length leaf e = refl
+logical-leaf LogicalType.Map code length leaf e = absurd (true≢false (sym e ∙ leaf))
+logical-leaf LogicalType.List code length leaf e = absurd (true≢false (sym e ∙ leaf))
+logical-leaf LogicalType.Enum code length leaf e = refl
+logical-leaf LogicalType.Decimal code length leaf e = refl
+logical-leaf LogicalType.Date code length leaf e = refl
+logical-leaf (LogicalType.Time unit utc) code length leaf e = refl
+logical-leaf (LogicalType.Timestamp unit utc) code length leaf e = refl
+logical-leaf (LogicalType.Integer width signed) code length leaf e = refl
+logical-leaf LogicalType.Unknown code length leaf e = refl
+logical-leaf LogicalType.Json code length leaf e = refl
+logical-leaf LogicalType.Bson code length leaf e = refl
+logical-leaf LogicalType.Uuid code length leaf e = refl
+
+-- the kind of a logical type is its code, DECIMAL's too
+pub kind-logical : (l : LogicalType) (n : Annotated) → kindAs (Annotation.Logical l) n .kind ≡ codeOf l
+kind-logical LogicalType.String n = refl
+kind-logical LogicalType.Map n = refl
+kind-logical LogicalType.List n = refl
+kind-logical LogicalType.Enum n = refl
+kind-logical LogicalType.Decimal n = refl
+kind-logical LogicalType.Date n = refl
+kind-logical (LogicalType.Time unit utc) n = refl
+kind-logical (LogicalType.Timestamp unit utc) n = refl
+kind-logical (LogicalType.Integer width signed) n = refl
+kind-logical LogicalType.Unknown n = refl
+kind-logical LogicalType.Json n = refl
+kind-logical LogicalType.Bson n = refl
+kind-logical LogicalType.Uuid n = refl
+
+kind-group : (says : Annotation) (n : Annotated) (length : ℕ) → n .physical ≡ physical.GROUP → annotationOn says physical.GROUP length ≡ true → groupKind (kindAs says n .kind) ≡ true
+kind-group Annotation.Plain n length group e = rw group
+kind-group (Annotation.Logical l) n length group e = rw (kind-logical l n) (logical-group l length e)
+kind-group Annotation.Interval n length group e = e
+kind-group Annotation.Unreadable n length group e = absurd (true≢false (sym e))
+
+kind-leaf : (says : Annotation) (n : Annotated) (length : ℕ) → eqb (n .physical) physical.GROUP ≡ false → annotationOn says (n .physical) length ≡ true → groupKind (kindAs says n .kind) ≡ false
+kind-leaf Annotation.Plain n length leaf e = rw leaf
+kind-leaf (Annotation.Logical l) n length leaf e = rw (kind-logical l n) (logical-leaf l (n .physical) length leaf e)
+kind-leaf Annotation.Interval n length leaf e = refl
+kind-leaf Annotation.Unreadable n length leaf e = absurd (true≢false (sym e))
+
+-- a group that keeps rule 10 is plain, LIST or MAP
+pub group-kind : (n : Annotated) (underMap : Bool) → rule10 n underMap ≡ true → n .physical ≡ physical.GROUP → groupKind (kindOf n underMap .kind) ≡ true
+unfolding rule10 kindOf
+group-kind n underMap ten group =
+    let length = natural (n .«type_length») in
+    kind-group (annotationOf n underMap) n length group
+    (subst (λ (code : ℕ). annotationOn (annotationOf n underMap) code length ≡ true) group ten)
+
+-- a leaf that keeps it is none of these
+pub leaf-kind : (n : Annotated) (underMap : Bool) → rule10 n underMap ≡ true → eqb (n .physical) physical.GROUP ≡ false → groupKind (kindOf n underMap .kind) ≡ false
+unfolding rule10 kindOf
+leaf-kind n underMap ten leaf = kind-leaf (annotationOf n underMap) n (natural (n .«type_length»)) leaf ten

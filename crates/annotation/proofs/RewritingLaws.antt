@@ -1,0 +1,172 @@
+-- What rewriting writes is accepted, resolves to the same kind, p1 and p2, and is written the same again.
+-- Assumes nothing.
+use Prim.Native.Nat.{ℕ}
+use mathlib.Core.Path.{_≡_, refl, sym, ap, _∙_}
+use mathlib.Core.Bool.{Bool, true, false, true≢false, cond, _||_, or-true}
+use lib.Dec.{eqb}
+use borrow.Author.Tests.{eq-eqb, eqb-true, eqb-false}
+use Rattle.annotation.specs.Converted as converted
+use Rattle.annotation.specs.Logical as logical
+use Rattle.annotation.specs.Parameters.{validParameters}
+use Rattle.annotation.specs.Spelling.{codeOf, namedOf, statedOf}
+use Rattle.annotation.specs.Signed.{natural}
+use Rattle.annotation.specs.Forward.{forwardOf, imageOf}
+use Rattle.annotation.specs.Backward.{backwardOf}
+use Rattle.annotation.specs.Meaning.{annotationOf}
+use Rattle.annotation.specs.Rule9.{rule9}
+use Rattle.annotation.specs.Rule10.{annotationOn, rule10}
+use Rattle.annotation.specs.Rule11.{isDecimal, decimalHolds, rule11}
+use Rattle.annotation.specs.Kinds.{PLAIN-GROUP, kindAs, kindOf}
+use Rattle.annotation.specs.Outcome.{resolutionOf}
+use Rattle.annotation.specs.Rewriting.{writtenAs, writtenOf, withWritten, rewritten}
+use Rattle.annotation.specs.declared.types.LogicalType.{LogicalType}
+use Rattle.annotation.specs.declared.types.Annotation.{Annotation}
+use Rattle.annotation.specs.declared.slot.Annotated.{Annotated}
+use Rattle.annotation.specs.declared.resolution.Kind.{Kind}
+use Rattle.annotation.specs.declared.resolution.Resolution.{Resolution}
+use Rattle.annotation.specs.declared.rewriting.Written.{Written}
+use Rattle.annotation.proofs.ConversionLaws.{forward-decimal}
+use Rattle.annotation.proofs.SpellingLaws.{stated-spelled, code-stands}
+use Rattle.annotation.proofs.PlacementLaws.{kind-logical}
+use Rattle.annotation.proofs.OutcomeLaws.{resolved-of-keeps, keeps-of-resolved, kind-of-resolved}
+
+-- an annotation as it is after rewriting: what cannot be read is written as none
+abbrev settled : Annotation → Annotation
+settled Annotation.Plain = Annotation.Plain
+settled (Annotation.Logical l) = Annotation.Logical l
+settled Annotation.Interval = Annotation.Interval
+settled Annotation.Unreadable = Annotation.Plain
+
+-- what is written for an annotation says that annotation
+annotation-written : (says : Annotation) (n : Annotated) (underMap : Bool) → annotationOf (withWritten n (writtenAs says)) underMap ≡ settled says
+unfolding annotationOf validParameters backwardOf
+annotation-written Annotation.Plain n underMap = refl
+annotation-written (Annotation.Logical l) n underMap = rw (code-stands l .0) (stated-spelled l)
+annotation-written Annotation.Interval n underMap = refl
+annotation-written Annotation.Unreadable n underMap = refl
+
+-- what is written keeps rule 9
+nine-written : (says : Annotation) (n : Annotated) → rule9 (withWritten n (writtenAs says)) ≡ true
+unfolding rule9
+nine-written Annotation.Plain n = refl
+nine-written (Annotation.Logical l) n =
+    rw (stated-spelled l, eq-eqb (forwardOf l) (forwardOf l) refl) (or-true (eqb (forwardOf l) converted.NONE || eqb (codeOf l) logical.NONE))
+nine-written Annotation.Interval n = refl
+nine-written Annotation.Unreadable n = refl
+
+-- an annotation that rule 10 lets stand can be read
+settled-on : (says : Annotation) (code length : ℕ) → annotationOn says code length ≡ true → settled says ≡ says
+settled-on Annotation.Plain code length e = refl
+settled-on (Annotation.Logical l) code length e = refl
+settled-on Annotation.Interval code length e = refl
+settled-on Annotation.Unreadable code length e = absurd (true≢false (sym e))
+
+-- a slot that keeps rule 10 says the same after rewriting
+pub annotation-rewritten : (n : Annotated) (underMap : Bool) → rule10 n underMap ≡ true → annotationOf (rewritten n underMap) underMap ≡ annotationOf n underMap
+unfolding rewritten writtenOf rule10
+annotation-rewritten n underMap e =
+    annotation-written (annotationOf n underMap) n underMap ∙ settled-on (annotationOf n underMap) (n .physical) (natural (n .«type_length»)) e
+
+-- the kind of an annotation does not look at the slot's own annotations
+kind-written : (says : Annotation) (n : Annotated) (w : Written) → kindAs says (withWritten n w) ≡ kindAs says n
+kind-written Annotation.Plain n w = refl
+kind-written (Annotation.Logical l) n w = refl
+kind-written Annotation.Interval n w = refl
+kind-written Annotation.Unreadable n w = refl
+
+-- what rewriting writes is accepted, and resolves to the same kind, p1 and p2
+pub resolved-rewritten : (n : Annotated) (underMap : Bool) (k : Kind) → resolutionOf n underMap ≡ Resolution.Resolved k → resolutionOf (rewritten n underMap) underMap ≡ Resolution.Resolved k
+unfolding rewritten writtenOf rule10 rule11 decimalHolds kindOf
+resolved-rewritten n underMap k e =
+    let keeps = keeps-of-resolved n underMap k e in
+    let same = annotation-rewritten n underMap (keeps .ten) in
+    resolved-of-keeps (rewritten n underMap) underMap
+    (record {
+      nine = nine-written (annotationOf n underMap) n;
+      ten = rw same (keeps .ten);
+      eleven = rw same (keeps .eleven);
+    })
+    ∙ ap Resolution.Resolved (rw (same, kind-written (annotationOf n underMap) n (writtenOf n underMap)) (kind-of-resolved n underMap k e))
+
+written-settled : (says : Annotation) → writtenAs (settled says) ≡ writtenAs says
+written-settled Annotation.Plain = refl
+written-settled (Annotation.Logical l) = refl
+written-settled Annotation.Interval = refl
+written-settled Annotation.Unreadable = refl
+
+-- and is written the same again
+pub written-rewritten : (n : Annotated) (underMap : Bool) → writtenOf (rewritten n underMap) underMap ≡ writtenOf n underMap
+unfolding rewritten writtenOf
+written-rewritten n underMap =
+    ap writtenAs (annotation-written (annotationOf n underMap) n underMap) ∙ written-settled (annotationOf n underMap)
+
+pub rewritten-rewritten : (n : Annotated) (underMap : Bool) → rewritten (rewritten n underMap) underMap ≡ rewritten n underMap
+unfolding rewritten
+rewritten-rewritten n underMap = ap (withWritten n) (written-rewritten n underMap)
+
+-- a slot without annotation is written without one
+pub written-plain : (n : Annotated) (underMap : Bool) → n .converted ≡ converted.NONE → n .logical ≡ logical.NONE → writtenOf n underMap ≡ writtenAs Annotation.Plain
+unfolding writtenOf annotationOf backwardOf
+written-plain n underMap c l = rw (l, c) (plain-either (validParameters logical.NONE (n .a) (n .b)))
+  where
+    plain-either : (valid : Bool) → writtenAs (cond valid Annotation.Plain Annotation.Unreadable) ≡ writtenAs Annotation.Plain
+    plain-either true = refl
+    plain-either false = refl
+
+-- a plain group is written without annotation, also where MAP_KEY_VALUE stood on it
+pub written-plain-group : (n : Annotated) (underMap : Bool) → kindOf n underMap .kind ≡ PLAIN-GROUP → writtenOf n underMap ≡ writtenAs Annotation.Plain
+unfolding kindOf writtenOf
+written-plain-group n underMap e = by-kind (annotationOf n underMap) e
+  where
+    by-kind : (says : Annotation) → kindAs says n .kind ≡ PLAIN-GROUP → writtenAs says ≡ writtenAs Annotation.Plain
+    by-kind Annotation.Plain h = refl
+    by-kind (Annotation.Logical l) h =
+        absurd (eqb-false (codeOf l) PLAIN-GROUP (code-stands l .1) (sym (kind-logical l n) ∙ h))
+    by-kind Annotation.Interval h = absurd (eqb-false converted.INTERVAL PLAIN-GROUP refl h)
+    by-kind Annotation.Unreadable h = refl
+
+-- DECIMAL where it can be read, and nothing readable elsewhere, is DECIMAL where rule 10 lets it stand
+decimal-read : (valid : Bool) (code length : ℕ) → annotationOn (cond valid (Annotation.Logical LogicalType.Decimal) Annotation.Unreadable) code length ≡ true → isDecimal (cond valid (Annotation.Logical LogicalType.Decimal) Annotation.Unreadable) ≡ true
+decimal-read true code length e = refl
+decimal-read false code length e = e
+
+image-decimal : (says : Annotation) → eqb (imageOf says) converted.DECIMAL ≡ true → isDecimal says ≡ true
+image-decimal Annotation.Plain e = e
+image-decimal (Annotation.Logical l) e =
+    eq-eqb (codeOf l) logical.DECIMAL (forward-decimal l (eqb-true (forwardOf l) converted.DECIMAL e))
+image-decimal Annotation.Interval e = e
+image-decimal Annotation.Unreadable e = e
+
+written-decimal : (says : Annotation) → isDecimal says ≡ true → writtenAs says .logical ≡ logical.DECIMAL
+written-decimal Annotation.Plain e = absurd (true≢false (sym e))
+written-decimal (Annotation.Logical l) e = eqb-true (codeOf l) logical.DECIMAL e
+written-decimal Annotation.Interval e = absurd (true≢false (sym e))
+written-decimal Annotation.Unreadable e = absurd (true≢false (sym e))
+
+module _ (n : Annotated) (underMap : Bool) (nine : rule9 n ≡ true) (ten : rule10 n underMap ≡ true) where
+  -- a slot that keeps rules 9 and 10 is DECIMAL where its logical type is
+
+  decimal-by-logical : n .logical ≡ logical.DECIMAL → isDecimal (annotationOf n underMap) ≡ true
+  unfolding rule10 annotationOf statedOf namedOf
+  decimal-by-logical e =
+      rw e
+      (decimal-read (validParameters logical.DECIMAL (n .a) (n .b)) (n .physical) (natural (n .«type_length»)) (rw e at ten))
+
+  -- and where its converted type is, alone or beside a logical type
+  decimal-by-converted : n .converted ≡ converted.DECIMAL → (alone : Bool) → eqb (n .logical) logical.NONE ≡ alone → isDecimal (annotationOf n underMap) ≡ true
+  unfolding rule9 rule10 annotationOf backwardOf
+  decimal-by-converted e true f =
+      rw (f, e)
+      (decimal-read (validParameters logical.NONE (n .a) (n .b)) (n .physical) (natural (n .«type_length»)) (rw (f, e) at ten))
+  decimal-by-converted e false f = rw f (image-decimal (statedOf (n .logical) (n .a) (n .b)) (rw (f, e) at nine))
+
+  decimal-by-either : (named : Bool) → eqb (n .converted) converted.DECIMAL ≡ named → (named || eqb (n .logical) logical.DECIMAL) ≡ true → isDecimal (annotationOf n underMap) ≡ true
+  decimal-by-either true f e =
+      decimal-by-converted (eqb-true (n .converted) converted.DECIMAL f) (eqb (n .logical) logical.NONE) refl
+  decimal-by-either false f e = decimal-by-logical (eqb-true (n .logical) logical.DECIMAL e)
+
+  -- DECIMAL in either place is DECIMAL in the logical type once it is rewritten
+  pub decimal-rewritten : (eqb (n .converted) converted.DECIMAL || eqb (n .logical) logical.DECIMAL) ≡ true → rewritten n underMap .logical ≡ logical.DECIMAL
+  unfolding rewritten writtenOf
+  decimal-rewritten e =
+      written-decimal (annotationOf n underMap) (decimal-by-either (eqb (n .converted) converted.DECIMAL) refl e)

@@ -1,0 +1,41 @@
+// Answers as text, on standard output.
+use annotation::Kind;
+use annotation::Resolution;
+use libc::STDOUT_FILENO;
+
+pub fn put(bytes: &[u8]) {
+    io::write_all(STDOUT_FILENO, bytes);
+}
+
+pub fn space() {
+    put(b" ");
+}
+
+pub fn newline() {
+    put(b"\n");
+}
+
+pub fn number(n: u32) {
+    io::print_decimal(STDOUT_FILENO, n as u64);
+}
+
+// A kind with its parameters, or a refusal behind a mark.
+pub fn answer(r: Resolution) {
+    match r {
+        Resolution::Resolved(k) => kind(k),
+        _ => refused(annotation::refusal(r)),
+    }
+}
+
+fn kind(k: Kind) {
+    number(k.kind);
+    put(b"/");
+    number(k.p1);
+    put(b"/");
+    number(k.p2);
+}
+
+fn refused(n: u32) {
+    put(b"!");
+    number(n);
+}
