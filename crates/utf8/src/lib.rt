@@ -1,0 +1,186 @@
+// UTF-8 as RFC 3629 has it: where whole sequences, read from the start of a slice, stop.
+ghost use Prim.Native.Nat.{ℕ, suc, _+_, _≤_, _<_};
+ghost use mathlib.Core.Bool.{cond};
+ghost use mathlib.Core.List.{List, _∷_};
+ghost use mathlib.Core.Path.{_≡_};
+ghost use lib.ListN.{length, take, drop, replicate};
+ghost use Rattle.utf8.specs.Sequence.{_to_, tail, inside, spells};
+ghost use Rattle.utf8.specs.Valid.{leading, validUpTo, Stops};
+
+// The octets that the ABNF of RFC 3629 names. UTF8-1 goes from 0 to here.
+const UTF8_1_LAST: u8 = 0x7F;
+// First octets of UTF8-2.
+const UTF8_2_FIRST: u8 = 0xC2;
+
+const UTF8_2_LAST: u8 = 0xDF;
+// First octets of UTF8-3. The lowest has fewer second octets, since it would spell overlong forms; so has the one before the surrogates.
+const UTF8_3_FIRST: u8 = 0xE0;
+
+const UTF8_3_FIRST_LOW: u8 = 0xA0;
+
+const UTF8_3_SURROGATES: u8 = 0xED;
+
+const UTF8_3_SURROGATES_HIGH: u8 = 0x9F;
+
+const UTF8_3_LAST: u8 = 0xEF;
+// First octets of UTF8-4.
+const UTF8_4_FIRST: u8 = 0xF0;
+
+const UTF8_4_FIRST_LOW: u8 = 0x90;
+
+const UTF8_4_LAST: u8 = 0xF4;
+
+const UTF8_4_LAST_HIGH: u8 = 0x8F;
+// UTF8-tail.
+const TAIL_LOW: u8 = 0x80;
+
+const TAIL_HIGH: u8 = 0xBF;
+// No octet lies between these.
+const NONE_LOW: u8 = 1;
+
+const NONE_HIGH: u8 = 0;
+
+// How many bytes at the start of `text` are whole sequences: its length where all of it is UTF-8, and otherwise where the first byte
+// stands that belongs to no whole sequence.
+pub fn valid_up_to(text: &[u8]) -> usize
+    ensures { λ r. ⌜ r ≡ validUpTo (now (text .entry)) ⌝ }
+    ensures { λ r. ⌜ Stops (now (text .entry)) r ⌝ }
+{
+    let mut at = 0;
+    while at < text.len() {
+        let octets = sequence_at(text, at);
+        if octets == 0 {
+            return at;
+        }
+        at += octets;
+    }
+    at
+}
+
+// How many octets the sequence has that starts at `at`; 0 where none does. Each octet is looked at once.
+fn sequence_at(text: &[u8], at: usize) -> usize
+    requires { ⌜ at < length (now text) ⌝ }
+    ensures { λ r. ⌜ r ≡ leading (drop at (now (text .entry))) ⌝ }
+{
+    let first = text[at];
+    if first <= UTF8_1_LAST {
+        return 1;
+    }
+    let rest = rest_after(first);
+    let tails = rest.tails;
+    if text.len() - at < tails + 2 {
+        return 0;
+    }
+    if !within(text[at + 1], rest.low, rest.high) {
+        return 0;
+    }
+    if !tails_at(text, at + 2, tails) {
+        return 0;
+    }
+    tails + 2
+}
+
+// What may follow the first octet of a sequence of several: a second octet from low to high, and so many octets of UTF8-tail.
+struct Rest {
+    low: u8,
+    high: u8,
+    tails: usize,
+}
+
+// What may follow a first octet above UTF8-1. No second octet may follow one that starts no sequence: its range is empty.
+fn rest_after(first: u8) -> Rest
+    requires { do ⌜ (← ⟦UTF8_1_LAST⟧) < first ⌝ }
+    ensures { λ r. ⌜ r .tails ≤ 2 ⌝ }
+    ensures { λ r. ⌜ ((rest : List ℕ) → leading (first ∷ rest) ≡ cond (spells (r .low to r .high ∷ replicate (r .tails) tail) (take (suc (r .tails)) rest)) (r .tails + 2) 0) ⌝ }
+{
+    if first < UTF8_2_FIRST {
+        return Rest {
+            low: NONE_LOW,
+            high: NONE_HIGH,
+            tails: 0,
+        };
+    }
+    if first <= UTF8_2_LAST {
+        return Rest {
+            low: TAIL_LOW,
+            high: TAIL_HIGH,
+            tails: 0,
+        };
+    }
+    if first == UTF8_3_FIRST {
+        return Rest {
+            low: UTF8_3_FIRST_LOW,
+            high: TAIL_HIGH,
+            tails: 1,
+        };
+    }
+    if first < UTF8_3_SURROGATES {
+        return Rest {
+            low: TAIL_LOW,
+            high: TAIL_HIGH,
+            tails: 1,
+        };
+    }
+    if first == UTF8_3_SURROGATES {
+        return Rest {
+            low: TAIL_LOW,
+            high: UTF8_3_SURROGATES_HIGH,
+            tails: 1,
+        };
+    }
+    if first <= UTF8_3_LAST {
+        return Rest {
+            low: TAIL_LOW,
+            high: TAIL_HIGH,
+            tails: 1,
+        };
+    }
+    if first == UTF8_4_FIRST {
+        return Rest {
+            low: UTF8_4_FIRST_LOW,
+            high: TAIL_HIGH,
+            tails: 2,
+        };
+    }
+    if first < UTF8_4_LAST {
+        return Rest {
+            low: TAIL_LOW,
+            high: TAIL_HIGH,
+            tails: 2,
+        };
+    }
+    if first == UTF8_4_LAST {
+        return Rest {
+            low: TAIL_LOW,
+            high: UTF8_4_LAST_HIGH,
+            tails: 2,
+        };
+    }
+    Rest {
+        low: NONE_LOW,
+        high: NONE_HIGH,
+        tails: 0,
+    }
+}
+
+// Whether `count` octets of UTF8-tail stand at `at`.
+fn tails_at(text: &[u8], at: usize, count: usize) -> bool
+    requires { ⌜ at + count ≤ length (now text) ⌝ }
+    ensures { λ r. ⌜ r ≡ spells (replicate count tail) (take count (drop at (now (text .entry)))) ⌝ }
+{
+    let mut i = 0;
+    while i < count {
+        if !within(text[at + i], TAIL_LOW, TAIL_HIGH) {
+            return false;
+        }
+        i += 1;
+    }
+    true
+}
+
+// Whether an octet is one from low to high.
+fn within(octet: u8, low: u8, high: u8) -> bool
+    ensures { λ r. ⌜ r ≡ inside (low to high) octet ⌝ }
+{
+    low <= octet && octet <= high
+}
