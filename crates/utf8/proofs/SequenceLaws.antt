@@ -1,36 +1,17 @@
 -- Laws of RFC 3629's grammar: which octets are inside a range, how many an alternative spells, and what a first octet says of a rule.
 -- Assumes nothing.
 use Prim.Native.Nat.{ℕ, suc, _≤_, _<_}
-use mathlib.Core.Bool.{Bool, true, false, _&&_, _||_, and-false}
-use mathlib.Core.Path.{_≡_, refl, sym, ap, subst}
-use mathlib.Core.List.{List, [], _∷_, _++_}
+use mathlib.Core.Bool.{Bool, true, false, _&&_, and-false}
+use mathlib.Core.Path.{_≡_, refl, ap}
+use mathlib.Core.List.{List, [], _∷_}
 use native.Mathlib.Omega.{arith}
 use borrow.Author.Tests.{le-leb, lt-leb}
 use lib.Dec.{T, leb, leb→le}
 use lib.Ieee.Fits.{and-l, and-r}
 use lib.ListN.{length, getD, take, drop, replicate, length-take, length-replicate}
 use lib.Seq.{drop-cons}
+use Rattle.utf8.proofs.BoolLaws.{T-false, or-cases}
 use Rattle.utf8.specs.Sequence.{Range, Rule, tail, inside, spells, derives, utf8-char, utf8-1, utf8-2, utf8-3, utf8-4}
-
-pub false-of : (t : Bool) → (T t → ⊥) → t ≡ false
-false-of true h = absurd (h tt)
-false-of false h = refl
-
-pub true-of : (t : Bool) → T t → t ≡ true
-true-of true h = refl
-true-of false h = absurd h
-
-pub or-l : (a b : Bool) → T a → T (a || b)
-or-l true b h = tt
-or-l false b h = absurd h
-
-pub or-r : (a b : Bool) → T b → T (a || b)
-or-r true b h = tt
-or-r false b h = h
-
-pub or-case : {C : Type 0} (a b : Bool) → T (a || b) → (T a → C) → (T b → C) → C
-or-case true b t f g = f tt
-or-case false b t f g = g t
 
 pub inside-true : (range : Range) (b : ℕ) → range .lo ≤ b → b ≤ range .hi → inside range b ≡ true
 unfolding inside
@@ -61,7 +42,7 @@ spells-length (range ∷ ranges) [] t = absurd t
 spells-length (range ∷ ranges) (b ∷ s) t = ap suc (spells-length ranges s (and-r (inside range b) _ t))
 
 pub spells-short : (ranges : List Range) (s : List ℕ) → length s < length ranges → spells ranges s ≡ false
-spells-short ranges s h = false-of _ (λ t. omega (arith, spells-length ranges s t))
+spells-short ranges s h = T-false _ (λ t. omega (arith, spells-length ranges s t))
 
 -- of the octets from i on, the one at i is of the first range, and those after it are of the others
 pub spells-at : (range : Range) (ranges : List Range) (n i j : ℕ) (s : List ℕ) (t : Bool) → i < length s → j ≡ suc i → t ≡ inside range (getD s i 0)
@@ -82,7 +63,7 @@ pub spells-empty : (range : Range) (ranges : List Range) (s : List ℕ) → rang
 unfolding spells
 spells-empty range ranges [] h = refl
 spells-empty range ranges (b ∷ s) h =
-    rw (false-of (inside range b) (λ t. omega (arith, inside-low range b t, inside-high range b t)))
+    rw (T-false (inside range b) (λ t. omega (arith, inside-low range b t, inside-high range b t)))
 
 -- every first octet of a rule lies above n, and every one below n
 abbrev pub Above : ℕ → Rule → Type 0
@@ -117,7 +98,7 @@ unfolding derives spells
 derives-above n b s [] h t = absurd t
 derives-above n b s ([] ∷ rule) h t = absurd h
 derives-above n b s ((range ∷ ranges) ∷ rule) h t =
-    or-case (spells (range ∷ ranges) (b ∷ s)) (derives rule (b ∷ s)) t
+    or-cases (spells (range ∷ ranges) (b ∷ s)) (derives rule (b ∷ s)) t
     (λ here. omega (arith, inside-low range b (and-l (inside range b) (spells ranges s) here)))
     (λ later. derives-above n b s rule (h .1) later)
 

@@ -1,10 +1,10 @@
 -- Laws of where whole sequences stop: it is the end of the longest beginning that is a text.
 -- Assumes nothing.
-use Prim.Native.Nat.{ℕ, zero, suc, _+_, _-_, _≤_, _<_, min}
+use Prim.Native.Nat.{ℕ, zero, suc, _+_, _≤_, _<_}
 use mathlib.Core.Bool.{Bool, true, false, cond}
 use mathlib.Core.Logic.{_↔_}
-use mathlib.Core.Path.{_≡_, refl, sym, ap, subst, _∙_}
-use mathlib.Core.List.{List, [], _∷_, _++_, append-assoc, append-nil}
+use mathlib.Core.Path.{_≡_, refl, sym, ap, _∙_}
+use mathlib.Core.List.{List, [], _∷_, _++_, append-assoc}
 use native.Mathlib.Nat.{zero-add, add-assoc}
 use native.Mathlib.Omega.{arith}
 use lib.Dec.{T}
@@ -13,96 +13,98 @@ use lib.ListN.{length, take, drop, length-append, length-take, length-drop, take
 use lib.Seq.{take-at, take-add, take-length, drop-drop, drop-append-seam, length-take-le}
 use Rattle.utf8.specs.Sequence.{Range, Rule, inside, spells, derives, sequence, utf8-char}
 use Rattle.utf8.specs.Text.{Text, none, next}
-use Rattle.utf8.specs.Valid.{begun, leading, reading, validUpTo, Stops}
-use Rattle.utf8.proofs.SequenceLaws.{true-of, or-l, or-r, or-case, inside-true, inside-below, inside-above, spells-length, Above, Below, Ordered, utf8-char-ordered, derives-above, derives-nil}
+use Rattle.utf8.specs.Valid.{matched, leading, reading, validUpTo, Stops}
+use Rattle.utf8.proofs.BoolLaws.{T-true, or-left, or-right, or-cases}
+use Rattle.utf8.proofs.SequenceLaws.{inside-true, inside-below, inside-above, spells-length, Above, Below, Ordered, utf8-char-ordered, derives-above, derives-nil}
 
 -- What a first octet says of a rule
 
-pub begun-above : (a : ℕ) (s : List ℕ) (rule : Rule) → Above a rule → begun rule (a ∷ s) ≡ 0
-unfolding begun spells
-begun-above a s [] h = refl
-begun-above a s ([] ∷ rule) h = absurd h
-begun-above a s ((range ∷ ranges) ∷ rule) h = rw (inside-below range a (h .0)) (begun-above a s rule (h .1))
+pub matched-above : (a : ℕ) (s : List ℕ) (rule : Rule) → Above a rule → matched rule (a ∷ s) ≡ 0
+unfolding matched spells
+matched-above a s [] h = refl
+matched-above a s ([] ∷ rule) h = absurd h
+matched-above a s ((range ∷ ranges) ∷ rule) h = rw (inside-below range a (h .0)) (matched-above a s rule (h .1))
 
-pub begun-below : (a : ℕ) (s : List ℕ) (before after : Rule) → Below a before → begun (before ++ after) (a ∷ s) ≡ begun after (a ∷ s)
-unfolding begun spells
-begun-below a s [] after h = refl
-begun-below a s ([] ∷ before) after h = absurd h
-begun-below a s ((range ∷ ranges) ∷ before) after h = rw (inside-above range a (h .0)) (begun-below a s before after (h .1))
+pub matched-below : (a : ℕ) (s : List ℕ) (before after : Rule) → Below a before → matched (before ++ after) (a ∷ s) ≡ matched after (a ∷ s)
+unfolding matched spells
+matched-below a s [] after h = refl
+matched-below a s ([] ∷ before) after h = absurd h
+matched-below a s ((range ∷ ranges) ∷ before) after h = rw (inside-above range a (h .0)) (matched-below a s before after (h .1))
 
-pub begun-here : (a : ℕ) (s : List ℕ) (range : Range) (ranges : List Range) (after : Rule) → range .lo ≤ a → a ≤ range .hi → Above a after
-    → begun ((range ∷ ranges) ∷ after) (a ∷ s) ≡ cond (spells ranges (take (length ranges) s)) (suc (length ranges)) 0
-unfolding begun spells
-begun-here a s range ranges after low high above = rw (inside-true range a low high, begun-above a s after above)
+pub matched-here : (a : ℕ) (s : List ℕ) (range : Range) (ranges : List Range) (after : Rule) → range .lo ≤ a → a ≤ range .hi → Above a after
+    → matched ((range ∷ ranges) ∷ after) (a ∷ s) ≡ cond (spells ranges (take (length ranges) s)) (suc (length ranges)) 0
+unfolding matched spells
+matched-here a s range ranges after low high above = rw (inside-true range a low high, matched-above a s after above)
 
 -- What octets begin with
 
-pub begun-within : (rule : Rule) (s : List ℕ) → begun rule s ≤ length s
-unfolding begun
-begun-within [] s = omega arith
-begun-within (ranges ∷ rule) s =
-    go (spells ranges (take (length ranges) s)) (spells-length ranges (take (length ranges) s)) (begun-within rule s)
+pub matched-within : (rule : Rule) (s : List ℕ) → matched rule s ≤ length s
+unfolding matched
+matched-within [] s = omega arith
+matched-within (ranges ∷ rule) s =
+    go (spells ranges (take (length ranges) s)) (spells-length ranges (take (length ranges) s)) (matched-within rule s)
   where
-    go : (t : Bool) → (T t → length (take (length ranges) s) ≡ length ranges) → begun rule s ≤ length s
-        → cond t (length ranges) (begun rule s) ≤ length s
+    go : (t : Bool) → (T t → length (take (length ranges) s) ≡ length ranges) → matched rule s ≤ length s
+        → cond t (length ranges) (matched rule s) ≤ length s
     go true here later = omega (arith, length-take (length ranges) s, here tt)
     go false here later = later
 
-pub begun-derives : (rule : Rule) (s : List ℕ) → 0 < begun rule s → T (derives rule (take (begun rule s) s))
-unfolding begun derives
-begun-derives [] s h = omega arith
-begun-derives (ranges ∷ rule) s h = go (spells ranges (take (length ranges) s)) (λ t. t) (begun-derives rule s) h
+pub matched-derives : (rule : Rule) (s : List ℕ) → 0 < matched rule s → T (derives rule (take (matched rule s) s))
+unfolding matched derives
+matched-derives [] s h = omega arith
+matched-derives (ranges ∷ rule) s h = go (spells ranges (take (length ranges) s)) (λ t. t) (matched-derives rule s) h
   where
-    go : (t : Bool) → (T t → T (spells ranges (take (length ranges) s))) → (0 < begun rule s → T (derives rule (take (begun rule s) s)))
-        → 0 < cond t (length ranges) (begun rule s) → T (derives (ranges ∷ rule) (take (cond t (length ranges) (begun rule s)) s))
-    go true here later h = or-l (spells ranges (take (length ranges) s)) (derives rule (take (length ranges) s)) (here tt)
-    go false here later h = or-r (spells ranges (take (begun rule s) s)) (derives rule (take (begun rule s) s)) (later h)
+    go : (t : Bool) → (T t → T (spells ranges (take (length ranges) s))) → (0 < matched rule s → T (derives rule (take (matched rule s) s)))
+        → 0 < cond t (length ranges) (matched rule s) → T (derives (ranges ∷ rule) (take (cond t (length ranges) (matched rule s)) s))
+    go true here later h = or-left (spells ranges (take (length ranges) s)) (derives rule (take (length ranges) s)) (here tt)
+    go false here later h = or-right (spells ranges (take (matched rule s) s)) (derives rule (take (matched rule s) s)) (later h)
 
 -- what a rule in order derives is what octets that go on from it begin with
-pub begun-append : (rule : Rule) (s t : List ℕ) → Ordered rule → T (derives rule s) → begun rule (s ++ t) ≡ length s
-unfolding begun derives spells
-begun-append [] s t h d = absurd d
-begun-append ([] ∷ rule) s t h d = absurd h
-begun-append ((range ∷ ranges) ∷ rule) [] t h d = absurd (derives-nil rule (h .1) d)
-begun-append ((range ∷ ranges) ∷ rule) (b ∷ s) t h d =
-    or-case (spells (range ∷ ranges) (b ∷ s)) (derives rule (b ∷ s)) d
+pub matched-append : (rule : Rule) (s t : List ℕ) → Ordered rule → T (derives rule s) → matched rule (s ++ t) ≡ length s
+unfolding matched derives spells
+matched-append [] s t h d = absurd d
+matched-append ([] ∷ rule) s t h d = absurd h
+matched-append ((range ∷ ranges) ∷ rule) [] t h d = absurd (derives-nil rule (h .1) d)
+matched-append ((range ∷ ranges) ∷ rule) (b ∷ s) t h d =
+    or-cases (spells (range ∷ ranges) (b ∷ s)) (derives rule (b ∷ s)) d
     (λ here.
     let e : length s ≡ length ranges = spells-length ranges s (and-r (inside range b) (spells ranges s) here) in
-    rw (take-at s t (length ranges) e, true-of (spells (range ∷ ranges) (b ∷ s)) here, e))
-    (λ later. rw (inside-above range b (derives-above (range .hi) b s rule (h .0) later)) (begun-append rule (b ∷ s) t (h .1) later))
+    rw (take-at s t (length ranges) e, T-true (spells (range ∷ ranges) (b ∷ s)) here, e))
+    (λ later. rw (inside-above range b (derives-above (range .hi) b s rule (h .0) later)) (matched-append rule (b ∷ s) t (h .1) later))
 
 -- The sequence that octets begin with
 
 pub leading-within : (s : List ℕ) → leading s ≤ length s
 unfolding leading
-leading-within s = begun-within utf8-char s
+leading-within s = matched-within utf8-char s
 
 pub leading-sequence : (s : List ℕ) → 0 < leading s → T (sequence (take (leading s) s))
 unfolding leading sequence
-leading-sequence s h = begun-derives utf8-char s h
+leading-sequence s h = matched-derives utf8-char s h
 
 pub leading-append : (s t : List ℕ) → T (sequence s) → leading (s ++ t) ≡ length s
 unfolding leading sequence
-leading-append s t h = begun-append utf8-char s t utf8-char-ordered h
+leading-append s t h = matched-append utf8-char s t utf8-char-ordered h
 
--- the first octet is of the alternative at k, so that is the one that octets can begin with
+-- octets cannot begin with an alternative before k where their first octet lies above those
+pub leading-above : (k a : ℕ) (s : List ℕ) → Below a (take k utf8-char) → leading (a ∷ s) ≡ matched (drop k utf8-char) (a ∷ s)
+unfolding leading
+leading-above k a s below =
+    ap (λ (rule : Rule). matched rule (a ∷ s)) (sym (take-append-drop k utf8-char))
+    ∙ matched-below a s (take k utf8-char) (drop k utf8-char) below
+
+-- the first octet is of the alternative at k, so octets can begin with that one only
 pub leading-first : (k : ℕ) {range : Range} {ranges : List Range} {after : Rule} → drop k utf8-char ≡ (range ∷ ranges) ∷ after
     → (a : ℕ) (s : List ℕ) → Below a (take k utf8-char) × (range .lo ≤ a) × (a ≤ range .hi) × Above a after
     → leading (a ∷ s) ≡ cond (spells ranges (take (length ranges) s)) (suc (length ranges)) 0
-unfolding leading
 leading-first k {range} {ranges} {after} e a s h =
-    ap (λ (rule : Rule). begun rule (a ∷ s)) (sym (take-append-drop k utf8-char))
-    ∙ begun-below a s (take k utf8-char) (drop k utf8-char) (h .0)
-    ∙ ap (λ (rule : Rule). begun rule (a ∷ s)) e
-    ∙ begun-here a s range ranges after (h .1) (h .2) (h .3)
+    leading-above k a s (h .0)
+    ∙ ap (λ (rule : Rule). matched rule (a ∷ s)) e
+    ∙ matched-here a s range ranges after (h .1) (h .2) (h .3)
 
--- the first octet lies between those before k and those from k on, so octets begin with no alternative
+-- the first octet lies between those of the alternatives before k and those from k on, so octets can begin with none
 pub leading-between : (k a : ℕ) (s : List ℕ) → Below a (take k utf8-char) × Above a (drop k utf8-char) → leading (a ∷ s) ≡ 0
-unfolding leading
-leading-between k a s h =
-    ap (λ (rule : Rule). begun rule (a ∷ s)) (sym (take-append-drop k utf8-char))
-    ∙ begun-below a s (take k utf8-char) (drop k utf8-char) (h .0)
-    ∙ begun-above a s (drop k utf8-char) (h .1)
+leading-between k a s h = leading-above k a s (h .0) ∙ matched-above a s (drop k utf8-char) (h .1)
 
 -- Reading one sequence after the other
 
@@ -175,7 +177,7 @@ validUpTo-stops s =
     longest n h fits whole =
         omega (arith, simp (take-append-drop, length-take-le) at (validUpTo-append whole (drop n s)))
 
--- What stops at r is told by r alone, and is a text exactly where r is the length
+-- Octets stop at one place, and are a text exactly where that is their length
 
 pub stops-unique : {s : List ℕ} {q r : ℕ} → Stops s q → Stops s r → q ≡ r
 stops-unique {s} {q} {r} a b =

@@ -6,21 +6,21 @@ use lib.ListN.{length, take, drop}
 use Rattle.utf8.specs.Sequence.{Rule, spells, utf8-char}
 use Rattle.utf8.specs.Text.{Text}
 
--- how many octets the first alternative of a rule has that octets begin with; 0 where they begin with none
-unfoldable pub begun : Rule → List ℕ → ℕ
-begun [] s = 0
-begun (ranges ∷ rule) s = cond (spells ranges (take (length ranges) s)) (length ranges) (begun rule s)
+-- how many octets the first alternative of a rule that octets begin with has; 0 where they begin with none
+unfoldable pub matched : Rule → List ℕ → ℕ
+matched [] s = 0
+matched (ranges ∷ rule) s = cond (spells ranges (take (length ranges) s)) (length ranges) (matched rule s)
 
--- how many octets the sequence has that octets begin with; 0 where they begin with none
+-- how many octets the sequence that octets begin with has; 0 where they begin with none
 unfoldable pub leading : List ℕ → ℕ
-leading s = begun utf8-char s
+leading s = matched utf8-char s
 
--- how many octets the first n sequences have, read one after the other from the start; 0 for each that is missing
+-- how many octets the first n sequences have, read one after the other from the start; none for a sequence that is not there
 unfoldable pub reading : ℕ → List ℕ → ℕ
 reading zero s = 0
 reading (suc n) s = leading s + reading n (drop (leading s) s)
 
--- where whole sequences, read from the start, stop: there are no more sequences than octets
+-- where whole sequences, read from the start, stop: at the end of them all, and there are no more of them than octets
 unfoldable pub validUpTo : List ℕ → ℕ
 validUpTo s = reading (length s) s
 

@@ -7,41 +7,8 @@ ghost use lib.ListN.{length, take, drop, replicate};
 ghost use Rattle.utf8.specs.Sequence.{_to_, tail, inside, spells};
 ghost use Rattle.utf8.specs.Valid.{leading, validUpTo, Stops};
 
-// The octets that the ABNF of RFC 3629 names. UTF8-1 goes from 0 to here.
-const UTF8_1_LAST: u8 = 0x7F;
-// First octets of UTF8-2.
-const UTF8_2_FIRST: u8 = 0xC2;
-
-const UTF8_2_LAST: u8 = 0xDF;
-// First octets of UTF8-3. The lowest has fewer second octets, since it would spell overlong forms; so has the one before the surrogates.
-const UTF8_3_FIRST: u8 = 0xE0;
-
-const UTF8_3_FIRST_LOW: u8 = 0xA0;
-
-const UTF8_3_SURROGATES: u8 = 0xED;
-
-const UTF8_3_SURROGATES_HIGH: u8 = 0x9F;
-
-const UTF8_3_LAST: u8 = 0xEF;
-// First octets of UTF8-4.
-const UTF8_4_FIRST: u8 = 0xF0;
-
-const UTF8_4_FIRST_LOW: u8 = 0x90;
-
-const UTF8_4_LAST: u8 = 0xF4;
-
-const UTF8_4_LAST_HIGH: u8 = 0x8F;
-// UTF8-tail.
-const TAIL_LOW: u8 = 0x80;
-
-const TAIL_HIGH: u8 = 0xBF;
-// No octet lies between these.
-const NONE_LOW: u8 = 1;
-
-const NONE_HIGH: u8 = 0;
-
-// How many bytes at the start of `text` are whole sequences: its length where all of it is UTF-8, and otherwise where the first byte
-// stands that belongs to no whole sequence.
+// Where whole sequences, read from the start of `text`, stop: at its length where all of it is UTF-8, and otherwise at the first byte
+// that no whole sequence has.
 pub fn valid_up_to(text: &[u8]) -> usize
     ensures { λ r. ⌜ r ≡ validUpTo (now (text .entry)) ⌝ }
     ensures { λ r. ⌜ Stops (now (text .entry)) r ⌝ }
@@ -57,7 +24,7 @@ pub fn valid_up_to(text: &[u8]) -> usize
     at
 }
 
-// How many octets the sequence has that starts at `at`; 0 where none does. Each octet is looked at once.
+// How many octets the sequence that starts at `at` has; 0 where none starts there. No octet is looked at twice.
 fn sequence_at(text: &[u8], at: usize) -> usize
     requires { ⌜ at < length (now text) ⌝ }
     ensures { λ r. ⌜ r ≡ leading (drop at (now (text .entry))) ⌝ }
@@ -67,100 +34,17 @@ fn sequence_at(text: &[u8], at: usize) -> usize
         return 1;
     }
     let rest = rest_after(first);
-    let tails = rest.tails;
+    let tails = rest.2;
     if text.len() - at < tails + 2 {
         return 0;
     }
-    if !within(text[at + 1], rest.low, rest.high) {
+    if !within(text[at + 1], rest.0, rest.1) {
         return 0;
     }
     if !tails_at(text, at + 2, tails) {
         return 0;
     }
     tails + 2
-}
-
-// What may follow the first octet of a sequence of several: a second octet from low to high, and so many octets of UTF8-tail.
-struct Rest {
-    low: u8,
-    high: u8,
-    tails: usize,
-}
-
-// What may follow a first octet above UTF8-1. No second octet may follow one that starts no sequence: its range is empty.
-fn rest_after(first: u8) -> Rest
-    requires { do ⌜ (← ⟦UTF8_1_LAST⟧) < first ⌝ }
-    ensures { λ r. ⌜ r .tails ≤ 2 ⌝ }
-    ensures { λ r. ⌜ ((rest : List ℕ) → leading (first ∷ rest) ≡ cond (spells (r .low to r .high ∷ replicate (r .tails) tail) (take (suc (r .tails)) rest)) (r .tails + 2) 0) ⌝ }
-{
-    if first < UTF8_2_FIRST {
-        return Rest {
-            low: NONE_LOW,
-            high: NONE_HIGH,
-            tails: 0,
-        };
-    }
-    if first <= UTF8_2_LAST {
-        return Rest {
-            low: TAIL_LOW,
-            high: TAIL_HIGH,
-            tails: 0,
-        };
-    }
-    if first == UTF8_3_FIRST {
-        return Rest {
-            low: UTF8_3_FIRST_LOW,
-            high: TAIL_HIGH,
-            tails: 1,
-        };
-    }
-    if first < UTF8_3_SURROGATES {
-        return Rest {
-            low: TAIL_LOW,
-            high: TAIL_HIGH,
-            tails: 1,
-        };
-    }
-    if first == UTF8_3_SURROGATES {
-        return Rest {
-            low: TAIL_LOW,
-            high: UTF8_3_SURROGATES_HIGH,
-            tails: 1,
-        };
-    }
-    if first <= UTF8_3_LAST {
-        return Rest {
-            low: TAIL_LOW,
-            high: TAIL_HIGH,
-            tails: 1,
-        };
-    }
-    if first == UTF8_4_FIRST {
-        return Rest {
-            low: UTF8_4_FIRST_LOW,
-            high: TAIL_HIGH,
-            tails: 2,
-        };
-    }
-    if first < UTF8_4_LAST {
-        return Rest {
-            low: TAIL_LOW,
-            high: TAIL_HIGH,
-            tails: 2,
-        };
-    }
-    if first == UTF8_4_LAST {
-        return Rest {
-            low: TAIL_LOW,
-            high: UTF8_4_LAST_HIGH,
-            tails: 2,
-        };
-    }
-    Rest {
-        low: NONE_LOW,
-        high: NONE_HIGH,
-        tails: 0,
-    }
 }
 
 // Whether `count` octets of UTF8-tail stand at `at`.
@@ -178,9 +62,85 @@ fn tails_at(text: &[u8], at: usize, count: usize) -> bool
     true
 }
 
-// Whether an octet is one from low to high.
+// Whether an octet is one from `low` to `high`.
 fn within(octet: u8, low: u8, high: u8) -> bool
     ensures { λ r. ⌜ r ≡ inside (low to high) octet ⌝ }
 {
     low <= octet && octet <= high
 }
+
+// What follows the first octet of a sequence of several: a second octet from .0 to .1, and then .2 octets of UTF8-tail.
+struct Rest(u8, u8, usize);
+
+// What follows a first octet above UTF8-1. Where no sequence starts with it, no octet is a second one: the range is empty.
+fn rest_after(first: u8) -> Rest
+    requires { do ⌜ (← ⟦UTF8_1_LAST⟧) < first ⌝ }
+    ensures { λ r. ⌜ r .2 ≤ 2 ⌝ }
+    ensures { λ r. ⌜ (
+        (rest : List ℕ)
+        → leading (first ∷ rest)
+        ≡ cond (spells (r .0 to r .1 ∷ replicate (r .2) tail) (take (suc (r .2)) rest)) (r .2 + 2) 0
+        ) ⌝ }
+{
+    if first < UTF8_2_FIRST {
+        return Rest(NONE_LOW, NONE_HIGH, 0);
+    }
+    if first <= UTF8_2_LAST {
+        return Rest(TAIL_LOW, TAIL_HIGH, 0);
+    }
+    if first == UTF8_3_FIRST {
+        return Rest(UTF8_3_FIRST_LOW, TAIL_HIGH, 1);
+    }
+    if first < UTF8_3_SURROGATES {
+        return Rest(TAIL_LOW, TAIL_HIGH, 1);
+    }
+    if first == UTF8_3_SURROGATES {
+        return Rest(TAIL_LOW, UTF8_3_SURROGATES_HIGH, 1);
+    }
+    if first <= UTF8_3_LAST {
+        return Rest(TAIL_LOW, TAIL_HIGH, 1);
+    }
+    if first == UTF8_4_FIRST {
+        return Rest(UTF8_4_FIRST_LOW, TAIL_HIGH, 2);
+    }
+    if first < UTF8_4_LAST {
+        return Rest(TAIL_LOW, TAIL_HIGH, 2);
+    }
+    if first == UTF8_4_LAST {
+        return Rest(TAIL_LOW, UTF8_4_LAST_HIGH, 2);
+    }
+    Rest(NONE_LOW, NONE_HIGH, 0)
+}
+
+// The octets that the ABNF names. UTF8-1 is a first octet up to this one.
+const UTF8_1_LAST: u8 = 0x7F;
+// UTF8-2 has a first octet from this one ..
+const UTF8_2_FIRST: u8 = 0xC2;
+// .. to this one.
+const UTF8_2_LAST: u8 = 0xDF;
+// UTF8-3 has a first octet from this one ..
+const UTF8_3_FIRST: u8 = 0xE0;
+// .. whose second octets start here, since those below would spell overlong forms ..
+const UTF8_3_FIRST_LOW: u8 = 0xA0;
+// .. through this one ..
+const UTF8_3_SURROGATES: u8 = 0xED;
+// .. whose second octets end here, since those above would spell surrogates ..
+const UTF8_3_SURROGATES_HIGH: u8 = 0x9F;
+// .. to this one.
+const UTF8_3_LAST: u8 = 0xEF;
+// UTF8-4 has a first octet from this one ..
+const UTF8_4_FIRST: u8 = 0xF0;
+// .. whose second octets start here, since those below would spell overlong forms ..
+const UTF8_4_FIRST_LOW: u8 = 0x90;
+// .. to this one ..
+const UTF8_4_LAST: u8 = 0xF4;
+// .. whose second octets end here, since those above would spell what lies beyond U+10FFFF.
+const UTF8_4_LAST_HIGH: u8 = 0x8F;
+// UTF8-tail is an octet from this one ..
+const TAIL_LOW: u8 = 0x80;
+// .. to this one.
+const TAIL_HIGH: u8 = 0xBF;
+// No octet goes from this one ..
+const NONE_LOW: u8 = 1;
+// .. to this one.
+const NONE_HIGH: u8 = 0;

@@ -1,6 +1,6 @@
 -- `utf8::sequence_at` meets its contract: its first octet says what may follow, and each test decides one part of that.
 -- Assumes nothing.
-use Prim.Native.Nat.{ℕ, suc, _+_, _<_}
+use Prim.Native.Nat.{suc, _+_, _<_}
 use mathlib.Core.Bool.{Bool, cond, _&&_, and-false}
 use mathlib.Core.List.{_∷_}
 use mathlib.Core.Path.{_≡_, refl, sym, ap, _∙_}
@@ -17,18 +17,13 @@ use Rattle.utf8.proofs.SequenceLaws.{spells-at, spells-cut}
 use Rattle.utf8.proofs.ValidLaws.{leading-first}
 use Rattle.utf8.proofs.sequence_at.Statement.{statement}
 use Rattle.utf8.proofs.sequence_at.Tie as tie
-use Rattle.utf8.proofs.sequence_at.Reads as reads
-use Rattle.utf8.proofs.sequence_at.Lts as lts
-use Rattle.utf8.proofs.rest_after.Reads as rest-after-reads
-use Rattle.utf8.proofs.tails_at.Reads as tails-at-reads
-use Rattle.utf8.proofs.within.Reads as within-reads
 
 -- a sequence starts where the octets after the first are those that may follow it
 first-read : (c : tie.After-rest-after)
     → let a = c .before .before .before .before .args in
     let rest = c .rest-after .result in
     leading (drop (a .at) (now (a .text)))
-    ≡ cond (spells (rest .low to rest .high ∷ replicate (rest .tails) tail) (take (suc (rest .tails)) (drop (a .at + 1) (now (a .text))))) (rest .tails + 2) 0
+    ≡ cond (spells (rest .0 to rest .1 ∷ replicate (rest .2) tail) (take (suc (rest .2)) (drop (a .at + 1) (now (a .text))))) (rest .2 + 2) 0
 first-read c =
     let a = c .before .before .before .before .args in
     let h : a .at < length (now (a .text)) = omega arith in
@@ -39,13 +34,13 @@ second-read : (c : tie.After-within)
     → let a = c .before .before .before .before .before .before .before .args in
     let rest = c .before .before .before .rest-after .result in
     leading (drop (a .at) (now (a .text)))
-    ≡ cond (c .within .result && spells (replicate (rest .tails) tail) (take (rest .tails) (drop (a .at + 2) (now (a .text))))) (rest .tails + 2) 0
+    ≡ cond (c .within .result && spells (replicate (rest .2) tail) (take (rest .2) (drop (a .at + 2) (now (a .text))))) (rest .2 + 2) 0
 second-read c =
     let a = c .before .before .before .before .before .before .before .args in
     let rest = c .before .before .before .rest-after .result in
     first-read (c .before .before .before)
-    ∙ ap (λ (t : Bool). cond t (rest .tails + 2) 0)
-    (spells-at (rest .low to rest .high) (replicate (rest .tails) tail) (rest .tails) (a .at + 1) (a .at + 2) (now (a .text)) (c .within .result)
+    ∙ ap (λ (t : Bool). cond t (rest .2 + 2) 0)
+    (spells-at (rest .0 to rest .1) (replicate (rest .2) tail) (rest .2) (a .at + 1) (a .at + 2) (now (a .text)) (c .within .result)
     (omega arith)
     (omega arith)
     (c .within .ensures))
@@ -75,8 +70,8 @@ returns-2 c =
     let rest = c .before .rest-after .result in
     sym
     (first-read (c .before)
-    ∙ ap (λ (t : Bool). cond t (rest .tails + 2) 0)
-    (spells-cut (rest .low to rest .high) (rest .tails) (drop (a .at + 1) (now (a .text))) (simp length-drop (omega arith))))
+    ∙ ap (λ (t : Bool). cond t (rest .2 + 2) 0)
+    (spells-cut (rest .0 to rest .1) (rest .2) (drop (a .at + 1) (now (a .text))) (simp length-drop (omega arith))))
 
 add-within : tie.Need-add-within
 add-within c = search needs

@@ -14,9 +14,6 @@ use Rattle.utf8.specs.Sequence.{tail, spells}
 use Rattle.utf8.proofs.SequenceLaws.{spells-tails}
 use Rattle.utf8.proofs.tails_at.Statement.{statement}
 use Rattle.utf8.proofs.tails_at.Tie as tie
-use Rattle.utf8.proofs.tails_at.Reads as reads
-use Rattle.utf8.proofs.tails_at.Lts as lts
-use Rattle.utf8.proofs.within.Reads as within-reads
 
 abbrev Inv-loop : tie.InvT-loop
 Inv-loop text at count i₀ i =

@@ -1,22 +1,18 @@
 -- `utf8::valid_up_to` meets its contract. The loop's invariant: reading from the start stops as far on as reading from `at` does.
 -- The measure is what is left of the length.
 -- Assumes nothing.
-use Prim.Native.Nat.{ℕ, _+_, _-_, _≤_, _<_}
+use Prim.Native.Nat.{ℕ, _+_, _-_, _≤_}
 use mathlib.Core.List.{List}
-use mathlib.Core.Path.{_≡_, sym, ap, subst, _∙_}
-use native.Mathlib.Nat.{zero-add, add-zero, add-assoc}
+use mathlib.Core.Path.{_≡_, sym, _∙_}
+use native.Mathlib.Nat.{zero-add}
 use native.Mathlib.Omega.{arith}
 use borrow.Author.Needs.{needs}
 use denote.Ref.{now}
 use lib.ListN.{length, drop, length-drop}
-use lib.Seq.{drop-drop}
-use Rattle.utf8.specs.Valid.{leading, validUpTo, Stops}
+use Rattle.utf8.specs.Valid.{validUpTo, Stops}
 use Rattle.utf8.proofs.ValidLaws.{leading-within, validUpTo-none, validUpTo-drop, validUpTo-stops}
 use Rattle.utf8.proofs.valid_up_to.Statement.{statement}
 use Rattle.utf8.proofs.valid_up_to.Tie as tie
-use Rattle.utf8.proofs.valid_up_to.Reads as reads
-use Rattle.utf8.proofs.valid_up_to.Lts as lts
-use Rattle.utf8.proofs.sequence_at.Reads as sequence-at-reads
 
 abbrev Inv-loop : tie.InvT-loop
 Inv-loop text at₀ at = (at ≤ length text) × (validUpTo text ≡ at + validUpTo (drop at text))
