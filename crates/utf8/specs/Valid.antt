@@ -15,7 +15,7 @@ matched (ranges ∷ rule) s = cond (spells ranges (take (length ranges) s)) (len
 unfoldable pub leading : List ℕ → ℕ
 leading s = matched utf8-char s
 
--- how many octets the first n sequences have, read one after the other from the start; none for a sequence that is not there
+-- how many octets the first n sequences have, read one after the other from the start; a sequence that is not there has 0
 unfoldable pub reading : ℕ → List ℕ → ℕ
 reading zero s = 0
 reading (suc n) s = leading s + reading n (drop (leading s) s)

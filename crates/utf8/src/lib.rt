@@ -112,35 +112,35 @@ fn rest_after(first: u8) -> Rest
     Rest(NONE_LOW, NONE_HIGH, 0)
 }
 
-// The octets that the ABNF names. UTF8-1 is a first octet up to this one.
+// The greatest octet of UTF8-1.
 const UTF8_1_LAST: u8 = 0x7F;
-// UTF8-2 has a first octet from this one ..
+// The least first octet of UTF8-2: a lesser one would spell an overlong form.
 const UTF8_2_FIRST: u8 = 0xC2;
-// .. to this one.
+// The greatest first octet of UTF8-2.
 const UTF8_2_LAST: u8 = 0xDF;
-// UTF8-3 has a first octet from this one ..
+// The least first octet of UTF8-3.
 const UTF8_3_FIRST: u8 = 0xE0;
-// .. whose second octets start here, since those below would spell overlong forms ..
+// The least second octet after it: a lesser one would spell an overlong form.
 const UTF8_3_FIRST_LOW: u8 = 0xA0;
-// .. through this one ..
+// The first octet of UTF8-3 that a surrogate would have.
 const UTF8_3_SURROGATES: u8 = 0xED;
-// .. whose second octets end here, since those above would spell surrogates ..
+// The greatest second octet after it: a greater one would spell a surrogate.
 const UTF8_3_SURROGATES_HIGH: u8 = 0x9F;
-// .. to this one.
+// The greatest first octet of UTF8-3.
 const UTF8_3_LAST: u8 = 0xEF;
-// UTF8-4 has a first octet from this one ..
+// The least first octet of UTF8-4.
 const UTF8_4_FIRST: u8 = 0xF0;
-// .. whose second octets start here, since those below would spell overlong forms ..
+// The least second octet after it: a lesser one would spell an overlong form.
 const UTF8_4_FIRST_LOW: u8 = 0x90;
-// .. to this one ..
+// The greatest first octet of UTF8-4.
 const UTF8_4_LAST: u8 = 0xF4;
-// .. whose second octets end here, since those above would spell what lies beyond U+10FFFF.
+// The greatest second octet after it: a greater one would spell what lies above U+10FFFF.
 const UTF8_4_LAST_HIGH: u8 = 0x8F;
-// UTF8-tail is an octet from this one ..
+// The least octet of UTF8-tail.
 const TAIL_LOW: u8 = 0x80;
-// .. to this one.
+// The greatest octet of UTF8-tail.
 const TAIL_HIGH: u8 = 0xBF;
-// No octet goes from this one ..
+// An empty range goes from this octet ..
 const NONE_LOW: u8 = 1;
 // .. to this one.
 const NONE_HIGH: u8 = 0;
