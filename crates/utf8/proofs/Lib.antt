@@ -1,0 +1,4 @@
+-- The laws of the crate's definitions, for its own proofs and for those of the crates above it.
+mod BoolLaws
+pub mod SequenceLaws
+pub mod ValidLaws

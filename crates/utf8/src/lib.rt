@@ -1,0 +1,146 @@
+// UTF-8 as RFC 3629 has it: where whole sequences, read from the start of a slice, stop.
+ghost use Prim.Native.Nat.{ℕ, suc, _+_, _≤_, _<_};
+ghost use mathlib.Core.Bool.{cond};
+ghost use mathlib.Core.List.{List, _∷_};
+ghost use mathlib.Core.Path.{_≡_};
+ghost use lib.ListN.{length, take, drop, replicate};
+ghost use Rattle.utf8.specs.Sequence.{_to_, tail, inside, spells};
+ghost use Rattle.utf8.specs.Valid.{leading, validUpTo, Stops};
+
+// Where whole sequences, read from the start of `text`, stop: at its length where all of it is UTF-8, and otherwise at the first byte
+// that no whole sequence has.
+pub fn valid_up_to(text: &[u8]) -> usize
+    ensures { λ r. ⌜ r ≡ validUpTo (now (text .entry)) ⌝ }
+    ensures { λ r. ⌜ Stops (now (text .entry)) r ⌝ }
+{
+    let mut at = 0;
+    while at < text.len() {
+        let octets = sequence_at(text, at);
+        if octets == 0 {
+            return at;
+        }
+        at += octets;
+    }
+    at
+}
+
+// How many octets the sequence that starts at `at` has; 0 where none starts there. No octet is looked at twice.
+fn sequence_at(text: &[u8], at: usize) -> usize
+    requires { ⌜ at < length (now text) ⌝ }
+    ensures { λ r. ⌜ r ≡ leading (drop at (now (text .entry))) ⌝ }
+{
+    let first = text[at];
+    if first <= UTF8_1_LAST {
+        return 1;
+    }
+    let rest = rest_after(first);
+    let tails = rest.2;
+    if text.len() - at < tails + 2 {
+        return 0;
+    }
+    if !within(text[at + 1], rest.0, rest.1) {
+        return 0;
+    }
+    if !tails_at(text, at + 2, tails) {
+        return 0;
+    }
+    tails + 2
+}
+
+// Whether `count` octets of UTF8-tail stand at `at`.
+fn tails_at(text: &[u8], at: usize, count: usize) -> bool
+    requires { ⌜ at + count ≤ length (now text) ⌝ }
+    ensures { λ r. ⌜ r ≡ spells (replicate count tail) (take count (drop at (now (text .entry)))) ⌝ }
+{
+    let mut i = 0;
+    while i < count {
+        if !within(text[at + i], TAIL_LOW, TAIL_HIGH) {
+            return false;
+        }
+        i += 1;
+    }
+    true
+}
+
+// Whether an octet is one from `low` to `high`.
+fn within(octet: u8, low: u8, high: u8) -> bool
+    ensures { λ r. ⌜ r ≡ inside (low to high) octet ⌝ }
+{
+    low <= octet && octet <= high
+}
+
+// What follows the first octet of a sequence of several: a second octet from .0 to .1, and then .2 octets of UTF8-tail.
+struct Rest(u8, u8, usize);
+
+// What follows a first octet above UTF8-1. Where no sequence starts with it, no octet is a second one: the range is empty.
+fn rest_after(first: u8) -> Rest
+    requires { do ⌜ (← ⟦UTF8_1_LAST⟧) < first ⌝ }
+    ensures { λ r. ⌜ r .2 ≤ 2 ⌝ }
+    ensures { λ r. ⌜ (
+        (rest : List ℕ)
+        → leading (first ∷ rest)
+        ≡ cond (spells (r .0 to r .1 ∷ replicate (r .2) tail) (take (suc (r .2)) rest)) (r .2 + 2) 0
+        ) ⌝ }
+{
+    if first < UTF8_2_FIRST {
+        return Rest(NONE_LOW, NONE_HIGH, 0);
+    }
+    if first <= UTF8_2_LAST {
+        return Rest(TAIL_LOW, TAIL_HIGH, 0);
+    }
+    if first == UTF8_3_FIRST {
+        return Rest(UTF8_3_FIRST_LOW, TAIL_HIGH, 1);
+    }
+    if first < UTF8_3_SURROGATES {
+        return Rest(TAIL_LOW, TAIL_HIGH, 1);
+    }
+    if first == UTF8_3_SURROGATES {
+        return Rest(TAIL_LOW, UTF8_3_SURROGATES_HIGH, 1);
+    }
+    if first <= UTF8_3_LAST {
+        return Rest(TAIL_LOW, TAIL_HIGH, 1);
+    }
+    if first == UTF8_4_FIRST {
+        return Rest(UTF8_4_FIRST_LOW, TAIL_HIGH, 2);
+    }
+    if first < UTF8_4_LAST {
+        return Rest(TAIL_LOW, TAIL_HIGH, 2);
+    }
+    if first == UTF8_4_LAST {
+        return Rest(TAIL_LOW, UTF8_4_LAST_HIGH, 2);
+    }
+    Rest(NONE_LOW, NONE_HIGH, 0)
+}
+
+// The greatest octet of UTF8-1.
+const UTF8_1_LAST: u8 = 0x7F;
+// The least first octet of UTF8-2: a lesser one would spell an overlong form.
+const UTF8_2_FIRST: u8 = 0xC2;
+// The greatest first octet of UTF8-2.
+const UTF8_2_LAST: u8 = 0xDF;
+// The least first octet of UTF8-3.
+const UTF8_3_FIRST: u8 = 0xE0;
+// The least second octet after it: a lesser one would spell an overlong form.
+const UTF8_3_FIRST_LOW: u8 = 0xA0;
+// The first octet of UTF8-3 that a surrogate would have.
+const UTF8_3_SURROGATES: u8 = 0xED;
+// The greatest second octet after it: a greater one would spell a surrogate.
+const UTF8_3_SURROGATES_HIGH: u8 = 0x9F;
+// The greatest first octet of UTF8-3.
+const UTF8_3_LAST: u8 = 0xEF;
+// The least first octet of UTF8-4.
+const UTF8_4_FIRST: u8 = 0xF0;
+// The least second octet after it: a lesser one would spell an overlong form.
+const UTF8_4_FIRST_LOW: u8 = 0x90;
+// The greatest first octet of UTF8-4.
+const UTF8_4_LAST: u8 = 0xF4;
+// The greatest second octet after it: a greater one would spell what lies above U+10FFFF.
+const UTF8_4_LAST_HIGH: u8 = 0x8F;
+// The least octet of UTF8-tail.
+const TAIL_LOW: u8 = 0x80;
+// The greatest octet of UTF8-tail.
+const TAIL_HIGH: u8 = 0xBF;
+// An empty range goes from this octet ..
+const NONE_LOW: u8 = 1;
+// .. to this one.
+const NONE_HIGH: u8 = 0;
