@@ -39,15 +39,15 @@ module _ (b : List ℕ) (places node : ℕ) (c : Counted b places node) where
   counted-next s h k e f =
       let l : node < length (slots b) = omega (arith, length-slots b) in
       let slot : childCount (getD (slots b) node []) ≡ s .children =
-          ap childCount (slots-at b node [] h) ∙ sym (ap (λ (n : Numbers). n .children) e) in
-      record
-      { within = omega arith
-      ; counted =
-          rw add-one
-          (openPlaces-suc (slots b) node (places - 1) [] l (some k .1)
-          ∙ ap pos (omega (arith, slot)))
-      ; few = omega (arith, c .few)
-      ; before = λ j q. ⊎-elim (λ (w : j ≡ node). subst (λ (i : ℕ). Open (openPlaces (slots b) i)) (sym w) (some k)) (λ (w : j < node). c .before j w) (eq-or-lt-of-le (omega arith))
+      ap childCount (slots-at b node [] h) ∙ sym (ap (λ (n : Numbers). n .children) e) in
+      record {
+        within = omega arith;
+        counted =
+            rw add-one
+            (openPlaces-suc (slots b) node (places - 1) [] l (some k .1)
+            ∙ ap pos (omega (arith, slot)));
+        few = omega (arith, c .few);
+        before = λ j q. ⊎-elim (λ (w : j ≡ node). subst (λ (i : ℕ). Open (openPlaces (slots b) i)) (sym w) (some k)) (λ (w : j < node). c .before j w) (eq-or-lt-of-le (omega arith));
       }
 
   pub counted-left : node < totalOf b → places ≡ 0 → Refused (refusal 6 node) ≡ orElse (leftOver (slots b)) (missing (slots b))

@@ -73,11 +73,11 @@ accepted-tree bytes e =
     let b = none-orElse _ _ (a .1) in
     let c = none-orElse _ _ (b .1) in
     let f : Fills 1 (slots bytes) = accepted-fills (slots bytes) (a .0) (b .0) in
-    record
-    { deep = none-atMostDeep (treeOf (slots bytes)) (c .0)
-    ; keeps = none-keeps (treeOf (slots bytes)) (c .1)
-    ; claims = fills-claims (slots bytes) f
-    ; lists = fills-listing (slots bytes) f
+    record {
+      deep = none-atMostDeep (treeOf (slots bytes)) (c .0);
+      keeps = none-keeps (treeOf (slots bytes)) (c .1);
+      claims = fills-claims (slots bytes) f;
+      lists = fills-listing (slots bytes) f;
     }
 
 sound-judgement : (bytes : List ℕ) → Sound bytes → judgement bytes ≡ treeRefusal (slots bytes)
@@ -102,9 +102,10 @@ tree-rows bytes lent t s n h =
 -- a sheet is accepted exactly where some tree, at most 32 deep, keeps every rule, claims its children rightly and lists the sheet's nodes
 pub accepted-exactly : (bytes : List ℕ) (lent : ℕ) → Sound bytes → EnoughOutput bytes lent → Accepted (outcome bytes lent) ↔ ((t : Tree) × IsTreeOf bytes t)
 unfolding outcome Accepted
-accepted-exactly bytes lent s n =
-    ( (λ a. (treeOf (slots bytes), accepted-tree bytes (sym (sound-judgement bytes s) ∙ accepted-no-refusal (judgement bytes) (totalOf bytes) lent a)))
-    , (λ h. subst Accepted (sym (tree-rows bytes lent (h .0) s n (h .1))) tt))
+accepted-exactly bytes lent s n = (
+  (λ a. (treeOf (slots bytes), accepted-tree bytes (sym (sound-judgement bytes s) ∙ accepted-no-refusal (judgement bytes) (totalOf bytes) lent a))),
+  (λ h. subst Accepted (sym (tree-rows bytes lent (h .0) s n (h .1))) tt),
+)
 
 -- any two such trees are equal
 pub one-tree : (bytes : List ℕ) (t u : Tree) → IsTreeOf bytes t → IsTreeOf bytes u → t ≡ u

@@ -65,6 +65,7 @@ broken-keepsAt p s fs e =
 
 mutual
   unfolding Keeps faults firstFault
+
   -- a tree that keeps every rule has no fault
   pub keeps-no-fault : (t : Tree) (p : Place) (k : ℕ) → Keeps p t → firstFault k (faults p t) ≡ Lawful
   keeps-no-fault (node s fs) p k h = rw (keepsAt-broken p s fs (h .0)) (keepsAll-no-fault fs (placeBelow p s) (suc k) (h .1))
@@ -77,6 +78,7 @@ mutual
 
 mutual
   unfolding Keeps faults
+
   -- a tree with no fault keeps every rule
   pub no-fault-keeps : (t : Tree) (p : Place) (k : ℕ) → firstFault k (faults p t) ≡ Lawful → Keeps p t
   no-fault-keeps (node s fs) p k e =

@@ -18,6 +18,7 @@ use Rattle.schema.proofs.FaultLaws.{firstFault-append}
 
 mutual
   unfolding depths size listing
+
   pub length-depths : (t : Tree) (d : ℕ) → length (depths d t) ≡ size t
   length-depths (node s fs) d = ap suc (length-depthss fs (suc d))
 
@@ -27,6 +28,7 @@ mutual
 
 mutual
   unfolding faults size listing
+
   pub length-faults : (t : Tree) (p : Place) → length (faults p t) ≡ size t
   length-faults (node s fs) p = ap suc (length-faultss fs (placeBelow p s))
 

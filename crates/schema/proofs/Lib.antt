@@ -16,3 +16,4 @@ pub mod JudgingSteps
 pub mod CountingLaws
 pub mod RolesLaws
 pub mod RowsSteps
+pub mod JudgementLaws

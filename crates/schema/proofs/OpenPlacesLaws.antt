@@ -45,12 +45,14 @@ unfolding trees count ClaimsAll
 fills-trees done = (refl, tt)
 fills-trees (next {n = n} {s = s} {ss = ss} f) =
     let ih = fills-trees f in
-    let enough : childCount s ≤ count (trees ss) = omega (arith, ih .0) in
-    ( omega (arith, count-drop (childCount s) (trees ss), ih .0)
-    , ((sym (count-take (childCount s) (trees ss) enough), claims-take (childCount s) (trees ss) (ih .1)), claims-drop (childCount s) (trees ss) (ih .1)))
+    let enough : childCount s ≤ count (trees ss) = omega (arith, ih .0) in (
+      omega (arith, count-drop (childCount s) (trees ss), ih .0),
+      ((sym (count-take (childCount s) (trees ss) enough), claims-take (childCount s) (trees ss) (ih .1)), claims-drop (childCount s) (trees ss) (ih .1)),
+    )
 
 mutual
   unfolding listing Claims count
+
   -- a tree that claims rightly fills one place, and its slots are passed
   pub listing-fills : (t : Tree) (n : ℕ) (ss : List Slot) → Claims t → Fills n ss → Fills (suc n) (listing t ++ ss)
   listing-fills (node s fs) n ss c f = next (subst (λ (m : ℕ). Fills (m + n) (listings fs ++ ss)) (sym (c .0)) (listings-fill fs n ss (c .1) f))

@@ -41,9 +41,10 @@ module _ (ss : List Slot) where
   pub leftOver-at : (k : ℕ) → k < length ss → ((j : ℕ) → j < k → Open (openPlaces ss j)) → openPlaces ss k ≡ pos 0 → leftOver ss ≡ Refused (refusal 6 k)
   unfolding leftOver
   leftOver-at k h all e =
-      rw
-      ( firstWrong-at (λ j. not (isNoPlace (openPlaces ss j))) (length ss) k h (λ j l. open-at ss j (all j l)) (rw (none-test _ e))
-      , lt-ltb k (length ss) h)
+      rw (
+        firstWrong-at (λ j. not (isNoPlace (openPlaces ss j))) (length ss) k h (λ j l. open-at ss j (all j l)) (rw (none-test _ e)),
+        lt-ltb k (length ss) h,
+      )
 
   pub missing-none : openPlaces ss (length ss) ≡ pos 0 → missing ss ≡ Lawful
   unfolding missing

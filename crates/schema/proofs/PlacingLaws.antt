@@ -33,10 +33,10 @@ unfolding placed
 placed-after l i us vs h =
     let n : length (take i l ++ us) ≡ i + length us = length-append (take i l) us ∙ ap (λ (k : ℕ). k + length us) (length-take-le i l (omega arith)) in
     let rest : drop (i + length us + length vs) (take i l ++ us ++ drop (i + length us) l) ≡ drop (i + length (us ++ vs)) l =
-        sym (drop-drop (length vs) (i + length us) (take i l ++ us ++ drop (i + length us) l))
-        ∙ ap (drop (length vs)) (drop-at (take i l ++ us) (drop (i + length us) l) (i + length us) n)
-        ∙ drop-drop (length vs) (i + length us) l
-        ∙ ap (λ (k : ℕ). drop k l) (add-assoc i (length us) (length vs) ∙ ap (λ (k : ℕ). i + k) (sym (length-append us vs))) in
+    sym (drop-drop (length vs) (i + length us) (take i l ++ us ++ drop (i + length us) l))
+    ∙ ap (drop (length vs)) (drop-at (take i l ++ us) (drop (i + length us) l) (i + length us) n)
+    ∙ drop-drop (length vs) (i + length us) l
+    ∙ ap (λ (k : ℕ). drop k l) (add-assoc i (length us) (length vs) ∙ ap (λ (k : ℕ). i + k) (sym (length-append us vs))) in
     ap (λ (x : List ℕ). x ++ vs ++ drop (i + length us + length vs) (take i l ++ us ++ drop (i + length us) l)) (take-at (take i l ++ us) (drop (i + length us) l) (i + length us) n)
     ∙ ap (λ (x : List ℕ). take i l ++ us ++ vs ++ x) rest
     ∙ ap (λ (x : List ℕ). x ++ drop (i + length (us ++ vs)) l) (append-assoc (take i l) us vs)
@@ -48,13 +48,13 @@ placed-before l i us vs h =
     let j = i + length us in
     let n : length (take j l) ≡ j = length-take-le j l h in
     let front : take i (take j l ++ vs ++ drop (j + length vs) l) ≡ take i l =
-        ap (take i) (append-assoc (take j l) vs (drop (j + length vs) l))
-        ∙ take-append-le i (take j l) (vs ++ drop (j + length vs) l) (omega arith)
-        ∙ take-take i j l (omega arith) in
+    ap (take i) (append-assoc (take j l) vs (drop (j + length vs) l))
+    ∙ take-append-le i (take j l) (vs ++ drop (j + length vs) l) (omega arith)
+    ∙ take-take i j l (omega arith) in
     let back : drop j (take j l ++ vs ++ drop (j + length vs) l) ≡ vs ++ drop (i + length (us ++ vs)) l =
-        ap (drop j) (append-assoc (take j l) vs (drop (j + length vs) l))
-        ∙ drop-at (take j l) (vs ++ drop (j + length vs) l) j n
-        ∙ ap (λ (k : ℕ). vs ++ drop k l) (add-assoc i (length us) (length vs) ∙ ap (λ (k : ℕ). i + k) (sym (length-append us vs))) in
+    ap (drop j) (append-assoc (take j l) vs (drop (j + length vs) l))
+    ∙ drop-at (take j l) (vs ++ drop (j + length vs) l) j n
+    ∙ ap (λ (k : ℕ). vs ++ drop k l) (add-assoc i (length us) (length vs) ∙ ap (λ (k : ℕ). i + k) (sym (length-append us vs))) in
     ap (λ (x : List ℕ). x ++ us ++ drop j (take j l ++ vs ++ drop (j + length vs) l)) front
     ∙ ap (λ (x : List ℕ). take i l ++ us ++ x) back
     ∙ sym (append-assoc (take i l ++ us) vs (drop (i + length (us ++ vs)) l))

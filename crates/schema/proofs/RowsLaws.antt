@@ -15,6 +15,7 @@ length-row at up p above s fs = refl
 
 mutual
   unfolding rowsFrom size listing
+
   pub length-rowsFrom : (t : Tree) (at up : ℕ) (p : Parent) (above : Slot) → length (rowsFrom at up p above t) ≡ rowWidth * size t
   length-rowsFrom (node s fs) at up p above =
       length-append (row at up p above s fs) _

@@ -241,8 +241,8 @@ module _ (b : List ℕ) (layer : ℕ) (s : Numbers) (h : Claimed b) (l : layer <
             fieldsAt-first b layer h l 1 claim
             ∙ ap (λ (t : Tree). field t (runAt (slots b) value 1)) (treeAt-slot b (suc layer) h (first-below b layer h l 1 claim))
             ∙ ap (field (node (slotAt b (suc layer)) (fieldsAt b (suc layer))))
-                (runAt-suc (slots b) value 0 (h .claims) value-claimed
-                ∙ rw (treeAt-slot b value h value-below, runAt-zero))
+            (runAt-suc (slots b) value 0 (h .claims) value-claimed
+            ∙ rw (treeAt-slot b value h value-below, runAt-zero))
 
         pub layer-optional : eqb (repetition (slotAt b (suc layer))) REQUIRED ≡ false → false ≡ mapRun (field (treeAt (slots b) layer) empty)
         layer-optional k = sym (layer-group ∙ rw two-fields (keyValue-optional (slotAt b (suc layer)) (slotAt b value) (fieldsAt b (suc layer)) (fieldsAt b value) k))

@@ -43,6 +43,7 @@ listings-trees (s ∷ ss) = ap (λ (l : List Slot). s ∷ l) (listings-take-drop
 
 mutual
   unfolding trees listing Claims joined
+
   -- a tree that claims rightly is the first of the trees that its listing and what follows stand for
   pub trees-listing : (t : Tree) (ss : List Slot) → Claims t → trees (listing t ++ ss) ≡ field t (trees ss)
   trees-listing (node s fs) ss c = rw (trees-listings fs ss (c .1), c .0, take-joined, drop-joined)

@@ -14,15 +14,15 @@ use Rattle.sheet.specs.declared.slots.Slot.{Slot}
 -- the numbers of a slot that its annotations go by
 abbrev pub annotatedBy : Slot → Annotated
 annotatedBy s =
-    record
-    { physical = s .physical
-    ; «type_length» = s .«type_length»
-    ; converted = s .converted
-    ; logical = s .logical
-    ; a = s .a
-    ; b = s .b
-    ; scale = s .scale
-    ; precision = s .precision
+    record {
+      physical = s .physical;
+      «type_length» = s .«type_length»;
+      converted = s .converted;
+      logical = s .logical;
+      a = s .a;
+      b = s .b;
+      scale = s .scale;
+      precision = s .precision;
     }
 
 unfoldable pub annotated : List ℕ → Annotated

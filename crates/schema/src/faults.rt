@@ -5,14 +5,14 @@ ghost use Rattle.sheet.specs.Slot.{slotAt};
 ghost use Rattle.schema.specs.Annotated.{annotatedBy};
 ghost use Rattle.schema.specs.Rules.{broken as Rules·broken};
 ghost use Rattle.schema.specs.Steps.{Visited, fieldsAt, innerIn, structureBroken};
-use annotation::Annotated;
-use annotation::Resolution;
-use annotation::logical;
 use crate::place::Place;
 use crate::place::under_map;
 use crate::shape::shape_kept;
 use crate::structure::list_kept;
 use crate::structure::map_kept;
+use annotation::Annotated;
+use annotation::Resolution;
+use annotation::logical;
 use sheet::Slot;
 
 // Every rule is kept.

@@ -55,7 +55,13 @@ pub(crate) fn judge_tree(sheet: &[u8], at: usize, levels: usize, place: Place) -
     }
     let s = sheet::slot_at(sheet, at);
     let kind = annotation::resolved_kind(annotated(s), under_map(place));
-    let run = judge_run(sheet, at + 1, s.children as usize, levels - 1, place_under(kind.kind));
+    let run = judge_run(
+        sheet,
+        at + 1,
+        s.children as usize,
+        levels - 1,
+        place_under(kind.kind),
+    );
     match run {
         RunJudged::Deep(node) => TreeJudged::Deep(node),
         RunJudged::Judged {

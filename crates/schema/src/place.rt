@@ -28,5 +28,9 @@ pub(crate) fn under_map(place: Place) -> bool
 pub(crate) fn place_under(kind: u32) -> Place
     ensures { λ r. ⌜ r ≡ placeUnder kind ⌝ }
 {
-    if kind == MAP { Place::MapField } else { Place::Field }
+    if kind == MAP {
+        Place::MapField
+    } else {
+        Place::Field
+    }
 }

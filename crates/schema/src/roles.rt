@@ -3,10 +3,10 @@ ghost use mathlib.Core.Path.{_≡_};
 ghost use Rattle.sheet.specs.Slot.{slotAt};
 ghost use Rattle.schema.specs.Rows.{isMapParent, role as Rows·role, listRole, ownRole, parentBy, afterFirst};
 ghost use Rattle.schema.specs.Steps.{Visited, fieldsAt};
-use annotation::logical;
-use annotation::physical;
 use crate::codes::REPEATED;
 use crate::structure::named_element;
+use annotation::logical;
+use annotation::physical;
 use sheet::Slot;
 
 // What a node's parent is to it, as far as roles go.
@@ -74,7 +74,11 @@ pub(crate) fn role(sheet: &[u8], up: usize, at: usize, s: Slot, parent: Parent) 
 fn own_role(repetition: u8) -> u32
     ensures { λ r. ⌜ r ≡ ownRole repetition ⌝ }
 {
-    if repetition == REPEATED { BARE_REPEATED } else { FIELD }
+    if repetition == REPEATED {
+        BARE_REPEATED
+    } else {
+        FIELD
+    }
 }
 
 // The role of the child of the LIST at up.

@@ -32,7 +32,13 @@ struct Row {
 }
 
 // Writes the rows of the tree at a number, under the node at up, and answers where the next tree stands.
-pub(crate) fn write_tree(sheet: &[u8], rows: &mut [u32], at: usize, up: usize, parent: Parent) -> usize
+pub(crate) fn write_tree(
+    sheet: &[u8],
+    rows: &mut [u32],
+    at: usize,
+    up: usize,
+    parent: Parent,
+) -> usize
     requires { ⌜ Claimed (now sheet) ⌝ }
     requires { ⌜ at < totalOf (now sheet) ⌝ }
     requires { ⌜ up < totalOf (now sheet) ⌝ }
@@ -44,7 +50,14 @@ pub(crate) fn write_tree(sheet: &[u8], rows: &mut [u32], at: usize, up: usize, p
     let n = annotated(s);
     let kind = annotation::resolved_kind(n, is_map_parent(parent));
     let own = role(sheet, up, at, s, parent);
-    let next = write_run(sheet, rows, at + 1, s.children as usize, at, parent_by(kind.kind, own));
+    let next = write_run(
+        sheet,
+        rows,
+        at + 1,
+        s.children as usize,
+        at,
+        parent_by(kind.kind, own),
+    );
     write_row(
         rows,
         ROW_WIDTH * at,
@@ -64,7 +77,14 @@ pub(crate) fn write_tree(sheet: &[u8], rows: &mut [u32], at: usize, up: usize, p
 }
 
 // Writes the rows of the run of so many fields at a number, and answers where the next tree stands.
-fn write_run(sheet: &[u8], rows: &mut [u32], at: usize, count: usize, up: usize, parent: Parent) -> usize
+fn write_run(
+    sheet: &[u8],
+    rows: &mut [u32],
+    at: usize,
+    count: usize,
+    up: usize,
+    parent: Parent,
+) -> usize
     requires { ⌜ Claimed (now sheet) ⌝ }
     requires { ⌜ count ≤ Tree·count (trees (drop at (slots (now sheet)))) ⌝ }
     requires { ⌜ up < totalOf (now sheet) ⌝ }

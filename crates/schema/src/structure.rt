@@ -6,10 +6,10 @@ ghost use Rattle.sheet.specs.Slot.{slots, slotAt};
 ghost use Rattle.schema.specs.Tree.{empty, field};
 ghost use Rattle.schema.specs.Rules.{namedElement, listKept, listChild, mapKept, mapRun};
 ghost use Rattle.schema.specs.Steps.{Claimed, Visited, treeAt, fieldsAt, innerIn, secondOf};
-use annotation::physical;
 use crate::codes::REPEATED;
 use crate::codes::REQUIRED;
 use crate::codes::required_or_optional;
+use annotation::physical;
 use sheet::Slot;
 
 // Whether the LIST at a number keeps rule 12.

@@ -1,29 +1,26 @@
+-- `schema::judgement::judge_root` meets its contract, case by case.
+use Rattle.schema.proofs.JudgementLaws.{root-deep, root-judged, root-at}
+use Rattle.schema.specs.Steps.{treeAt}
+use Rattle.sheet.specs.Slot.{slots}
+use mathlib.Core.Path.{sym, _∙_}
 use borrow.Author.Needs.{needs}
 use Rattle.schema.proofs.judgement.judge_root.Statement.{statement}
 use Rattle.schema.proofs.judgement.judge_root.Tie as tie
-use Rattle.schema.proofs.judgement.judge_root.Reads as reads
-use Rattle.schema.proofs.judgement.judge_root.Lts as lts
-use Rattle.schema.proofs.judging.judge_tree.Reads as judge-tree-reads
 
--- src/judgement.rt:86:9
 judge-tree-requires : tie.Need-judge-tree-requires
 judge-tree-requires c κs = search needs
 
--- src/judgement.rt:88:26
 enum-known-judged : tie.Need-enum-known-judged
 enum-known-judged c = search needs
 
--- src/judgement.rt:95:13
 enum-known-judged-2 : tie.Need-enum-known-judged-2
 enum-known-judged-2 c = search needs
 
--- src/judgement.rt:81:1
 returns : tie.Need-returns
-returns c = ?
+returns c = root-at _ (root-deep (treeAt (slots (c .before .before .before .before .before .args .sheet .now)) 0) _ (sym (c .before .before .before .judge-tree .ensures) ∙ c .before .judged .given .1))
 
--- src/judgement.rt:81:1
 returns-2 : tie.Need-returns-2
-returns-2 c = ?
+returns-2 c = root-at _ (root-judged (treeAt (slots (c .before .before .before .before .before .args .sheet .now)) 0) _ _ _ (sym (c .before .before .before .judge-tree .ensures) ∙ c .before .judged2 .given .1))
 
 pub judge-root-spec : {M : Type 1} → statement M
 judge-root-spec =

@@ -1,34 +1,30 @@
+-- `schema::judgement::judge_slots` meets its contract, case by case.
+use Rattle.schema.proofs.JudgementLaws.{nodes-total, nodes-most, nodes-some, places-claimed, treeRefusal-places}
+use Rattle.schema.specs.Outcome.{orElse}
+use mathlib.Core.Path.{sym, _∙_}
 use borrow.Author.Needs.{needs}
 use Rattle.schema.proofs.judgement.judge_slots.Statement.{statement}
 use Rattle.schema.proofs.judgement.judge_slots.Tie as tie
-use Rattle.schema.proofs.judgement.judge_slots.Reads as reads
-use Rattle.schema.proofs.judgement.judge_slots.Lts as lts
-use Rattle.schema.proofs.judgement.judge_root.Reads as judge-root-reads
-use Rattle.schema.proofs.places.places_filled.Reads as places-filled-reads
 
--- src/judgement.rt:73:9
 places-filled-requires : tie.Need-places-filled-requires
-places-filled-requires c κs = ?
+places-filled-requires c κs = (nodes-total _ _ (c .before .pre), nodes-most _ _ (c .before .pre))
 
--- src/judgement.rt:75:26
 enum-known-places : tie.Need-enum-known-places
 enum-known-places c = search needs
 
--- src/judgement.rt:76:28
 enum-told : tie.Need-enum-told
 enum-told c = search needs
 
--- src/judgement.rt:76:28
 judge-root-requires : tie.Need-judge-root-requires
-judge-root-requires c κs = ?
+judge-root-requires c κs = (places-claimed _ _ (c .before .before .before .before .pre) (sym (c .before .before .places-filled .ensures) ∙ c .enum-told .given .1), nodes-some _ _ (c .before .before .before .before .pre))
 
--- src/judgement.rt:69:1
 returns : tie.Need-returns
-returns c = ?
+unfolding orElse
+returns c = sym (treeRefusal-places _ ∙ rw (sym (c .before .before .before .places-filled .ensures) ∙ c .before .places .given .1))
 
--- src/judgement.rt:69:1
 returns-2 : tie.Need-returns-2
-returns-2 c = ?
+unfolding orElse
+returns-2 c = c .judge-root .ensures ∙ sym (treeRefusal-places _ ∙ rw (sym (c .before .before .before .places-filled .ensures) ∙ c .before .enum-told .given .1))
 
 pub judge-slots-spec : {M : Type 1} → statement M
 judge-slots-spec =

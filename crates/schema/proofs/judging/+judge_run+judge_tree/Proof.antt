@@ -68,7 +68,7 @@ judge-run-judge-tree-requires : (t : ℕ) → judge-run-lts.Need-judge-tree-requ
   run-after-reads.Asked,
   run-after-reads.Learnt,
 ) (judge-run-at t) judge-run.Post
-judge-run-judge-tree-requires t c κs = 
+judge-run-judge-tree-requires t c κs =
     let start = c .before .before in
     let below = run-below (start .args .sheet .now) (start .args .at) (start .args .count) (start .pre .1 .0) (c .if1 .left) (start .pre .1 .1 .0) in
     (tree-falls _ _ _ (start .pre .0), (start .pre .1 .0, (below, start .pre .1 .1 .1)))
@@ -111,7 +111,7 @@ judge-run-judge-run-requires : (t : ℕ) → judge-run-lts.Need-judge-run-requir
   run-after-reads.Asked,
   run-after-reads.Learnt,
 ) (judge-run-at t) judge-run.Post
-judge-run-judge-run-requires t c κs = 
+judge-run-judge-run-requires t c κs =
     let start = c .before .before .before .before .before .before in
     let found = sym (c .before .before .before .judge-tree .ensures) ∙ c .before .first2 .given .1 in
     let some = c .before .before .before .before .if1 .left in
@@ -139,7 +139,7 @@ judge-run-returns-2 : (t : ℕ) → judge-run-lts.Need-returns-2 (
   run-after-reads.Asked,
   run-after-reads.Learnt,
 ) (judge-run-at t) judge-run.Post
-judge-run-returns-2 t c = 
+judge-run-returns-2 t c =
     let start = c .before .before .before .before .before .before in
     run-deep _ _ _ _ _ (start .pre .1 .0) (c .before .before .before .before .if1 .left) (start .pre .1 .1 .0) _ (sym (c .before .before .before .judge-tree .ensures) ∙ c .before .first .given .1)
 
@@ -151,7 +151,7 @@ judge-run-returns-3 : (t : ℕ) → judge-run-lts.Need-returns-3 (
   run-after-reads.Asked,
   run-after-reads.Learnt,
 ) (judge-run-at t) judge-run.Post
-judge-run-returns-3 t c = 
+judge-run-returns-3 t c =
     let start = c .before .before .before .before .before .before .before .before in
     let found = sym (c .before .before .before .before .before .judge-tree .ensures) ∙ c .before .before .before .first2 .given .1 in
     c .run-after .ensures
@@ -356,7 +356,7 @@ judge-tree-judge-run-requires : (t : ℕ) → judge-tree-lts.Need-judge-run-requ
   own-first-reads.Asked,
   own-first-reads.Learnt,
 ) (judge-tree-at t) judge-tree.Post
-judge-tree-judge-run-requires t c κs = 
+judge-tree-judge-run-requires t c κs =
     let start = c .before .before .before .before .before .before .before .before in
     let visited : Visited (start .args .sheet .now) (start .args .at) (c .before .before .before .before .before .slot-at .result) = record { claimed = start .pre .1 .0; below = start .pre .1 .1 .0; numbers = c .before .before .before .before .before .slot-at .ensures } in
     (run-falls _ _ _ (start .pre .1 .1 .0) (start .pre .0), (start .pre .1 .0, (children-claimed _ _ _ visited, omega (arith, start .pre .1 .1 .1))))
@@ -419,7 +419,7 @@ judge-tree-broken-requires : (t : ℕ) → judge-tree-lts.Need-broken-requires (
   own-first-reads.Asked,
   own-first-reads.Learnt,
 ) (judge-tree-at t) judge-tree.Post
-judge-tree-broken-requires t c κs = 
+judge-tree-broken-requires t c κs =
     let start = c .before .before .before .before .before .before .before .before .before .before .before .before in
     let visited : Visited (start .args .sheet .now) (start .args .at) (c .before .before .before .before .before .before .before .before .before .slot-at .result) = record { claimed = start .pre .1 .0; below = start .pre .1 .1 .0; numbers = c .before .before .before .before .before .before .before .before .before .slot-at .ensures } in
     let below = c .before .before .before .before .place-under .ensures ∙ placeBelow-is _ _ _ (start .args .place) visited _ _ _ (c .before .before .before .before .before .before .before .before .annotated .ensures) (c .before .before .before .before .before .before .before .under-map .ensures) (c .before .before .before .before .before .before .resolved-kind .ensures) in
@@ -463,7 +463,7 @@ judge-tree-returns-2 : (t : ℕ) → judge-tree-lts.Need-returns-2 (
   own-first-reads.Asked,
   own-first-reads.Learnt,
 ) (judge-tree-at t) judge-tree.Post
-judge-tree-returns-2 t c = 
+judge-tree-returns-2 t c =
     let start = c .before .before .before .before .before .before .before .before .before .before .before .before in
     let visited : Visited (start .args .sheet .now) (start .args .at) (c .before .before .before .before .before .before .before .before .before .slot-at .result) = record { claimed = start .pre .1 .0; below = start .pre .1 .1 .0; numbers = c .before .before .before .before .before .before .before .before .before .slot-at .ensures } in
     let below = c .before .before .before .before .place-under .ensures ∙ placeBelow-is _ _ _ (start .args .place) visited _ _ _ (c .before .before .before .before .before .before .before .before .annotated .ensures) (c .before .before .before .before .before .before .before .under-map .ensures) (c .before .before .before .before .before .before .resolved-kind .ensures) in
@@ -487,7 +487,7 @@ judge-tree-returns-3 : (t : ℕ) → judge-tree-lts.Need-returns-3 (
   own-first-reads.Asked,
   own-first-reads.Learnt,
 ) (judge-tree-at t) judge-tree.Post
-judge-tree-returns-3 t c = 
+judge-tree-returns-3 t c =
     let start = c .before .before .before .before .before .before .before .before .before .before .before .before .before .before in
     let visited : Visited (start .args .sheet .now) (start .args .at) (c .before .before .before .before .before .before .before .before .before .before .before .slot-at .result) = record { claimed = start .pre .1 .0; below = start .pre .1 .1 .0; numbers = c .before .before .before .before .before .before .before .before .before .before .before .slot-at .ensures } in
     let below = c .before .before .before .before .before .before .place-under .ensures ∙ placeBelow-is _ _ _ (start .args .place) visited _ _ _ (c .before .before .before .before .before .before .before .before .before .before .annotated .ensures) (c .before .before .before .before .before .before .before .before .before .under-map .ensures) (c .before .before .before .before .before .before .before .before .resolved-kind .ensures) in

@@ -1,46 +1,47 @@
+-- `schema::resolving::resolve` meets its contract: refused before anything is written, or the rows of its tree.
+use Rattle.schema.proofs.JudgementLaws.{resolve-total, resolve-some, resolve-claimed, resolve-short, resolve-refused, resolve-rows, written-refused, written-rows}
+use native.Mathlib.Omega.{arith}
+use mathlib.Core.Path.{sym, _∙_}
 use borrow.Author.Needs.{needs}
 use Rattle.schema.proofs.resolving.resolve.Statement.{statement}
 use Rattle.schema.proofs.resolving.resolve.Tie as tie
-use Rattle.schema.proofs.resolving.resolve.Reads as reads
-use Rattle.schema.proofs.resolving.resolve.Lts as lts
-use Rattle.schema.proofs.judgement.judge.Reads as judge-reads
-use Rattle.schema.proofs.rows.write_tree.Reads as write-tree-reads
 
--- src/resolving.rt:29:9
 judge-requires : tie.Need-judge-requires
 judge-requires c κs = search needs
 
--- src/resolving.rt:31:28
 enum-known-judgement : tie.Need-enum-known-judgement
 enum-known-judgement c = search needs
 
--- src/resolving.rt:32:26
 enum-known-judgement-2 : tie.Need-enum-known-judgement-2
 enum-known-judgement-2 c = search needs
 
--- src/resolving.rt:33:29
 mul-if1 : tie.Need-mul-if1
-mul-if1 c = ?
+mul-if1 c = omega (arith, resolve-total _ _ (sym (c .before .before .before .judge .ensures) ∙ c .before .judgement2 .given .1), resolve-claimed _ _ (sym (c .before .before .before .judge .ensures) ∙ c .before .judgement2 .given .1) .most)
 
--- src/resolving.rt:34:17
 returns : tie.Need-returns
-returns c = ?
+returns c =
+    let short = resolve-short _ _ (sym (c .before .before .before .before .judge .ensures) ∙ c .before .before .judgement2 .given .1) (c .before .before .before .before .before .before .before .args .rows .now) (c .if1 .taken) in
+    (sym short, written-refused _ _ _ short)
 
--- src/resolving.rt:39:13
 write-tree-requires : tie.Need-write-tree-requires
-write-tree-requires c κs = ?
+write-tree-requires c κs =
+    let nodes = sym (c .before .before .before .before .before .judge .ensures) ∙ c .before .before .before .judgement2 .given .1 in
+    let some = resolve-some _ _ nodes in
+    (resolve-claimed _ _ nodes, (some, (some, omega (arith, resolve-total _ _ nodes, c .before .if1 .left))))
 
--- src/resolving.rt:25:1
 returns-2 : tie.Need-returns-2
-returns-2 c = ?
+returns-2 c =
+    let refused = resolve-refused _ _ (c .before .before .before .before .before .before .args .rows .now) (sym (c .before .before .before .judge .ensures) ∙ c .before .judgement .given .1) in
+    (sym refused, written-refused _ _ _ refused)
 
--- src/resolving.rt:25:1
 same-length : tie.Need-same-length
 same-length c = search needs
 
--- src/resolving.rt:25:1
 returns-3 : tie.Need-returns-3
-returns-3 c = ?
+returns-3 c =
+    let nodes = sym (c .before .before .before .before .before .before .before .before .judge .ensures) ∙ c .before .before .before .before .before .before .judgement2 .given .1 in
+    let enough = c .before .before .before .before .if1 .left in
+    (sym (resolve-rows _ _ nodes (c .before .before .before .before .before .before .before .before .before .before .before .args .rows .now) enough), written-rows _ _ nodes _ _ enough (c .before .before .write-tree .ensures .1))
 
 pub resolve-spec : {M : Type 1} → statement M
 resolve-spec =

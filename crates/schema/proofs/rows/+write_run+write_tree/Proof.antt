@@ -59,7 +59,7 @@ write-run-returns : (t : ℕ) → write-run-lts.Need-returns (
   write-run-below t,
   write-run.Post,
 ) (write-run-at t) write-run.Post
-write-run-returns t c = 
+write-run-returns t c =
     let start = c .before .before .before in
     (run-end-empty (start .args .sheet .now) (start .args .rows .now) (start .args .at) (start .args .count) (start .args .up) (start .args .parent) (slotAt (start .args .sheet .now) (start .args .up)) (c .if1 .taken), run-rows-empty (start .args .sheet .now) (start .args .rows .now) (start .args .at) (start .args .count) (start .args .up) (start .args .parent) (slotAt (start .args .sheet .now) (start .args .up)) (c .if1 .taken))
 
@@ -71,7 +71,7 @@ write-run-write-tree-requires : (t : ℕ) → write-run-lts.Need-write-tree-requ
   write-run-below t,
   write-run.Post,
 ) (write-run-at t) write-run.Post
-write-run-write-tree-requires t c κs = 
+write-run-write-tree-requires t c κs =
     let start = c .before .before .before .before in
     let below = run-below (start .args .sheet .now) (start .args .at) (start .args .count) (start .pre .1 .0) (c .before .if1 .left) (start .pre .1 .1 .0) in
     (tree-falls _ _ _ (start .pre .0), (start .pre .1 .0, (below, (start .pre .1 .1 .1 .0, start .pre .1 .1 .1 .1))))
@@ -104,7 +104,7 @@ write-run-write-run-requires : (t : ℕ) → write-run-lts.Need-write-run-requir
   write-run-below t,
   write-run.Post,
 ) (write-run-at t) write-run.Post
-write-run-write-run-requires t c κs = 
+write-run-write-run-requires t c κs =
     let start = c .before .before .before .before .before .before .before .before .before in
     let some = c .before .before .before .before .before .before .if1 .left in
     let tree = c .before .before .before .before .write-tree in
@@ -131,14 +131,15 @@ write-run-returns-2 : (t : ℕ) → write-run-lts.Need-returns-2 (
   write-run-below t,
   write-run.Post,
 ) (write-run-at t) write-run.Post
-write-run-returns-2 t c = 
+write-run-returns-2 t c =
     let start = c .before .before .before .before .before .before .before .before .before .before .before .before in
     let some = c .before .before .before .before .before .before .before .before .before .if1 .left in
     let tree = c .before .before .before .before .before .before .before .write-tree in
     let rest = c .before .before .write-run in
-    let below = run-below (start .args .sheet .now) (start .args .at) (start .args .count) (start .pre .1 .0) some (start .pre .1 .1 .0) in
-    ( run-end (start .args .sheet .now) (start .args .rows .now) (start .args .at) (start .args .count) (start .args .up) (start .args .parent) (slotAt (start .args .sheet .now) (start .args .up)) (start .pre .1 .0) some (start .pre .1 .1 .0) _ (tree .ensures .0) _ (rest .ensures .0)
-    , run-rows (start .args .sheet .now) (start .args .rows .now) (start .args .at) (start .args .count) (start .args .up) (start .args .parent) (slotAt (start .args .sheet .now) (start .args .up)) (start .pre .1 .0) some (start .pre .1 .1 .0) _ (tree .ensures .0) (start .pre .1 .1 .1 .1) below _ (tree .ensures .1) _ _ (c .before .before .before .after-first .ensures) (rest .ensures .1))
+    let below = run-below (start .args .sheet .now) (start .args .at) (start .args .count) (start .pre .1 .0) some (start .pre .1 .1 .0) in (
+      run-end (start .args .sheet .now) (start .args .rows .now) (start .args .at) (start .args .count) (start .args .up) (start .args .parent) (slotAt (start .args .sheet .now) (start .args .up)) (start .pre .1 .0) some (start .pre .1 .1 .0) _ (tree .ensures .0) _ (rest .ensures .0),
+      run-rows (start .args .sheet .now) (start .args .rows .now) (start .args .at) (start .args .count) (start .args .up) (start .args .parent) (slotAt (start .args .sheet .now) (start .args .up)) (start .pre .1 .0) some (start .pre .1 .1 .0) _ (tree .ensures .0) (start .pre .1 .1 .1 .1) below _ (tree .ensures .1) _ _ (c .before .before .before .after-first .ensures) (rest .ensures .1),
+    )
 
 write-tree-slot-at-requires : (t : ℕ) → write-tree-lts.Need-slot-at-requires (
   slot-at-reads.Asked,
@@ -336,7 +337,7 @@ write-tree-write-run-requires : (t : ℕ) → write-tree-lts.Need-write-run-requ
   write-row-reads.Asked,
   write-row-reads.Learnt,
 ) (write-tree-at t) write-tree.Post
-write-tree-write-run-requires t c κs = 
+write-tree-write-run-requires t c κs =
     let start = c .before .before .before .before .before .before .before .before .before .before in
     let visited : Visited (start .args .sheet .now) (start .args .at) (c .before .before .before .before .before .before .before .slot-at .result) = record { claimed = start .pre .1 .0; below = start .pre .1 .1 .0; numbers = c .before .before .before .before .before .before .before .slot-at .ensures } in
     (run-falls _ _ _ (start .pre .1 .1 .0) (start .pre .0), (start .pre .1 .0, (children-claimed _ _ _ visited, (start .pre .1 .1 .0, start .pre .1 .1 .1 .1))))
@@ -471,7 +472,7 @@ write-tree-cast-t24 : (t : ℕ) → write-tree-lts.Need-cast-t24 (
   write-row-reads.Asked,
   write-row-reads.Learnt,
 ) (write-tree-at t) write-tree.Post
-write-tree-cast-t24 t c = 
+write-tree-cast-t24 t c =
     let start = c .before .before .before .before .before .before .before .before .before .before .before .before .before .before .before .before .before in
     let visited : Visited (start .args .sheet .now) (start .args .at) (c .before .before .before .before .before .before .before .before .before .before .before .before .before .before .slot-at .result) = record { claimed = start .pre .1 .0; below = start .pre .1 .1 .0; numbers = c .before .before .before .before .before .before .before .before .before .before .before .before .before .before .slot-at .ensures } in
     let end = tree-end (start .args .sheet .now) (start .args .rows .now) (start .args .at) (start .args .up) _ (start .args .parent) (slotAt (start .args .sheet .now) (start .args .up)) visited _ (c .before .before .before .before .before .before .write-run .ensures .0) in
@@ -542,7 +543,7 @@ write-tree-returns : (t : ℕ) → write-tree-lts.Need-returns (
   write-row-reads.Learnt,
 ) (write-tree-at t) write-tree.Post
 unfolding rowNumbers
-write-tree-returns t c = 
+write-tree-returns t c =
     let start = c .before .before .before .before .before .before .before .before .before .before .before .before .before .before .before .before .before .before .before .before in
     let visited : Visited (start .args .sheet .now) (start .args .at) (c .before .before .before .before .before .before .before .before .before .before .before .before .before .before .before .before .before .slot-at .result) = record { claimed = start .pre .1 .0; below = start .pre .1 .1 .0; numbers = c .before .before .before .before .before .before .before .before .before .before .before .before .before .before .before .before .before .slot-at .ensures } in
     let run = c .before .before .before .before .before .before .before .before .before .write-run in

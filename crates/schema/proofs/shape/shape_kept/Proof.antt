@@ -21,13 +21,14 @@ returns c =
     let third = c .before in
     let second = third .before in
     let first = second .before .before in
-    rw
-    ( first .before .place-shape .ensures
-    , second .before .length-shape .ensures
-    , c .decimal-shape .ensures
-    , toZ-ofZ {w = w32} {z = first .before .before .args .s .«type_length»} (record { sfits = first .struct-told .given .1 .1 .1 .1 .1 .1 .1 .0 .1 })
-    , toZ-ofZ {w = w32} {z = first .before .before .args .s .scale} (record { sfits = second .struct-told2 .given .1 .1 .1 .1 .1 .1 .1 .1 .0 .1 })
-    , toZ-ofZ {w = w32} {z = first .before .before .args .s .precision} (record { sfits = third .struct-told3 .given .1 .1 .1 .1 .1 .1 .1 .1 .1 .0 .1 }))
+    rw (
+      first .before .place-shape .ensures,
+      second .before .length-shape .ensures,
+      c .decimal-shape .ensures,
+      toZ-ofZ {w = w32} {z = first .before .before .args .s .«type_length»} (record { sfits = first .struct-told .given .1 .1 .1 .1 .1 .1 .1 .0 .1 }),
+      toZ-ofZ {w = w32} {z = first .before .before .args .s .scale} (record { sfits = second .struct-told2 .given .1 .1 .1 .1 .1 .1 .1 .1 .0 .1 }),
+      toZ-ofZ {w = w32} {z = first .before .before .args .s .precision} (record { sfits = third .struct-told3 .given .1 .1 .1 .1 .1 .1 .1 .1 .1 .0 .1 }),
+    )
 
 pub shape-kept-spec : {M : Type 1} → statement M
 shape-kept-spec =

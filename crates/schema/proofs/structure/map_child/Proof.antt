@@ -46,13 +46,13 @@ required-or-optional-requires : tie.Need-required-or-optional-requires
 required-or-optional-requires c κs = search needs
 
 returns-7 : tie.Need-returns-7
-returns-7 c = 
+returns-7 c =
     let first = c .before .before .before .before .before .before .before .before .before .before .before .before .before in
     c .required-or-optional .ensures
     ∙ ap isRequiredOrOptional (repetition-at _ _ _ (c .before .slot-at3 .ensures))
     ∙ ap (λ (i : ℕ). isRequiredOrOptional (repetition (slotAt (now (first .before .before .before .before .args .sheet)) i))) (first .before .before .before .before .pre .1 .1)
     ∙ sym (layer-both _ _ _ (first .before .before .before .before .pre .0) (first .before .before .before .before .pre .1 .0) (first .before .before .slot-at .ensures) (first .if1 .left) (c .before .before .before .before .before .before .before .before .before .before .before .if2 .left) (omega (arith, c .before .before .before .before .before .before .before .before .before .if3 .left, c .before .before .before .before .before .before .before .if4 .left, c .before .before .if6 .left))
-        (eq-eqb _ _ (sym (repetition-behind _ _ _ (c .before .before .before .before .before .before .slot-at2 .ensures)) ∙ c .before .before .before .before .if5 .left)))
+    (eq-eqb _ _ (sym (repetition-behind _ _ _ (c .before .before .before .before .before .before .slot-at2 .ensures)) ∙ c .before .before .before .before .if5 .left)))
 
 pub map-child-spec : {M : Type 1} → statement M
 map-child-spec =

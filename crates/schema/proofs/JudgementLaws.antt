@@ -1,0 +1,207 @@
+-- A sheet judged and resolved, from its parts.
+use Prim.Native.Nat.{ℕ, zero, suc, _+_, _*_, _-_, _≤_, _<_}
+use mathlib.Core.Path.{_≡_, refl, sym, ap, _∙_, subst}
+use mathlib.Core.Bool.{Bool, true, false, cond}
+use mathlib.Core.List.{List, [], _∷_, _++_, map}
+use native.Mathlib.Omega.{arith}
+use native.Mathlib.Nat.{zero-add}
+use borrow.Author.Tests.{lt-ltb, le-ltb}
+use lib.Dec.{leb}
+use lib.ListN.{length, drop}
+use Rattle.sheet.specs.Block.{totalOf, mostNodes}
+use Rattle.sheet.specs.Opening as sheet
+use Rattle.sheet.specs.Slot.{slots, slotAt}
+use Rattle.sheet.specs.declared.opening.Opened.{Opened}
+use Rattle.sheet.proofs.OpeningLaws.{openOf-total, openOf-least, openOf-most}
+use Rattle.schema.specs.Tree.{Slot, Tree, node, listing, size, depths}
+use Rattle.schema.specs.Rules.{faults}
+use Rattle.schema.specs.Rows.{rowsFrom, rowssFrom, row, parentOf, role, rows, rowWidth}
+use Rattle.schema.specs.Reading.{treeOf}
+use Rattle.schema.specs.Outcome.{orElse, refusal, leftOver, missing, firstFault, deepness, mostDepth, tooDeep, unlawful, treeRefusal, judgedAs, judgement, answer, outcome, written}
+use Rattle.schema.specs.Steps.{Claimed, treeAt, secondOf, treeOrDeep, judgedTree, depthAt, placed, judgedNodes, judgementOf}
+use Rattle.schema.specs.declared.place.Place.{Place}
+use Rattle.schema.specs.declared.roles.Parent.{Parent}
+use Rattle.schema.specs.declared.refusal.Refusal.{Refusal}
+use Rattle.schema.specs.declared.refusal.Verdict.{Verdict}
+use Rattle.schema.specs.declared.judging.TreeJudged.{TreeJudged}
+use Rattle.schema.specs.declared.judgement.Judgement.{Judgement}
+use Rattle.schema.specs.declared.resolving.Resolved.{Resolved}
+use Rattle.schema.proofs.FaultLaws.{none-orElse}
+use Rattle.schema.proofs.OpenPlacesLaws.{Fills, fills-trees}
+use Rattle.schema.proofs.DemandLaws.{accepted-fills, fills-listing}
+use Rattle.schema.proofs.StandingLaws.{treeAt-zero}
+use Rattle.schema.proofs.VisitLaws.{length-slots}
+use Rattle.schema.proofs.RowsLaws.{length-rowsFrom}
+
+-- the first depth that is too great is refused by 7
+deep-refusal : (ds : List ℕ) (k : ℕ) (r : Refusal) → firstFault k (map deepness ds) ≡ Verdict.Refused r → Verdict.Refused (refusal 7 (r .place)) ≡ Verdict.Refused r
+unfolding firstFault
+deep-refusal [] k r e = absurd (let z : _≡_ {A = ℕ} 0 1 = cc in omega arith)
+deep-refusal (d ∷ ds) k r e = on (leb d mostDepth) refl (deep-refusal ds (suc k) r)
+  where
+    shallow : leb d mostDepth ≡ true → deepness d ≡ 0
+    shallow q = unfold deepness in rw q
+
+    deep : leb d mostDepth ≡ false → deepness d ≡ 7
+    deep q = unfold deepness in rw q
+
+    on : (t : Bool) → leb d mostDepth ≡ t → (firstFault (suc k) (map deepness ds) ≡ Verdict.Refused r → Verdict.Refused (refusal 7 (r .place)) ≡ Verdict.Refused r) → Verdict.Refused (refusal 7 (r .place)) ≡ Verdict.Refused r
+    on true q ih = ih (subst (λ (n : ℕ). firstFault k (n ∷ map deepness ds) ≡ Verdict.Refused r) (shallow q) e)
+    on false q ih =
+        let f : Verdict.Refused (refusal 7 k) ≡ Verdict.Refused r = subst (λ (n : ℕ). firstFault k (n ∷ map deepness ds) ≡ Verdict.Refused r) (deep q) e in
+        cc
+
+-- the whole tree judged
+module _ (t : Tree) where
+  pub root-deep : (k : ℕ) → judgedTree 0 (suc mostDepth) Place.Root t ≡ TreeJudged.Deep k → Verdict.Refused (refusal 7 k) ≡ orElse (tooDeep t) (unlawful t)
+  unfolding judgedTree depthAt tooDeep
+  root-deep k e = on (firstFault 0 (map deepness (depths 0 t))) refl e
+    where
+      on : (v : Verdict) → firstFault 0 (map deepness (depths 0 t)) ≡ v → treeOrDeep v (TreeJudged.Judged (0 + size t) (secondOf 0 t) (firstFault 0 (faults Place.Root t))) ≡ TreeJudged.Deep k → Verdict.Refused (refusal 7 k) ≡ orElse (firstFault 0 (map deepness (depths 0 t))) (unlawful t)
+      on Verdict.Lawful q w = absurd (unfold treeOrDeep in let z : _≡_ {A = ℕ} 0 1 = cc in omega arith)
+      on (Verdict.Refused r) q w = unfold treeOrDeep orElse in rw q (let p : r .place ≡ k = cc in rw (← p) (deep-refusal (depths 0 t) 0 r q))
+
+  pub root-judged : (next second : ℕ) (v : Verdict) → judgedTree 0 (suc mostDepth) Place.Root t ≡ TreeJudged.Judged next second v → v ≡ orElse (tooDeep t) (unlawful t)
+  unfolding judgedTree depthAt tooDeep
+  root-judged next second v e = on (firstFault 0 (map deepness (depths 0 t))) refl e
+    where
+      on : (u : Verdict) → firstFault 0 (map deepness (depths 0 t)) ≡ u → treeOrDeep u (TreeJudged.Judged (0 + size t) (secondOf 0 t) (firstFault 0 (faults Place.Root t))) ≡ TreeJudged.Judged next second v → v ≡ orElse (firstFault 0 (map deepness (depths 0 t))) (unlawful t)
+      on Verdict.Lawful q w = unfold treeOrDeep orElse unlawful in rw q (let p : firstFault 0 (faults Place.Root t) ≡ v = cc in sym p)
+      on (Verdict.Refused r) q w = absurd (unfold treeOrDeep in let z : _≡_ {A = ℕ} 0 1 = cc in omega arith)
+
+pub root-at : (ss : List Slot) {v : Verdict} → v ≡ orElse (tooDeep (treeAt ss 0)) (unlawful (treeAt ss 0)) → v ≡ orElse (tooDeep (treeOf ss)) (unlawful (treeOf ss))
+root-at ss e = rw treeAt-zero at e
+
+orElse-assoc : (a b c : Verdict) → orElse (orElse a b) c ≡ orElse a (orElse b c)
+unfolding orElse
+orElse-assoc Verdict.Lawful b c = refl
+orElse-assoc (Verdict.Refused r) b c = refl
+
+-- refusals 5 and 6, then 7 to 13
+pub treeRefusal-places : (ss : List Slot) → treeRefusal ss ≡ orElse (orElse (leftOver ss) (missing ss)) (orElse (tooDeep (treeOf ss)) (unlawful (treeOf ss)))
+unfolding treeRefusal
+treeRefusal-places ss = sym (orElse-assoc (leftOver ss) (missing ss) (orElse (tooDeep (treeOf ss)) (unlawful (treeOf ss))))
+
+-- a sheet that neither 5 nor 6 refuses claims rightly
+module _ (b : List ℕ) (t : ℕ) (o : sheet.openOf b ≡ Opened.Nodes t) where
+  pub nodes-total : t ≡ totalOf b
+  nodes-total = openOf-total b t o
+
+  pub nodes-most : t ≤ mostNodes
+  nodes-most = openOf-most b t o
+
+  pub nodes-some : 0 < totalOf b
+  nodes-some = omega (arith, nodes-total, openOf-least b t o)
+
+  pub places-claimed : orElse (leftOver (slots b)) (missing (slots b)) ≡ Verdict.Lawful → Claimed b
+  places-claimed e =
+      let q = none-orElse _ _ e in
+      record {
+        total = length-slots b;
+        most = omega (arith, nodes-total, nodes-most);
+        claims = fills-trees (accepted-fills (slots b) (q .0) (q .1)) .1;
+      }
+
+  pub judgement-nodes : judgement b ≡ treeRefusal (slots b)
+  unfolding judgement judgedAs sheet.outcome sheet.outcomeOf
+  judgement-nodes = rw o
+
+-- what stands above the root does not matter
+other-above : (t : Tree) (a b : Slot) → rowsFrom 0 0 Parent.Other a t ≡ rowsFrom 0 0 Parent.Other b t
+unfolding rowsFrom row parentOf role
+other-above (node s fs) a b = refl
+
+-- what each way of refusing to open is judged
+module _ (b : List ℕ) where
+  pub judgement-length : sheet.openOf b ≡ Opened.BadLength → judgement b ≡ Verdict.Refused (refusal 1 0)
+  unfolding judgement judgedAs sheet.outcome sheet.outcomeOf
+  judgement-length o = rw o
+
+  pub judgement-check : (k : ℕ) → sheet.openOf b ≡ Opened.BadCheck k → judgement b ≡ Verdict.Refused (refusal 2 k)
+  unfolding judgement judgedAs sheet.outcome sheet.outcomeOf
+  judgement-check k o = rw o
+
+  pub judgement-header : (k : ℕ) → sheet.openOf b ≡ Opened.BadHeader k → judgement b ≡ Verdict.Refused (refusal 3 k)
+  unfolding judgement judgedAs sheet.outcome sheet.outcomeOf
+  judgement-header k o = rw o
+
+  pub judgement-slot : (k : ℕ) → sheet.openOf b ≡ Opened.BadSlot k → judgement b ≡ Verdict.Refused (refusal 4 k)
+  unfolding judgement judgedAs sheet.outcome sheet.outcomeOf
+  judgement-slot k o = rw o
+
+  -- an opened sheet that is lawful
+  lawful-opened : judgement b ≡ Verdict.Lawful → (t : ℕ) × (sheet.openOf b ≡ Opened.Nodes t)
+  lawful-opened e = on (sheet.openOf b) refl
+    where
+      no : (r : Refusal) → judgement b ≡ Verdict.Refused r → ⊥
+      no r q = let z : _≡_ {A = ℕ} 0 1 = cc in omega arith
+
+      on : (o : Opened) → sheet.openOf b ≡ o → (t : ℕ) × (sheet.openOf b ≡ Opened.Nodes t)
+      on (Opened.Nodes t) q = (t, q)
+      on Opened.BadLength q = absurd (no _ (judgement-length q))
+      on (Opened.BadCheck k) q = absurd (no _ (judgement-check k q))
+      on (Opened.BadHeader k) q = absurd (no _ (judgement-header k q))
+      on (Opened.BadSlot k) q = absurd (no _ (judgement-slot k q))
+
+  judgedNodes-lawful : (v : Verdict) (t n : ℕ) → judgedNodes v t ≡ Judgement.Nodes n → (v ≡ Verdict.Lawful) × (n ≡ t)
+  unfolding judgedNodes
+  judgedNodes-lawful Verdict.Lawful t n e = (refl, cc)
+  judgedNodes-lawful (Verdict.Refused r) t n e = absurd (let z : _≡_ {A = ℕ} 0 1 = cc in omega arith)
+
+  judgedNodes-refused : (v : Verdict) (t : ℕ) (r : Refusal) → judgedNodes v t ≡ Judgement.Refused r → v ≡ Verdict.Refused r
+  unfolding judgedNodes
+  judgedNodes-refused Verdict.Lawful t r e = absurd (let z : _≡_ {A = ℕ} 0 1 = cc in omega arith)
+  judgedNodes-refused (Verdict.Refused s) t r e = cc
+
+  -- a refused sheet
+  pub resolve-refused : (r : Refusal) (lent : List ℕ) → judgementOf b ≡ Judgement.Refused r → outcome b (length lent) ≡ Resolved.Refused r
+  unfolding judgementOf outcome answer
+  resolve-refused r lent e = rw (judgedNodes-refused (judgement b) (totalOf b) r e)
+
+  pub written-refused : (r : Refusal) (lent : List ℕ) → outcome b (length lent) ≡ Resolved.Refused r → lent ≡ written (outcome b (length lent)) b lent
+  unfolding written
+  written-refused r lent e = rw e
+
+  module _ (n : ℕ) (e : judgementOf b ≡ Judgement.Nodes n) where
+    lawful : (judgement b ≡ Verdict.Lawful) × (n ≡ totalOf b)
+    unfolding judgementOf
+    lawful = judgedNodes-lawful (judgement b) (totalOf b) n e
+
+    opened : (t : ℕ) × (sheet.openOf b ≡ Opened.Nodes t)
+    opened = lawful-opened (lawful .0)
+
+    pub resolve-total : n ≡ totalOf b
+    resolve-total = lawful .1
+
+    pub resolve-some : 0 < totalOf b
+    resolve-some = nodes-some b (opened .0) (opened .1)
+
+    no-places : orElse (leftOver (slots b)) (missing (slots b)) ≡ Verdict.Lawful
+    no-places =
+        none-orElse _ _ (sym (treeRefusal-places (slots b)) ∙ sym (judgement-nodes b (opened .0) (opened .1)) ∙ lawful .0) .0
+
+    pub resolve-claimed : Claimed b
+    resolve-claimed = places-claimed b (opened .0) (opened .1) no-places
+
+    pub resolve-short : (lent : List ℕ) → length lent < rowWidth * n → outcome b (length lent) ≡ Resolved.Refused (refusal 14 0)
+    unfolding outcome answer
+    resolve-short lent h = rw (lawful .0, lt-ltb (length lent) (rowWidth * totalOf b) (omega (arith, resolve-total)))
+
+    pub resolve-rows : (lent : List ℕ) → rowWidth * n ≤ length lent → outcome b (length lent) ≡ Resolved.Rows n
+    unfolding outcome answer
+    resolve-rows lent h = rw (lawful .0, le-ltb (length lent) (rowWidth * totalOf b) (omega (arith, resolve-total))) (ap Resolved.Rows (sym resolve-total))
+
+    tree-size : size (treeOf (slots b)) ≡ n
+    unfolding size
+    tree-size =
+        let q = none-orElse _ _ no-places in
+        ap length (fills-listing (slots b) (accepted-fills (slots b) (q .0) (q .1))) ∙ length-slots b ∙ sym resolve-total
+
+    pub written-rows : (lent r : List ℕ) → rowWidth * n ≤ length lent → r ≡ placed lent (rowWidth * 0) (rowsFrom 0 0 Parent.Other (slotAt b 0) (treeAt (slots b) 0)) → r ≡ written (outcome b (length lent)) b lent
+    unfolding written placed rows
+    written-rows lent r h q =
+        q
+        ∙ ap (λ (t : Tree). placed lent (rowWidth * 0) (rowsFrom 0 0 Parent.Other (slotAt b 0) t)) (treeAt-zero (slots b))
+        ∙ ap (placed lent (rowWidth * 0)) (other-above (treeOf (slots b)) (slotAt b 0) [])
+        ∙ ap (λ (k : ℕ). rows (treeOf (slots b)) ++ drop k lent) (zero-add _ ∙ length-rowsFrom (treeOf (slots b)) 0 0 Parent.Other [] ∙ ap (λ (k : ℕ). rowWidth * k) tree-size)
+        ∙ sym (rw (resolve-rows lent h))
