@@ -1,0 +1,148 @@
+-- `decimal::fit::fits_exactly` meets its contract: the order against the power of ten, or its negative, is judged. Assumes nothing.
+use mathlib.Core.Path.{_≡_, refl, sym, ap, ap₂, subst, _∙_}
+use mathlib.Core.Bool.{Bool, true, false, cond}
+use mathlib.Core.List.{List, _++_}
+use Prim.Native.Nat.{ℕ, _^_, _≤_}
+use native.Mathlib.Nat.{le-trans, le-add-right, pow-le-pow-right}
+use native.Mathlib.Omega.{arith}
+use lib.IntN.{pos, negℤ}
+use lib.ListN.{length, take, drop, replicate, length-append, length-take}
+use lib.Seq.{length-take-le, take-at}
+use Rattle.decimal.specs.declared.order.Order.{Order}
+use Rattle.decimal.specs.Precision.{isLength, greatestNumber, greatestPrecision}
+use Rattle.decimal.specs.Number.{isNegative, number}
+use Rattle.decimal.specs.Order.{orderOf}
+use Rattle.decimal.specs.Fit.{fitOf}
+use Rattle.decimal.proofs.PrecisionLaws.{isLength-bounds, greatestPrecision-low}
+use Rattle.decimal.proofs.UnsignedLaws.{Bytes, Bytes-getD}
+use Rattle.decimal.proofs.FitLaws.{judged, fitOf-judged}
+use borrow.Author.Needs.{needs}
+use Rattle.decimal.proofs.fit.fits_exactly.Statement.{statement}
+use Rattle.decimal.proofs.fit.fits_exactly.Tie as tie
+use Rattle.decimal.proofs.fit.fits_exactly.Reads as reads
+use Rattle.decimal.proofs.fit.fits_exactly.Lts as lts
+use Rattle.decimal.proofs.number.is_negative.Reads as is-negative-reads
+use Rattle.decimal.proofs.order.compare.Reads as compare-reads
+use Rattle.decimal.proofs.power.write_power.Reads as write-power-reads
+
+-- the bound's bytes before they are written
+abbrev zeros : List ℕ
+zeros = replicate 256 0
+
+module _ (c : tie.Start) where
+  most : length (c .args .number .now) ≤ 256
+  most = isLength-bounds _ (c .pre .0) .1
+
+  length-zeros : length (take (length (c .args .number .now)) zeros) ≡ length (c .args .number .now)
+  length-zeros = length-take-le (length (c .args .number .now)) zeros most
+
+  -- the number's length holds the power of ten
+  held : 10 ^ c .args .precision ≤ greatestNumber (length (c .args .number .now))
+  held =
+      le-trans (pow-le-pow-right (omega arith) (c .pre .1))
+      (greatestPrecision-low (length (c .args .number .now)) (isLength-bounds _ (c .pre .0) .0) most)
+
+module _ (c : tie.After-write-power) where
+  length-power : length (c .write-power .last .0) ≡ length (c .before .before .before .before .args .number .now)
+  length-power = c .write-power .kept .0 ∙ length-zeros (c .before .before .before .before)
+
+  front : length (c .before .before .before .before .args .number .now) ≤ length (c .write-power .last .0 ++ drop (length (c .before .before .before .before .args .number .now)) zeros)
+  front = omega (arith, length-power, length-append (c .write-power .last .0) (drop (length (c .before .before .before .before .args .number .now)) zeros))
+
+module _ (c : tie.After-compare) where
+  compared : c .compare .result ≡ orderOf (c .before .before .before .before .before .before .before .args .number .now) (c .before .before .before .write-power .last .0)
+  compared =
+      c .compare .ensures
+      ∙ ap (orderOf (c .before .before .before .before .before .before .before .args .number .now))
+      (take-at (c .before .before .before .write-power .last .0) (drop (length (c .before .before .before .before .before .before .before .args .number .now)) zeros) _ (length-power (c .before .before .before)))
+
+  value : number (c .before .before .before .write-power .last .0)
+      ≡ cond (isNegative (c .before .before .before .before .before .before .before .args .number .now)) (negℤ (pos (10 ^ c .before .before .before .before .before .before .before .args .precision))) (pos (10 ^ c .before .before .before .before .before .before .before .args .precision))
+  value =
+      c .before .before .before .write-power .ensures
+      ∙ ap (λ (t : Bool). cond t (negℤ (pos (10 ^ c .before .before .before .before .before .before .before .args .precision))) (pos (10 ^ c .before .before .before .before .before .before .before .args .precision))) (c .before .before .before .before .before .is-negative .ensures)
+
+  answer : (o : Order) (negative : Bool) → c .compare .result ≡ o → c .before .before .before .before .before .is-negative .result ≡ negative
+      → judged negative o ≡ fitOf (c .before .before .before .before .before .before .before .args .number .now) (c .before .before .before .before .before .before .before .args .precision)
+  answer o negative e s =
+      ap₂ judged (sym s ∙ c .before .before .before .before .before .is-negative .ensures) (sym e ∙ compared)
+      ∙ fitOf-judged (c .before .before .before .before .before .before .before .args .number .now) (c .before .before .before .write-power .last .0) (c .before .before .before .before .before .before .before .args .precision) (c .before .before .before .before .before .before .before .pre .0)
+      (ap isLength (length-power (c .before .before .before)) ∙ c .before .before .before .before .before .before .before .pre .0)
+      (Bytes-getD (c .before .before .before .before .before .before .before .args .number .now) (λ k. c .before .before .before .before .before .before .shared-slice-known .given k .fits)) value
+
+is-negative-requires : tie.Need-is-negative-requires
+is-negative-requires c κs = search needs
+
+array-borrow-prefix-bound : tie.Need-array-borrow-prefix-bound
+array-borrow-prefix-bound c = most (c .before .before)
+
+slice-aggregate-write-power : tie.Need-slice-aggregate-write-power
+slice-aggregate-write-power c = sym (length-zeros (c .before .before .before))
+
+write-power-requires : tie.Need-write-power-requires
+write-power-requires c κs =
+    let s = c .before .before .before in (
+      subst (λ (n : ℕ). 1 ≤ n) (sym (length-zeros s)) (isLength-bounds _ (s .pre .0) .0),
+      subst (λ (n : ℕ). 10 ^ s .args .precision ≤ greatestNumber n) (sym (length-zeros s)) (held s),
+    )
+
+array-share-prefix-bound : tie.Need-array-share-prefix-bound
+array-share-prefix-bound c = front (c .before)
+
+slice-aggregate-compare : tie.Need-slice-aggregate-compare
+slice-aggregate-compare c = sym (length-take-le _ _ (front (c .before .before)))
+
+compare-requires : tie.Need-compare-requires
+compare-requires c κs = search needs
+
+enum-told : tie.Need-enum-told
+enum-told c = search needs
+
+returns : tie.Need-returns
+returns c = answer (c .before .before .before) Order.Less true (c .before .enum-told .given .1) (c .if1 .taken)
+
+enum-told-2 : tie.Need-enum-told-2
+enum-told-2 c = search needs
+
+enum-told-3 : tie.Need-enum-told-3
+enum-told-3 c = search needs
+
+returns-2 : tie.Need-returns-2
+returns-2 c = answer (c .before .before .before) Order.Greater true (c .before .enum-told3 .given .1) (c .if2 .taken)
+
+enum-told-4 : tie.Need-enum-told-4
+enum-told-4 c = search needs
+
+returns-3 : tie.Need-returns-3
+returns-3 c = answer (c .before .before .before) Order.Less false (c .before .enum-told .given .1) (c .if1 .left)
+
+returns-4 : tie.Need-returns-4
+returns-4 c = answer (c .before .before) Order.Equal _ (c .enum-told2 .given .1) refl
+
+returns-5 : tie.Need-returns-5
+returns-5 c = answer (c .before .before .before) Order.Greater false (c .before .enum-told3 .given .1) (c .if2 .left)
+
+returns-6 : tie.Need-returns-6
+returns-6 c = answer (c .before .before) Order.WrongLength _ (c .enum-told4 .given .1) refl
+
+pub fits-exactly-spec : {M : Type 1} → statement M
+fits-exactly-spec =
+    tie.close
+    (tie.spec
+    is-negative-requires
+    array-borrow-prefix-bound
+    slice-aggregate-write-power
+    write-power-requires
+    array-share-prefix-bound
+    slice-aggregate-compare
+    compare-requires
+    enum-told
+    returns
+    enum-told-2
+    enum-told-3
+    returns-2
+    enum-told-4
+    returns-3
+    returns-4
+    returns-5
+    returns-6)
