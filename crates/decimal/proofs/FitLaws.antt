@@ -1,29 +1,28 @@
 -- Laws of keeping to a precision: what the length of a number decides, and what its order against the power of ten does.
 -- Assumes nothing.
 use mathlib.Core.Path.{_≡_, refl, sym, ap, ap₂, subst, _∙_}
-use mathlib.Core.Logic.{_≢_, ⊎-elim}
+use mathlib.Core.Logic.{_≢_, _↔_}
 use mathlib.Core.Bool.{Bool, true, false, cond}
 use mathlib.Core.List.{List, [], _∷_}
 use Prim.Native.Nat.{ℕ, zero, suc, _+_, _*_, _-_, _%_, _^_, _≤_, _<_}
-use native.Mathlib.Nat.{eq-or-lt-of-le, le-refl, le-step, le-suc, le-trans, le-of-lt, le-of-suc-le-suc, lt-of-lt-of-le, lt-of-le-of-lt, mod-lt, not-suc-le-zero, suc-ne-zero, one-le-pow, pow-le-pow-right, pow-suc}
+use native.Mathlib.Nat.{le-refl, le-suc, le-trans, le-of-lt, le-of-suc-le-suc, lt-of-lt-of-le, lt-of-le-of-lt, mod-lt, not-suc-le-zero, suc-ne-zero, one-le-pow, pow-le-pow-right, pow-suc}
 use native.Mathlib.Numerals.{add-one}
 use native.Mathlib.Omega.{arith}
 use lib.Arith.{lt-of-le-ne}
 use lib.Dec.{ltb, leb·suc-suc}
 use lib.IntN.{ℤ, pos, negsuc, negℤ, natAbs}
 use lib.ListN.{length}
-use lib.Signed.{mag, natAbs-le, ltZ}
+use lib.Signed.{mag, natAbs-le}
 use borrow.Author.Tests.{lt-ltb, le-ltb, ltb-true}
 use Rattle.decimal.specs.declared.order.Order.{Order}
-use Rattle.decimal.specs.declared.order.Order.the-variants as order-is
 use Rattle.decimal.specs.declared.fit.Fit.{Fit}
 use Rattle.decimal.specs.declared.fit.Fit.the-variants.{Within, Beyond, WrongLength}
-use Rattle.decimal.specs.Precision.{greatestLength, isLength, greatestNumber, greatestPrecision}
+use Rattle.decimal.specs.Precision.{isLength, greatestPrecision}
 use Rattle.decimal.specs.Number.{unsigned, isNegative, number, significant}
 use Rattle.decimal.specs.Order.{order, orderOf}
 use Rattle.decimal.specs.Fit.{fitOf}
 use Rattle.decimal.proofs.PrecisionLaws.{isLength-bounds, isLength-within, greatestPrecision-low, greatestPrecision-high}
-use Rattle.decimal.proofs.UnsignedLaws.{Bytes, pow-pos256}
+use Rattle.decimal.proofs.UnsignedLaws.{Bytes}
 use Rattle.decimal.proofs.NumberLaws.{length-significant, magnitude-<, magnitude-≥, number-neg, number-pos, number-significant, sign-bit}
 use Rattle.decimal.proofs.PowerLaws.{mod-*}
 use Rattle.decimal.proofs.OrderLaws.{orderOf-order}
@@ -41,6 +40,17 @@ fitOf-within bs p e h = fitOf-test bs p e ∙ ap (λ (t : Bool). cond t Within B
 
 pub fitOf-beyond : (bs : List ℕ) (p : ℕ) → isLength (length bs) ≡ true → 10 ^ p ≤ natAbs (number bs) → fitOf bs p ≡ Beyond
 fitOf-beyond bs p e h = fitOf-test bs p e ∙ ap (λ (t : Bool). cond t Within Beyond) (le-ltb _ _ h)
+
+-- within exactly where |number| < 10^precision
+pub fitOf-exactly : (bs : List ℕ) (p : ℕ) → isLength (length bs) ≡ true → (fitOf bs p ≡ Within) ↔ (natAbs (number bs) < 10 ^ p)
+fitOf-exactly bs p e = (λ w. go (ltb (natAbs (number bs)) (10 ^ p)) refl (sym (fitOf-test bs p e) ∙ w), fitOf-within bs p e)
+  where
+    never : Beyond ≡ Within → ⊥
+    never w = let z : _≡_ {A = ℕ} 0 1 = cc in omega arith
+
+    go : (t : Bool) → ltb (natAbs (number bs)) (10 ^ p) ≡ t → cond t Within Beyond ≡ Within → natAbs (number bs) < 10 ^ p
+    go true q w = ltb-true _ _ q
+    go false q w = absurd (never w)
 
 pub isLength-significant : (bs : List ℕ) → isLength (length bs) ≡ true → isLength (length (significant bs)) ≡ true
 isLength-significant [] e = absurd (not-suc-le-zero (isLength-bounds 0 e .0))
@@ -177,3 +187,12 @@ module _ (bs bound : List ℕ) (p : ℕ) (e : isLength (length bs) ≡ true) (f 
 
   pub fitOf-judged : judged (isNegative bs) (orderOf bs bound) ≡ fitOf bs p
   fitOf-judged = ap (judged (isNegative bs)) (orderOf-order bs bound e f) ∙ exactly (isNegative bs) refl
+
+-- document 01's own examples, of precision 2: 63 hex is within, 64 hex is not
+published-within : fitOf (99 ∷ []) 2 ≡ Within
+unfolding fitOf number
+published-within = refl
+
+published-beyond : fitOf (100 ∷ []) 2 ≡ Beyond
+unfolding fitOf number
+published-beyond = refl

@@ -9,13 +9,13 @@ use native.Mathlib.Nat.{pow-suc, zero-mul, zero-add, add-mul, sub-add-cancel, le
 use native.Mathlib.Numerals.{add-one}
 use native.Mathlib.Omega.{arith}
 use lib.Dec.{leb, ltb, eqb}
-use lib.IntN.{ℤ, pos, negsuc, subℕ}
-use lib.ListN.{length, getD, take, drop, replicate, length-append}
+use lib.IntN.{pos, negsuc, subℕ}
+use lib.ListN.{length, getD, drop, replicate}
 use lib.Arith.{digits-lt}
 use lib.Pow.{pow-add}
 use lib.Seq.{drop-cons}
 use lib.Signed.{mag}
-use borrow.Author.Tests.{lt-ltb, le-ltb, ltb-true, ltb-false, le-leb, lt-leb, leb-true, leb-false, eqb-true, eqb-false, eq-eqb, ne-eqb}
+use borrow.Author.Tests.{lt-ltb, le-ltb, ltb-true, ltb-false, leb-true, leb-false, eqb-true, eqb-false, eq-eqb, ne-eqb}
 use Rattle.decimal.specs.Number.{unsigned, isNegative, number, signByte, significant}
 use Rattle.decimal.proofs.UnsignedLaws.{Bytes, pow-split, unsigned-<}
 
@@ -55,17 +55,17 @@ number-neg bs e h = number-by bs true e ∙ subℕ-< (unsigned bs) (256 ^ length
 
 -- ---- bytes of the sign in front change nothing
 
-pub isNegative-sign : (c : ℕ) → leb 128 (signByte c) ≡ leb 128 c
-isNegative-sign c = go (leb 128 c)
+pub isNegative-sign : (bs : List ℕ) → leb 128 (signByte bs) ≡ isNegative bs
+isNegative-sign bs = go (isNegative bs)
   where
     go : (t : Bool) → leb 128 (cond t 255 0) ≡ t
     go true = refl
     go false = refl
 
-number-front : (x : ℕ) (bs : List ℕ) → x ≡ signByte (getD bs 0 0) → number (x ∷ bs) ≡ number bs
+number-front : (x : ℕ) (bs : List ℕ) → x ≡ signByte bs → number (x ∷ bs) ≡ number bs
 number-front x bs s = ap (λ (y : ℕ). number (y ∷ bs)) s ∙ go (isNegative bs) refl
   where
-    go : (t : Bool) → isNegative bs ≡ t → number (signByte (getD bs 0 0) ∷ bs) ≡ number bs
+    go : (t : Bool) → isNegative bs ≡ t → number (signByte bs ∷ bs) ≡ number bs
     go true e =
         ap (λ (t : Bool). number (cond t 255 0 ∷ bs)) e
         ∙ number-by (255 ∷ bs) true refl
@@ -81,16 +81,16 @@ number-front x bs s = ap (λ (y : ℕ). number (y ∷ bs)) s ∙ go (isNegative 
 
 -- a number with m bytes of its sign in front
 abbrev pub extended : ℕ → List ℕ → List ℕ
-extended m bs = replicate m (signByte (getD bs 0 0)) ++ bs
+extended m bs = replicate m (signByte bs) ++ bs
 
 pub isNegative-extended : (m : ℕ) (bs : List ℕ) → isNegative (extended m bs) ≡ isNegative bs
 isNegative-extended zero bs = refl
-isNegative-extended (suc m) bs = isNegative-sign (getD bs 0 0)
+isNegative-extended (suc m) bs = isNegative-sign bs
 
 pub number-extended : (m : ℕ) (bs : List ℕ) → number (extended m bs) ≡ number bs
 number-extended zero bs = refl
 number-extended (suc m) bs =
-    number-front (signByte (getD bs 0 0)) (extended m bs) (ap (λ (t : Bool). cond t 255 0) (sym (isNegative-extended m bs)))
+    number-front (signByte bs) (extended m bs) (ap (λ (t : Bool). cond t 255 0) (sym (isNegative-extended m bs)))
     ∙ number-extended m bs
 
 -- ---- the bytes that are needed
@@ -99,20 +99,20 @@ pub number-significant : (bs : List ℕ) → number (significant bs) ≡ number 
 unfolding significant
 number-significant [] = refl
 number-significant (b ∷ []) = refl
-number-significant (b ∷ c ∷ bs) = go (eqb b (signByte c)) refl (number-significant (c ∷ bs))
+number-significant (b ∷ c ∷ bs) = go (eqb b (signByte (c ∷ bs))) refl (number-significant (c ∷ bs))
   where
-    go : (t : Bool) → eqb b (signByte c) ≡ t → number (significant (c ∷ bs)) ≡ number (c ∷ bs)
+    go : (t : Bool) → eqb b (signByte (c ∷ bs)) ≡ t → number (significant (c ∷ bs)) ≡ number (c ∷ bs)
         → number (cond t (significant (c ∷ bs)) (b ∷ c ∷ bs)) ≡ number (b ∷ c ∷ bs)
-    go true e h = h ∙ sym (number-front b (c ∷ bs) (eqb-true b (signByte c) e))
+    go true e h = h ∙ sym (number-front b (c ∷ bs) (eqb-true b (signByte (c ∷ bs)) e))
     go false e h = refl
 
 pub significant-idem : (bs : List ℕ) → significant (significant bs) ≡ significant bs
 unfolding significant
 significant-idem [] = refl
 significant-idem (b ∷ []) = refl
-significant-idem (b ∷ c ∷ bs) = go (eqb b (signByte c)) refl (significant-idem (c ∷ bs))
+significant-idem (b ∷ c ∷ bs) = go (eqb b (signByte (c ∷ bs))) refl (significant-idem (c ∷ bs))
   where
-    go : (t : Bool) → eqb b (signByte c) ≡ t → significant (significant (c ∷ bs)) ≡ significant (c ∷ bs)
+    go : (t : Bool) → eqb b (signByte (c ∷ bs)) ≡ t → significant (significant (c ∷ bs)) ≡ significant (c ∷ bs)
         → significant (cond t (significant (c ∷ bs)) (b ∷ c ∷ bs)) ≡ cond t (significant (c ∷ bs)) (b ∷ c ∷ bs)
     go true e h = h
     go false e h = ap (λ (t : Bool). cond t (significant (c ∷ bs)) (b ∷ c ∷ bs)) e
@@ -121,7 +121,7 @@ significant-idem (b ∷ c ∷ bs) = go (eqb b (signByte c)) refl (significant-id
 pub length-significant : (b : ℕ) (bs : List ℕ) → (1 ≤ length (significant (b ∷ bs))) × (length (significant (b ∷ bs)) ≤ suc (length bs))
 unfolding significant
 length-significant b [] = (omega arith, omega arith)
-length-significant b (c ∷ bs) = go (eqb b (signByte c)) (length-significant c bs)
+length-significant b (c ∷ bs) = go (eqb b (signByte (c ∷ bs))) (length-significant c bs)
   where
     go : (t : Bool) → (1 ≤ length (significant (c ∷ bs))) × (length (significant (c ∷ bs)) ≤ suc (length bs))
         → (1 ≤ length (cond t (significant (c ∷ bs)) (b ∷ c ∷ bs))) × (length (cond t (significant (c ∷ bs)) (b ∷ c ∷ bs)) ≤ suc (suc (length bs)))
@@ -129,9 +129,9 @@ length-significant b (c ∷ bs) = go (eqb b (signByte c)) (length-significant c 
     go false h = (omega arith, omega arith)
 
 -- of bytes that are all needed, the first does not repeat the sign of the others
-significant-first : (b c : ℕ) (bs : List ℕ) → significant (b ∷ c ∷ bs) ≡ b ∷ c ∷ bs → eqb b (signByte c) ≡ false
+significant-first : (b c : ℕ) (bs : List ℕ) → significant (b ∷ c ∷ bs) ≡ b ∷ c ∷ bs → eqb b (signByte (c ∷ bs)) ≡ false
 unfolding significant
-significant-first b c bs h = go (eqb b (signByte c)) h
+significant-first b c bs h = go (eqb b (signByte (c ∷ bs))) h
   where
     go : (t : Bool) → cond t (significant (c ∷ bs)) (b ∷ c ∷ bs) ≡ b ∷ c ∷ bs → t ≡ false
     go true e = absurd (not-suc-le-self _ (subst (λ (n : ℕ). n ≤ suc (length bs)) (ap length e) (length-significant c bs .1)))
@@ -191,9 +191,9 @@ folded-first b h = go (leb 128 b) refl
     go false e = leb-false 128 b e
 
 -- and where it does not repeat the sign of the second, one of the two is not small
-folded-needed : (b c : ℕ) → b < 256 → c < 256 → eqb b (signByte c) ≡ false
+folded-needed : (b c : ℕ) (bs : List ℕ) → b < 256 → c < 256 → eqb b (signByte (c ∷ bs)) ≡ false
     → (1 ≤ cond (leb 128 b) (255 - b) b) ⊎ (128 ≤ cond (leb 128 b) (255 - c) c)
-folded-needed b c h k e = go (leb 128 b) refl (leb 128 c) refl (eqb-false b (signByte c) e)
+folded-needed b c bs h k e = go (leb 128 b) refl (leb 128 c) refl (eqb-false b (signByte (c ∷ bs)) e)
   where
     go : (t : Bool) → leb 128 b ≡ t → (u : Bool) → leb 128 c ≡ u → (b ≡ cond u 255 0 → ⊥) → (1 ≤ cond t (255 - b) b) ⊎ (128 ≤ cond t (255 - c) c)
     go true p true q n = inl (omega arith)
@@ -220,7 +220,7 @@ magnitude-≥ b c bs h s =
     let t : Bool = leb 128 b in
     subst (λ (m : ℕ). 128 * 256 ^ length bs ≤ m) (sym (mag-number (b ∷ c ∷ bs) h))
     (subst (λ (n : ℕ). 128 * 256 ^ n ≤ unsigned (folded t (b ∷ c ∷ bs))) (length-folded t bs)
-    (unsigned-needed _ _ (folded t bs) (folded-needed b c (h .0) (h .1 .0) (significant-first b c bs s))))
+    (unsigned-needed _ _ (folded t bs) (folded-needed b c bs (h .0) (h .1 .0) (significant-first b c bs s))))
 
 -- ---- the bytes that are needed, found from the front
 
@@ -231,27 +231,24 @@ significant-short (b ∷ []) h = refl
 significant-short (b ∷ c ∷ bs) h = absurd (not-suc-le-zero (le-of-suc-le-suc h))
 
 module _ (bs : List ℕ) (at : ℕ) (within : at + 1 < length bs) where
-  two : drop at bs ≡ getD bs at 0 ∷ getD bs (at + 1) 0 ∷ drop (suc (at + 1)) bs
-  two =
+  rest : List ℕ
+  rest = getD bs (at + 1) 0 ∷ drop (suc (at + 1)) bs
+
+  rest-is : drop (at + 1) bs ≡ rest
+  unfolding rest
+  rest-is = drop-cons bs (at + 1) 0 within
+
+  both-are : drop at bs ≡ getD bs at 0 ∷ rest
+  both-are =
       drop-cons bs at 0 (omega arith)
-      ∙ ap (λ (rest : List ℕ). getD bs at 0 ∷ rest) (ap (λ (n : ℕ). drop n bs) (sym (add-one at)) ∙ drop-cons bs (at + 1) 0 within)
+      ∙ ap (λ (l : List ℕ). getD bs at 0 ∷ l) (ap (λ (n : ℕ). drop n bs) (sym (add-one at)) ∙ rest-is)
 
-  pub significant-next : getD bs at 0 ≡ signByte (getD bs (at + 1) 0) → significant (drop at bs) ≡ significant (drop (at + 1) bs)
-  unfolding significant
-  significant-next e =
-      ap significant two
-      ∙ ap (λ (t : Bool). cond t (significant rest) (getD bs at 0 ∷ rest)) (eq-eqb (getD bs at 0) (signByte (getD bs (at + 1) 0)) e)
-      ∙ ap significant (sym (drop-cons bs (at + 1) 0 within))
-    where
-      rest : List ℕ
-      rest = getD bs (at + 1) 0 ∷ drop (suc (at + 1)) bs
+  significant-by : (t : Bool) → eqb (getD bs at 0) (signByte rest) ≡ t → significant (drop at bs) ≡ cond t (significant rest) (getD bs at 0 ∷ rest)
+  unfolding significant rest
+  significant-by t e = ap significant both-are ∙ ap (λ (u : Bool). cond u (significant rest) (getD bs at 0 ∷ rest)) e
 
-  pub significant-stop : (getD bs at 0 ≡ signByte (getD bs (at + 1) 0) → ⊥) → significant (drop at bs) ≡ drop at bs
-  unfolding significant
-  significant-stop e =
-      ap significant two
-      ∙ ap (λ (t : Bool). cond t (significant rest) (getD bs at 0 ∷ rest)) (ne-eqb (getD bs at 0) (signByte (getD bs (at + 1) 0)) e)
-      ∙ sym two
-    where
-      rest : List ℕ
-      rest = getD bs (at + 1) 0 ∷ drop (suc (at + 1)) bs
+  pub significant-next : getD bs at 0 ≡ signByte (drop (at + 1) bs) → significant (drop at bs) ≡ significant (drop (at + 1) bs)
+  significant-next e = significant-by true (eq-eqb _ _ (e ∙ ap signByte rest-is)) ∙ ap significant (sym rest-is)
+
+  pub significant-stop : (getD bs at 0 ≡ signByte (drop (at + 1) bs) → ⊥) → significant (drop at bs) ≡ drop at bs
+  significant-stop e = significant-by false (ne-eqb _ _ (λ d. e (d ∙ ap signByte (sym rest-is)))) ∙ sym both-are

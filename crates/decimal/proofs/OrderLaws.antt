@@ -2,13 +2,13 @@
 -- Assumes nothing.
 use mathlib.Core.Path.{_≡_, refl, sym, ap, ap₂, subst, _∙_}
 use mathlib.Core.Logic.{_↔_, ⊎-elim}
-use mathlib.Core.Bool.{Bool, true, false, not, cond, _&&_}
+use mathlib.Core.Bool.{Bool, true, false, cond, _&&_}
 use mathlib.Core.List.{List, [], _∷_, _++_}
 use Prim.Native.Nat.{ℕ, suc, _+_, _-_, _^_, _≤_, _<_}
 use native.Mathlib.Nat.{le-refl, le-of-lt, le-antisymm, lt-irrefl, not-suc-le-zero, sub-add-cancel}
 use native.Mathlib.Numerals.{add-one}
 use native.Mathlib.Omega.{arith}
-use lib.Dec.{T, leb, ltb}
+use lib.Dec.{T, leb}
 use lib.IntN.{ℤ, pos, negsuc, subℕ}
 use lib.ListN.{length, getD, take, replicate, length-append, length-replicate}
 use lib.Seq.{take-all, take-suc}
@@ -88,6 +88,17 @@ pub orderOf-order : (a b : List ℕ) → isLength (length a) ≡ true → isLeng
 unfolding orderOf
 orderOf-order a b p q = rw (p, q)
 
+-- of two decimals of any two lengths: each answer exactly where the numbers that they stand for are so
+module _ (a b : List ℕ) (p : isLength (length a) ≡ true) (q : isLength (length b) ≡ true) where
+  pub orderOf-less : (orderOf a b ≡ Less) ↔ (number a <ℤ number b)
+  orderOf-less = rw (orderOf-order a b p q) (order-less (number a) (number b))
+
+  pub orderOf-equal : (orderOf a b ≡ Equal) ↔ (number a ≡ number b)
+  orderOf-equal = rw (orderOf-order a b p q) (order-equal (number a) (number b))
+
+  pub orderOf-greater : (orderOf a b ≡ Greater) ↔ (number b <ℤ number a)
+  orderOf-greater = rw (orderOf-order a b p q) (order-greater (number a) (number b))
+
 -- ---- two lists of one length and sign
 
 subℕ-monotone : (a b k : ℕ) → a < b → ltZ (subℕ a k) (subℕ b k) ≡ true
@@ -117,7 +128,7 @@ widened sign width bs = replicate (width - length bs) sign ++ bs
 
 pub record Alike (sign width : ℕ) (bs : List ℕ) : Type 0 where
   pub within : length bs ≤ width
-  pub signed : sign ≡ signByte (getD bs 0 0)
+  pub signed : sign ≡ signByte bs
   pub bytes : Bytes bs
 
 length-widened : {sign width : ℕ} {bs : List ℕ} → Alike sign width bs → length (widened sign width bs) ≡ width
@@ -133,7 +144,7 @@ number-widened {sign} {width} {bs} h =
 isNegative-widened : {sign width : ℕ} {bs : List ℕ} → Alike sign width bs → isNegative (widened sign width bs) ≡ leb 128 sign
 isNegative-widened {sign} {width} {bs} h =
     ap (λ (s : ℕ). isNegative (widened s width bs)) (h .signed) ∙ isNegative-extended (width - length bs) bs
-    ∙ sym (ap (leb 128) (h .signed) ∙ isNegative-sign (getD bs 0 0))
+    ∙ sym (ap (leb 128) (h .signed) ∙ isNegative-sign bs)
 
 Bytes-widened : {sign width : ℕ} {bs : List ℕ} → sign < 256 → Alike sign width bs → Bytes (widened sign width bs)
 Bytes-widened {sign} {width} {bs} s h = Bytes-++ (replicate (width - length bs) sign) bs (Bytes-replicate (width - length bs) sign s) (h .bytes)
@@ -181,7 +192,7 @@ widened-next {sign} {width} {a} {b} h k at l t e =
 
 -- ---- two numbers of which one is negative, and lengths
 
-pub number-signs : (a b : List ℕ) → Bytes a → signByte (getD b 0 0) < signByte (getD a 0 0) → ltZ (number a) (number b) ≡ true
+pub number-signs : (a b : List ℕ) → Bytes a → signByte b < signByte a → ltZ (number a) (number b) ≡ true
 number-signs a b h l = go (isNegative a) refl (isNegative b) refl l
   where
     go : (t : Bool) → isNegative a ≡ t → (u : Bool) → isNegative b ≡ u → cond u 255 0 < cond t 255 0 → ltZ (number a) (number b) ≡ true
@@ -190,10 +201,27 @@ number-signs a b h l = go (isNegative a) refl (isNegative b) refl l
     go false p true q k = absurd (not-suc-le-zero k)
     go false p false q k = absurd (not-suc-le-zero k)
 
-pub orderOf-wrong : (a b : List ℕ) → isLength (length a) ≡ false → orderOf a b ≡ WrongLength
+pub orderOf-wrong-left : (a b : List ℕ) → isLength (length a) ≡ false → orderOf a b ≡ WrongLength
 unfolding orderOf
-orderOf-wrong a b p = rw p
+orderOf-wrong-left a b p = rw p
 
-pub orderOf-wrong' : (a b : List ℕ) → isLength (length a) ≡ true → isLength (length b) ≡ false → orderOf a b ≡ WrongLength
+pub orderOf-wrong-right : (a b : List ℕ) → isLength (length b) ≡ false → orderOf a b ≡ WrongLength
 unfolding orderOf
-orderOf-wrong' a b p q = rw (p, q)
+orderOf-wrong-right a b p = rw p (go (isLength (length a)))
+  where
+    go : (t : Bool) → cond (t && false) (order (number a) (number b)) WrongLength ≡ WrongLength
+    go true = refl
+    go false = refl
+
+-- document 01's own examples: FF and FFFF are equal, 80 is below 7F, 00FF is above 7F
+published-equal : orderOf (255 ∷ []) (255 ∷ 255 ∷ []) ≡ Equal
+unfolding orderOf number
+published-equal = refl
+
+published-less : orderOf (128 ∷ []) (127 ∷ []) ≡ Less
+unfolding orderOf number
+published-less = refl
+
+published-greater : orderOf (0 ∷ 255 ∷ []) (127 ∷ []) ≡ Greater
+unfolding orderOf number
+published-greater = refl

@@ -1,15 +1,14 @@
 -- Laws of multiplying the number of bytes by a factor, a byte at a time from the last to the first, and of powers of ten.
 -- Assumes nothing.
-use mathlib.Core.Path.{_≡_, refl, sym, ap, ap₂, subst, _∙_}
-use mathlib.Core.Logic.{_≢_}
-use mathlib.Core.List.{List, [], _∷_}
-use Prim.Native.Nat.{ℕ, zero, suc, _+_, _*_, _-_, _/_, _%_, _^_, _≤_, _<_}
-use native.Mathlib.Nat.{add-mul, mul-assoc, mul-comm, mul-right-comm, mul-le-mul-right, div-add-mod', mod-lt, mod-eq-of-lt, add-mul-mod-self-right, pow-suc, ne-of-lt, le-of-suc-le-suc, lt-of-lt-of-le, le-refl, mul-one, sub-self, one-le-pow, pow-le-pow-right}
+use mathlib.Core.Path.{_≡_, refl, sym, ap, ap₂, _∙_}
+use mathlib.Core.List.{List}
+use Prim.Native.Nat.{ℕ, suc, _+_, _*_, _-_, _/_, _%_, _^_, _≤_, _<_}
+use native.Mathlib.Nat.{add-mul, mul-assoc, mul-comm, mul-right-comm, mul-le-mul-right, div-add-mod', mod-lt, mod-eq-of-lt, add-mul-mod-self-right, pow-suc, ne-of-lt, le-of-suc-le-suc, le-refl, mul-one, sub-self, one-le-pow, pow-le-pow-right}
 use native.Mathlib.Omega.{arith}
 use lib.Arith.{digits-lt}
-use lib.ListN.{length, getD, drop, set, length-set, length-drop}
+use lib.ListN.{length, getD, drop, set, length-set}
 use lib.Pow.{pow-add}
-use lib.Seq.{drop-cons, drop-set-lt, drop-length, getD-set-same, getD-set-other}
+use lib.Seq.{drop-set-lt, drop-length, getD-set-same, getD-set-other}
 use Rattle.decimal.specs.Number.{unsigned}
 use Rattle.decimal.proofs.UnsignedLaws.{unsigned-drop}
 

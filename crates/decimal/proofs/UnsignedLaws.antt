@@ -2,7 +2,7 @@
 -- Assumes nothing.
 use mathlib.Core.Path.{_≡_, refl, sym, ap, ap₂, subst, _∙_}
 use mathlib.Core.List.{List, [], _∷_, _++_}
-use Prim.Native.Nat.{ℕ, zero, suc, _+_, _*_, _-_, _^_, _≤_, _<_}
+use Prim.Native.Nat.{ℕ, zero, suc, _+_, _*_, _-_, _^_, _<_}
 use native.Mathlib.Nat.{add-assoc, add-mul, mul-assoc, mul-comm, one-le-pow, pow-suc, zero-mul, zero-add, suc-inj, suc-ne-zero, le-refl, le-add-right, lt-of-lt-of-le, le-of-suc-le-suc, not-suc-le-zero, add-lt-add-of-le-of-lt}
 use native.Mathlib.Omega.{arith}
 use lib.Arith.{digits-lt}

@@ -1,7 +1,7 @@
 -- The number that bytes stand for: big-endian two's complement of any length (document 01, single values).
 -- Assumes nothing.
 use Prim.Native.Nat.{ℕ, _+_, _*_, _^_}
-use mathlib.Core.Bool.{Bool, false, cond}
+use mathlib.Core.Bool.{Bool, cond}
 use mathlib.Core.List.{List, [], _∷_}
 use lib.Dec.{leb, eqb}
 use lib.IntN.{ℤ, subℕ}
@@ -20,12 +20,12 @@ isNegative bs = leb 128 (getD bs 0 0)
 unfoldable pub number : List ℕ → ℤ
 number bs = subℕ (unsigned bs) (cond (isNegative bs) (256 ^ length bs) 0)
 
--- the byte that repeats the sign of a number whose first byte is given: in front of the number, it changes nothing
-abbrev pub signByte : ℕ → ℕ
-signByte first = cond (leb 128 first) 255 0
+-- the byte that repeats the sign of a number: in front of its bytes, it changes nothing
+abbrev pub signByte : List ℕ → ℕ
+signByte bs = cond (isNegative bs) 255 0
 
 -- the bytes that are needed: those of a number without the bytes in front that only repeat the sign of what comes after
 unfoldable pub significant : List ℕ → List ℕ
 significant [] = []
 significant (b ∷ []) = b ∷ []
-significant (b ∷ c ∷ bs) = cond (eqb b (signByte c)) (significant (c ∷ bs)) (b ∷ c ∷ bs)
+significant (b ∷ c ∷ bs) = cond (eqb b (signByte (c ∷ bs))) (significant (c ∷ bs)) (b ∷ c ∷ bs)

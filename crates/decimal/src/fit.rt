@@ -8,7 +8,7 @@ ghost use mathlib.Core.Path.{_≡_};
 ghost use mathlib.Core.Bool.{true};
 ghost use Prim.Native.Nat.{_≤_};
 ghost use lib.ListN.{length};
-ghost use Rattle.decimal.specs.Precision.{isLength, greatestPrecision};
+ghost use Rattle.decimal.specs.Precision.{greatestLength, isLength, greatestPrecision};
 ghost use Rattle.decimal.specs.Number.{significant};
 ghost use Rattle.decimal.specs.Fit.{fitOf};
 
@@ -53,7 +53,7 @@ fn fits_exactly(number: &[u8], precision: u32) -> Fit
 {
     let n = number.len();
     let negative = number::is_negative(number);
-    let mut bound = [0u8; precision::GREATEST_LENGTH];
+    let mut bound = room();
     power::write_power(&mut bound[..n], negative, precision);
     match order::compare(number, &bound[..n]) {
         Order::Less => {
@@ -71,4 +71,11 @@ fn fits_exactly(number: &[u8], precision: u32) -> Fit
         }
         Order::WrongLength => Fit::WrongLength,
     }
+}
+
+// Room for a number of the greatest length.
+fn room() -> [u8; precision::GREATEST_LENGTH]
+    ensures { λ r. ⌜ length r ≡ greatestLength ⌝ }
+{
+    [0; precision::GREATEST_LENGTH]
 }

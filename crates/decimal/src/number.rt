@@ -5,16 +5,6 @@ ghost use Rattle.decimal.specs.Number.{isNegative, signByte, significant
 // The first bit of a byte, which is the sign in the first byte of a number.
 const SIGN_BIT: u8 = 128;
 
-// The byte that repeats the sign of a number whose first byte is `first`: all its bits are the sign.
-pub fn sign_byte(first: u8) -> u8
-    ensures { λ r. ⌜ r ≡ signByte first ⌝ }
-{
-    if first >= SIGN_BIT {
-        return 255;
-    }
-    0
-}
-
 // Whether the number of the bytes is negative.
 pub fn is_negative(number: &[u8]) -> bool
     ensures { λ r. ⌜ r ≡ isNegative (now (number .entry)) ⌝ }
@@ -25,17 +15,27 @@ pub fn is_negative(number: &[u8]) -> bool
     number[0] >= SIGN_BIT
 }
 
+// The byte that repeats the sign of a number: all its bits are the sign.
+pub fn sign_byte(number: &[u8]) -> u8
+    ensures { λ r. ⌜ r ≡ signByte (now (number .entry)) ⌝ }
+{
+    if is_negative(number) {
+        return 255;
+    }
+    0
+}
+
 // The bytes of a number without those in front that only repeat the sign of what comes after.
 pub fn significant(number: &[u8]) -> &[u8]
     ensures { λ r. ⌜ now r ≡ significant (now (number .entry)) ⌝ }
 {
     let mut at = 0;
     while at + 1 < number.len() {
-        let next = number[at + 1];
-        if number[at] != sign_byte(next) {
+        let next = at + 1;
+        if number[at] != sign_byte(&number[next..]) {
             return &number[at..];
         }
-        at += 1;
+        at = next;
     }
     &number[at..]
 }

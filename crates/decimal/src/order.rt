@@ -3,7 +3,7 @@ use crate::number;
 use crate::precision;
 ghost use mathlib.Core.Path.{_≡_};
 ghost use mathlib.Core.List.{_++_};
-ghost use Prim.Native.Nat.{_+_, _≤_, _<_, max};
+ghost use Prim.Native.Nat.{_+_, _<_, max};
 ghost use lib.ListN.{length, getD, replicate};
 ghost use Rattle.decimal.specs.Number.{number, signByte};
 ghost use Rattle.decimal.specs.Order.{order, orderOf};
@@ -26,8 +26,8 @@ pub fn compare(a: &[u8], b: &[u8]) -> Order
     if !precision::is_length(b.len()) {
         return Order::WrongLength;
     }
-    let sign = number::sign_byte(a[0]);
-    let other = number::sign_byte(b[0]);
+    let sign = number::sign_byte(a);
+    let other = number::sign_byte(b);
     if sign > other {
         return Order::Less;
     }
@@ -39,8 +39,8 @@ pub fn compare(a: &[u8], b: &[u8]) -> Order
 
 // Compares two numbers of one sign: once the shorter has its sign in front, the first byte that differs decides.
 fn compare_alike(a: &[u8], b: &[u8], sign: u8) -> Order
-    requires { ⌜ (1 ≤ length (now a)) × (sign ≡ signByte (getD (now a) 0 0)) ⌝ }
-    requires { ⌜ (1 ≤ length (now b)) × (sign ≡ signByte (getD (now b) 0 0)) ⌝ }
+    requires { ⌜ sign ≡ signByte (now a) ⌝ }
+    requires { ⌜ sign ≡ signByte (now b) ⌝ }
     ensures { λ r. ⌜ r ≡ order (number (now (a .entry))) (number (now (b .entry))) ⌝ }
 {
     let width = greater(a.len(), b.len());

@@ -9,10 +9,6 @@ use Rattle.decimal.proofs.FitLaws.{longer-within, shorter-beyond}
 use borrow.Author.Needs.{needs}
 use Rattle.decimal.proofs.fit.fits_by_length.Statement.{statement}
 use Rattle.decimal.proofs.fit.fits_by_length.Tie as tie
-use Rattle.decimal.proofs.fit.fits_by_length.Reads as reads
-use Rattle.decimal.proofs.fit.fits_by_length.Lts as lts
-use Rattle.decimal.proofs.fit.fits_exactly.Reads as fits-exactly-reads
-use Rattle.decimal.proofs.precision.greatest_precision.Reads as greatest-precision-reads
 
 bytes : (c : tie.After-shared-slice-known) → Bytes (c .before .args .number .now)
 bytes c = Bytes-getD (c .before .args .number .now) (λ k. c .shared-slice-known .given k .fits)

@@ -3,87 +3,97 @@ use mathlib.Core.Path.{_≡_, refl, sym, ap, ap₂, subst, _∙_}
 use mathlib.Core.Bool.{Bool, true, false, cond}
 use mathlib.Core.List.{List, _++_}
 use Prim.Native.Nat.{ℕ, _^_, _≤_}
-use native.Mathlib.Nat.{le-trans, le-add-right, pow-le-pow-right}
+use native.Mathlib.Nat.{le-trans, pow-le-pow-right}
 use native.Mathlib.Omega.{arith}
 use lib.IntN.{pos, negℤ}
-use lib.ListN.{length, take, drop, replicate, length-append, length-take}
+use lib.ListN.{length, take, drop, length-append}
 use lib.Seq.{length-take-le, take-at}
+use borrow.Author.Needs.{needs}
 use Rattle.decimal.specs.declared.order.Order.{Order}
-use Rattle.decimal.specs.Precision.{isLength, greatestNumber, greatestPrecision}
+use Rattle.decimal.specs.Precision.{isLength, greatestNumber}
 use Rattle.decimal.specs.Number.{isNegative, number}
 use Rattle.decimal.specs.Order.{orderOf}
 use Rattle.decimal.specs.Fit.{fitOf}
 use Rattle.decimal.proofs.PrecisionLaws.{isLength-bounds, greatestPrecision-low}
-use Rattle.decimal.proofs.UnsignedLaws.{Bytes, Bytes-getD}
+use Rattle.decimal.proofs.UnsignedLaws.{Bytes-getD}
 use Rattle.decimal.proofs.FitLaws.{judged, fitOf-judged}
-use borrow.Author.Needs.{needs}
 use Rattle.decimal.proofs.fit.fits_exactly.Statement.{statement}
 use Rattle.decimal.proofs.fit.fits_exactly.Tie as tie
-use Rattle.decimal.proofs.fit.fits_exactly.Reads as reads
-use Rattle.decimal.proofs.fit.fits_exactly.Lts as lts
-use Rattle.decimal.proofs.number.is_negative.Reads as is-negative-reads
-use Rattle.decimal.proofs.order.compare.Reads as compare-reads
-use Rattle.decimal.proofs.power.write_power.Reads as write-power-reads
 
--- the bound's bytes before they are written
-abbrev zeros : List ℕ
-zeros = replicate 256 0
+-- the number's length holds the power of ten
+held : (c : tie.Start) → 10 ^ c .args .precision ≤ greatestNumber (length (c .args .number .now))
+held c =
+    let bounds = isLength-bounds (length (c .args .number .now)) (c .pre .0) in
+    le-trans (pow-le-pow-right (omega arith) (c .pre .1)) (greatestPrecision-low (length (c .args .number .now)) (bounds .0) (bounds .1))
 
-module _ (c : tie.Start) where
-  most : length (c .args .number .now) ≤ 256
-  most = isLength-bounds _ (c .pre .0) .1
+-- the room that is lent is as long as the number
+module _ (c : tie.After-room) where
+  abbrev n : ℕ
+  n = length (c .before .before .before .args .number .now)
 
-  length-zeros : length (take (length (c .args .number .now)) zeros) ≡ length (c .args .number .now)
-  length-zeros = length-take-le (length (c .args .number .now)) zeros most
+  within : n ≤ length (c .room .result)
+  within = omega (arith, c .room .ensures, isLength-bounds n (c .before .before .before .pre .0))
 
-  -- the number's length holds the power of ten
-  held : 10 ^ c .args .precision ≤ greatestNumber (length (c .args .number .now))
-  held =
-      le-trans (pow-le-pow-right (omega arith) (c .pre .1))
-      (greatestPrecision-low (length (c .args .number .now)) (isLength-bounds _ (c .pre .0) .0) most)
+  length-lent : length (take n (c .room .result)) ≡ n
+  length-lent = length-take-le n (c .room .result) within
 
+-- and so is what is written there
 module _ (c : tie.After-write-power) where
-  length-power : length (c .write-power .last .0) ≡ length (c .before .before .before .before .args .number .now)
-  length-power = c .write-power .kept .0 ∙ length-zeros (c .before .before .before .before)
+  abbrev power : List ℕ
+  power = c .write-power .last .0
 
-  front : length (c .before .before .before .before .args .number .now) ≤ length (c .write-power .last .0 ++ drop (length (c .before .before .before .before .args .number .now)) zeros)
-  front = omega (arith, length-power, length-append (c .write-power .last .0) (drop (length (c .before .before .before .before .args .number .now)) zeros))
+  abbrev left : List ℕ
+  left = drop (n (c .before .before)) (c .before .before .room .result)
 
+  length-power : length power ≡ n (c .before .before)
+  length-power = c .write-power .kept .0 ∙ length-lent (c .before .before)
+
+  front : n (c .before .before) ≤ length (power ++ left)
+  front = omega (arith, length-power, length-append power left)
+
+-- what the order says of the number
 module _ (c : tie.After-compare) where
-  compared : c .compare .result ≡ orderOf (c .before .before .before .before .before .before .before .args .number .now) (c .before .before .before .write-power .last .0)
-  compared =
-      c .compare .ensures
-      ∙ ap (orderOf (c .before .before .before .before .before .before .before .args .number .now))
-      (take-at (c .before .before .before .write-power .last .0) (drop (length (c .before .before .before .before .before .before .before .args .number .now)) zeros) _ (length-power (c .before .before .before)))
+  abbrev bs : List ℕ
+  bs = c .before .before .before .before .before .before .before .before .args .number .now
 
-  value : number (c .before .before .before .write-power .last .0)
-      ≡ cond (isNegative (c .before .before .before .before .before .before .before .args .number .now)) (negℤ (pos (10 ^ c .before .before .before .before .before .before .before .args .precision))) (pos (10 ^ c .before .before .before .before .before .before .before .args .precision))
+  abbrev precision : ℕ
+  precision = c .before .before .before .before .before .before .before .before .args .precision
+
+  abbrev bound : List ℕ
+  bound = power (c .before .before .before)
+
+  compared : c .compare .result ≡ orderOf bs bound
+  compared = c .compare .ensures ∙ ap (orderOf bs) (take-at bound (left (c .before .before .before)) (length bs) (length-power (c .before .before .before)))
+
+  value : number bound ≡ cond (isNegative bs) (negℤ (pos (10 ^ precision))) (pos (10 ^ precision))
   value =
       c .before .before .before .write-power .ensures
-      ∙ ap (λ (t : Bool). cond t (negℤ (pos (10 ^ c .before .before .before .before .before .before .before .args .precision))) (pos (10 ^ c .before .before .before .before .before .before .before .args .precision))) (c .before .before .before .before .before .is-negative .ensures)
+      ∙ ap (λ (t : Bool). cond t (negℤ (pos (10 ^ precision))) (pos (10 ^ precision))) (c .before .before .before .before .before .before .is-negative .ensures)
 
-  answer : (o : Order) (negative : Bool) → c .compare .result ≡ o → c .before .before .before .before .before .is-negative .result ≡ negative
-      → judged negative o ≡ fitOf (c .before .before .before .before .before .before .before .args .number .now) (c .before .before .before .before .before .before .before .args .precision)
+  answer : (o : Order) (negative : Bool) → c .compare .result ≡ o → c .before .before .before .before .before .before .is-negative .result ≡ negative → judged negative o ≡ fitOf bs precision
   answer o negative e s =
-      ap₂ judged (sym s ∙ c .before .before .before .before .before .is-negative .ensures) (sym e ∙ compared)
-      ∙ fitOf-judged (c .before .before .before .before .before .before .before .args .number .now) (c .before .before .before .write-power .last .0) (c .before .before .before .before .before .before .before .args .precision) (c .before .before .before .before .before .before .before .pre .0)
-      (ap isLength (length-power (c .before .before .before)) ∙ c .before .before .before .before .before .before .before .pre .0)
-      (Bytes-getD (c .before .before .before .before .before .before .before .args .number .now) (λ k. c .before .before .before .before .before .before .shared-slice-known .given k .fits)) value
+      ap₂ judged (sym s ∙ c .before .before .before .before .before .before .is-negative .ensures) (sym e ∙ compared)
+      ∙ fitOf-judged bs bound precision (c .before .before .before .before .before .before .before .before .pre .0) (ap isLength (length-power (c .before .before .before)) ∙ c .before .before .before .before .before .before .before .before .pre .0)
+      (Bytes-getD bs (λ k. c .before .before .before .before .before .before .before .shared-slice-known .given k .fits)) value
 
 is-negative-requires : tie.Need-is-negative-requires
 is-negative-requires c κs = search needs
 
+room-requires : tie.Need-room-requires
+room-requires c κs = search needs
+
 array-borrow-prefix-bound : tie.Need-array-borrow-prefix-bound
-array-borrow-prefix-bound c = most (c .before .before)
+array-borrow-prefix-bound c = within c
 
 slice-aggregate-write-power : tie.Need-slice-aggregate-write-power
-slice-aggregate-write-power c = sym (length-zeros (c .before .before .before))
+slice-aggregate-write-power c = sym (length-lent (c .before))
 
 write-power-requires : tie.Need-write-power-requires
 write-power-requires c κs =
-    let s = c .before .before .before in (
-      subst (λ (n : ℕ). 1 ≤ n) (sym (length-zeros s)) (isLength-bounds _ (s .pre .0) .0),
-      subst (λ (n : ℕ). 10 ^ s .args .precision ≤ greatestNumber n) (sym (length-zeros s)) (held s),
+    let s = c .before .before .before .before in
+    let lent = sym (length-lent (c .before)) in (
+      subst (λ (m : ℕ). 1 ≤ m) lent (isLength-bounds _ (s .pre .0) .0),
+      subst (λ (m : ℕ). 10 ^ s .args .precision ≤ greatestNumber m) lent (held s),
     )
 
 array-share-prefix-bound : tie.Need-array-share-prefix-bound
@@ -130,6 +140,7 @@ fits-exactly-spec =
     tie.close
     (tie.spec
     is-negative-requires
+    room-requires
     array-borrow-prefix-bound
     slice-aggregate-write-power
     write-power-requires

@@ -13,11 +13,6 @@ use Rattle.decimal.proofs.NumberLaws.{significant-idem}
 use borrow.Author.Needs.{needs}
 use Rattle.decimal.proofs.fit.fits_precision.Statement.{statement}
 use Rattle.decimal.proofs.fit.fits_precision.Tie as tie
-use Rattle.decimal.proofs.fit.fits_precision.Reads as reads
-use Rattle.decimal.proofs.fit.fits_precision.Lts as lts
-use Rattle.decimal.proofs.fit.fits_by_length.Reads as fits-by-length-reads
-use Rattle.decimal.proofs.number.significant.Reads as significant-reads
-use Rattle.decimal.proofs.precision.is_length.Reads as is-length-reads
 
 is-length : (c : tie.Else1) → isLength (length (c .before .before .before .args .number .now)) ≡ true
 is-length c = sym (c .before .is-length .ensures) ∙ not-false _ (c .if1 .left)

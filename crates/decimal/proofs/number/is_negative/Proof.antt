@@ -1,5 +1,5 @@
 -- `decimal::number::is_negative` meets its contract. Assumes nothing.
-use mathlib.Core.Path.{_≡_, refl, sym, ap, _∙_}
+use mathlib.Core.Path.{_≡_, refl}
 use mathlib.Core.Bool.{false}
 use mathlib.Core.List.{List, [], _∷_}
 use Prim.Native.Nat.{ℕ}
@@ -9,8 +9,6 @@ use Rattle.decimal.specs.Number.{isNegative}
 use borrow.Author.Needs.{needs}
 use Rattle.decimal.proofs.number.is_negative.Statement.{statement}
 use Rattle.decimal.proofs.number.is_negative.Tie as tie
-use Rattle.decimal.proofs.number.is_negative.Reads as reads
-use Rattle.decimal.proofs.number.is_negative.Lts as lts
 
 none : (bs : List ℕ) → length bs ≡ 0 → false ≡ isNegative bs
 none [] e = refl

@@ -1,20 +1,17 @@
 -- `decimal::number::significant` meets its contract. The loop's invariant: the bytes that are needed are those that are needed
 -- from `at` on. The measure is what is left of the length. Assumes nothing.
-use mathlib.Core.Path.{_≡_, refl, sym, _∙_}
+use mathlib.Core.Path.{_≡_, refl, sym, ap, _∙_}
 use mathlib.Core.List.{List}
-use Prim.Native.Nat.{ℕ, _≤_, _-_}
+use Prim.Native.Nat.{ℕ, _+_, _≤_, _-_}
 use native.Mathlib.Nat.{le-of-eq}
 use native.Mathlib.Omega.{arith}
 use lib.ListN.{length, take, drop, length-drop}
 use lib.Seq.{take-all}
 use borrow.Author.Needs.{needs}
-use Rattle.decimal.specs.Number.{significant}
+use Rattle.decimal.specs.Number.{signByte, significant}
 use Rattle.decimal.proofs.NumberLaws.{significant-short, significant-next, significant-stop}
 use Rattle.decimal.proofs.number.significant.Statement.{statement}
 use Rattle.decimal.proofs.number.significant.Tie as tie
-use Rattle.decimal.proofs.number.significant.Reads as reads
-use Rattle.decimal.proofs.number.significant.Lts as lts
-use Rattle.decimal.proofs.number.sign_byte.Reads as sign-byte-reads
 
 abbrev Inv-loop : tie.InvT-loop
 Inv-loop number at₀ at = (at ≤ length number) × (significant (drop at number) ≡ significant number)
@@ -26,6 +23,11 @@ abbrev μ-loop : tie.MeasureT-loop
 whole : (bs : List ℕ) (at : ℕ) → take (length bs - at) (drop at bs) ≡ drop at bs
 whole bs at = take-all (length bs - at) (drop at bs) (le-of-eq (length-drop at bs))
 
+-- the sign of what comes after
+sign : (c : tie.After-sign-byte Inv-loop μ-loop)
+    → c .sign-byte .result ≡ signByte (drop (c .before .before .before .before .loop .at + 1) (c .before .before .before .before .before .before .args .number .now))
+sign c = c .sign-byte .ensures ∙ ap signByte (whole (c .before .before .before .before .before .before .args .number .now) (c .before .before .before .before .loop .at + 1))
+
 loop-holds : tie.Need-loop-holds Inv-loop μ-loop
 loop-holds c = (omega arith, refl)
 
@@ -35,11 +37,17 @@ add-loop c = omega arith
 add-next : tie.Need-add-next Inv-loop μ-loop
 add-next c = omega arith
 
-shared-slice-read-next : tie.Need-shared-slice-read-next Inv-loop μ-loop
-shared-slice-read-next c = omega arith
-
 shared-slice-read-if1 : tie.Need-shared-slice-read-if1 Inv-loop μ-loop
 shared-slice-read-if1 c = omega arith
+
+sub-sign-byte : tie.Need-sub-sign-byte Inv-loop μ-loop
+sub-sign-byte c = omega arith
+
+part-sign-byte-start : tie.Need-part-sign-byte-start Inv-loop μ-loop
+part-sign-byte-start c = omega arith
+
+part-sign-byte-end : tie.Need-part-sign-byte-end Inv-loop μ-loop
+part-sign-byte-end c = omega arith
 
 sign-byte-requires : tie.Need-sign-byte-requires Inv-loop μ-loop
 sign-byte-requires c κs = search needs
@@ -56,12 +64,10 @@ part-result-end c = omega arith
 returns : tie.Need-returns Inv-loop μ-loop
 returns c =
     let l = c .before .before .before .before .before .before in
-    whole (l .before .before .args .number .now) (l .loop .at)
-    ∙ sym (significant-stop _ _ (c .before .before .before .before .before .loop-test .taken) (λ e. c .before .if1 .taken (e ∙ sym (c .before .before .sign-byte .ensures))))
+    let bs = l .before .before .args .number .now in
+    whole bs (l .loop .at)
+    ∙ sym (significant-stop bs (l .loop .at) (c .before .before .before .before .before .loop-test .taken) (λ e. c .before .if1 .taken (e ∙ sym (sign (c .before .before)))))
     ∙ l .loop .inv .1
-
-add-at : tie.Need-add-at Inv-loop μ-loop
-add-at c = omega arith
 
 loop-less : tie.Need-loop-less Inv-loop μ-loop
 loop-less c = omega arith
@@ -70,7 +76,7 @@ loop-again : tie.Need-loop-again Inv-loop μ-loop
 loop-again c =
     let l = c .before .before .before .before .before in (
       omega arith,
-      sym (significant-next _ _ (c .before .before .before .before .loop-test .taken) (c .if1 .left ∙ c .before .sign-byte .ensures)) ∙ l .loop .inv .1,
+      sym (significant-next _ (l .loop .at) (c .before .before .before .before .loop-test .taken) (c .if1 .left ∙ sign (c .before))) ∙ l .loop .inv .1,
     )
 
 sub-result-2 : tie.Need-sub-result-2 Inv-loop μ-loop
@@ -97,14 +103,15 @@ significant-spec =
     loop-holds
     add-loop
     add-next
-    shared-slice-read-next
     shared-slice-read-if1
+    sub-sign-byte
+    part-sign-byte-start
+    part-sign-byte-end
     sign-byte-requires
     sub-result
     part-result-start
     part-result-end
     returns
-    add-at
     loop-less
     loop-again
     sub-result-2

@@ -1,22 +1,16 @@
 -- `decimal::order::compare_alike` meets its contract. The loop's invariant: the two numbers, with their sign in front up to one
 -- width, agree before `at`. The measure is what is left of the width. Assumes nothing.
-use mathlib.Core.Path.{_≡_, refl, sym, ap, subst, subst₂, _∙_}
-use mathlib.Core.List.{List, _++_}
-use Prim.Native.Nat.{ℕ, _+_, _-_, _≤_, _<_, max}
+use mathlib.Core.Path.{_≡_, refl, sym, subst₂, _∙_}
+use mathlib.Core.List.{_++_}
+use Prim.Native.Nat.{ℕ, _-_, _≤_, _<_}
 use native.Mathlib.Nat.{le-antisymm}
 use native.Mathlib.Omega.{arith}
-use lib.ListN.{length, getD, take, replicate, length-append, length-replicate}
+use lib.ListN.{take, replicate}
 use borrow.Author.Needs.{needs}
-use Rattle.decimal.specs.Number.{number, signByte, isNegative}
-use Rattle.decimal.specs.Order.{order}
 use Rattle.decimal.proofs.UnsignedLaws.{Bytes-getD}
 use Rattle.decimal.proofs.OrderLaws.{Alike, widened-less, widened-greater, widened-equal, widened-next}
 use Rattle.decimal.proofs.order.compare_alike.Statement.{statement}
 use Rattle.decimal.proofs.order.compare_alike.Tie as tie
-use Rattle.decimal.proofs.order.compare_alike.Reads as reads
-use Rattle.decimal.proofs.order.compare_alike.Lts as lts
-use Rattle.decimal.proofs.order.extended.Reads as extended-reads
-use Rattle.decimal.proofs.order.greater.Reads as greater-reads
 
 abbrev Inv-loop : tie.InvT-loop
 Inv-loop a b sign width before-a before-b at₀ at =
@@ -33,14 +27,14 @@ module _ (c : tie.After-greater Inv-loop μ-loop) where
   alike-a : Alike (c .before .before .before .args .sign) (c .greater .result) (c .before .before .before .args .a .now)
   alike-a = record {
     within = omega arith;
-    signed = c .before .before .before .pre .0 .1;
+    signed = c .before .before .before .pre .0;
     bytes = Bytes-getD (c .before .before .before .args .a .now) (λ k. c .before .before .shared-slice-known .given k .fits);
   }
 
   alike-b : Alike (c .before .before .before .args .sign) (c .greater .result) (c .before .before .before .args .b .now)
   alike-b = record {
     within = omega arith;
-    signed = c .before .before .before .pre .1 .1;
+    signed = c .before .before .before .pre .1;
     bytes = Bytes-getD (c .before .before .before .args .b .now) (λ k. c .before .shared-slice-known2 .given k .fits);
   }
 

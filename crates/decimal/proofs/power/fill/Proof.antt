@@ -1,7 +1,7 @@
 -- `decimal::power::fill` meets its contract. The loop's invariant: the bytes before `at` are filled, and the others are as they
 -- were. The measure is what is left of the length. Assumes nothing.
-use mathlib.Core.Path.{_≡_, refl, sym, ap, _∙_}
-use mathlib.Core.List.{List, [], _++_, append-nil}
+use mathlib.Core.Path.{_≡_, refl, ap, _∙_}
+use mathlib.Core.List.{List, _++_, append-nil}
 use Prim.Native.Nat.{ℕ, _≤_, _-_}
 use native.Mathlib.Omega.{arith}
 use lib.ListN.{length, drop, set, replicate, length-set}
@@ -9,8 +9,6 @@ use lib.Seq.{drop-length}
 use borrow.Author.Fill.{fill-more}
 use Rattle.decimal.proofs.power.fill.Statement.{statement}
 use Rattle.decimal.proofs.power.fill.Tie as tie
-use Rattle.decimal.proofs.power.fill.Reads as reads
-use Rattle.decimal.proofs.power.fill.Lts as lts
 
 abbrev Inv-loop : tie.InvT-loop
 Inv-loop bytes₀ byte at₀ bytes at = (at ≤ length bytes₀) × (length bytes ≡ length bytes₀) × (bytes ≡ replicate at byte ++ drop at bytes₀)

@@ -6,8 +6,6 @@ use native.Mathlib.Numerals.{add-one}
 use native.Mathlib.Omega.{arith}
 use Rattle.decimal.proofs.power.power_of_ten.Statement.{statement}
 use Rattle.decimal.proofs.power.power_of_ten.Tie as tie
-use Rattle.decimal.proofs.power.power_of_ten.Reads as reads
-use Rattle.decimal.proofs.power.power_of_ten.Lts as lts
 
 abbrev Inv-loop : tie.InvT-loop
 Inv-loop exponent power₀ at₀ power at = (at ≤ exponent) × (power ≡ 10 ^ at)

@@ -1,16 +1,13 @@
 -- `decimal::power::scale` meets its contract. The loop's invariant: the bytes from `at` on are scaled, but for the carry. The
 -- measure is `at`. Assumes nothing.
-use mathlib.Core.Path.{_≡_, refl, sym, ap, subst, _∙_}
-use Prim.Native.Nat.{ℕ, suc, _≤_, _*_, _-_, _^_}
-use native.Mathlib.Nat.{mul-le-mul-right, le-of-suc-le-suc}
+use mathlib.Core.Path.{subst}
+use Prim.Native.Nat.{_≤_, _-_}
+use native.Mathlib.Nat.{mul-le-mul-right}
 use native.Mathlib.Omega.{arith}
 use borrow.Author.Needs.{needs}
 use Rattle.decimal.proofs.PowerLaws.{Scaled, scaled-none, scaled-step, scaled-all}
 use Rattle.decimal.proofs.power.scale.Statement.{statement}
 use Rattle.decimal.proofs.power.scale.Tie as tie
-use Rattle.decimal.proofs.power.scale.Reads as reads
-use Rattle.decimal.proofs.power.scale.Lts as lts
-use Rattle.decimal.proofs.power.wide.Reads as wide-reads
 
 abbrev Inv-loop : tie.InvT-loop
 Inv-loop bytes₀ factor carry₀ at₀ bytes carry at = Scaled bytes₀ factor bytes carry at

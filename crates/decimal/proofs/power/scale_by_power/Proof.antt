@@ -1,19 +1,14 @@
 -- `decimal::power::scale_by_power` meets its contract. The loop's invariant: the bytes are scaled by the power of ten that is not
 -- left. The measure is what is left. Assumes nothing.
-use mathlib.Core.Path.{_≡_, refl, sym, ap, subst, _∙_}
+use mathlib.Core.Path.{_≡_, refl, ap, _∙_}
 use Prim.Native.Nat.{ℕ, _≤_, _*_, _-_, _^_, _%_}
 use native.Mathlib.Omega.{arith}
 use lib.ListN.{length}
-use borrow.Author.Needs.{needs}
 use Rattle.decimal.specs.Number.{unsigned}
 use Rattle.decimal.proofs.UnsignedLaws.{Bytes-getD, unsigned-<}
 use Rattle.decimal.proofs.PowerLaws.{power-bounds, power-more, power-none}
 use Rattle.decimal.proofs.power.scale_by_power.Statement.{statement}
 use Rattle.decimal.proofs.power.scale_by_power.Tie as tie
-use Rattle.decimal.proofs.power.scale_by_power.Reads as reads
-use Rattle.decimal.proofs.power.scale_by_power.Lts as lts
-use Rattle.decimal.proofs.power.power_of_ten.Reads as power-of-ten-reads
-use Rattle.decimal.proofs.power.scale.Reads as scale-reads
 
 abbrev Inv-loop : tie.InvT-loop
 Inv-loop bytes₀ exponent left₀ bytes left = (left ≤ exponent) × (length bytes ≡ length bytes₀)

@@ -12,10 +12,6 @@ use Rattle.decimal.proofs.BoundLaws.{number-scaled}
 use borrow.Author.Needs.{needs}
 use Rattle.decimal.proofs.power.write_power.Statement.{statement}
 use Rattle.decimal.proofs.power.write_power.Tie as tie
-use Rattle.decimal.proofs.power.write_power.Reads as reads
-use Rattle.decimal.proofs.power.write_power.Lts as lts
-use Rattle.decimal.proofs.power.scale_by_power.Reads as scale-by-power-reads
-use Rattle.decimal.proofs.power.write_unit.Reads as write-unit-reads
 
 write-unit-requires : tie.Need-write-unit-requires
 write-unit-requires c κs = search needs

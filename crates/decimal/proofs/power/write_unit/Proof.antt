@@ -1,15 +1,12 @@
 -- `decimal::power::write_unit` meets its contract: -1 has every bit set, and 1 the last alone. Assumes nothing.
-use mathlib.Core.Path.{_≡_, sym, ap, _∙_}
+use mathlib.Core.Path.{sym, ap, _∙_}
 use mathlib.Core.Bool.{Bool, cond}
-use Prim.Native.Nat.{ℕ, _-_, _^_}
+use Prim.Native.Nat.{_-_, _^_}
 use lib.ListN.{length}
 use Rattle.decimal.proofs.BoundLaws.{unsigned-all-set, unsigned-last-set}
 use borrow.Author.Needs.{needs}
 use Rattle.decimal.proofs.power.write_unit.Statement.{statement}
 use Rattle.decimal.proofs.power.write_unit.Tie as tie
-use Rattle.decimal.proofs.power.write_unit.Reads as reads
-use Rattle.decimal.proofs.power.write_unit.Lts as lts
-use Rattle.decimal.proofs.power.fill.Reads as fill-reads
 
 fill-requires : tie.Need-fill-requires
 fill-requires c κs = search needs
