@@ -29,7 +29,9 @@ pub fn fits_precision(number: &[u8], precision: u32) -> Fit
     fits_by_length(number::significant(number), precision)
 }
 
-// Of a number that is no longer than it needs to be, the length decides all but the two or three precisions at its end.
+// The number has n bytes, all needed, so |number| is at least 2^(8(n-1)-1), where n is not 1, and at most 2^(8n-1), which is no power
+// of ten. So it is within every precision above the greatest of n bytes, and beyond each up to the greatest of n - 1 bytes. The two or
+// three precisions between are left to the number itself.
 fn fits_by_length(number: &[u8], precision: u32) -> Fit
     requires { ⌜ (isLength (length (now number)) ≡ true) × (significant (now number) ≡ now number) ⌝ }
     ensures { λ r. ⌜ r ≡ fitOf (now (number .entry)) precision ⌝ }

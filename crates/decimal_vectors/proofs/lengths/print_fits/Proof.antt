@@ -1,3 +1,4 @@
+-- `decimal_vectors::lengths::print_fits` is safe and ends. Assumes nothing.
 use Prim.Native.Nat.{_≤_, _-_}
 use borrow.Author.Needs.{needs}
 use Rattle.decimal_vectors.proofs.lengths.print_fits.Statement.{statement}

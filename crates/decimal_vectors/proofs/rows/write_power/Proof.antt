@@ -1,3 +1,4 @@
+-- `decimal_vectors::rows::write_power` is safe and ends. Assumes nothing.
 use mathlib.Core.Path.{_≡_, _∙_}
 use lib.ListN.{length, length-set}
 use borrow.Author.Needs.{needs}
