@@ -8,6 +8,7 @@ ghost use lib.ListN.{length};
 const GREATEST: usize = 256;
 // The most bytes of the sign that a vector has in front.
 const MOST_BEFORE: usize = 255;
+
 const GREATEST_U32: u32 = 4294967295;
 
 pub fn print(numbers: &mut [u8])
