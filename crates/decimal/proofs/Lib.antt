@@ -1,2 +1,8 @@
 pub mod Table
 pub mod PrecisionLaws
+pub mod UnsignedLaws
+pub mod NumberLaws
+pub mod OrderLaws
+pub mod PowerLaws
+pub mod BoundLaws
+pub mod FitLaws

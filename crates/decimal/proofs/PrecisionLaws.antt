@@ -2,7 +2,7 @@
 -- Assumes nothing.
 use mathlib.Core.Path.{_≡_, refl, sym, subst}
 use mathlib.Core.Logic.{⊎-elim}
-use mathlib.Core.Bool.{Bool, true, false, not, cond}
+use mathlib.Core.Bool.{Bool, true, false, not, cond, _&&_, false≢true}
 use mathlib.Core.List.{[], _∷_, map}
 use Prim.Native.Nat.{ℕ, zero, suc, _+_, _*_, _-_, _^_, _≤_, _<_, zero-le}
 use native.Mathlib.Nat.{le-refl, le-step, le-trans, le-antisymm, le-of-suc-le-suc, lt-irrefl, lt-of-lt-of-le, lt-of-not-le, not-suc-le-zero, eq-or-lt-of-le, pow-le-pow-left, pow-le-pow-right}
@@ -10,8 +10,8 @@ use native.Mathlib.Numerals.{add-one}
 use native.Mathlib.Omega.{arith}
 use lib.Dec.{T, leb, leb→le, nleb→lt, le→leb}
 use lib.Pow.{pow-mono, ones-lt}
-use borrow.Author.Tests.{le-leb}
-use Rattle.decimal.specs.Precision.{greatestLength, greatestNumber, greatest, greatestPrecision}
+use borrow.Author.Tests.{le-leb, leb-true}
+use Rattle.decimal.specs.Precision.{greatestLength, isLength, greatestNumber, greatest, greatestPrecision}
 
 -- the greatest number that passes is within the limit
 greatest-≤ : (test : ℕ → Bool) (limit : ℕ) → greatest test limit ≤ limit
@@ -89,3 +89,15 @@ module _ (n : ℕ) (low : 1 ≤ n) (high : n ≤ greatestLength) where
 published : map greatestPrecision (1 ∷ 2 ∷ 4 ∷ 8 ∷ 16 ∷ []) ≡ 2 ∷ 4 ∷ 9 ∷ 18 ∷ 38 ∷ []
 unfolding greatestPrecision greatest
 published = refl
+
+-- a length is 1 to 256
+pub isLength-bounds : (n : ℕ) → isLength n ≡ true → (1 ≤ n) × (n ≤ greatestLength)
+isLength-bounds n e = go (leb 1 n) refl (leb n 256) refl e
+  where
+    go : (t : Bool) → leb 1 n ≡ t → (u : Bool) → leb n 256 ≡ u → t && u ≡ true → (1 ≤ n) × (n ≤ greatestLength)
+    go true p true q r = (leb-true 1 n p, leb-true n 256 q)
+    go true p false q r = absurd (false≢true r)
+    go false p u q r = absurd (false≢true r)
+
+pub isLength-within : (n : ℕ) → 1 ≤ n → n ≤ greatestLength → isLength n ≡ true
+isLength-within n low high = rw (le-leb 1 n low, le-leb n 256 high)

@@ -1,1 +1,4 @@
 pub mod Precision
+pub mod Number
+pub mod Order
+pub mod Fit

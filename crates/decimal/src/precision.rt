@@ -1,12 +1,12 @@
-// The greatest decimal precision by byte length.
+// The byte lengths of a decimal, and the greatest precision of each.
 ghost use mathlib.Core.Path.{_≡_};
-ghost use Rattle.decimal.specs.Precision.{greatestPrecision};
+ghost use Rattle.decimal.specs.Precision.{isLength, greatestPrecision};
 
 // The greatest byte length of a decimal.
-pub const GREATEST_LENGTH: u32 = 256;
+pub const GREATEST_LENGTH: usize = 256;
 
 // At n - 1 the greatest d with 10^d <= 2^(8n-1) - 1, for n from 1 to 256.
-const GREATEST_PRECISION: [u32; 256] = [
+const GREATEST_PRECISION: [u32; GREATEST_LENGTH] = [
     2,
     4,
     6,
@@ -265,16 +265,23 @@ const GREATEST_PRECISION: [u32; 256] = [
     616,
 ];
 
+// Whether a decimal can be `length` bytes long: 1 to 256.
+pub fn is_length(length: usize) -> bool
+    ensures { λ r. ⌜ r ≡ isLength length ⌝ }
+{
+    if length < 1 {
+        return false;
+    }
+    length <= GREATEST_LENGTH
+}
+
 // The greatest precision of a decimal of `length` bytes; 0 for a length outside 1 to 256.
 pub fn greatest_precision(length: u32) -> u32
     ensures { λ r. ⌜ r ≡ greatestPrecision length ⌝ }
 {
-    if length < 1 {
+    let n = length as usize;
+    if !is_length(n) {
         return 0;
     }
-    if length > GREATEST_LENGTH {
-        return 0;
-    }
-    let at = (length - 1) as usize;
-    GREATEST_PRECISION[at]
+    GREATEST_PRECISION[n - 1]
 }

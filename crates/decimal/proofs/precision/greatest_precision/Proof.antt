@@ -1,6 +1,6 @@
 -- `decimal::precision::greatest_precision` meets its contract: one test, which antt computes over the whole table, shows the
 -- power-of-ten rule at each of its entries, and the rule has one answer for each length. Assumes nothing.
-use mathlib.Core.Path.{_≡_, refl}
+use mathlib.Core.Path.{_≡_, refl, sym, _∙_}
 use mathlib.Core.Bool.{Bool, _&&_}
 use mathlib.Core.List.{List}
 use Prim.Native.Nat.{ℕ, _^_, _+_, _-_, _≤_}
@@ -8,14 +8,15 @@ use lib.Dec.{T, leb, ltb, leb→le, ltb→lt}
 use lib.ListN.{getD, length}
 use native.Mathlib.Omega.{arith}
 use borrow.Author.Needs.{needs}
-use borrow.Author.Tests.{lt-leb, le-leb}
+use borrow.Author.Tests.{not-true, not-false}
 use Rattle.decimal.specs.Precision.{greatestLength, greatestNumber, greatestPrecision}
 use Rattle.decimal.proofs.Table.{at, every, and-left, and-right}
-use Rattle.decimal.proofs.PrecisionLaws.{greatestPrecision-unique}
+use Rattle.decimal.proofs.PrecisionLaws.{isLength-bounds, greatestPrecision-unique}
 use Rattle.decimal.proofs.precision.greatest_precision.Statement.{statement}
 use Rattle.decimal.proofs.precision.greatest_precision.Tie as tie
 use Rattle.decimal.proofs.precision.greatest_precision.Reads as reads
 use Rattle.decimal.proofs.precision.greatest_precision.Lts as lts
+use Rattle.decimal.proofs.precision.is_length.Reads as is-length-reads
 
 -- 10^d ≤ 2^(8n-1) - 1, and 2^(8n-1) - 1 < 10^(d+1)
 abbrev low : ℕ → ℕ → Bool
@@ -39,29 +40,32 @@ entry table t n least most h =
     (leb→le _ _ (and-left (low n d) (high n d) r)) (ltb→lt _ _ (and-right (low n d) (high n d) r))
 
 -- the table, as it stands where the code reads an entry
-abbrev table : tie.Else2 → List ℕ
-table c = borrow.Table.Row.get 5 (lts.T22 .locals) (lts.m19 reads.Pre reads.Post (c .before))
+abbrev table : tie.Else1 → List ℕ
+table c = borrow.Table.Row.get 5 (lts.T18 .locals) (lts.m16 (is-length-reads.Asked, is-length-reads.Learnt) reads.Pre reads.Post (c .before))
+
+bounds : (c : tie.Else1) → (1 ≤ c .before .before .args .length) × (c .before .before .args .length ≤ greatestLength)
+bounds c = isLength-bounds _ (sym (c .before .is-length .ensures) ∙ not-false _ (c .if1 .left))
+
+is-length-requires : tie.Need-is-length-requires
+is-length-requires c κs = search needs
 
 returns : tie.Need-returns
 unfolding greatestPrecision
-returns c = simp (lt-leb 1 (c .before .args .length) (c .if1 .taken))
+returns c = rw (sym (c .before .is-length .ensures) ∙ not-true _ (c .if1 .taken))
 
-returns-2 : tie.Need-returns-2
-unfolding greatestPrecision
-returns-2 c = rw (le-leb 1 (c .before .before .args .length) (c .before .if1 .left), lt-leb (c .before .before .args .length) 256 (c .if2 .taken))
-
-cast-at : tie.Need-cast-at
-cast-at c = search needs
+sub-result : tie.Need-sub-result
+sub-result c = bounds c .0
 
 mul-result : tie.Need-mul-result
 mul-result c = search needs
 
 array-read-result : tie.Need-array-read-result
-array-read-result c = search needs
+array-read-result c = omega (arith, bounds c)
 
-returns-3 : tie.Need-returns-3
-returns-3 c = entry (table c) tt (c .before .before .args .length) (c .before .if1 .left) (c .if2 .left) refl
+returns-2 : tie.Need-returns-2
+returns-2 c = entry (table c) tt (c .before .before .args .length) (bounds c .0) (bounds c .1) refl
 
 pub greatest-precision-spec : {M : Type 1} → statement M
 greatest-precision-spec =
-    tie.close (tie.spec returns returns-2 cast-at mul-result array-read-result returns-3)
+    tie.close
+    (tie.spec is-length-requires returns sub-result mul-result array-read-result returns-2)

@@ -1,0 +1,159 @@
+-- `decimal::fit::fits_exactly` meets its contract: the order against the power of ten, or its negative, is judged. Assumes nothing.
+use mathlib.Core.Path.{_≡_, refl, sym, ap, ap₂, subst, _∙_}
+use mathlib.Core.Bool.{Bool, true, false, cond}
+use mathlib.Core.List.{List, _++_}
+use Prim.Native.Nat.{ℕ, _^_, _≤_}
+use native.Mathlib.Nat.{le-trans, pow-le-pow-right}
+use native.Mathlib.Omega.{arith}
+use lib.IntN.{pos, negℤ}
+use lib.ListN.{length, take, drop, length-append}
+use lib.Seq.{length-take-le, take-at}
+use borrow.Author.Needs.{needs}
+use Rattle.decimal.specs.declared.order.Order.{Order}
+use Rattle.decimal.specs.Precision.{isLength, greatestNumber}
+use Rattle.decimal.specs.Number.{isNegative, number}
+use Rattle.decimal.specs.Order.{orderOf}
+use Rattle.decimal.specs.Fit.{fitOf}
+use Rattle.decimal.proofs.PrecisionLaws.{isLength-bounds, greatestPrecision-low}
+use Rattle.decimal.proofs.UnsignedLaws.{Bytes-getD}
+use Rattle.decimal.proofs.FitLaws.{judged, fitOf-judged}
+use Rattle.decimal.proofs.fit.fits_exactly.Statement.{statement}
+use Rattle.decimal.proofs.fit.fits_exactly.Tie as tie
+
+-- the number's length holds the power of ten
+held : (c : tie.Start) → 10 ^ c .args .precision ≤ greatestNumber (length (c .args .number .now))
+held c =
+    let bounds = isLength-bounds (length (c .args .number .now)) (c .pre .0) in
+    le-trans (pow-le-pow-right (omega arith) (c .pre .1)) (greatestPrecision-low (length (c .args .number .now)) (bounds .0) (bounds .1))
+
+-- the room that is lent is as long as the number
+module _ (c : tie.After-room) where
+  abbrev n : ℕ
+  n = length (c .before .before .before .args .number .now)
+
+  within : n ≤ length (c .room .result)
+  within = omega (arith, c .room .ensures, isLength-bounds n (c .before .before .before .pre .0))
+
+  length-lent : length (take n (c .room .result)) ≡ n
+  length-lent = length-take-le n (c .room .result) within
+
+-- and so is what is written there
+module _ (c : tie.After-write-power) where
+  abbrev power : List ℕ
+  power = c .write-power .last .0
+
+  abbrev left : List ℕ
+  left = drop (n (c .before .before)) (c .before .before .room .result)
+
+  length-power : length power ≡ n (c .before .before)
+  length-power = c .write-power .kept .0 ∙ length-lent (c .before .before)
+
+  front : n (c .before .before) ≤ length (power ++ left)
+  front = omega (arith, length-power, length-append power left)
+
+-- what the order says of the number
+module _ (c : tie.After-compare) where
+  abbrev bs : List ℕ
+  bs = c .before .before .before .before .before .before .before .before .args .number .now
+
+  abbrev precision : ℕ
+  precision = c .before .before .before .before .before .before .before .before .args .precision
+
+  abbrev bound : List ℕ
+  bound = power (c .before .before .before)
+
+  compared : c .compare .result ≡ orderOf bs bound
+  compared = c .compare .ensures ∙ ap (orderOf bs) (take-at bound (left (c .before .before .before)) (length bs) (length-power (c .before .before .before)))
+
+  value : number bound ≡ cond (isNegative bs) (negℤ (pos (10 ^ precision))) (pos (10 ^ precision))
+  value =
+      c .before .before .before .write-power .ensures
+      ∙ ap (λ (t : Bool). cond t (negℤ (pos (10 ^ precision))) (pos (10 ^ precision))) (c .before .before .before .before .before .before .is-negative .ensures)
+
+  answer : (o : Order) (negative : Bool) → c .compare .result ≡ o → c .before .before .before .before .before .before .is-negative .result ≡ negative → judged negative o ≡ fitOf bs precision
+  answer o negative e s =
+      ap₂ judged (sym s ∙ c .before .before .before .before .before .before .is-negative .ensures) (sym e ∙ compared)
+      ∙ fitOf-judged bs bound precision (c .before .before .before .before .before .before .before .before .pre .0) (ap isLength (length-power (c .before .before .before)) ∙ c .before .before .before .before .before .before .before .before .pre .0)
+      (Bytes-getD bs (λ k. c .before .before .before .before .before .before .before .shared-slice-known .given k .fits)) value
+
+is-negative-requires : tie.Need-is-negative-requires
+is-negative-requires c κs = search needs
+
+room-requires : tie.Need-room-requires
+room-requires c κs = search needs
+
+array-borrow-prefix-bound : tie.Need-array-borrow-prefix-bound
+array-borrow-prefix-bound c = within c
+
+slice-aggregate-write-power : tie.Need-slice-aggregate-write-power
+slice-aggregate-write-power c = sym (length-lent (c .before))
+
+write-power-requires : tie.Need-write-power-requires
+write-power-requires c κs =
+    let s = c .before .before .before .before in
+    let lent = sym (length-lent (c .before)) in (
+      subst (λ (m : ℕ). 1 ≤ m) lent (isLength-bounds _ (s .pre .0) .0),
+      subst (λ (m : ℕ). 10 ^ s .args .precision ≤ greatestNumber m) lent (held s),
+    )
+
+array-share-prefix-bound : tie.Need-array-share-prefix-bound
+array-share-prefix-bound c = front (c .before)
+
+slice-aggregate-compare : tie.Need-slice-aggregate-compare
+slice-aggregate-compare c = sym (length-take-le _ _ (front (c .before .before)))
+
+compare-requires : tie.Need-compare-requires
+compare-requires c κs = search needs
+
+enum-told : tie.Need-enum-told
+enum-told c = search needs
+
+returns : tie.Need-returns
+returns c = answer (c .before .before .before) Order.Less true (c .before .enum-told .given .1) (c .if1 .taken)
+
+enum-told-2 : tie.Need-enum-told-2
+enum-told-2 c = search needs
+
+enum-told-3 : tie.Need-enum-told-3
+enum-told-3 c = search needs
+
+returns-2 : tie.Need-returns-2
+returns-2 c = answer (c .before .before .before) Order.Greater true (c .before .enum-told3 .given .1) (c .if2 .taken)
+
+enum-told-4 : tie.Need-enum-told-4
+enum-told-4 c = search needs
+
+returns-3 : tie.Need-returns-3
+returns-3 c = answer (c .before .before .before) Order.Less false (c .before .enum-told .given .1) (c .if1 .left)
+
+returns-4 : tie.Need-returns-4
+returns-4 c = answer (c .before .before) Order.Equal _ (c .enum-told2 .given .1) refl
+
+returns-5 : tie.Need-returns-5
+returns-5 c = answer (c .before .before .before) Order.Greater false (c .before .enum-told3 .given .1) (c .if2 .left)
+
+returns-6 : tie.Need-returns-6
+returns-6 c = answer (c .before .before) Order.WrongLength _ (c .enum-told4 .given .1) refl
+
+pub fits-exactly-spec : {M : Type 1} → statement M
+fits-exactly-spec =
+    tie.close
+    (tie.spec
+    is-negative-requires
+    room-requires
+    array-borrow-prefix-bound
+    slice-aggregate-write-power
+    write-power-requires
+    array-share-prefix-bound
+    slice-aggregate-compare
+    compare-requires
+    enum-told
+    returns
+    enum-told-2
+    enum-told-3
+    returns-2
+    enum-told-4
+    returns-3
+    returns-4
+    returns-5
+    returns-6)

@@ -1,0 +1,50 @@
+-- `decimal::power::write_unit` meets its contract: -1 has every bit set, and 1 the last alone. Assumes nothing.
+use mathlib.Core.Path.{sym, ap, _∙_}
+use mathlib.Core.Bool.{Bool, cond}
+use Prim.Native.Nat.{_-_, _^_}
+use lib.ListN.{length}
+use Rattle.decimal.proofs.BoundLaws.{unsigned-all-set, unsigned-last-set}
+use borrow.Author.Needs.{needs}
+use Rattle.decimal.proofs.power.write_unit.Statement.{statement}
+use Rattle.decimal.proofs.power.write_unit.Tie as tie
+
+fill-requires : tie.Need-fill-requires
+fill-requires c κs = search needs
+
+same-length : tie.Need-same-length
+same-length c = search needs
+
+returns : tie.Need-returns
+returns c =
+    unsigned-all-set _ _ (c .before .before .fill .ensures)
+    ∙ sym (ap (λ (t : Bool). cond t (256 ^ length (c .before .before .before .before .before .before .args .bytes .now) - 1) 1) (c .before .before .before .before .if1 .taken))
+
+fill-requires-2 : tie.Need-fill-requires-2
+fill-requires-2 c κs = search needs
+
+sub-last : tie.Need-sub-last
+sub-last c = search needs
+
+slice-write-bytes : tie.Need-slice-write-bytes
+slice-write-bytes c = search needs
+
+same-length-2 : tie.Need-same-length-2
+same-length-2 c = search needs
+
+returns-2 : tie.Need-returns-2
+returns-2 c =
+    unsigned-last-set _ _ (c .before .before .before .before .before .before .pre) (c .before .before .fill2 .ensures)
+    ∙ sym (ap (λ (t : Bool). cond t (256 ^ length (c .before .before .before .before .before .before .args .bytes .now) - 1) 1) (c .before .before .before .before .if1 .left))
+
+pub write-unit-spec : {M : Type 1} → statement M
+write-unit-spec =
+    tie.close
+    (tie.spec
+    fill-requires
+    same-length
+    returns
+    fill-requires-2
+    sub-last
+    slice-write-bytes
+    same-length-2
+    returns-2)
