@@ -8,8 +8,8 @@ use crate::slot::length;
 use crate::slot::precision;
 use crate::spelling::code_of;
 use crate::types::Annotation;
-use decimal::precision::GREATEST_LENGTH;
 use decimal::precision::greatest_precision;
+use decimal::precision::is_length;
 
 // The greatest precisions on INT32 and INT64.
 const INT32_DIGITS: u32 = 9;
@@ -69,5 +69,5 @@ fn physical_holds(physical: u8, length: u32, precision: u32) -> bool
 fn fixed_holds(length: u32, precision: u32) -> bool
     ensures { λ r. ⌜ r ≡ fixedHolds length precision ⌝ }
 {
-    (1 <= length) & (length <= GREATEST_LENGTH) & (precision <= greatest_precision(length))
+    is_length(length as usize) & (precision <= greatest_precision(length))
 }

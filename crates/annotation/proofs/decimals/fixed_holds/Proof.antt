@@ -1,10 +1,10 @@
--- `annotation::decimals::fixed_holds` meets its contract: its result is the definition, with the table of `decimal`.
+-- `annotation::decimals::fixed_holds` meets its contract: its result is the definition, with the lengths and the table of `decimal`.
 -- Assumes nothing.
 use Rattle.annotation.proofs.decimals.fixed_holds.Statement.{statement}
 use Rattle.annotation.proofs.decimals.fixed_holds.Tie as tie
 
 returns : tie.Need-returns
-returns c = rw (c .greatest-precision .ensures)
+returns c = rw (c .before .is-length .ensures, c .greatest-precision .ensures)
 
 pub fixed-holds-spec : {M : Type 1} → statement M
-fixed-holds-spec = tie.close (tie.spec (λ c κs. tt) returns)
+fixed-holds-spec = tie.close (tie.spec (λ c κs. tt) (λ c κs. tt) returns)
