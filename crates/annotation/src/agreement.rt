@@ -8,7 +8,7 @@ use crate::slot::Annotated;
 use crate::spelling::stated;
 
 // Whether, where both annotations stand, converted is the forward image of logical.
-pub fn agree(n: Annotated) -> bool
+pub(crate) fn agree(n: Annotated) -> bool
     ensures { λ r. ⌜ r ≡ rule9 n ⌝ }
 {
     let says = image(stated(n.logical, n.a, n.b));

@@ -10,7 +10,7 @@ use crate::types::LogicalType;
 use crate::types::TimeUnit;
 
 // The converted type that stands beside a logical type, whatever its UTC flag; NONE for NANOS, UNKNOWN and UUID.
-pub fn forward(l: LogicalType) -> u8
+pub(crate) fn forward(l: LogicalType) -> u8
     ensures { λ r. ⌜ r ≡ forwardOf l ⌝ }
 {
     match l {
@@ -40,7 +40,7 @@ pub fn forward(l: LogicalType) -> u8
 }
 
 // The forward image of an annotation: NONE where it is no logical type.
-pub fn image(annotation: Annotation) -> u8
+pub(crate) fn image(annotation: Annotation) -> u8
     ensures { λ r. ⌜ r ≡ imageOf annotation ⌝ }
 {
     match annotation {
@@ -52,7 +52,7 @@ pub fn image(annotation: Annotation) -> u8
 }
 
 // What a converted type that stands alone means, with UTC true; NONE means no annotation, a code outside the list nothing.
-pub fn backward(converted: u8, under_map: bool) -> Annotation
+pub(crate) fn backward(converted: u8, under_map: bool) -> Annotation
     ensures { λ r. ⌜ r ≡ backwardOf converted «under_map» ⌝ }
 {
     match converted {

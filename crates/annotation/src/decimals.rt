@@ -17,14 +17,14 @@ const INT32_DIGITS: u32 = 9;
 const INT64_DIGITS: u32 = 18;
 
 // Rule 11: whether precision and scale are right for an annotation, which is so for every one but DECIMAL.
-pub fn digits_allowed(says: Annotation, n: Annotated) -> bool
+pub(crate) fn digits_allowed(says: Annotation, n: Annotated) -> bool
     ensures { λ r. ⌜ r ≡ digitsAllowed says n ⌝ }
 {
     !is_decimal(says) | decimal_holds(n)
 }
 
 // Whether an annotation is DECIMAL.
-pub fn is_decimal(says: Annotation) -> bool
+pub(crate) fn is_decimal(says: Annotation) -> bool
     ensures { λ r. ⌜ r ≡ isDecimal says ⌝ }
 {
     match says {

@@ -12,7 +12,7 @@ const UUID_LENGTH: u32 = 16;
 const INTERVAL_LENGTH: u32 = 12;
 
 // Rule 10: whether an annotation may stand on a physical type and length.
-pub fn may_stand(says: Annotation, physical: u8, length: u32) -> bool
+pub(crate) fn may_stand(says: Annotation, physical: u8, length: u32) -> bool
     ensures { λ r. ⌜ r ≡ annotationOn says physical length ⌝ }
 {
     match says {

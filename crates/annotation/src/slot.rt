@@ -22,7 +22,7 @@ pub struct Annotated {
 
 // The logical type where one stands, else what the converted type means. under_map says that the parent's resolved kind is
 // MAP, where MAP_KEY_VALUE counts as no annotation.
-pub fn annotation(n: Annotated, under_map: bool) -> Annotation
+pub(crate) fn annotation(n: Annotated, under_map: bool) -> Annotation
     ensures { λ r. ⌜ r ≡ annotationOf n «under_map» ⌝ }
 {
     if n.logical == logical::NONE {
@@ -50,14 +50,14 @@ pub fn length(n: Annotated) -> u32
 }
 
 // The precision as a count, 0 where it is negative.
-pub fn precision(n: Annotated) -> u32
+pub(crate) fn precision(n: Annotated) -> u32
     ensures { λ r. ⌜ r ≡ natural (n .precision) ⌝ }
 {
     count(n.precision)
 }
 
 // The scale as a count, 0 where it is negative.
-pub fn scale(n: Annotated) -> u32
+pub(crate) fn scale(n: Annotated) -> u32
     ensures { λ r. ⌜ r ≡ natural (n .scale) ⌝ }
 {
     count(n.scale)

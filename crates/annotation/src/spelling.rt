@@ -10,7 +10,7 @@ use crate::types::TimeUnit;
 
 // What a logical code with its parameters says: Unreadable where the code is in no list, where none stands, or where the
 // type does not take the parameters.
-pub fn stated(logical: u8, a: u8, b: u8) -> Annotation
+pub(crate) fn stated(logical: u8, a: u8, b: u8) -> Annotation
     ensures { λ r. ⌜ r ≡ statedOf logical a b ⌝ }
 {
     if valid_parameters(logical, a, b) {
@@ -21,7 +21,7 @@ pub fn stated(logical: u8, a: u8, b: u8) -> Annotation
 }
 
 // Whether the logical type takes a and b: both unused where it has no parameters.
-pub fn valid_parameters(logical: u8, a: u8, b: u8) -> bool
+pub(crate) fn valid_parameters(logical: u8, a: u8, b: u8) -> bool
     ensures { λ r. ⌜ r ≡ validParameters logical a b ⌝ }
 {
     if logical == logical::INTEGER {
@@ -34,7 +34,7 @@ pub fn valid_parameters(logical: u8, a: u8, b: u8) -> bool
 }
 
 // The code of a logical type.
-pub fn code_of(l: LogicalType) -> u8
+pub(crate) fn code_of(l: LogicalType) -> u8
     ensures { λ r. ⌜ r ≡ codeOf l ⌝ }
 {
     match l {
@@ -64,7 +64,7 @@ pub fn code_of(l: LogicalType) -> u8
 }
 
 // Parameter a of a logical type.
-pub fn a_of(l: LogicalType) -> u8
+pub(crate) fn a_of(l: LogicalType) -> u8
     ensures { λ r. ⌜ r ≡ aOf l ⌝ }
 {
     match l {
@@ -94,7 +94,7 @@ pub fn a_of(l: LogicalType) -> u8
 }
 
 // Parameter b of a logical type.
-pub fn b_of(l: LogicalType) -> u8
+pub(crate) fn b_of(l: LogicalType) -> u8
     ensures { λ r. ⌜ r ≡ bOf l ⌝ }
 {
     match l {

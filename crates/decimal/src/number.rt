@@ -6,7 +6,7 @@ ghost use Rattle.decimal.specs.Number.{isNegative, signByte, significant
 const SIGN_BIT: u8 = 128;
 
 // Whether the number of the bytes is negative.
-pub fn is_negative(number: &[u8]) -> bool
+pub(crate) fn is_negative(number: &[u8]) -> bool
     ensures { λ r. ⌜ r ≡ isNegative (now (number .entry)) ⌝ }
 {
     if number.len() == 0 {
@@ -16,7 +16,7 @@ pub fn is_negative(number: &[u8]) -> bool
 }
 
 // The byte that repeats the sign of a number: all its bits are the sign.
-pub fn sign_byte(number: &[u8]) -> u8
+pub(crate) fn sign_byte(number: &[u8]) -> u8
     ensures { λ r. ⌜ r ≡ signByte (now (number .entry)) ⌝ }
 {
     if is_negative(number) {
@@ -26,7 +26,7 @@ pub fn sign_byte(number: &[u8]) -> u8
 }
 
 // The bytes of a number without those in front that only repeat the sign of what comes after.
-pub fn significant(number: &[u8]) -> &[u8]
+pub(crate) fn significant(number: &[u8]) -> &[u8]
     ensures { λ r. ⌜ now r ≡ significant (now (number .entry)) ⌝ }
 {
     let mut at = 0;

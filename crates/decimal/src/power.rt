@@ -11,7 +11,7 @@ ghost use Rattle.decimal.specs.Number.{unsigned, number};
 const STEP: u32 = 16;
 
 // Writes 10^exponent, or its negative, over the bytes, which must be enough to hold it.
-pub fn write_power(bytes: &mut [u8], negative: bool, exponent: u32)
+pub(crate) fn write_power(bytes: &mut [u8], negative: bool, exponent: u32)
     requires { ⌜ (1 ≤ length (now bytes)) × (10 ^ exponent ≤ greatestNumber (length (now bytes))) ⌝ }
     ensures { λ _. ⌜ number (now (bytes .exit)) ≡ cond negative (negℤ (pos (10 ^ exponent))) (pos (10 ^ exponent)) ⌝ }
 {
