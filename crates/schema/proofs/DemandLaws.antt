@@ -14,6 +14,7 @@ use lib.ListN.{length, drop}
 use Rattle.sheet.specs.Block.{totalOf}
 use Rattle.sheet.specs.Opening as sheet
 use Rattle.sheet.specs.Slot.{slots}
+use Rattle.sheet.proofs.OpeningLaws.{openOf-accepts}
 use Rattle.schema.specs.Tree.{Slot, Tree, Fields, node, empty, field, listing, listings, count, Claims, ClaimsAll}
 use Rattle.schema.specs.Rows.{rows, rowWidth}
 use Rattle.schema.specs.Reading.{trees, firstTree, treeOf}
@@ -81,8 +82,8 @@ accepted-tree bytes e =
     }
 
 sound-judgement : (bytes : List ℕ) → Sound bytes → judgement bytes ≡ treeRefusal (slots bytes)
-unfolding Sound judgement judgedAs
-sound-judgement bytes s = rw s
+unfolding judgement judgedAs sheet.outcome sheet.outcomeOf
+sound-judgement bytes s = rw (openOf-accepts bytes (s .blocks) (s .slots))
 
 accepted-no-refusal : (r : Verdict) (t lent : ℕ) → Accepted (answer r t lent) → r ≡ Lawful
 unfolding Accepted answer

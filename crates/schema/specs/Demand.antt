@@ -3,7 +3,7 @@ use Prim.Native.Nat.{ℕ, _*_, _≤_}
 use mathlib.Core.Path.{_≡_}
 use mathlib.Core.List.{List}
 use Rattle.sheet.specs.Block.{totalOf}
-use Rattle.sheet.specs.Opening as sheet
+use Rattle.sheet.specs.Opening.{BlocksSound, SlotsSound}
 use Rattle.sheet.specs.Slot.{slots}
 use Rattle.schema.specs.Tree.{Tree, AtMostDeep, Claims, listing}
 use Rattle.schema.specs.Rules.{Keeps}
@@ -19,9 +19,10 @@ pub record IsTreeOf (bytes : List ℕ) (t : Tree) : Type 0 where
   pub claims : Claims t
   pub lists : listing t ≡ slots bytes
 
--- blocks are sound where refusals 1 to 3 do not hold, node slots where 4 does not
-unfoldable pub Sound : List ℕ → Type 0
-Sound bytes = sheet.outcome bytes ≡ sheet.accepted (totalOf bytes) (slots bytes)
+-- "blocks are sound where refusals 1 to 3 don't hold, node slots where 4 doesn't"
+pub record Sound (bytes : List ℕ) : Type 0 where
+  pub blocks : BlocksSound bytes
+  pub slots : SlotsSound bytes
 
 -- output is enough where 14 does not hold
 unfoldable pub EnoughOutput : List ℕ → ℕ → Type 0
