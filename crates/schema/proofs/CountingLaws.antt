@@ -16,7 +16,7 @@ use Rattle.schema.specs.Outcome.{orElse, refusal, leftOver, missing}
 use Rattle.schema.specs.declared.refusal.Verdict.the-variants.{Lawful, Refused}
 use Rattle.schema.proofs.OpenPlacesLaws.{Open}
 use Rattle.schema.proofs.PlacesLaws.{openPlaces-zero, openPlaces-suc, leftOver-none, leftOver-at, missing-none, missing-some}
-use Rattle.schema.proofs.VisitLaws.{slots-at, length-slots}
+use Rattle.sheet.proofs.SlotLaws.{slots-at, slots-length}
 
 -- so many places are open before a node, and some were before each node that it follows
 pub record Counted (b : List ℕ) (places node : ℕ) : Type 0 where
@@ -37,7 +37,7 @@ module _ (b : List ℕ) (places node : ℕ) (c : Counted b places node) where
   pub counted-next : (s : Numbers) → node < totalOf b → (places ≡ 0 → ⊥) → s ≡ numbersOf (slotAt b node) → s .children < 65536 → Counted b (places - 1 + s .children) (node + 1)
   unfolding numbersOf Open some
   counted-next s h k e f =
-      let l : node < length (slots b) = omega (arith, length-slots b) in
+      let l : node < length (slots b) = omega (arith, slots-length b) in
       let slot : childCount (getD (slots b) node []) ≡ s .children =
       ap childCount (slots-at b node [] h) ∙ sym (ap (λ (n : Numbers). n .children) e) in
       record {
@@ -53,13 +53,13 @@ module _ (b : List ℕ) (places node : ℕ) (c : Counted b places node) where
   pub counted-left : node < totalOf b → places ≡ 0 → Refused (refusal 6 node) ≡ orElse (leftOver (slots b)) (missing (slots b))
   unfolding orElse
   counted-left h z =
-      sym (rw (leftOver-at (slots b) node (omega (arith, length-slots b)) (c .before) (c .counted ∙ ap pos z)))
+      sym (rw (leftOver-at (slots b) node (omega (arith, slots-length b)) (c .before) (c .counted ∙ ap pos z)))
 
   all : totalOf b ≤ node → leftOver (slots b) ≡ Lawful
-  all h = leftOver-none (slots b) (λ j q. c .before j (omega (arith, length-slots b, c .within)))
+  all h = leftOver-none (slots b) (λ j q. c .before j (omega (arith, slots-length b, c .within)))
 
   at-end : totalOf b ≤ node → length (slots b) ≡ node
-  at-end h = omega (arith, length-slots b, c .within)
+  at-end h = omega (arith, slots-length b, c .within)
 
   pub counted-filled : totalOf b ≤ node → places ≡ 0 → Lawful ≡ orElse (leftOver (slots b)) (missing (slots b))
   unfolding orElse
@@ -71,4 +71,4 @@ module _ (b : List ℕ) (places node : ℕ) (c : Counted b places node) where
   counted-missing h k =
       sym (rw (all h)
       (missing-some (slots b) (subst (λ (i : ℕ). Open (openPlaces (slots b) i)) (sym (at-end h)) (some k))
-      ∙ ap (λ (i : ℕ). Refused (refusal 5 i)) (length-slots b)))
+      ∙ ap (λ (i : ℕ). Refused (refusal 5 i)) (slots-length b)))

@@ -30,7 +30,7 @@ use Rattle.schema.proofs.FaultLaws.{none-orElse}
 use Rattle.schema.proofs.OpenPlacesLaws.{Fills, fills-trees}
 use Rattle.schema.proofs.DemandLaws.{accepted-fills, fills-listing}
 use Rattle.schema.proofs.StandingLaws.{treeAt-zero}
-use Rattle.schema.proofs.VisitLaws.{length-slots}
+use Rattle.sheet.proofs.SlotLaws.{slots-length}
 use Rattle.schema.proofs.RowsLaws.{length-rowsFrom}
 
 -- the first depth that is too great is refused by 7
@@ -97,7 +97,7 @@ module _ (b : List ℕ) (t : ℕ) (o : sheet.openOf b ≡ Opened.Nodes t) where
   places-claimed e =
       let q = none-orElse _ _ e in
       record {
-        total = length-slots b;
+        total = slots-length b;
         most = omega (arith, nodes-total, nodes-most);
         claims = fills-trees (accepted-fills (slots b) (q .0) (q .1)) .1;
       }
@@ -195,7 +195,7 @@ module _ (b : List ℕ) where
     unfolding size
     tree-size =
         let q = none-orElse _ _ no-places in
-        ap length (fills-listing (slots b) (accepted-fills (slots b) (q .0) (q .1))) ∙ length-slots b ∙ sym resolve-total
+        ap length (fills-listing (slots b) (accepted-fills (slots b) (q .0) (q .1))) ∙ slots-length b ∙ sym resolve-total
 
     pub written-rows : (lent r : List ℕ) → rowWidth * n ≤ length lent → r ≡ placed lent (rowWidth * 0) (rowsFrom 0 0 Parent.Other (slotAt b 0) (treeAt (slots b) 0)) → r ≡ written (outcome b (length lent)) b lent
     unfolding written placed rows

@@ -3,37 +3,16 @@ use Prim.Native.Nat.{ℕ, zero, suc, _+_, _-_, _≤_, _<_}
 use mathlib.Core.Path.{_≡_, refl, sym, ap, _∙_, subst}
 use mathlib.Core.List.{List, [], _∷_}
 use native.Mathlib.Omega.{arith}
-use native.Mathlib.Nat.{add-zero, add-suc, suc-add, zero-add}
 use native.Mathlib.Numerals.{add-one}
 use lib.ListN.{length, getD, drop}
 use Rattle.sheet.specs.Block.{totalOf, mostNodes}
-use Rattle.sheet.specs.Slot.{slots, slotsFrom, slotAt, childCount, repetition, numbersOf}
+use Rattle.sheet.specs.Slot.{slots, slotAt, childCount, repetition, numbersOf}
+use Rattle.sheet.proofs.SlotLaws.{slots-at}
 use Rattle.sheet.specs.declared.slots.Slot.{Slot as Numbers}
 use Rattle.schema.specs.Tree.{Slot, Tree, Fields, node, empty, field, count, size, ClaimsAll}
 use Rattle.schema.specs.Reading.{trees}
 use Rattle.schema.specs.Steps.{treeAt, runAt, fieldsAt, Claimed}
 use Rattle.schema.proofs.StandingLaws.{treeAt-node, runAt-suc, runAt-zero, runAt-end, claimed-at, count-runAt, count-behind, size-positive}
-
-slotsFrom-at : (b : List ℕ) (n i k : ℕ) (d : Slot) → k < n → getD (slotsFrom b i n) k d ≡ slotAt b (i + k)
-unfolding slotsFrom
-slotsFrom-at b zero i k d h = absurd (omega arith)
-slotsFrom-at b (suc n) i zero d h = ap (slotAt b) (sym (add-zero i))
-slotsFrom-at b (suc n) i (suc k) d h =
-    slotsFrom-at b n (suc i) k d (omega arith) ∙ ap (slotAt b) (suc-add i k ∙ sym (add-suc i k))
-
--- the used slots are the slots at their numbers
-pub slots-at : (b : List ℕ) (k : ℕ) (d : Slot) → k < totalOf b → getD (slots b) k d ≡ slotAt b k
-unfolding slots
-slots-at b k d h = slotsFrom-at b (totalOf b) 0 k d h ∙ ap (slotAt b) (zero-add k)
-
-length-slotsFrom : (b : List ℕ) (n i : ℕ) → length (slotsFrom b i n) ≡ n
-unfolding slotsFrom
-length-slotsFrom b zero i = refl
-length-slotsFrom b (suc n) i = ap suc (length-slotsFrom b n (suc i))
-
-pub length-slots : (b : List ℕ) → length (slots b) ≡ totalOf b
-unfolding slots
-length-slots b = length-slotsFrom b (totalOf b) 0
 
 module _ (b : List ℕ) (k : ℕ) (h : Claimed b) (l : k < totalOf b) where
   within : k < length (slots b)
