@@ -15,6 +15,7 @@ use Rattle.schema.specs.declared.refusal.Verdict.{Verdict}
 use Rattle.schema.specs.declared.judging.TreeJudged.{TreeJudged}
 use Rattle.schema.specs.declared.judging.RunJudged.{RunJudged}
 use Rattle.schema.proofs.FaultLaws.{firstFault-append}
+use Rattle.schema.proofs.StandingLaws.{sizes-field, size-node}
 
 mutual
   unfolding depths size listing
@@ -68,13 +69,12 @@ deep-behind : (at l : ℕ) (fs : Fields) → suc l ≤ suc mostDepth → firstFa
 unfolding firstFault
 deep-behind at l fs h = rw (not-deep l, deeper l h)
 
-size-node : (at : ℕ) (s : Slot) (fs : Fields) → at + size (node s fs) ≡ suc at + sizes fs
-unfolding size listing sizes
-size-node at s fs = omega arith
+node-end : (at : ℕ) (s : Slot) (fs : Fields) → at + size (node s fs) ≡ suc at + sizes fs
+node-end at s fs = omega (arith, size-node s fs)
 
 pub judgedTree-node : (at l : ℕ) (p : Place) (s : Slot) (fs : Fields) → suc l ≤ suc mostDepth → judgedTree at (suc l) p (node s fs) ≡ treeBy (broken p s fs) at (judgedRun (suc at) l (placeBelow p s) fs)
 unfolding judgedTree judgedRun depths faults secondOf
-judgedTree-node at l p s fs h = rw (deep-behind at l fs h, own-first, size-node) (tree-by _ _ _ _ _ _ _)
+judgedTree-node at l p s fs h = rw (deep-behind at l fs h, own-first, node-end) (tree-by _ _ _ _ _ _ _)
 
 pub judgedRun-empty : (at l : ℕ) (p : Place) → judgedRun at l p empty ≡ RunJudged.Judged at at at Verdict.Lawful
 unfolding judgedRun runOrDeep depthss firstFault sizes listings secondIn innerIn faultss
@@ -105,9 +105,8 @@ deep-split at d t fs =
 fault-split : (at : ℕ) (p : Place) (t : Tree) (fs : Fields) → firstFault at (faults p t ++ faultss p fs) ≡ orElse (firstFault at (faults p t)) (firstFault (at + size t) (faultss p fs))
 fault-split at p t fs = firstFault-append at (faults p t) (faultss p fs) ∙ rw length-faults
 
-sizes-field : (at : ℕ) (t : Tree) (fs : Fields) → at + sizes (field t fs) ≡ at + size t + sizes fs
-unfolding sizes size listings
-sizes-field at t fs = rw length-append (omega arith)
+field-end : (at : ℕ) (t : Tree) (fs : Fields) → at + sizes (field t fs) ≡ at + size t + sizes fs
+field-end at t fs = omega (arith, sizes-field t fs)
 
 run-parts : (a b v w : Verdict) (e f next second : ℕ) → a ≡ b → e ≡ f → v ≡ w → runOrDeep a (RunJudged.Judged e next second v) ≡ runOrDeep b (RunJudged.Judged f next second w)
 run-parts a b v w e f next second p q r = cc
@@ -115,7 +114,7 @@ run-parts a b v w e f next second p q r = cc
 pub judgedRun-field : (at l : ℕ) (p : Place) (t : Tree) (fs : Fields) → judgedRun at l p (field t fs) ≡ runBy (judgedTree at l p t) (λ k. judgedRun k l p fs)
 unfolding judgedTree judgedRun depthss faultss secondIn innerIn
 judgedRun-field at l p t fs =
-    run-parts _ _ _ _ _ _ _ _ (deep-split at (depthAt l) t fs) (sizes-field at t fs) (fault-split at p t fs)
+    run-parts _ _ _ _ _ _ _ _ (deep-split at (depthAt l) t fs) (field-end at t fs) (fault-split at p t fs)
     ∙ run-by _ _ _ _ _ _ _ (secondIn (at + size t) fs) (innerIn (at + size t) fs)
     ∙ run-next _ _ _ _ _ _ refl
 

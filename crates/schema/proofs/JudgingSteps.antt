@@ -18,7 +18,7 @@ use Rattle.schema.specs.declared.refusal.Verdict.{Verdict}
 use Rattle.schema.specs.declared.judging.TreeJudged.{TreeJudged}
 use Rattle.schema.specs.declared.judging.RunJudged.{RunJudged}
 use Rattle.schema.proofs.StandingLaws.{runAt-zero}
-use Rattle.schema.proofs.VisitLaws.{treeAt-slot, claimed-slot, from-one, runAt-first}
+use Rattle.schema.proofs.VisitLaws.{treeAt-slot, run-at, from-one, runAt-first}
 use Rattle.schema.proofs.JudgingLaws.{treeBy, runBy, judgedTree-deep, judgedTree-node, judgedRun-empty, judgedRun-field, judgedRun-inner, judgedTree-next}
 
 module _ (b : List ℕ) (at n l : ℕ) (p : Place) where
@@ -49,21 +49,9 @@ pub tree-deep : (at l : ℕ) (p : Place) (t : Tree) → l ≡ 0 → TreeJudged.D
 tree-deep at l p t e = sym (rw e (judgedTree-deep at p t))
 
 module _ (b : List ℕ) (at : ℕ) (s : Numbers) (v : Visited b at s) where
-  children-are : s .children ≡ childCount (slotAt b at)
-  unfolding numbersOf
-  children-are = ap (λ (n : Numbers). n .children) (v .numbers)
-
-  -- as many trees stand behind a node as its numbers claim
-  pub children-claimed : s .children ≤ count (trees (drop (at + 1) (slots b)))
-  children-claimed = rw (children-are, add-one) (claimed-slot b at (v .claimed) (v .below))
-
-  run-is : runAt (slots b) (at + 1) (s .children) ≡ fieldsAt b at
-  unfolding fieldsAt
-  run-is = rw (children-are, add-one)
-
   module _ (l : ℕ) (p q : Place) (w : q ≡ placeBelow p (slotAt b at)) (k : l ≡ 0 → ⊥) (m : l ≤ suc mostDepth) (r : RunJudged) (e : r ≡ judgedRun (at + 1) (l - 1) q (runAt (slots b) (at + 1) (s .children))) where
     run-found : judgedRun (suc at) (l - 1) (placeBelow p (slotAt b at)) (fieldsAt b at) ≡ r
-    run-found = sym (e ∙ rw (run-is, w, add-one))
+    run-found = sym (e ∙ rw (run-at b at s (v .numbers), w, add-one))
 
     tree-step : judgedTree at l p (treeAt (slots b) at) ≡ treeBy (broken p (slotAt b at) (fieldsAt b at)) at r
     tree-step =

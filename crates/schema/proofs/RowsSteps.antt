@@ -21,22 +21,10 @@ use Rattle.schema.specs.Rows.{isMapParent, role, parentBy, parentOf, aft
 use Rattle.schema.specs.Steps.{Claimed, Visited, treeAt, runAt, fieldsAt, sizes, placed, rowNumbers}
 use Rattle.schema.specs.declared.roles.Parent.{Parent}
 use Rattle.schema.specs.declared.rows.Row.{Row}
-use Rattle.schema.proofs.StandingLaws.{runAt-zero, runAt-end, count-some}
-use Rattle.schema.proofs.VisitLaws.{treeAt-slot, runAt-first}
+use Rattle.schema.proofs.StandingLaws.{runAt-zero, runAt-end, count-some, sizes-empty, sizes-field, size-node}
+use Rattle.schema.proofs.VisitLaws.{treeAt-slot, run-at, runAt-first}
 use Rattle.schema.proofs.PlacingLaws.{placed-empty, placed-after, placed-before, length-placed}
 use Rattle.schema.proofs.RowsLaws.{length-row, length-rowsFrom, length-rowssFrom}
-
-sizes-empty : sizes empty ≡ 0
-unfolding sizes listings
-sizes-empty = refl
-
-sizes-field : (t : Tree) (fs : Fields) → sizes (field t fs) ≡ size t + sizes fs
-unfolding sizes size listings
-sizes-field t fs = length-append (listing t) (listings fs)
-
-size-node : (s : Slot) (fs : Fields) → size (node s fs) ≡ suc (sizes fs)
-unfolding size listing sizes
-size-node s fs = refl
 
 -- the tree at a number ends within the sheet
 pub tree-within : (b : List ℕ) (at : ℕ) → Claimed b → at < totalOf b → at + size (treeAt (slots b) at) ≤ totalOf b
@@ -90,17 +78,9 @@ module _ (b l : List ℕ) (at n up : ℕ) (p : Parent) (above : Slot) where
           ∙ ap (λ (fs : Fields). placed l (rowWidth * at) (rowssFrom at up p above fs)) (sym run-is)
 
 module _ (b l : List ℕ) (at up : ℕ) (s : Numbers) (p : Parent) (above : Slot) (v : Visited b at s) where
-  children-are : s .children ≡ childCount (slotAt b at)
-  unfolding numbersOf
-  children-are = ap (λ (n : Numbers). n .children) (v .numbers)
-
-  fields-are : runAt (slots b) (at + 1) (s .children) ≡ fieldsAt b at
-  unfolding fieldsAt
-  fields-are = rw (children-are, add-one)
-
   pub tree-end : (next : ℕ) → next ≡ at + 1 + sizes (runAt (slots b) (at + 1) (s .children)) → next ≡ at + size (treeAt (slots b) at)
   tree-end next e =
-      rw (treeAt-slot b at (v .claimed) (v .below), size-node) (omega (arith, e, ap sizes fields-are))
+      rw (treeAt-slot b at (v .claimed) (v .below), size-node) (omega (arith, e, ap sizes (run-at b at s (v .numbers))))
 
   -- what a node is to its fields
   pub parent-is : (n : Annotated) (u : Bool) (k : Kind) (own : ℕ) (q : Parent) → n ≡ annotatedBy s → u ≡ isMapParent p → k ≡ kindOf n u → own ≡ role p above (slotAt b at) (fieldsAt b at) → q ≡ parentBy (k .kind) own → q ≡ parentOf p above (slotAt b at) (fieldsAt b at)
@@ -120,7 +100,7 @@ module _ (b l : List ℕ) (at up : ℕ) (s : Numbers) (p : Parent) (above : Slot
 
     rest-is : m ≡ placed l (rowWidth * (at + 1)) rest
     unfolding rest
-    rest-is = e ∙ ap (placed l (rowWidth * (at + 1))) (rw (fields-are, w, add-one))
+    rest-is = e ∙ ap (placed l (rowWidth * (at + 1))) (rw (run-at b at s (v .numbers), w, add-one))
 
     end-within : suc at + sizes (fieldsAt b at) ≤ totalOf b
     end-within =

@@ -8,7 +8,7 @@ use lib.Seq.{drop-cons, drop-append-seam, drop-drop}
 use Rattle.sheet.specs.Slot.{childCount}
 use Rattle.schema.specs.Tree.{Slot, Tree, Fields, node, empty, field, listing, listings, count, size, Claims, ClaimsAll}
 use Rattle.schema.specs.Reading.{takeFields, dropFields, trees, firstTree, treeOf}
-use Rattle.schema.specs.Steps.{treeAt, runAt}
+use Rattle.schema.specs.Steps.{treeAt, runAt, sizes}
 use Rattle.schema.proofs.TreeLaws.{count-take, count-drop, listings-trees, trees-of-listings}
 
 claims-join : (n : ℕ) (fs : Fields) → ClaimsAll (takeFields n fs) → ClaimsAll (dropFields n fs) → ClaimsAll fs
@@ -123,3 +123,16 @@ module _ (ss : List Slot) (k n : ℕ) (c : ClaimsAll (trees ss)) (h : suc n ≤ 
 pub count-some : (ss : List Slot) (k : ℕ) → k < length ss → 1 ≤ count (trees (drop k ss))
 unfolding trees count
 count-some ss k h = rw (drop-cons ss k [] h) (omega arith)
+
+-- how many nodes a run and a tree have
+pub sizes-empty : sizes empty ≡ 0
+unfolding sizes listings
+sizes-empty = refl
+
+pub sizes-field : (t : Tree) (fs : Fields) → sizes (field t fs) ≡ size t + sizes fs
+unfolding sizes size listings
+sizes-field t fs = length-append (listing t) (listings fs)
+
+pub size-node : (s : Slot) (fs : Fields) → size (node s fs) ≡ suc (sizes fs)
+unfolding size listing sizes
+size-node s fs = refl

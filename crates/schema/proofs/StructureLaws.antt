@@ -17,7 +17,7 @@ use Rattle.annotation.specs.Physical as physical
 use Rattle.schema.specs.Reading.{trees}
 use Rattle.schema.specs.Steps.{Claimed, Visited, treeAt, runAt, fieldsAt, secondIn, secondOf, innerIn}
 use Rattle.schema.proofs.StandingLaws.{runAt-suc, runAt-zero, runAt-end, size-positive}
-use Rattle.schema.proofs.VisitLaws.{treeAt-slot, count-fieldsAt, fieldsAt-first, first-below, rest-claimed}
+use Rattle.schema.proofs.VisitLaws.{treeAt-slot, count-fieldsAt, fieldsAt-first, first-below, rest-claimed, repetition-at, physical-at, children-at}
 use Rattle.schema.specs.Tree.{Slot, Tree, Fields, node, empty, field, count, size}
 use Rattle.schema.specs.Rules.{isGroup, REPEATED, REQUIRED, isRequiredOrOptional, namedElement, isElementGroup, holdsElement, listChild, listRun, listKept, keyValue, mapRun, mapKept}
 
@@ -133,43 +133,31 @@ module _ (b : List ℕ) (layer : ℕ) (s : Numbers) (h : Claimed b) (l : layer <
   fields : Fields
   fields = fieldsAt b layer
 
-  repetition-is : s .repetition ≡ repetition (slotAt b layer)
-  unfolding numbersOf
-  repetition-is = ap (λ (n : Numbers). n .repetition) e
-
-  physical-is : s .physical ≡ physical (slotAt b layer)
-  unfolding numbersOf
-  physical-is = ap (λ (n : Numbers). n .physical) e
-
-  children-is : s .children ≡ childCount (slotAt b layer)
-  unfolding numbersOf
-  children-is = ap (λ (n : Numbers). n .children) e
-
   count-is : count fields ≡ s .children
   unfolding fields
-  count-is = count-fieldsAt b layer h l ∙ sym children-is
+  count-is = count-fieldsAt b layer h l ∙ sym (children-at b layer s e)
 
   tree-is : treeAt (slots b) layer ≡ node (slotAt b layer) fields
   unfolding fields
   tree-is = treeAt-slot b layer h l
 
   single : (s .repetition ≡ REPEATED → ⊥) → eqb (repetition (slotAt b layer)) REPEATED ≡ false
-  single n = ne-eqb _ _ (λ q. n (repetition-is ∙ q))
+  single n = ne-eqb _ _ (λ q. n (repetition-at b layer s e ∙ q))
 
   repeats : s .repetition ≡ REPEATED → eqb (repetition (slotAt b layer)) REPEATED ≡ true
-  repeats q = eq-eqb _ _ (sym repetition-is ∙ q)
+  repeats q = eq-eqb _ _ (sym (repetition-at b layer s e) ∙ q)
 
   pub leaf : (s .physical ≡ physical.GROUP → ⊥) → isGroup (physical (slotAt b layer)) ≡ false
-  leaf n = ne-eqb _ _ (λ q. n (physical-is ∙ q))
+  leaf n = ne-eqb _ _ (λ q. n (physical-at b layer s e ∙ q))
 
   pub group : s .physical ≡ physical.GROUP → isGroup (physical (slotAt b layer)) ≡ true
-  group q = eq-eqb _ _ (sym physical-is ∙ q)
+  group q = eq-eqb _ _ (sym (physical-at b layer s e) ∙ q)
 
   -- the one field of a group that has one
   only-field : s .children ≡ 1 → fields ≡ field (node (slotAt b (suc layer)) (fieldsAt b (suc layer))) empty
   unfolding fields
   only-field q =
-      let claim : childCount (slotAt b layer) ≡ 1 = sym children-is ∙ q in
+      let claim : childCount (slotAt b layer) ≡ 1 = sym (children-at b layer s e) ∙ q in
       fieldsAt-first b layer h l 0 claim
       ∙ rw (treeAt-slot b (suc layer) h (first-below b layer h l 0 claim), runAt-zero)
 
@@ -217,7 +205,7 @@ module _ (b : List ℕ) (layer : ℕ) (s : Numbers) (h : Claimed b) (l : layer <
 
       module _ (q : s .children ≡ 2) where
         claim : childCount (slotAt b layer) ≡ 2
-        claim = sym children-is ∙ q
+        claim = sym (children-at b layer s e) ∙ q
 
         value : ℕ
         value = suc layer + size (treeAt (slots b) (suc layer))
@@ -263,28 +251,20 @@ module _ (b : List ℕ) (layer : ℕ) (s : Numbers) (h : Claimed b) (l : layer <
 
 -- rules 12 and 13 at the LIST or the MAP itself, which has one child
 module _ (b : List ℕ) (at : ℕ) (s : Numbers) (v : Visited b at s) where
-  pub own-repetition : s .repetition ≡ repetition (slotAt b at)
-  unfolding numbersOf
-  own-repetition = ap (λ (n : Numbers). n .repetition) (v .numbers)
-
-  own-children : childCount (slotAt b at) ≡ s .children
-  unfolding numbersOf
-  own-children = sym (ap (λ (n : Numbers). n .children) (v .numbers))
-
   pub own-count : count (fieldsAt b at) ≡ s .children
-  own-count = count-fieldsAt b at (v .claimed) (v .below) ∙ own-children
+  own-count = count-fieldsAt b at (v .claimed) (v .below) ∙ sym (children-at b at s (v .numbers))
 
   pub one-below : s .children ≡ 1 → at + 1 < totalOf b
-  one-below q = omega (arith, first-below b at (v .claimed) (v .below) 0 (own-children ∙ q))
+  one-below q = omega (arith, first-below b at (v .claimed) (v .below) 0 (sym (children-at b at s (v .numbers)) ∙ q))
 
   one-field : s .children ≡ 1 → fieldsAt b at ≡ field (treeAt (slots b) (suc at)) empty
-  one-field q = fieldsAt-first b at (v .claimed) (v .below) 0 (own-children ∙ q) ∙ rw runAt-zero
+  one-field q = fieldsAt-first b at (v .claimed) (v .below) 0 (sym (children-at b at s (v .numbers)) ∙ q) ∙ rw runAt-zero
 
   neither : isRequiredOrOptional (s .repetition) ≡ false → isRequiredOrOptional (repetition (slotAt b at)) ≡ false
-  neither n = ap isRequiredOrOptional (sym own-repetition) ∙ n
+  neither n = ap isRequiredOrOptional (sym (repetition-at b at s (v .numbers))) ∙ n
 
   either : isRequiredOrOptional (s .repetition) ≡ true → isRequiredOrOptional (repetition (slotAt b at)) ≡ true
-  either n = ap isRequiredOrOptional (sym own-repetition) ∙ n
+  either n = ap isRequiredOrOptional (sym (repetition-at b at s (v .numbers))) ∙ n
 
   not-one : (p : Fields → Bool) → ((fs : Fields) → count fs ≡ 0 → p fs ≡ false) → ((fs : Fields) → 2 ≤ count fs → p fs ≡ false) → (s .children ≡ 1 → ⊥) → p (fieldsAt b at) ≡ false
   not-one p none many q = on (eq-or-lt-of-le (zero-le {n = s .children}))

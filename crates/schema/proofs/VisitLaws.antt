@@ -6,7 +6,7 @@ use native.Mathlib.Omega.{arith}
 use native.Mathlib.Numerals.{add-one}
 use lib.ListN.{length, getD, drop}
 use Rattle.sheet.specs.Block.{totalOf, mostNodes}
-use Rattle.sheet.specs.Slot.{slots, slotAt, childCount, repetition, numbersOf}
+use Rattle.sheet.specs.Slot.{slots, slotAt, childCount, physical, repetition, numbersOf}
 use Rattle.sheet.proofs.SlotLaws.{slots-at}
 use Rattle.sheet.specs.declared.slots.Slot.{Slot as Numbers}
 use Rattle.schema.specs.Tree.{Slot, Tree, Fields, node, empty, field, count, size, ClaimsAll}
@@ -58,9 +58,27 @@ pub repetition-behind : (b : List ℕ) (k : ℕ) (s : Numbers) → s ≡ numbers
 unfolding numbersOf
 repetition-behind b k s e = ap (λ (n : Numbers). n .repetition) e ∙ ap (λ (i : ℕ). repetition (slotAt b i)) (add-one k)
 
-pub repetition-at : (b : List ℕ) (k : ℕ) (s : Numbers) → s ≡ numbersOf (slotAt b k) → s .repetition ≡ repetition (slotAt b k)
-unfolding numbersOf
-repetition-at b k s e = ap (λ (n : Numbers). n .repetition) e
+-- the numbers that are read at a slot are the slot's
+module _ (b : List ℕ) (k : ℕ) (s : Numbers) (e : s ≡ numbersOf (slotAt b k)) where
+  pub repetition-at : s .repetition ≡ repetition (slotAt b k)
+  unfolding numbersOf
+  repetition-at = ap (λ (n : Numbers). n .repetition) e
+
+  pub physical-at : s .physical ≡ physical (slotAt b k)
+  unfolding numbersOf
+  physical-at = ap (λ (n : Numbers). n .physical) e
+
+  pub children-at : s .children ≡ childCount (slotAt b k)
+  unfolding numbersOf
+  children-at = ap (λ (n : Numbers). n .children) e
+
+  pub run-at : runAt (slots b) (k + 1) (s .children) ≡ fieldsAt b k
+  unfolding fieldsAt
+  run-at = rw (children-at, add-one)
+
+  -- as many trees stand behind a node as its numbers claim
+  pub children-claimed : Claimed b → k < totalOf b → s .children ≤ count (trees (drop (k + 1) (slots b)))
+  children-claimed h l = rw (children-at, add-one) (claimed-slot b k h l)
 
 -- some number from one that is not 0
 pub from-one : (n : ℕ) → (n ≡ 0 → ⊥) → n ≡ suc (n - 1)

@@ -1,7 +1,7 @@
 -- The proof of the cycle of calls {judge_run, judge_tree}. Nodes fall: a tree at k hands on to its run at k + 1, a run at k to the tree at k and then
 -- to the shorter run behind that tree. With r nodes from k on, a tree's measure is 2r and a run's 2r + 1.
-use Rattle.schema.proofs.VisitLaws.{run-below, next-after, next-claimed}
-use Rattle.schema.proofs.JudgingSteps.{run-empty, run-deep, run-judged, next-is, tree-deep, tree-inner, tree-run-deep, tree-judged, children-claimed, tree-falls, rest-falls, run-falls}
+use Rattle.schema.proofs.VisitLaws.{run-below, next-after, next-claimed, children-claimed}
+use Rattle.schema.proofs.JudgingSteps.{run-empty, run-deep, run-judged, next-is, tree-deep, tree-inner, tree-run-deep, tree-judged, tree-falls, rest-falls, run-falls}
 use Rattle.schema.proofs.NodeLaws.{placeBelow-is}
 use Rattle.schema.specs.declared.judging.TreeJudged.{TreeJudged}
 use Rattle.schema.specs.Steps.{Visited, ownFirst, runAfter}
@@ -359,7 +359,7 @@ judge-tree-judge-run-requires : (t : ℕ) → judge-tree-lts.Need-judge-run-requ
 judge-tree-judge-run-requires t c κs =
     let start = c .before .before .before .before .before .before .before .before in
     let visited : Visited (start .args .sheet .now) (start .args .at) (c .before .before .before .before .before .slot-at .result) = record { claimed = start .pre .1 .0; below = start .pre .1 .1 .0; numbers = c .before .before .before .before .before .slot-at .ensures } in
-    (run-falls _ _ _ (start .pre .1 .1 .0) (start .pre .0), (start .pre .1 .0, (children-claimed _ _ _ visited, omega (arith, start .pre .1 .1 .1))))
+    (run-falls _ _ _ (start .pre .1 .1 .0) (start .pre .0), (start .pre .1 .0, (children-claimed _ _ _ (visited .numbers) (visited .claimed) (visited .below), omega (arith, start .pre .1 .1 .1))))
 
 judge-tree-enum-known-run : (t : ℕ) → judge-tree-lts.Need-enum-known-run (
   slot-at-reads.Asked,

@@ -1,5 +1,5 @@
 -- `schema::roles::role` meets its contract, case by case.
-use Rattle.schema.proofs.StructureLaws.{own-repetition}
+use Rattle.schema.proofs.VisitLaws.{repetition-at}
 use Rattle.schema.specs.Rows.{role, ownRole}
 use mathlib.Core.Path.{ap, _∙_}
 use borrow.Author.Needs.{needs}
@@ -32,7 +32,7 @@ enum-told-6 c = search needs
 
 returns : tie.Need-returns
 unfolding role
-returns c = rw (c .before .enum-told .given .1) (c .own-role .ensures ∙ ap ownRole (own-repetition _ _ _ (c .before .before .before .before .pre)))
+returns c = rw (c .before .enum-told .given .1) (c .own-role .ensures ∙ ap ownRole (repetition-at _ _ _ (c .before .before .before .before .pre .numbers)))
 
 returns-2 : tie.Need-returns-2
 unfolding role

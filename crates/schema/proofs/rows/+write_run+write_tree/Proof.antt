@@ -1,8 +1,8 @@
 -- The proof of the cycle of calls {write_run, write_tree}. Nodes fall as they do in judging: with r nodes from k on, a tree's measure is 2r and a
 -- run's 2r + 1.
 use Rattle.schema.proofs.RowsSteps.{run-end-empty, run-rows-empty, run-end, run-rows, tree-end, tree-within, tree-rows, parent-is, row-is, long-enough, row-fits}
-use Rattle.schema.proofs.JudgingSteps.{children-claimed, tree-falls, rest-falls, run-falls}
-use Rattle.schema.proofs.VisitLaws.{run-below, next-after, next-claimed}
+use Rattle.schema.proofs.JudgingSteps.{tree-falls, rest-falls, run-falls}
+use Rattle.schema.proofs.VisitLaws.{run-below, next-after, next-claimed, children-claimed}
 use Rattle.schema.specs.Steps.{Visited, rowNumbers}
 use Rattle.sheet.specs.Slot.{slotAt}
 use Rattle.sheet.specs.Block.{totalOf}
@@ -340,7 +340,7 @@ write-tree-write-run-requires : (t : ℕ) → write-tree-lts.Need-write-run-requ
 write-tree-write-run-requires t c κs =
     let start = c .before .before .before .before .before .before .before .before .before .before in
     let visited : Visited (start .args .sheet .now) (start .args .at) (c .before .before .before .before .before .before .before .slot-at .result) = record { claimed = start .pre .1 .0; below = start .pre .1 .1 .0; numbers = c .before .before .before .before .before .before .before .slot-at .ensures } in
-    (run-falls _ _ _ (start .pre .1 .1 .0) (start .pre .0), (start .pre .1 .0, (children-claimed _ _ _ visited, (start .pre .1 .1 .0, start .pre .1 .1 .1 .1))))
+    (run-falls _ _ _ (start .pre .1 .1 .0) (start .pre .0), (start .pre .1 .0, (children-claimed _ _ _ (visited .numbers) (visited .claimed) (visited .below), (start .pre .1 .1 .0, start .pre .1 .1 .1 .1))))
 
 write-tree-mul-write-row : (t : ℕ) → write-tree-lts.Need-mul-write-row (
   slot-at-reads.Asked,
