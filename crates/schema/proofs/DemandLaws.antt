@@ -1,24 +1,21 @@
 -- Demand 3: a sheet of sound blocks and slots is accepted exactly where it has a tree, it has one at the most, and the rows written are that tree's.
-use Prim.Native.Nat.{ℕ, zero, suc, _+_, _*_, _≤_, _<_}
+use Prim.Native.Nat.{ℕ, _*_, _≤_, _<_}
 use mathlib.Core.Path.{_≡_, refl, sym, ap, _∙_, subst}
 use mathlib.Core.Logic.{_⊎_, inl, inr, _↔_}
-use mathlib.Core.Bool.{Bool, true, false, cond, not}
 use Rattle.schema.specs.declared.refusal.Verdict.{Verdict}
 use Rattle.schema.specs.declared.refusal.Verdict.the-variants.{Lawful, Refused}
-use mathlib.Core.List.{List, [], _∷_, _++_, append-nil}
+use mathlib.Core.List.{List, _++_, append-nil}
 use native.Mathlib.Omega.{arith}
-use native.Mathlib.Nat.{le-refl}
-use borrow.Author.Tests.{lt-ltb, le-ltb}
-use lib.Dec.{ltb}
+use borrow.Author.Tests.{le-ltb}
 use lib.ListN.{length, drop}
 use Rattle.sheet.specs.Block.{totalOf}
 use Rattle.sheet.specs.Opening as sheet
 use Rattle.sheet.specs.Slot.{slots}
 use Rattle.sheet.proofs.OpeningLaws.{openOf-accepts}
-use Rattle.schema.specs.Tree.{Slot, Tree, Fields, node, empty, field, listing, listings, count, Claims, ClaimsAll}
+use Rattle.schema.specs.Tree.{Slot, Tree, Fields, empty, field, listing, listings, count, Claims, ClaimsAll}
 use Rattle.schema.specs.Rows.{rows, rowWidth}
 use Rattle.schema.specs.Reading.{trees, firstTree, treeOf}
-use Rattle.schema.specs.Outcome.{orElse, refusal, leftOver, missing, tooDeep, unlawful, treeRefusal, judgedAs, judgement, answer, outcome, written}
+use Rattle.schema.specs.Outcome.{refusal, leftOver, missing, treeRefusal, judgedAs, judgement, answer, outcome, written}
 use Rattle.schema.specs.Demand.{IsTreeOf, Sound, EnoughOutput, Accepted}
 use Rattle.schema.specs.declared.refusal.Refusal.{Refusal}
 use Rattle.schema.specs.declared.resolving.Resolved.{Resolved}

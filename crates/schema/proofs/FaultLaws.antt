@@ -1,17 +1,17 @@
 -- The first fault in listing order: there is none exactly where every rule is kept, and none is too deep exactly where no node is.
-use Prim.Native.Nat.{ℕ, zero, suc, _+_, _≤_, _<_}
-use mathlib.Core.Path.{_≡_, refl, sym, ap, _∙_, subst}
+use Prim.Native.Nat.{ℕ, zero, suc, _+_, _≤_}
+use mathlib.Core.Path.{_≡_, refl, sym, _∙_}
 use mathlib.Core.Bool.{Bool, true, false, cond}
 use Rattle.schema.specs.declared.refusal.Verdict.{Verdict}
 use Rattle.schema.specs.declared.refusal.Verdict.the-variants.{Lawful, Refused}
 use mathlib.Core.List.{List, [], _∷_, _++_, map}
 use native.Mathlib.Omega.{arith}
 use native.Mathlib.Nat.{add-zero, add-suc, suc-add}
-use borrow.Author.Tests.{le-leb, leb-true, leb-false, lt-leb}
+use borrow.Author.Tests.{le-leb, leb-true}
 use lib.Dec.{leb}
 use lib.ListN.{length, getD}
 use Rattle.schema.specs.Annotated.{rule9, rule10, rule11}
-use Rattle.schema.specs.Tree.{Slot, Tree, Fields, node, empty, field, depths, depthss, AtMostDeep}
+use Rattle.schema.specs.Tree.{Slot, Tree, Fields, node, empty, field, depths, AtMostDeep}
 use Rattle.schema.specs.Rules.{rule8, rule12, rule13, underMap, placeBelow, KeepsAt, Keeps, KeepsAll, broken, faults, faultss}
 use Rattle.schema.specs.Outcome.{orElse, firstFault, refusal, mostDepth, deepness, tooDeep, unlawful}
 use Rattle.schema.specs.declared.place.Place.{Place}

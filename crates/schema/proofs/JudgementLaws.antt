@@ -1,7 +1,7 @@
 -- A sheet judged and resolved, from its parts.
-use Prim.Native.Nat.{ℕ, zero, suc, _+_, _*_, _-_, _≤_, _<_}
+use Prim.Native.Nat.{ℕ, suc, _+_, _*_, _≤_, _<_}
 use mathlib.Core.Path.{_≡_, refl, sym, ap, _∙_, subst}
-use mathlib.Core.Bool.{Bool, true, false, cond}
+use mathlib.Core.Bool.{Bool, true, false}
 use mathlib.Core.List.{List, [], _∷_, _++_, map}
 use native.Mathlib.Omega.{arith}
 use native.Mathlib.Nat.{zero-add}
@@ -13,9 +13,9 @@ use Rattle.sheet.specs.Opening as sheet
 use Rattle.sheet.specs.Slot.{slots, slotAt}
 use Rattle.sheet.specs.declared.opening.Opened.{Opened}
 use Rattle.sheet.proofs.OpeningLaws.{openOf-total, openOf-least, openOf-most}
-use Rattle.schema.specs.Tree.{Slot, Tree, node, listing, size, depths}
+use Rattle.schema.specs.Tree.{Slot, Tree, node, size, depths}
 use Rattle.schema.specs.Rules.{faults}
-use Rattle.schema.specs.Rows.{rowsFrom, rowssFrom, row, parentOf, role, rows, rowWidth}
+use Rattle.schema.specs.Rows.{rowsFrom, row, parentOf, role, rows, rowWidth}
 use Rattle.schema.specs.Reading.{treeOf}
 use Rattle.schema.specs.Outcome.{orElse, refusal, leftOver, missing, firstFault, deepness, mostDepth, tooDeep, unlawful, treeRefusal, judgedAs, judgement, answer, outcome, written}
 use Rattle.schema.specs.Steps.{Claimed, treeAt, secondOf, treeOrDeep, judgedTree, depthAt, placed, judgedNodes, judgementOf}
@@ -27,7 +27,7 @@ use Rattle.schema.specs.declared.judging.TreeJudged.{TreeJudged}
 use Rattle.schema.specs.declared.judgement.Judgement.{Judgement}
 use Rattle.schema.specs.declared.resolving.Resolved.{Resolved}
 use Rattle.schema.proofs.FaultLaws.{none-orElse}
-use Rattle.schema.proofs.OpenPlacesLaws.{Fills, fills-trees}
+use Rattle.schema.proofs.OpenPlacesLaws.{fills-trees}
 use Rattle.schema.proofs.DemandLaws.{accepted-fills, fills-listing}
 use Rattle.schema.proofs.StandingLaws.{treeAt-zero}
 use Rattle.sheet.proofs.SlotLaws.{slots-length}

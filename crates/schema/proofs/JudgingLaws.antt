@@ -1,10 +1,10 @@
 -- How judging a tree goes on with judging its run, and judging a run with its first tree and the shorter run.
-use Prim.Native.Nat.{ℕ, zero, suc, _+_, _-_, _≤_, _<_}
-use mathlib.Core.Path.{_≡_, refl, sym, ap, _∙_, subst}
-use mathlib.Core.List.{List, [], _∷_, _++_, map, map-append}
+use Prim.Native.Nat.{ℕ, zero, suc, _+_, _-_, _≤_}
+use mathlib.Core.Path.{_≡_, refl, ap, _∙_}
+use mathlib.Core.List.{List, _∷_, _++_, map, map-append}
 use native.Mathlib.Omega.{arith}
-use native.Mathlib.Nat.{add-zero, add-assoc, suc-add, add-suc}
-use borrow.Author.Tests.{le-leb, lt-leb}
+use native.Mathlib.Nat.{add-zero}
+use borrow.Author.Tests.{le-leb}
 use lib.ListN.{length, length-append, length-map}
 use Rattle.schema.specs.Tree.{Slot, Tree, Fields, node, empty, field, listing, listings, size, depths, depthss}
 use Rattle.schema.specs.Rules.{placeBelow, broken, faults, faultss}

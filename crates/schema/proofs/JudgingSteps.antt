@@ -1,14 +1,13 @@
 -- The steps of judging at the numbers of a sheet: what a tree finds from its run, and what a run finds from its first tree and the shorter run.
-use Prim.Native.Nat.{ℕ, zero, suc, _+_, _*_, _-_, _≤_, _<_}
-use mathlib.Core.Path.{_≡_, refl, sym, ap, _∙_, subst}
+use Prim.Native.Nat.{ℕ, suc, _+_, _*_, _-_, _≤_, _<_}
+use mathlib.Core.Path.{_≡_, sym, ap, _∙_}
 use mathlib.Core.List.{List}
 use native.Mathlib.Omega.{arith}
 use native.Mathlib.Numerals.{add-one}
-use lib.ListN.{length, drop}
-use Rattle.sheet.specs.Block.{totalOf}
-use Rattle.sheet.specs.Slot.{slots, slotAt, childCount, numbersOf}
+use lib.ListN.{drop}
+use Rattle.sheet.specs.Slot.{slots, slotAt}
 use Rattle.sheet.specs.declared.slots.Slot.{Slot as Numbers}
-use Rattle.schema.specs.Tree.{Tree, Fields, node, empty, field, count, size}
+use Rattle.schema.specs.Tree.{Tree, node, count, size}
 use Rattle.schema.specs.Rules.{placeBelow, broken}
 use Rattle.schema.specs.Reading.{trees}
 use Rattle.schema.specs.Outcome.{mostDepth}

@@ -1,10 +1,9 @@
 -- The least rule that a visited node breaks, by its numbers.
-use Prim.Native.Nat.{ℕ, zero, suc, _+_}
+use Prim.Native.Nat.{ℕ}
 use mathlib.Core.Path.{_≡_, refl, sym, ap, _∙_}
-use mathlib.Core.Bool.{Bool, true, false, cond, not, _||_}
+use mathlib.Core.Bool.{Bool, true, false, cond}
 use mathlib.Core.List.{List}
-use borrow.Author.Tests.{eq-eqb, ne-eqb}
-use lib.Dec.{eqb}
+use borrow.Author.Tests.{ne-eqb}
 use Rattle.sheet.specs.Slot.{slotAt, numbersOf}
 use Rattle.sheet.specs.declared.slots.Slot.{Slot as Numbers}
 use Rattle.annotation.specs.Logical as logical
@@ -17,7 +16,7 @@ use Rattle.annotation.specs.declared.slot.Annotated.{Annotated}
 use Rattle.annotation.specs.declared.resolution.Kind.{Kind}
 use Rattle.annotation.specs.declared.resolution.Resolution.{Resolution}
 use Rattle.schema.specs.Annotated.{annotatedBy, annotated, kind, rule9, rule10, rule11}
-use Rattle.schema.specs.Tree.{Slot, Fields, count}
+use Rattle.schema.specs.Tree.{Slot, Fields}
 use Rattle.schema.specs.Rules.{underMap, shape, rule8, isList, isMap, listKept, mapKept, rule12, rule13, broken, placeUnder, placeBelow}
 use Rattle.schema.specs.Steps.{Visited, fieldsAt, structureBroken}
 use Rattle.schema.specs.declared.place.Place.{Place}

@@ -1,15 +1,15 @@
 -- Open places and trees: of refusal 6, refusal 5 and a tree that claims rightly and lists the slots, exactly one holds.
-use Prim.Native.Nat.{ℕ, zero, suc, _+_, _-_, _≤_, _<_}
+use Prim.Native.Nat.{ℕ, zero, suc, _+_, _≤_, _<_}
 use mathlib.Core.Path.{_≡_, refl, sym, ap, _∙_, subst}
 use mathlib.Core.Logic.{_⊎_, inl, inr}
 use mathlib.Core.List.{List, [], _∷_, _++_, map, append-assoc, append-nil}
 use native.Mathlib.Omega.{arith}
 use native.Mathlib.Nat.{zero-add, suc-add, add-comm}
 use lib.ListN.{length, take}
-use lib.IntN.{ℤ, pos, negsuc, _+ℤ_, _-ℤ_, predℤ, +ℤ-assoc, +ℤ-idr, -ℤ-one, +ℤ-predℤ}
+use lib.IntN.{ℤ, pos, _+ℤ_, _-ℤ_, predℤ, +ℤ-assoc, +ℤ-idr, -ℤ-one, +ℤ-predℤ}
 use Rattle.sheet.specs.Slot.{childCount}
 use Rattle.schema.specs.Tree.{Slot, Tree, Fields, node, empty, field, listing, listings, count, Claims, ClaimsAll}
-use Rattle.schema.specs.Reading.{trees, takeFields, dropFields}
+use Rattle.schema.specs.Reading.{trees}
 use Rattle.schema.specs.OpenPlaces.{sum, openPlaces}
 use Rattle.schema.proofs.TreeLaws.{count-take, count-drop, claims-take, claims-drop}
 

@@ -1,16 +1,14 @@
 -- Refusals 5 and 6 by the open places before each slot.
-use Prim.Native.Nat.{ℕ, zero, suc, _+_, _-_, _≤_, _<_}
-use mathlib.Core.Path.{_≡_, refl, sym, ap, _∙_, subst}
-use mathlib.Core.Bool.{Bool, true, false, cond, not}
+use Prim.Native.Nat.{ℕ, suc, _+_, _<_}
+use mathlib.Core.Path.{_≡_, refl, sym, ap, _∙_}
+use mathlib.Core.Bool.{true, false, not}
 use mathlib.Core.List.{List, [], _∷_, _++_, map, map-append}
 use native.Mathlib.Omega.{arith}
 use native.Mathlib.Nat.{le-refl}
 use borrow.Author.Tests.{lt-ltb, le-ltb}
-use lib.Dec.{ltb}
 use lib.IntN.{ℤ, pos, _+ℤ_, _-ℤ_, +ℤ-assoc, +ℤ-idr, +ℤ-idl}
 use lib.ListN.{length, getD, take}
 use lib.Seq.{take-suc}
-use Rattle.sheet.specs.First.{firstWrong}
 use Rattle.sheet.specs.Slot.{childCount}
 use Rattle.sheet.proofs.FirstLaws.{firstWrong-at, firstWrong-none}
 use Rattle.schema.specs.Tree.{Slot}

@@ -1,12 +1,10 @@
 -- The rows of a tree and its run.
-use Prim.Native.Nat.{ℕ, zero, suc, _+_, _*_, _-_, _≤_, _<_}
-use mathlib.Core.Path.{_≡_, refl, sym, ap, _∙_, subst}
-use mathlib.Core.List.{List, [], _∷_, _++_}
+use Prim.Native.Nat.{ℕ, suc, _+_, _*_}
+use mathlib.Core.Path.{_≡_, refl, _∙_}
 use native.Mathlib.Omega.{arith}
 use lib.ListN.{length, length-append}
 use Rattle.schema.specs.Tree.{Slot, Tree, Fields, node, empty, field, listing, listings, size}
 use Rattle.schema.specs.Rows.{row, rowsFrom, rowssFrom, parentOf, afterFirst, rowWidth}
-use Rattle.schema.specs.Steps.{sizes}
 use Rattle.schema.specs.declared.roles.Parent.{Parent}
 
 pub length-row : (at up : ℕ) (p : Parent) (above s : Slot) (fs : Fields) → length (row at up p above s fs) ≡ rowWidth

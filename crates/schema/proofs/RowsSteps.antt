@@ -1,26 +1,25 @@
 -- The steps of writing rows at the numbers of a sheet: a tree's rows are its root's and its run's, a run's those of its first tree and of the shorter run.
-use Prim.Native.Nat.{ℕ, zero, suc, _+_, _*_, _-_, _≤_, _<_}
-use mathlib.Core.Path.{_≡_, refl, sym, ap, _∙_, subst}
+use Prim.Native.Nat.{ℕ, suc, _+_, _*_, _-_, _≤_, _<_}
+use mathlib.Core.Path.{_≡_, sym, ap, _∙_, subst}
 use mathlib.Core.Bool.{Bool}
 use mathlib.Core.List.{List, [], _∷_, _++_}
 use native.Mathlib.Omega.{arith}
 use native.Mathlib.Nat.{add-zero}
 use native.Mathlib.Numerals.{add-one}
-use lib.ListN.{length, drop, length-append}
+use lib.ListN.{length, drop}
 use Rattle.sheet.specs.Block.{totalOf}
-use Rattle.sheet.specs.Slot.{slots, slotAt, childCount, numbersOf}
+use Rattle.sheet.specs.Slot.{slots, slotAt, numbersOf}
 use Rattle.sheet.specs.declared.slots.Slot.{Slot as Numbers}
 use Rattle.annotation.specs.Kinds.{kindOf}
 use Rattle.annotation.specs.Signed.{natural}
 use Rattle.annotation.specs.declared.slot.Annotated.{Annotated}
 use Rattle.annotation.specs.declared.resolution.Kind.{Kind}
 use Rattle.schema.specs.Annotated.{annotatedBy, annotated, kind}
-use Rattle.schema.specs.Tree.{Slot, Tree, Fields, node, empty, field, listing, listings, count, size}
+use Rattle.schema.specs.Tree.{Slot, Tree, Fields, field, count, size}
 use Rattle.schema.specs.Reading.{trees}
-use Rattle.schema.specs.Rows.{isMapParent, role, parentBy, parentOf, afterFirst, row, rowsFrom, rowssFrom, rows, rowWidth}
-use Rattle.schema.specs.Steps.{Claimed, Visited, treeAt, runAt, fieldsAt, sizes, placed, rowNumbers}
+use Rattle.schema.specs.Rows.{isMapParent, role, parentBy, parentOf, afterFirst, row, rowsFrom, rowssFrom, rowWidth}
+use Rattle.schema.specs.Steps.{Claimed, Visited, treeAt, runAt, fieldsAt, sizes, placed}
 use Rattle.schema.specs.declared.roles.Parent.{Parent}
-use Rattle.schema.specs.declared.rows.Row.{Row}
 use Rattle.schema.proofs.StandingLaws.{runAt-zero, runAt-end, count-some, sizes-empty, sizes-field, size-node}
 use Rattle.schema.proofs.VisitLaws.{treeAt-slot, run-at, runAt-first}
 use Rattle.schema.proofs.PlacingLaws.{placed-empty, placed-after, placed-before, length-placed}

@@ -1,15 +1,15 @@
 -- The trees and runs that stand at the numbers of a list of slots whose slots claim rightly.
-use Prim.Native.Nat.{ℕ, zero, suc, _+_, _-_, _≤_, _<_}
+use Prim.Native.Nat.{ℕ, zero, suc, _+_, _≤_, _<_}
 use mathlib.Core.Path.{_≡_, refl, sym, ap, _∙_, subst}
 use mathlib.Core.List.{List, [], _∷_, _++_}
 use native.Mathlib.Omega.{arith}
 use lib.ListN.{length, getD, drop, length-append, length-drop}
 use lib.Seq.{drop-cons, drop-append-seam, drop-drop}
 use Rattle.sheet.specs.Slot.{childCount}
-use Rattle.schema.specs.Tree.{Slot, Tree, Fields, node, empty, field, listing, listings, count, size, Claims, ClaimsAll}
+use Rattle.schema.specs.Tree.{Slot, Tree, Fields, node, empty, field, listing, listings, count, size, ClaimsAll}
 use Rattle.schema.specs.Reading.{takeFields, dropFields, trees, firstTree, treeOf}
 use Rattle.schema.specs.Steps.{treeAt, runAt, sizes}
-use Rattle.schema.proofs.TreeLaws.{count-take, count-drop, listings-trees, trees-of-listings}
+use Rattle.schema.proofs.TreeLaws.{count-take, listings-trees, trees-of-listings}
 
 claims-join : (n : ℕ) (fs : Fields) → ClaimsAll (takeFields n fs) → ClaimsAll (dropFields n fs) → ClaimsAll fs
 unfolding takeFields dropFields ClaimsAll

@@ -1,13 +1,11 @@
 -- Reading trees off a list of slots and listing them again: a tree that claims rightly is the one that its listing stands for.
-use Prim.Native.Nat.{ℕ, zero, suc, _+_, _-_, _≤_, _<_}
+use Prim.Native.Nat.{ℕ, zero, suc, _-_, _≤_}
 use mathlib.Core.Path.{_≡_, refl, sym, ap, _∙_}
 use mathlib.Core.List.{List, [], _∷_, _++_, append-assoc, append-nil}
 use native.Mathlib.Omega.{arith}
-use native.Mathlib.Nat.{sub-zero}
-use lib.ListN.{length, drop, length-append}
 use Rattle.sheet.specs.Slot.{childCount}
-use Rattle.schema.specs.Tree.{Slot, Tree, Fields, node, empty, field, listing, listings, count, size, Claims, ClaimsAll}
-use Rattle.schema.specs.Reading.{takeFields, dropFields, trees, firstTree, treeOf}
+use Rattle.schema.specs.Tree.{Slot, Tree, Fields, node, empty, field, listing, listings, count, Claims, ClaimsAll}
+use Rattle.schema.specs.Reading.{takeFields, dropFields, trees, firstTree}
 
 -- one run after another
 pub joined : Fields → Fields → Fields

@@ -1,18 +1,18 @@
 -- Visiting the nodes of a sheet whose slots claim rightly.
-use Prim.Native.Nat.{ℕ, zero, suc, _+_, _-_, _≤_, _<_}
-use mathlib.Core.Path.{_≡_, refl, sym, ap, _∙_, subst}
-use mathlib.Core.List.{List, [], _∷_}
+use Prim.Native.Nat.{ℕ, suc, _+_, _-_, _≤_, _<_}
+use mathlib.Core.Path.{_≡_, ap, _∙_, subst}
+use mathlib.Core.List.{List, []}
 use native.Mathlib.Omega.{arith}
 use native.Mathlib.Numerals.{add-one}
-use lib.ListN.{length, getD, drop}
-use Rattle.sheet.specs.Block.{totalOf, mostNodes}
+use lib.ListN.{length, drop}
+use Rattle.sheet.specs.Block.{totalOf}
 use Rattle.sheet.specs.Slot.{slots, slotAt, childCount, physical, repetition, numbersOf}
 use Rattle.sheet.proofs.SlotLaws.{slots-at}
 use Rattle.sheet.specs.declared.slots.Slot.{Slot as Numbers}
-use Rattle.schema.specs.Tree.{Slot, Tree, Fields, node, empty, field, count, size, ClaimsAll}
+use Rattle.schema.specs.Tree.{Slot, node, field, count, size}
 use Rattle.schema.specs.Reading.{trees}
 use Rattle.schema.specs.Steps.{treeAt, runAt, fieldsAt, Claimed}
-use Rattle.schema.proofs.StandingLaws.{treeAt-node, runAt-suc, runAt-zero, runAt-end, claimed-at, count-runAt, count-behind, size-positive}
+use Rattle.schema.proofs.StandingLaws.{treeAt-node, runAt-suc, runAt-end, claimed-at, count-runAt, count-behind, size-positive}
 
 module _ (b : List ℕ) (k : ℕ) (h : Claimed b) (l : k < totalOf b) where
   within : k < length (slots b)

@@ -1,6 +1,5 @@
 -- `schema::shape::field_shape` meets its contract.
 use borrow.Author.Tests.{eq-eqb, ne-eqb}
-use Rattle.schema.specs.Rules.{fieldShape}
 use Rattle.schema.proofs.shape.field_shape.Statement.{statement}
 use Rattle.schema.proofs.shape.field_shape.Tie as tie
 
