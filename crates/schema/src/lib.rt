@@ -13,6 +13,5 @@ mod shape; // shape.rt: rule 8
 mod structure; // structure.rt: rules 12 and 13
 
 pub use refusal::Refusal;
-pub use refusal::Verdict;
 pub use resolving::Resolved;
 pub use resolving::resolve;

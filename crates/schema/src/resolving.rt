@@ -1,9 +1,7 @@
 // A sheet resolved into rows.
 ghost use mathlib.Core.Path.{_≡_};
-ghost use Prim.Native.Nat.{_*_, _≤_, _<_};
+ghost use Prim.Native.Nat.{_*_, _<_};
 ghost use lib.ListN.{length};
-ghost use Rattle.sheet.specs.Block.{totalOf};
-ghost use Rattle.schema.specs.Rows.{rowWidth};
 ghost use Rattle.schema.specs.Outcome.{outcome, written};
 use crate::judgement::Judgement;
 use crate::judgement::judge;
