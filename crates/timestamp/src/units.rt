@@ -1,0 +1,91 @@
+// The three time units, each a type that knows its ticks in a second and in a day and divides a count into days.
+
+ghost use Prim.Native.Nat.{_<_};
+ghost use Rattle.timestamp.specs.Units.{TimeUnit, millis, micros, nanos, ticksPerSecond, ticksPerDay};
+ghost use Rattle.timestamp.specs.FloorDivision.{FloorDivision};
+
+use crate::signed::is_negative;
+use crate::signed::magnitude;
+use crate::signed::negative;
+use crate::signed::nonnegative;
+
+// The seconds of a day.
+pub const SECONDS_PER_DAY: u64 = 86_400;
+
+// A count as whole days since 1 January 1970, negative before it, and the ticks of the day that have passed.
+pub struct Division {
+    pub day: i64,
+    pub rest: u64,
+}
+
+// Thousandths of a second.
+pub struct Millis;
+
+impl Millis {
+    // The number that names the unit.
+    pub const NUMBER: u32 = 1;
+    pub const TICKS_PER_SECOND: u64 = 1_000;
+    pub const TICKS_PER_DAY: u64 = Self::TICKS_PER_SECOND * SECONDS_PER_DAY;
+
+    // The days of a count, rounded down, and the ticks left.
+    pub fn divide(count: i64) -> Division
+        ensures { λ r. ⌜ FloorDivision count (ticksPerDay (ticksPerSecond millis)) r ⌝ }
+    {
+        floor_divide(count, Self::TICKS_PER_DAY)
+    }
+}
+
+// Millionths of a second.
+pub struct Micros;
+
+impl Micros {
+    // The number that names the unit.
+    pub const NUMBER: u32 = 2;
+    pub const TICKS_PER_SECOND: u64 = 1_000_000;
+    pub const TICKS_PER_DAY: u64 = Self::TICKS_PER_SECOND * SECONDS_PER_DAY;
+
+    // The days of a count, rounded down, and the ticks left.
+    pub fn divide(count: i64) -> Division
+        ensures { λ r. ⌜ FloorDivision count (ticksPerDay (ticksPerSecond micros)) r ⌝ }
+    {
+        floor_divide(count, Self::TICKS_PER_DAY)
+    }
+}
+
+// Thousand-millionths of a second.
+pub struct Nanos;
+
+impl Nanos {
+    // The number that names the unit.
+    pub const NUMBER: u32 = 3;
+    pub const TICKS_PER_SECOND: u64 = 1_000_000_000;
+    pub const TICKS_PER_DAY: u64 = Self::TICKS_PER_SECOND * SECONDS_PER_DAY;
+
+    // The days of a count, rounded down, and the ticks left.
+    pub fn divide(count: i64) -> Division
+        ensures { λ r. ⌜ FloorDivision count (ticksPerDay (ticksPerSecond nanos)) r ⌝ }
+    {
+        floor_divide(count, Self::TICKS_PER_DAY)
+    }
+}
+
+// Signed division that rounds down: where the magnitude m of a count before 0 is `q * ticks + r`, the count
+// `-1 - m` is `(-1 - q) * ticks + (ticks - 1 - r)`.
+fn floor_divide(count: i64, ticks: u64) -> Division
+    requires { ⌜ 0 < ticks ⌝ }
+    ensures { λ r. ⌜ FloorDivision count ticks r ⌝ }
+{
+    let size = magnitude(count);
+    let days = size / ticks;
+    let over = size % ticks;
+    if is_negative(count) {
+        return Division {
+            day: negative(days),
+            rest: ticks - 1 - over,
+        };
+    }
+    Division {
+        day: nonnegative(days),
+        rest: over,
+    }
+}
