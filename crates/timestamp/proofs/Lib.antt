@@ -1,0 +1,6 @@
+-- The laws that belong to no one function.
+pub mod DifferenceLaws
+pub mod TestLaws
+pub mod DivisionLaws
+pub mod YearLaws
+pub mod MonthLaws
