@@ -53,7 +53,7 @@ divides-rest k a b e = by-test (divides k a) (λ t. t ∙ sym (eq-eqb (b % k) 0 
 
 -- steps that each begin where the one before ends: a place tells its step, and how far it lies into it
 module _ (f len : ℕ → ℕ) (next : (i : ℕ) → f (suc i) ≡ f i + len i) where
-  steps-up : (i j : ℕ) → i ≤ j → f i ≤ f j
+  pub steps-up : (i j : ℕ) → i ≤ j → f i ≤ f j
   steps-up i zero h = le-of-eq (ap f (omega arith))
   steps-up i (suc j) h =
       below? i (suc j) (λ g. let k : f i ≤ f j = steps-up i j (omega arith) in omega (arith, next j)) (λ g. le-of-eq (ap f (omega arith)))

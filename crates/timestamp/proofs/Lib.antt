@@ -4,3 +4,5 @@ pub mod TestLaws
 pub mod DivisionLaws
 pub mod YearLaws
 pub mod MonthLaws
+pub mod EraLaws
+pub mod DateLaws

@@ -82,7 +82,7 @@ leap-count n =
     (λ t. let h : n % 400 ≡ 0 = eqb-true (n % 400) 0 t in eq-eqb (n % 100) 0 (omega arith))
     (λ t. let h : n % 100 ≡ 0 = eqb-true (n % 100) 0 t in eq-eqb (n % 4) 0 (omega arith))
 
-march-sum : (n a b c : ℕ) → n / 4 ≡ a → n / 100 ≡ b → n / 400 ≡ c → march n + b ≡ 365 * n + a + c
+pub march-sum : (n a b c : ℕ) → n / 4 ≡ a → n / 100 ≡ b → n / 400 ≡ c → march n + b ≡ 365 * n + a + c
 unfolding march
 march-sum n a b c p q r =
     ap (λ (x : ℕ). x + b) (ap₂ (λ (x y : ℕ). 365 * n + x + n / 400 - y) p q ∙ ap (λ (x : ℕ). 365 * n + a + x - b) r) ∙ back b n (subst (λ (x : ℕ). x ≤ n) q (div-le-self n 100))
