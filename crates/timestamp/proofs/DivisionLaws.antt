@@ -18,6 +18,9 @@ quotient-is n k q r e h = ap (λ (x : ℕ). x / k) e ∙ mul-add-div-right (omeg
 pub rest-is : (n k q r : ℕ) → n ≡ q * k + r → r < k → n % k ≡ r
 rest-is n k q r e h = ap (λ (x : ℕ). x % k) e ∙ mul-add-mod-self-right q k r ∙ mod-eq-of-lt h
 
+pub suc-times : (n k : ℕ) → suc n * k ≡ n * k + k
+suc-times n k = ap (λ (x : ℕ). x * k) (omega arith) ∙ add-mul n 1 k ∙ omega arith
+
 -- the quotient grows by one at each multiple
 pub quotient-suc : (k n : ℕ) → 0 < k → suc n / k ≡ n / k + one-if (divides k (suc n))
 quotient-suc k n h = below? (suc (n % k)) k inside at-end

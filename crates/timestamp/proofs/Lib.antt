@@ -6,3 +6,6 @@ pub mod YearLaws
 pub mod MonthLaws
 pub mod EraLaws
 pub mod DateLaws
+pub mod FloorLaws
+pub mod ReachLaws
+pub mod ClockLaws

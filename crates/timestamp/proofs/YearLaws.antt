@@ -22,6 +22,13 @@ pub days-of-year : (y : ℤ) → daysOfYear y ≡ 365 + one-if (isLeap y)
 unfolding daysOfYear
 days-of-year y = year-days (isLeap y)
 
+one-if-most : (b : Bool) → one-if b ≤ 1
+one-if-most true = omega arith
+one-if-most false = omega arith
+
+pub days-of-year-most : (y : ℤ) → daysOfYear y ≤ 366
+days-of-year-most y = omega (arith, days-of-year y, one-if-most (isLeap y))
+
 -- ---- a year and the year as many eras on
 
 era-multiple : (k e : ℕ) → 400 % k ≡ 0 → (400 * e) % k ≡ 0
@@ -126,7 +133,7 @@ elapsed-era n e =
 same-days : (e m n : ℕ) → suc m + n ≡ 400 * e → daysOfYear (negsuc m) ≡ daysOfYear (pos n)
 same-days e m n h = year-days-era (negsuc m) n e (negsuc-sub m ∙ sub-eq 0 (suc m) n (400 * e) (omega arith))
 
-elapsed-zero : elapsed 0 ≡ 0
+pub elapsed-zero : elapsed 0 ≡ 0
 unfolding elapsed
 elapsed-zero = refl
 

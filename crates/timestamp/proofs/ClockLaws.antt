@@ -1,0 +1,63 @@
+-- Times of a day and their ticks: within the day, and one time for each tick.
+use Prim.Native.Nat.{ℕ, zero, suc, _+_, _*_, _-_, _/_, _%_, _<_, _≤_}
+use native.Mathlib.Omega.{arith}
+use native.Mathlib.Nat.{mul-le-mul-right}
+use mathlib.Core.Path.{_≡_, refl, sym, ap, ap₂, subst, _∙_}
+use mathlib.Core.Bool.{Bool, true, _&&_}
+use borrow.Author.Tests.{ltb-true, lt-ltb}
+use lib.Dec.{ltb}
+use Rattle.timestamp.specs.Clock.{hoursPerDay, minutesPerHour, secondsPerMinute, isTime, tickOfDay}
+use Rattle.timestamp.specs.Units.{ticksPerDay}
+use Rattle.timestamp.proofs.DivisionLaws.{steps-one, suc-times}
+use Rattle.timestamp.proofs.TestLaws.{and-both, both-and}
+
+pub record Time (t h m s f : ℕ) : Type 0 where
+  pub hour-below : h < 24
+  pub minute-below : m < 60
+  pub second-below : s < 60
+  pub fraction-below : f < t
+
+pub time-parts : (t h m s f : ℕ) → isTime t h m s f ≡ true → Time t h m s f
+unfolding isTime
+time-parts t h m s f e =
+    let halves = and-both (ltb h hoursPerDay && ltb m minutesPerHour) (ltb s secondsPerMinute && ltb f t) e in
+    let first = and-both (ltb h hoursPerDay) (ltb m minutesPerHour) (halves .0) in
+    let second = and-both (ltb s secondsPerMinute) (ltb f t) (halves .1) in
+    record {
+      hour-below = ltb-true h 24 (first .0);
+      minute-below = ltb-true m 60 (first .1);
+      second-below = ltb-true s 60 (second .0);
+      fraction-below = ltb-true f t (second .1)
+    }
+
+pub parts-time : (t h m s f : ℕ) → Time t h m s f → isTime t h m s f ≡ true
+unfolding isTime
+parts-time t h m s f p =
+    both-and (ltb h hoursPerDay && ltb m minutesPerHour) (ltb s secondsPerMinute && ltb f t)
+    (both-and (ltb h hoursPerDay) (ltb m minutesPerHour) (lt-ltb h 24 (p .hour-below)) (lt-ltb m 60 (p .minute-below)))
+    (both-and (ltb s secondsPerMinute) (ltb f t) (lt-ltb s 60 (p .second-below)) (lt-ltb f t (p .fraction-below)))
+
+-- the second of the day
+abbrev second-of-day : ℕ → ℕ → ℕ → ℕ
+second-of-day h m s = (h * minutesPerHour + m) * secondsPerMinute + s
+
+-- a tick of a day lies within the day
+pub tick-below : (t h m s f : ℕ) → Time t h m s f → tickOfDay t h m s f < ticksPerDay t
+unfolding tickOfDay
+tick-below t h m s f p =
+    let whole : suc (second-of-day h m s) * t ≤ 86400 * t = mul-le-mul-right t (omega (arith, p .hour-below, p .minute-below, p .second-below)) in
+    omega (arith, whole, suc-times (second-of-day h m s) t, p .fraction-below)
+
+-- and is one of one time
+pub time-one : (t h m s f h′ m′ s′ f′ : ℕ) → Time t h m s f → Time t h′ m′ s′ f′ → tickOfDay t h m s f ≡ tickOfDay t h′ m′ s′ f′ → (h ≡ h′) × ((m ≡ m′) × ((s ≡ s′) × (f ≡ f′)))
+unfolding tickOfDay
+time-one t h m s f h′ m′ s′ f′ p q e = (hours, (minutes, (seconds, one .1)))
+  where
+    one : (second-of-day h m s ≡ second-of-day h′ m′ s′) × (f ≡ f′)
+    one = steps-one (λ (n : ℕ). n * t) (λ (n : ℕ). t) (λ (n : ℕ). suc-times n t) (second-of-day h m s) (second-of-day h′ m′ s′) f f′ (p .fraction-below) (q .fraction-below) e
+    hours : h ≡ h′
+    hours = omega (arith, one .0, p .minute-below, p .second-below, q .minute-below, q .second-below)
+    minutes : m ≡ m′
+    minutes = omega (arith, one .0, p .minute-below, p .second-below, q .minute-below, q .second-below)
+    seconds : s ≡ s′
+    seconds = omega (arith, one .0, p .minute-below, p .second-below, q .minute-below, q .second-below)
