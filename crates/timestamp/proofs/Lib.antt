@@ -1,4 +1,5 @@
 -- The laws that belong to no one function.
+pub mod SignedLaws
 pub mod DifferenceLaws
 pub mod TestLaws
 pub mod DivisionLaws
@@ -9,3 +10,5 @@ pub mod DateLaws
 pub mod FloorLaws
 pub mod ReachLaws
 pub mod ClockLaws
+pub mod CountLaws
+pub mod Points

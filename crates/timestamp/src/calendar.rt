@@ -9,6 +9,7 @@ ghost use Rattle.timestamp.specs.Calendar.{isLeap, divides, daysOfMonth,
 
 use crate::eras::DAYS_PER_ERA;
 use crate::eras::EraDate;
+use crate::eras::MONTHS_PER_YEAR;
 use crate::eras::YEARS_PER_ERA;
 use crate::eras;
 use crate::signed::absolute;
@@ -27,7 +28,6 @@ const MARCH_TO_EPOCH: u64 = 719_468;
 // The days from 1 March of the first year to 1 January 1970.
 const DAYS_BEFORE: u64 = ERAS * DAYS_PER_ERA + MARCH_TO_EPOCH;
 
-const MONTHS_PER_YEAR: u32 = 12;
 const FEBRUARY: u32 = 2;
 
 // The days of each month of a common year.
@@ -58,7 +58,7 @@ pub fn is_date(date: Date) -> bool
 
 // The date of a day number.
 pub fn date_of(day: i64) -> Date
-    requires { ⌜ mag day < 146097000000 ⌝ }
+    requires { ⌜ mag day < 2 ^ 37 ⌝ }
     ensures { λ r. ⌜ (isDate (r .year) (r .month) (r .day) ≡ true) × (dayNumber (r .year) (r .month) (r .day) ≡ day) ⌝ }
 {
     let date = eras::date_of(raised(day, DAYS_BEFORE));

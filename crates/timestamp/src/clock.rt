@@ -4,7 +4,7 @@ ghost use mathlib.Core.Path.{_≡_};
 ghost use mathlib.Core.Bool.{true};
 ghost use Prim.Native.Nat.{_<_, _≤_};
 ghost use Rattle.timestamp.specs.Clock.{isTime, tickOfDay};
-ghost use Rattle.timestamp.specs.Units.{ticksPerDay};
+ghost use Rattle.timestamp.specs.Units.{nanos, ticksPerSecond, ticksPerDay};
 
 const HOURS_PER_DAY: u32 = 24;
 const MINUTES_PER_HOUR: u32 = 60;
@@ -36,7 +36,7 @@ pub fn is_time(ticks: u64, time: Time) -> bool
 
 // The time at a tick of the day.
 pub fn time_of(ticks: u64, tick: u64) -> Time
-    requires { ⌜ (0 < ticks) × (ticks ≤ 1000000000) × (tick < ticksPerDay ticks) ⌝ }
+    requires { ⌜ (0 < ticks) × (ticks ≤ ticksPerSecond nanos) × (tick < ticksPerDay ticks) ⌝ }
     ensures { λ r. ⌜ (isTime ticks (r .hour) (r .minute) (r .second) (r .fraction) ≡ true) × (tickOfDay ticks (r .hour) (r .minute) (r .second) (r .fraction) ≡ tick) ⌝ }
 {
     let seconds = (tick / ticks) as u32;
@@ -51,7 +51,7 @@ pub fn time_of(ticks: u64, tick: u64) -> Time
 
 // The ticks of the day that have passed at a time.
 pub fn tick_of_day(ticks: u64, time: Time) -> u64
-    requires { ⌜ (ticks ≤ 1000000000) × (isTime ticks (time .hour) (time .minute) (time .second) (time .fraction) ≡ true) ⌝ }
+    requires { ⌜ (ticks ≤ ticksPerSecond nanos) × (isTime ticks (time .hour) (time .minute) (time .second) (time .fraction) ≡ true) ⌝ }
     ensures { λ r. ⌜ r ≡ tickOfDay ticks (time .hour) (time .minute) (time .second) (time .fraction) ⌝ }
 {
     let minutes = time.hour * MINUTES_PER_HOUR + time.minute;

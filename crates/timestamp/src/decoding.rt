@@ -2,10 +2,10 @@
 
 ghost use mathlib.Core.Path.{_≡_};
 ghost use mathlib.Core.Bool.{true};
-ghost use Prim.Native.Nat.{_<_, _≤_};
+ghost use Prim.Native.Nat.{_<_, _≤_, _^_};
 ghost use lib.IntN.{ℤ};
 ghost use lib.Signed.{mag};
-ghost use Rattle.timestamp.specs.Units.{unitOf, ticksPerDay};
+ghost use Rattle.timestamp.specs.Units.{nanos, ticksPerSecond, ticksPerDay, unitOf};
 ghost use Rattle.timestamp.specs.FloorDivision.{FloorDivision};
 ghost use Rattle.timestamp.specs.Outcomes.{Decodes, FieldsOf, decoded};
 
@@ -42,7 +42,7 @@ pub fn decode(unit: u32, count: i64) -> Decoded
 
 // The fields of a day number and a tick of that day.
 fn fields_of(ticks: u64, division: Division) -> Fields
-    requires { ⌜ (0 < ticks) × (ticks ≤ 1000000000) × (mag (division .day) < 146097000000) × (division .rest < ticksPerDay ticks) ⌝ }
+    requires { ⌜ (0 < ticks) × (ticks ≤ ticksPerSecond nanos) × (mag (division .day) < 2 ^ 37) × (division .rest < ticksPerDay ticks) ⌝ }
     ensures { λ r. ⌜ ((count : ℤ) → FloorDivision count (ticksPerDay ticks) division → FieldsOf ticks count r) ⌝ }
 {
     let date = date_of(division.day);

@@ -3,8 +3,9 @@
 ghost use mathlib.Core.Path.{_≡_};
 ghost use mathlib.Core.Bool.{cond};
 ghost use Prim.Native.Nat.{_+_, _*_, _<_, _≤_, _^_};
+ghost use lib.Dec.{ltb};
 ghost use lib.IntN.{pos, _+ℤ_, _*ℤ_};
-ghost use Rattle.timestamp.specs.Units.{unitOf, ticksPerDay};
+ghost use Rattle.timestamp.specs.Units.{millis, nanos, ticksPerSecond, ticksPerDay, unitOf};
 ghost use Rattle.timestamp.specs.Count.{isDateTime};
 ghost use Rattle.timestamp.specs.Outcomes.{encoded, encoding, encodingIn, isSigned64, given, notRepresentable};
 
@@ -63,7 +64,7 @@ pub fn encode(unit: u32, fields: Fields) -> Encoded
 
 // The count of the fields at so many ticks in a second and in a day.
 fn encode_in(ticks: u64, ticks_per_day: u64, fields: Fields) -> Encoded
-    requires { ⌜ (1000 ≤ ticks) × (ticks ≤ 1000000000) × («ticks_per_day» ≡ ticksPerDay ticks) ⌝ }
+    requires { ⌜ (ticksPerSecond millis ≤ ticks) × (ticks ≤ ticksPerSecond nanos) × («ticks_per_day» ≡ ticksPerDay ticks) ⌝ }
     ensures { λ r. ⌜ encoded r ≡ encodingIn ticks fields ⌝ }
 {
     let date = Date {
@@ -113,8 +114,11 @@ fn count_of(division: Division, ticks: u64) -> Encoded
     Encoded::Count(nonnegative(size))
 }
 
-// `days * ticks + over`, where `over` is below `ticks`.
-fn size_of(days: u64, over: u64, ticks: u64) -> Magnitude {
+// `days * ticks + over`, where that is a magnitude.
+fn size_of(days: u64, over: u64, ticks: u64) -> Magnitude
+    requires { ⌜ (over < ticks) × (ticks < 2 ^ 63) ⌝ }
+    ensures { λ r. ⌜ r ≡ cond (ltb (days * ticks + over) (2 ^ 63)) (Magnitude.Of (days * ticks + over)) Magnitude.TooGreat ⌝ }
+{
     if GREATEST / ticks < days {
         return Magnitude::TooGreat;
     }

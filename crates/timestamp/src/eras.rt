@@ -9,9 +9,9 @@
 
 ghost use mathlib.Core.Path.{_≡_};
 ghost use mathlib.Core.Bool.{true};
-ghost use Prim.Native.Nat.{_+_, _<_, _≤_, _^_};
+ghost use Prim.Native.Nat.{_+_, _*_, _/_, _<_, _≤_, _^_, min};
 ghost use lib.IntN.{pos};
-ghost use Rattle.timestamp.specs.Calendar.{dayOf, isDate};
+ghost use Rattle.timestamp.specs.Calendar.{dayOf, daysOfYear, isDate};
 
 pub const YEARS_PER_ERA: u64 = 400;
 pub const DAYS_PER_ERA: u64 = 146_097;
@@ -20,6 +20,11 @@ const DAYS_PER_CENTURY: u64 = 36_524;
 const YEARS_PER_FOUR: u64 = 4;
 const DAYS_PER_FOUR: u64 = 1_461;
 const DAYS_PER_YEAR: u64 = 365;
+const MONTHS_PER_FIVE: u64 = 5;
+const DAYS_PER_FIVE: u64 = 153;
+
+pub const MONTHS_PER_YEAR: u32 = 12;
+const MARCH: u32 = 3;
 
 // A date of year 0 or later.
 pub struct EraDate {
@@ -34,43 +39,46 @@ struct YearDay {
     day: u64,
 }
 
-// The date of a day. 1 March of year 0 is that year's day 61, and here day 0.
+// The date of a day. 1 March of year 0 is day 0 here, and day 61 of its year.
 pub fn date_of(day: u64) -> EraDate
-    requires { ⌜ day < 2 ^ 62 ⌝ }
     ensures { λ r. ⌜ (isDate (pos (r .year)) (r .month) (r .day) ≡ true) × (dayOf (pos (r .year)) (r .month) (r .day) ≡ pos (day + 61)) × (r .year ≤ day + 1) ⌝ }
 {
     let at = year_of(day);
-    let month = month_of(at.day);
-    let day_of_month = (at.day - days_before_month(month) + 1) as u32;
-    if month < 10 {
+    let from_march = month_of(at.day);
+    let day_of_month = (at.day - days_before_month(from_march) + 1) as u32;
+    let month = from_march as u32 + MARCH;
+    if month <= MONTHS_PER_YEAR {
         return EraDate {
             year: at.year,
-            month: month as u32 + 3,
+            month,
             day: day_of_month,
         };
     }
     EraDate {
         year: at.year + 1,
-        month: month as u32 - 9,
+        month: month - MONTHS_PER_YEAR,
         day: day_of_month,
     }
 }
 
 // The day of a date, which is of year 1 or later.
 pub fn day_of(date: EraDate) -> u64
-    requires { ⌜ (1 ≤ date .year) × (date .year < 2 ^ 40) × (isDate (pos (date .year)) (date .month) (date .day) ≡ true) ⌝ }
-    ensures { λ r. ⌜ dayOf (pos (date .year)) (date .month) (date .day) ≡ pos (r + 61) ⌝ }
+    requires { ⌜ (1 ≤ date .year) × (date .year < 2 ^ 32) × (isDate (pos (date .year)) (date .month) (date .day) ≡ true) ⌝ }
+    ensures { λ r. ⌜ (dayOf (pos (date .year)) (date .month) (date .day) ≡ pos (r + 61)) × (r < 2 ^ 42) ⌝ }
 {
-    let month = date.month as u64;
-    let day = date.day as u64;
-    if month < 3 {
-        return days_before_year(date.year - 1) + days_before_month(month + 9) + day - 1;
+    let day = (date.day - 1) as u64;
+    if date.month < MARCH {
+        let month = (date.month + MONTHS_PER_YEAR - MARCH) as u64;
+        return days_before_year(date.year - 1) + days_before_month(month) + day;
     }
-    days_before_year(date.year) + days_before_month(month - 3) + day - 1
+    let month = (date.month - MARCH) as u64;
+    days_before_year(date.year) + days_before_month(month) + day
 }
 
 // The year and the day of the year that a day is.
-fn year_of(day: u64) -> YearDay {
+fn year_of(day: u64) -> YearDay
+    ensures { λ r. ⌜ (dayOf (pos (r .year)) 3 (r .day + 1) ≡ pos (day + 61)) × (r .day < daysOfYear (pos (r .year + 1))) × (r .year ≤ day) ⌝ }
+{
     let era = day / DAYS_PER_ERA;
     let of_era = day % DAYS_PER_ERA;
     let century = at_most_three(of_era / DAYS_PER_CENTURY);
@@ -85,21 +93,32 @@ fn year_of(day: u64) -> YearDay {
 }
 
 // The lesser of `n` and 3.
-fn at_most_three(n: u64) -> u64 {
+fn at_most_three(n: u64) -> u64
+    ensures { λ r. ⌜ r ≡ min n 3 ⌝ }
+{
     if n < 3 { n } else { 3 }
 }
 
 // The days before a year.
-fn days_before_year(year: u64) -> u64 {
+fn days_before_year(year: u64) -> u64
+    requires { ⌜ year < 2 ^ 32 ⌝ }
+    ensures { λ r. ⌜ (dayOf (pos year) 3 1 ≡ pos (r + 61)) × (r < 2 ^ 41) ⌝ }
+{
     DAYS_PER_YEAR * year + year / YEARS_PER_FOUR + year / YEARS_PER_ERA - year / YEARS_PER_CENTURY
 }
 
-// The month of a year that a day of it is in, where March is 0.
-fn month_of(day: u64) -> u64 {
-    (5 * day + 2) / 153
+// The month that a day of a year is in, where March is 0.
+fn month_of(day: u64) -> u64
+    requires { ⌜ day ≤ 365 ⌝ }
+    ensures { λ r. ⌜ r ≡ (5 * day + 2) / 153 ⌝ }
+{
+    (MONTHS_PER_FIVE * day + 2) / DAYS_PER_FIVE
 }
 
-// The days of a year before a month of it, where March is 0.
-fn days_before_month(month: u64) -> u64 {
-    (153 * month + 2) / 5
+// The days of a year before a month, where March is 0.
+fn days_before_month(month: u64) -> u64
+    requires { ⌜ month ≤ 11 ⌝ }
+    ensures { λ r. ⌜ r ≡ (153 * month + 2) / 5 ⌝ }
+{
+    (DAYS_PER_FIVE * month + 2) / MONTHS_PER_FIVE
 }

@@ -1,0 +1,50 @@
+-- Signed numbers of 64 bits by sign and magnitude, as the machine reads them back from their bits.
+use Prim.Native.Nat.{ℕ, zero, suc, _+_, _-_, _<_, _≤_, _^_}
+use native.Mathlib.Omega.{arith}
+use mathlib.Core.Path.{_≡_, refl, sym, ap, subst, _∙_}
+use mathlib.Core.Bool.{Bool, true, false, not, false≢true, true≢false}
+use borrow.Author.Tests.{le-ltb}
+use lib.Dec.{T}
+use lib.IntN.{ℤ, pos, negsuc, natAbs, subℕ, _-ℤ_}
+use lib.Signed.{mag, ltZ, nonNeg}
+use mir.Syntax.{w64}
+use mir.Val.{Fits, SFits, toZ, ofZ}
+use mir.ValLaws.{toZ-ofZ}
+use Rattle.timestamp.proofs.DifferenceLaws.{sub-above, sub-below, sub-eq, pos-sub, negsuc-sub}
+
+-- a number below 0 is one that is not nonnegative
+pub below-zero : (x : ℤ) → ltZ x (pos 0) ≡ not (nonNeg x)
+below-zero (pos n) = le-ltb n 0 (omega arith)
+below-zero (negsuc n) = refl
+
+-- a number, from its sign and its magnitude
+pub negative-is : (x : ℤ) → not (nonNeg x) ≡ true → x ≡ negsuc (mag x)
+negative-is (pos n) e = absurd (false≢true e)
+negative-is (negsuc n) e = refl
+
+pub nonnegative-is : (x : ℤ) → not (nonNeg x) ≡ false → x ≡ pos (mag x)
+nonnegative-is (pos n) e = refl
+nonnegative-is (negsuc n) e = absurd (true≢false e)
+
+-- -1 less a number takes one sign to the other
+pub complement-negative : (n : ℕ) → negsuc 0 -ℤ negsuc n ≡ pos n
+complement-negative n = sub-above (suc n) 1 (omega arith) ∙ ap pos (omega arith)
+
+pub complement-nonnegative : (n : ℕ) → negsuc 0 -ℤ pos n ≡ negsuc n
+complement-nonnegative zero = refl
+complement-nonnegative (suc n) = ap negsuc (omega arith)
+
+-- what the machine reads back of a number
+pub read-back : {x z : ℤ} → x ≡ z → mag z < 2 ^ 63 → toZ w64 (ofZ w64 x) ≡ z
+read-back {x} {z} e h = ap (λ (y : ℤ). toZ w64 (ofZ w64 y)) e ∙ toZ-ofZ w64 z (record { sfits = h })
+
+-- and what a cast of it to an unsigned number asks
+pub cast-fits : {x : ℤ} {n : ℕ} → x ≡ pos n → n < 2 ^ 63 → T (nonNeg x) × Fits w64 (natAbs x)
+cast-fits {x} {n} e h = subst (λ (y : ℤ). T (nonNeg y) × Fits w64 (natAbs y)) (sym e) (tt, record { fits = omega arith })
+
+-- the sign and the magnitude that are told of the number that is read back are those of the number
+pub sign-told : {x : ℤ} {b v : Bool} → SFits w64 x → b ≡ not (nonNeg (toZ w64 (ofZ w64 x))) → b ≡ v → not (nonNeg x) ≡ v
+sign-told {x} h p q = ap (λ (z : ℤ). not (nonNeg z)) (sym (toZ-ofZ w64 x h)) ∙ sym p ∙ q
+
+pub magnitude-told : {x : ℤ} {n : ℕ} → SFits w64 x → n ≡ mag (toZ w64 (ofZ w64 x)) → n ≡ mag x
+magnitude-told {x} h p = p ∙ ap mag (toZ-ofZ w64 x h)
