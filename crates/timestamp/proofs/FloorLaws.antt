@@ -1,12 +1,15 @@
 -- Floor division of integers: a count from its days and its rest, by the sign, and that both are told by the count.
-use Prim.Native.Nat.{ℕ, zero, suc, _+_, _*_, _-_, _<_, _≤_, _^_}
+use Prim.Native.Nat.{ℕ, zero, suc, _+_, _*_, _-_, _/_, _%_, _<_, _≤_, _^_}
 use native.Mathlib.Omega.{arith}
-use native.Mathlib.Nat.{add-mul}
+use native.Mathlib.Nat.{add-mul, div-add-mod', mod-lt}
 use mathlib.Core.Path.{_≡_, refl, sym, ap, ap₂, subst, _∙_}
 use mathlib.Core.Bool.{Bool, true, false, _&&_}
 use borrow.Author.Tests.{le-leb, lt-leb}
 use lib.IntN.{ℤ, pos, negsuc, subℕ, _+ℤ_, _*ℤ_}
 use lib.Signed.{mag, leZ}
+use mir.Syntax.{w64}
+use mir.Val.{SFits, toZ, ofZ}
+use mir.ValLaws.{toZ-ofZ}
 use Rattle.timestamp.specs.declared.units.Division.{Division}
 use Rattle.timestamp.specs.FloorDivision.{FloorDivision}
 use Rattle.timestamp.specs.Outcomes.{isSigned64}
@@ -67,3 +70,18 @@ division-one {count} {t} {d} {d′} p q = λ i. record { day = one .0 i; rest = 
   where
     one : (d .day ≡ d′ .day) × (d .rest ≡ d′ .rest)
     one = joined-one (d .day) (d′ .day) t (d .rest) (d′ .rest) (p .below) (q .below) (sym (p .exact) ∙ q .exact)
+
+-- the division of a magnitude, before 0 and from 0 on
+pub divided-negative : (n t : ℕ) → 0 < t → negsuc n ≡ joined (negsuc (n / t)) t (t - 1 - n % t)
+divided-negative n t h =
+    ap negsuc (back (n / t * t) (n % t) (div-add-mod' n t) (mod-lt n h)) ∙ sym (joined-negative (n / t) t (t - 1 - n % t) (omega arith))
+  where
+    back : (x r : ℕ) → x + r ≡ n → r < t → n ≡ x + (t - 1 - (t - 1 - r))
+    back x r e k = omega arith
+
+pub divided-nonnegative : (n t : ℕ) → pos n ≡ joined (pos (n / t)) t (n % t)
+divided-nonnegative n t = ap pos (sym (div-add-mod' n t))
+
+-- what is told of the number that the machine reads back is told of the number
+pub division-told : {count : ℤ} {t : ℕ} {d : Division} → SFits w64 count → FloorDivision (toZ w64 (ofZ w64 count)) t d → FloorDivision count t d
+division-told {count} {t} {d} h p = subst (λ (z : ℤ). FloorDivision z t d) (toZ-ofZ w64 count h) p

@@ -1,17 +1,14 @@
+-- `timestamp::units::Millis::divide` meets its contract.
 use borrow.Author.Needs.{needs}
+use Rattle.timestamp.proofs.FloorLaws.{division-told}
 use Rattle.timestamp.proofs.units.Millis.divide.Statement.{statement}
 use Rattle.timestamp.proofs.units.Millis.divide.Tie as tie
-use Rattle.timestamp.proofs.units.Millis.divide.Reads as reads
-use Rattle.timestamp.proofs.units.Millis.divide.Lts as lts
-use Rattle.timestamp.proofs.units.floor_divide.Reads as floor-divide-reads
 
--- src/units.rt:34:9
 floor-divide-requires : tie.Need-floor-divide-requires
 floor-divide-requires c κs = search needs
 
--- src/units.rt:31:5
 returns : tie.Need-returns
-returns c = ?
+returns c = division-told (c .before .fits .count) (c .floor-divide .ensures)
 
 pub divide-spec : {M : Type 1} → statement M
 divide-spec = tie.close (tie.spec floor-divide-requires returns)
