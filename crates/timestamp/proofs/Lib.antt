@@ -7,6 +7,7 @@ pub mod YearLaws
 pub mod MonthLaws
 pub mod EraLaws
 pub mod DateLaws
+pub mod EraDateLaws
 pub mod FloorLaws
 pub mod ReachLaws
 pub mod ClockLaws

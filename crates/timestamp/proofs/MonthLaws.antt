@@ -46,17 +46,17 @@ january-start b (suc zero) h k = refl
 january-start b (suc (suc zero)) h k = refl
 january-start b (suc (suc (suc m))) h k = absurd (omega arith)
 
--- each of those months ends where the next begins, and February with the year
+-- each of those months ends where the next begins, and a day of January or February is not past its month or the year
 pub march-month-end : (b : Bool) (i : ℕ) → i < 10 → march-month i + month-days b (i + 3) ≡ march-month (suc i)
 march-month-end true i h = eqb-true _ _ (at-each 10 (λ (k : ℕ). eqb (march-month k + month-days true (k + 3)) (march-month (suc k))) refl i h)
 march-month-end false i h = eqb-true _ _ (at-each 10 (λ (k : ℕ). eqb (march-month k + month-days false (k + 3)) (march-month (suc k))) refl i h)
 
-pub january-end : (b : Bool) → march-month 10 + month-days b 1 ≡ march-month 11
-january-end b = refl
-
-pub february-end : (b : Bool) → march-month 11 + month-days b 2 ≡ 365 + one-if b
-february-end true = refl
-february-end false = refl
+pub january-end : (b : Bool) (m k : ℕ) → 1 ≤ m → m ≤ 2 → march-month (m + 9) ≤ k → k < march-month (suc (m + 9)) → k < 365 + one-if b → k - march-month (m + 9) + 1 ≤ month-days b m
+january-end b zero k h g p q r = absurd (omega arith)
+january-end b (suc zero) k h g p q r = omega arith
+january-end true (suc (suc zero)) k h g p q r = omega arith
+january-end false (suc (suc zero)) k h g p q r = omega arith
+january-end b (suc (suc (suc m))) k h g p q r = absurd (omega arith)
 
 -- the month that a day of such a year lies in
 pub march-month-of : (day : ℕ) → day ≤ 365 → (march-month ((5 * day + 2) / 153) ≤ day) × (day < march-month (suc ((5 * day + 2) / 153))) × ((5 * day + 2) / 153 ≤ 11)

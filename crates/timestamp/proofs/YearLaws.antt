@@ -69,7 +69,7 @@ days-before-year zero = refl
 days-before-year (suc n) = ap (λ (z : ℤ). z +ℤ pos (daysOfYear (pos n))) (days-before-year n)
 
 -- from 1 March of year 0 to 1 March of year n
-pub march : ℕ → ℕ
+unfoldable pub march : ℕ → ℕ
 march n = 365 * n + n / 4 + n / 400 - n / 100
 
 -- how many of the rules hold at a year: a leap year is a multiple of 4, and none of 100 but those of 400

@@ -41,6 +41,7 @@ struct YearDay {
 
 // The date of a day. 1 March of year 0 is day 0 here, and day 61 of its year.
 pub fn date_of(day: u64) -> EraDate
+    requires { ⌜ day < 2 ^ 62 ⌝ }
     ensures { λ r. ⌜ (isDate (pos (r .year)) (r .month) (r .day) ≡ true) × (dayOf (pos (r .year)) (r .month) (r .day) ≡ pos (day + 61)) × (r .year ≤ day + 1) ⌝ }
 {
     let at = year_of(day);
