@@ -8,6 +8,7 @@ pub mod MonthLaws
 pub mod EraLaws
 pub mod DateLaws
 pub mod EraDateLaws
+pub mod CalendarLaws
 pub mod FloorLaws
 pub mod ReachLaws
 pub mod ClockLaws

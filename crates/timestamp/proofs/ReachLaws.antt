@@ -1,4 +1,4 @@
--- Years that no count of 64 bits reaches: more than 400 million from year 0, at a thousand ticks a second or more.
+-- Years that no count of 64 bits reaches: 300 million or more from year 0, at a thousand ticks a second or more.
 use Prim.Native.Nat.{ℕ, zero, suc, _+_, _*_, _-_, _<_, _≤_, _^_}
 use native.Mathlib.Omega.{arith}
 use native.Mathlib.Nat.{mul-le-mul, le-trans}
@@ -38,13 +38,13 @@ before (suc n) =
     }
 
 -- so the day number of a far year is far
-days-far : (y : ℤ) (m d : ℕ) → isDate y m d ≡ true → 400000000 ≤ mag y → 145000000000 ≤ mag (dayNumber y m d)
+days-far : (y : ℤ) (m d : ℕ) → isDate y m d ≡ true → 300000000 ≤ mag y → 109000000000 ≤ mag (dayNumber y m d)
 unfolding dayNumber dayOf era-day-of
-days-far (pos n) m d p h = subst (λ (z : ℤ). 145000000000 ≤ mag z) (sym is) (omega (arith, elapsed-least n))
+days-far (pos n) m d p h = subst (λ (z : ℤ). 109000000000 ≤ mag z) (sym is) (omega (arith, elapsed-least n))
   where
     is : dayNumber (pos n) m d ≡ pos (era-day-of n m d - 719529)
     is = day-number-era (pos n) n 0 m d (pos-sub n) ∙ sub-above (era-day-of n m d) 719529 (omega (arith, elapsed-least n))
-days-far (negsuc n) m d p h = subst (λ (z : ℤ). 145000000000 ≤ mag z) (sym is) (omega (arith, b .least, within))
+days-far (negsuc n) m d p h = subst (λ (z : ℤ). 109000000000 ≤ mag z) (sym is) (omega (arith, b .least, within))
   where
     b : Before n
     b = before n
@@ -57,8 +57,8 @@ days-far (negsuc n) m d p h = subst (λ (z : ℤ). 145000000000 ≤ mag z) (sym 
         ap (λ (z : ℤ). z +ℤ pos passed -ℤ epoch) (b .is) ∙ ap₂ (λ (v w : ℤ). v -ℤ w) (sub-add-pos 0 (b .days) passed) epoch-is ∙ sub-sub-pos (0 + passed) (b .days) 719529 ∙ sub-below (0 + passed) (b .days + 719529) (omega (arith, b .least, within))
 
 -- and so is its count, at any time of the day
-pub count-far : (y : ℤ) (m d t r : ℕ) → isDate y m d ≡ true → 400000000 ≤ mag y → 1000 ≤ t → r < ticksPerDay t → isSigned64 (joined (dayNumber y m d) (ticksPerDay t) r) ≡ false
+pub count-far : (y : ℤ) (m d t r : ℕ) → isDate y m d ≡ true → 300000000 ≤ mag y → 1000 ≤ t → r < ticksPerDay t → isSigned64 (joined (dayNumber y m d) (ticksPerDay t) r) ≡ false
 count-far y m d t r p h ht hr = signed-beyond (joined (dayNumber y m d) (ticksPerDay t) r) (le-trans ticks (joined-reach (dayNumber y m d) (ticksPerDay t) r hr))
   where
     ticks : 2 ^ 63 ≤ mag (dayNumber y m d) * ticksPerDay t
-    ticks = le-trans (lit≤ tt) (mul-le-mul {n₁ = 145000000000} {m₁ = 86400000} (days-far y m d p h) (omega arith))
+    ticks = le-trans (lit≤ tt) (mul-le-mul {n₁ = 109000000000} {m₁ = 86400000} (days-far y m d p h) (omega arith))

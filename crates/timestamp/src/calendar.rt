@@ -20,7 +20,10 @@ use crate::signed::raised;
 const ERAS: u64 = 1_000_000;
 
 // The years from the first of those to year 0.
-pub const YEARS_BEFORE: u64 = ERAS * YEARS_PER_ERA;
+const YEARS_BEFORE: u64 = ERAS * YEARS_PER_ERA;
+
+// The years from year 0, before or after it, in which no count of 64 bits lies any more, in any unit.
+pub const YEARS_REACHED: u64 = 300_000_000;
 
 // The days from 1 March of year 0 to 1 January 1970.
 const MARCH_TO_EPOCH: u64 = 719_468;
@@ -71,7 +74,7 @@ pub fn date_of(day: i64) -> Date
 
 // The day number of a date.
 pub fn day_number(date: Date) -> i64
-    requires { ⌜ (mag (date .year) < 400000000) × (isDate (date .year) (date .month) (date .day) ≡ true) ⌝ }
+    requires { ⌜ (mag (date .year) < 300000000) × (isDate (date .year) (date .month) (date .day) ≡ true) ⌝ }
     ensures { λ r. ⌜ r ≡ dayNumber (date .year) (date .month) (date .day) ⌝ }
 {
     let era_date = EraDate {

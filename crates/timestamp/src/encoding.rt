@@ -10,7 +10,7 @@ ghost use Rattle.timestamp.specs.Count.{isDateTime};
 ghost use Rattle.timestamp.specs.Outcomes.{encoded, encoding, encodingIn, isSigned64, given, notRepresentable};
 
 use crate::calendar::Date;
-use crate::calendar::YEARS_BEFORE;
+use crate::calendar::YEARS_REACHED;
 use crate::calendar::day_number;
 use crate::calendar::is_date;
 use crate::clock::Time;
@@ -84,7 +84,7 @@ fn encode_in(ticks: u64, ticks_per_day: u64, fields: Fields) -> Encoded
     if !is_time(ticks, time) {
         return Encoded::NoDateTime;
     }
-    if magnitude(fields.year) >= YEARS_BEFORE {
+    if magnitude(fields.year) >= YEARS_REACHED {
         return Encoded::NotRepresentable;
     }
     count_of(
