@@ -1,10 +1,10 @@
 -- Times of a day and their ticks: within the day, and one time for each tick.
 use Prim.Native.Nat.{ℕ, zero, suc, _+_, _*_, _-_, _/_, _%_, _<_, _≤_}
 use native.Mathlib.Omega.{arith}
-use native.Mathlib.Nat.{mul-le-mul-right}
+use native.Mathlib.Nat.{mul-le-mul-right, mod-lt, div-add-mod', div-lt-iff-lt-mul}
 use mathlib.Core.Path.{_≡_, refl, sym, ap, ap₂, subst, _∙_}
-use mathlib.Core.Bool.{Bool, true, _&&_}
-use borrow.Author.Tests.{ltb-true, lt-ltb}
+use mathlib.Core.Bool.{Bool, true, false, _&&_, and-false}
+use borrow.Author.Tests.{ltb-true, lt-ltb, le-ltb}
 use lib.Dec.{ltb}
 use Rattle.timestamp.specs.Clock.{hoursPerDay, minutesPerHour, secondsPerMinute, isTime, tickOfDay}
 use Rattle.timestamp.specs.Units.{ticksPerDay}
@@ -37,6 +37,26 @@ parts-time t h m s f p =
     (both-and (ltb h hoursPerDay) (ltb m minutesPerHour) (lt-ltb h 24 (p .hour-below)) (lt-ltb m 60 (p .minute-below)))
     (both-and (ltb s secondsPerMinute) (ltb f t) (lt-ltb s 60 (p .second-below)) (lt-ltb f t (p .fraction-below)))
 
+-- what the tests of the code decide
+pub no-hour : (t h m s f : ℕ) → 24 ≤ h → isTime t h m s f ≡ false
+unfolding isTime
+no-hour t h m s f k = ap (λ (b : Bool). b && ltb m minutesPerHour && (ltb s secondsPerMinute && ltb f t)) (le-ltb h 24 k)
+
+pub no-minute : (t h m s f : ℕ) → 60 ≤ m → isTime t h m s f ≡ false
+unfolding isTime
+no-minute t h m s f k =
+    ap (λ (b : Bool). ltb h hoursPerDay && b && (ltb s secondsPerMinute && ltb f t)) (le-ltb m 60 k) ∙ ap (λ (b : Bool). b && (ltb s secondsPerMinute && ltb f t)) (and-false (ltb h hoursPerDay))
+
+pub no-second : (t h m s f : ℕ) → 60 ≤ s → isTime t h m s f ≡ false
+unfolding isTime
+no-second t h m s f k =
+    ap (λ (b : Bool). ltb h hoursPerDay && ltb m minutesPerHour && (b && ltb f t)) (le-ltb s 60 k) ∙ and-false (ltb h hoursPerDay && ltb m minutesPerHour)
+
+pub fraction-test : (t h m s f : ℕ) → h < 24 → m < 60 → s < 60 → isTime t h m s f ≡ ltb f t
+unfolding isTime
+fraction-test t h m s f k l n =
+    ap (λ (b : Bool). b && ltb m minutesPerHour && (ltb s secondsPerMinute && ltb f t)) (lt-ltb h 24 k) ∙ ap (λ (b : Bool). b && (ltb s secondsPerMinute && ltb f t)) (lt-ltb m 60 l) ∙ ap (λ (b : Bool). b && ltb f t) (lt-ltb s 60 n)
+
 -- the second of the day
 abbrev second-of-day : ℕ → ℕ → ℕ → ℕ
 second-of-day h m s = (h * minutesPerHour + m) * secondsPerMinute + s
@@ -61,3 +81,22 @@ time-one t h m s f h′ m′ s′ f′ p q e = (hours, (minutes, (seconds, one .
     minutes = omega (arith, one .0, p .minute-below, p .second-below, q .minute-below, q .second-below)
     seconds : s ≡ s′
     seconds = omega (arith, one .0, p .minute-below, p .second-below, q .minute-below, q .second-below)
+
+-- the time at a tick, by quotients and rests
+pub seconds-below : (t tick : ℕ) → 0 < t → tick < ticksPerDay t → tick / t < 86400
+seconds-below t tick h k = div-lt-iff-lt-mul h .1 (omega arith)
+
+pub tick-time : (t tick : ℕ) → 0 < t → tick < ticksPerDay t → Time t (tick / t / 60 / 60) (tick / t / 60 % 60) (tick / t % 60) (tick % t)
+tick-time t tick h k =
+    let below : tick / t < 86400 = seconds-below t tick h k in
+    record { hour-below = hour (tick / t) below; minute-below = mod-lt (tick / t / 60) (omega arith); second-below = mod-lt (tick / t) (omega arith); fraction-below = mod-lt tick h }
+  where
+    hour : (s : ℕ) → s < 86400 → s / 60 / 60 < 24
+    hour s l = omega arith
+
+pub tick-back : (t tick : ℕ) → tickOfDay t (tick / t / 60 / 60) (tick / t / 60 % 60) (tick / t % 60) (tick % t) ≡ tick
+unfolding tickOfDay
+tick-back t tick = ap (λ (n : ℕ). n * t + tick % t) (seconds (tick / t)) ∙ div-add-mod' tick t
+  where
+    seconds : (s : ℕ) → second-of-day (s / 60 / 60) (s / 60 % 60) (s % 60) ≡ s
+    seconds s = omega arith
