@@ -1,20 +1,23 @@
 -- What is promised of decoding and encoding, over the ticks in a second and so once for all units.
-use Prim.Native.Nat.{ℕ}
+use Prim.Native.Nat.{ℕ, _<_, _≤_, _^_}
 use native.Mathlib.Omega.{arith}
-use mathlib.Core.Path.{_≡_, refl, sym, ap, _∙_}
-use mathlib.Core.Bool.{Bool, true, false, cond, _&&_}
+use mathlib.Core.Path.{_≡_, refl, sym, ap, subst, _∙_}
+use mathlib.Core.Bool.{Bool, true, false, cond, _&&_, and-false}
 use mathlib.Core.Option.{Option, none, some}
 use lib.IntN.{ℤ, pos, _+ℤ_, _*ℤ_}
+use lib.Signed.{mag}
 use Rattle.timestamp.specs.declared.fields.Fields.{Fields}
 use Rattle.timestamp.specs.Calendar.{isDate, dayNumber}
 use Rattle.timestamp.specs.Clock.{isTime, tickOfDay}
 use Rattle.timestamp.specs.Units.{TimeUnit, ticksPerSecond, ticksPerDay}
 use Rattle.timestamp.specs.Count.{isDateTime, countOf}
 use Rattle.timestamp.specs.Outcomes.{Outcome, refused, given, noDateTime, notRepresentable, unknownUnit, isSigned64, FieldsOf, Decodes, encodingIn, encoding}
-use Rattle.timestamp.proofs.TestLaws.{and-both, by-test}
+use Rattle.timestamp.proofs.TestLaws.{and-both, both-and}
 use Rattle.timestamp.proofs.DateLaws.{date-one}
+use Rattle.timestamp.proofs.ReachLaws.{count-far}
 use Rattle.timestamp.proofs.ClockLaws.{time-parts, tick-below, time-one}
-use Rattle.timestamp.proofs.FloorLaws.{joined, joined-one}
+use Rattle.timestamp.proofs.FloorLaws.{joined, joined-one, signed-fits, signed-beyond}
+use Rattle.timestamp.proofs.SignedLaws.{signed-of, signed-mag}
 
 -- fields that form a date and time are of a date and of a time
 pub date-time-parts : (t : ℕ) (f : Fields) → isDateTime t f ≡ true → (isDate (f .year) (f .month) (f .day) ≡ true) × (isTime t (f .hour) (f .minute) (f .second) (f .fraction) ≡ true)
@@ -55,6 +58,28 @@ pub decodes-one : (u : Option TimeUnit) (count : ℤ) (o o′ : Outcome Fields) 
 decodes-one none count o o′ p q = p ∙ sym q
 decodes-one (some unit) count o o′ p q = p .1 ∙ ap given (fields-one (p .2) (q .2)) ∙ sym (q .1)
 
+-- ---- encoding, refusal by refusal
+
+pub encoding-no-date : (t : ℕ) (f : Fields) → isDate (f .year) (f .month) (f .day) ≡ false → encodingIn t f ≡ noDateTime
+unfolding encodingIn isDateTime
+encoding-no-date t f e =
+    ap (λ (b : Bool). cond (b && isTime t (f .hour) (f .minute) (f .second) (f .fraction)) (cond (isSigned64 (countOf t f)) (given (countOf t f)) notRepresentable) noDateTime) e
+
+pub encoding-no-time : (t : ℕ) (f : Fields) → isTime t (f .hour) (f .minute) (f .second) (f .fraction) ≡ false → encodingIn t f ≡ noDateTime
+unfolding encodingIn isDateTime
+encoding-no-time t f e =
+    ap (λ (b : Bool). cond b (cond (isSigned64 (countOf t f)) (given (countOf t f)) notRepresentable) noDateTime) (ap (λ (b : Bool). isDate (f .year) (f .month) (f .day) && b) e ∙ and-false (isDate (f .year) (f .month) (f .day)))
+
+pub encoding-date-time : (t : ℕ) (f : Fields) → isDate (f .year) (f .month) (f .day) ≡ true → isTime t (f .hour) (f .minute) (f .second) (f .fraction) ≡ true → encodingIn t f ≡ cond (isSigned64 (countOf t f)) (given (countOf t f)) notRepresentable
+unfolding encodingIn isDateTime
+encoding-date-time t f p q =
+    ap (λ (b : Bool). cond b (cond (isSigned64 (countOf t f)) (given (countOf t f)) notRepresentable) noDateTime) (both-and (isDate (f .year) (f .month) (f .day)) (isTime t (f .hour) (f .minute) (f .second) (f .fraction)) p q)
+
+pub encoding-far : (t : ℕ) (f : Fields) → isDate (f .year) (f .month) (f .day) ≡ true → isTime t (f .hour) (f .minute) (f .second) (f .fraction) ≡ true → 300000000 ≤ mag (f .year) → 1000 ≤ t → encodingIn t f ≡ notRepresentable
+unfolding countOf
+encoding-far t f p q h k =
+    encoding-date-time t f p q ∙ ap (λ (b : Bool). cond b (given (countOf t f)) notRepresentable) (count-far (f .year) (f .month) (f .day) t (tickOfDay t (f .hour) (f .minute) (f .second) (f .fraction)) p h k (tick-below t (f .hour) (f .minute) (f .second) (f .fraction) (time-parts t (f .hour) (f .minute) (f .second) (f .fraction) q)))
+
 -- encoding gives the count exactly where the fields are good and the count fits
 pub encoding-good : (t : ℕ) (f : Fields) → isDateTime t f ≡ true → isSigned64 (countOf t f) ≡ true → encodingIn t f ≡ given (countOf t f)
 unfolding encodingIn
@@ -87,3 +112,13 @@ encoding-decoded unit count o h p =
 pub decoding-encoded : (u : Option TimeUnit) (f : Fields) (count : ℤ) (o : Outcome Fields) → encoding u f ≡ given count → Decodes u count o → o ≡ given f
 decoding-encoded none f count o e p = absurd (refused-given 20 0 count e)
 decoding-encoded (some unit) f count o e p = p .1 ∙ ap given (fields-one (p .2) (encoding-given (ticksPerSecond unit) f count e .0))
+
+-- ---- a count by its sign and magnitude, where it is a number of 64 bits and where it is not
+
+pub counted-fits : (z : ℤ) (b : Bool) (n : ℕ) → z ≡ signed-of b n → n < 2 ^ 63 → cond (isSigned64 z) (given z) notRepresentable ≡ given (signed-of b n)
+counted-fits z b n e h =
+    ap (λ (w : ℤ). cond (isSigned64 w) (given w) notRepresentable) e ∙ ap (λ (t : Bool). cond t (given (signed-of b n)) notRepresentable) (signed-fits (signed-of b n) (subst (λ (k : ℕ). k < 2 ^ 63) (sym (signed-mag b n)) h))
+
+pub counted-beyond : (z : ℤ) (b : Bool) (n : ℕ) → z ≡ signed-of b n → 2 ^ 63 ≤ n → cond (isSigned64 z) (given z) notRepresentable ≡ notRepresentable
+counted-beyond z b n e h =
+    ap (λ (w : ℤ). cond (isSigned64 w) (given w) notRepresentable) e ∙ ap (λ (t : Bool). cond t (given (signed-of b n)) notRepresentable) (signed-beyond (signed-of b n) (subst (λ (k : ℕ). 2 ^ 63 ≤ k) (sym (signed-mag b n)) h))

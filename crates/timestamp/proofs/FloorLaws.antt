@@ -3,17 +3,18 @@ use Prim.Native.Nat.{ℕ, zero, suc, _+_, _*_, _-_, _/_, _%_, _<_, _≤_, _^_}
 use native.Mathlib.Omega.{arith}
 use native.Mathlib.Nat.{add-mul, div-add-mod', mod-lt}
 use mathlib.Core.Path.{_≡_, refl, sym, ap, ap₂, subst, _∙_}
-use mathlib.Core.Bool.{Bool, true, false, _&&_}
+use mathlib.Core.Bool.{Bool, true, false, cond, _&&_}
 use borrow.Author.Tests.{le-leb, lt-leb}
 use lib.IntN.{ℤ, pos, negsuc, subℕ, _+ℤ_, _*ℤ_}
 use lib.Signed.{mag, leZ}
 use mir.Syntax.{w64}
 use mir.Val.{SFits, toZ, ofZ}
 use mir.ValLaws.{toZ-ofZ}
-use Rattle.timestamp.specs.declared.units.Division.{Division}
+use Rattle.timestamp.specs.declared.division.Division.{Division}
 use Rattle.timestamp.specs.FloorDivision.{FloorDivision}
 use Rattle.timestamp.specs.Outcomes.{isSigned64}
 use Rattle.timestamp.proofs.DifferenceLaws.{Difference, difference, negsuc-sub, sub-eq, sub-inj, sub-mul, sub-add-pos}
+use Rattle.timestamp.proofs.SignedLaws.{signed-of}
 use Rattle.timestamp.proofs.DivisionLaws.{steps-one, suc-times}
 
 -- so many days of so many ticks and a rest
@@ -71,16 +72,26 @@ division-one {count} {t} {d} {d′} p q = λ i. record { day = one .0 i; rest = 
     one : (d .day ≡ d′ .day) × (d .rest ≡ d′ .rest)
     one = joined-one (d .day) (d′ .day) t (d .rest) (d′ .rest) (p .below) (q .below) (sym (p .exact) ∙ q .exact)
 
--- the division of a magnitude, before 0 and from 0 on
-pub divided-negative : (n t : ℕ) → 0 < t → negsuc n ≡ joined (negsuc (n / t)) t (t - 1 - n % t)
-divided-negative n t h =
-    ap negsuc (back (n / t * t) (n % t) (div-add-mod' n t) (mod-lt n h)) ∙ sym (joined-negative (n / t) t (t - 1 - n % t) (omega arith))
-  where
-    back : (x r : ℕ) → x + r ≡ n → r < t → n ≡ x + (t - 1 - (t - 1 - r))
-    back x r e k = omega arith
+-- the rest, counted from the day's other end before 0
+abbrev pub turned-of : Bool → ℕ → ℕ → ℕ
+turned-of b r t = cond b (t - 1 - r) r
 
-pub divided-nonnegative : (n t : ℕ) → pos n ≡ joined (pos (n / t)) t (n % t)
-divided-nonnegative n t = ap pos (sym (div-add-mod' n t))
+pub turned-below : (b : Bool) (r t : ℕ) → r < t → turned-of b r t < t
+turned-below true r t h = omega arith
+turned-below false r t h = h
+
+-- a count by its sign and magnitude, from those of its days, and back
+pub joined-signed : (b : Bool) (q t r : ℕ) → r < t → joined (signed-of b q) t r ≡ signed-of b (q * t + turned-of b r t)
+joined-signed true q t r h = joined-negative q t r h
+joined-signed false q t r h = refl
+
+pub divided-signed : (b : Bool) (n t : ℕ) → 0 < t → signed-of b n ≡ joined (signed-of b (n / t)) t (turned-of b (n % t) t)
+divided-signed b n t h =
+    sym (joined-signed b (n / t) t (turned-of b (n % t) t) (turned-below b (n % t) t (mod-lt n h)) ∙ ap (signed-of b) (ap (λ (r : ℕ). n / t * t + r) (twice b (n % t) (mod-lt n h)) ∙ div-add-mod' n t))
+  where
+    twice : (b : Bool) (r : ℕ) → r < t → turned-of b (turned-of b r t) t ≡ r
+    twice true r k = omega arith
+    twice false r k = refl
 
 -- what is told of the number that the machine reads back is told of the number
 pub division-told : {count : ℤ} {t : ℕ} {d : Division} → SFits w64 count → FloorDivision (toZ w64 (ofZ w64 count)) t d → FloorDivision count t d

@@ -1,8 +1,8 @@
 -- Signed numbers of 64 bits by sign and magnitude, as the machine reads them back from their bits.
 use Prim.Native.Nat.{ℕ, zero, suc, _+_, _-_, _<_, _≤_, _^_}
 use native.Mathlib.Omega.{arith}
-use mathlib.Core.Path.{_≡_, refl, sym, ap, subst, _∙_}
-use mathlib.Core.Bool.{Bool, true, false, not, false≢true, true≢false}
+use mathlib.Core.Path.{_≡_, refl, sym, ap, ap₂, subst, _∙_}
+use mathlib.Core.Bool.{Bool, true, false, not, cond, false≢true, true≢false}
 use borrow.Author.Tests.{le-ltb}
 use lib.Dec.{T}
 use lib.IntN.{ℤ, pos, negsuc, natAbs, subℕ, _-ℤ_}
@@ -26,6 +26,18 @@ pub nonnegative-is : (x : ℤ) → not (nonNeg x) ≡ false → x ≡ pos (mag x
 nonnegative-is (pos n) e = refl
 nonnegative-is (negsuc n) e = absurd (true≢false e)
 
+-- the number of a sign and a magnitude
+abbrev pub signed-of : Bool → ℕ → ℤ
+signed-of b n = cond b (negsuc n) (pos n)
+
+pub signed-is : (x : ℤ) → x ≡ signed-of (not (nonNeg x)) (mag x)
+signed-is (pos n) = refl
+signed-is (negsuc n) = refl
+
+pub signed-mag : (b : Bool) (n : ℕ) → mag (signed-of b n) ≡ n
+signed-mag true n = refl
+signed-mag false n = refl
+
 -- -1 less a number takes one sign to the other
 pub complement-negative : (n : ℕ) → negsuc 0 -ℤ negsuc n ≡ pos n
 complement-negative n = sub-above (suc n) 1 (omega arith) ∙ ap pos (omega arith)
@@ -48,3 +60,9 @@ sign-told {x} h p q = ap (λ (z : ℤ). not (nonNeg z)) (sym (toZ-ofZ w64 x h)) 
 
 pub magnitude-told : {x : ℤ} {n : ℕ} → SFits w64 x → n ≡ mag (toZ w64 (ofZ w64 x)) → n ≡ mag x
 magnitude-told {x} h p = p ∙ ap mag (toZ-ofZ w64 x h)
+
+pub signed-told : {x : ℤ} {b : Bool} {n : ℕ} → SFits w64 x → b ≡ not (nonNeg (toZ w64 (ofZ w64 x))) → n ≡ mag (toZ w64 (ofZ w64 x)) → x ≡ signed-of b n
+signed-told {x} h p q = signed-is x ∙ ap₂ signed-of (sign-told h p refl) (sym (magnitude-told h q))
+
+pub signed-back : {x : ℤ} (b : Bool) (n : ℕ) → x ≡ signed-of b n → n < 2 ^ 63 → toZ w64 (ofZ w64 x) ≡ signed-of b n
+signed-back b n e h = read-back e (subst (λ (k : ℕ). k < 2 ^ 63) (sym (signed-mag b n)) h)

@@ -23,7 +23,7 @@ const ERAS: u64 = 1_000_000;
 const YEARS_BEFORE: u64 = ERAS * YEARS_PER_ERA;
 
 // The years from year 0, before or after it, in which no count of 64 bits lies any more, in any unit.
-pub const YEARS_REACHED: u64 = 300_000_000;
+pub(crate) const YEARS_REACHED: u64 = 300_000_000;
 
 // The days from 1 March of year 0 to 1 January 1970.
 const MARCH_TO_EPOCH: u64 = 719_468;
@@ -36,14 +36,14 @@ const FEBRUARY: u32 = 2;
 // The days of each month of a common year.
 const DAYS_OF_MONTH: [u32; 12] = [31, 28, 31, 30, 31, 30, 31, 31, 30, 31, 30, 31];
 
-pub struct Date {
-    pub year: i64,
-    pub month: u32,
-    pub day: u32,
+pub(crate) struct Date {
+    pub(crate) year: i64,
+    pub(crate) month: u32,
+    pub(crate) day: u32,
 }
 
 // Whether there is such a month, and such a day in it.
-pub fn is_date(date: Date) -> bool
+pub(crate) fn is_date(date: Date) -> bool
     ensures { λ r. ⌜ r ≡ isDate (date .year) (date .month) (date .day) ⌝ }
 {
     let month = date.month;
@@ -60,7 +60,7 @@ pub fn is_date(date: Date) -> bool
 }
 
 // The date of a day number.
-pub fn date_of(day: i64) -> Date
+pub(crate) fn date_of(day: i64) -> Date
     requires { ⌜ mag day < 2 ^ 37 ⌝ }
     ensures { λ r. ⌜ (isDate (r .year) (r .month) (r .day) ≡ true) × (dayNumber (r .year) (r .month) (r .day) ≡ day) ⌝ }
 {
@@ -73,7 +73,7 @@ pub fn date_of(day: i64) -> Date
 }
 
 // The day number of a date.
-pub fn day_number(date: Date) -> i64
+pub(crate) fn day_number(date: Date) -> i64
     requires { ⌜ (mag (date .year) < 300000000) × (isDate (date .year) (date .month) (date .day) ≡ true) ⌝ }
     ensures { λ r. ⌜ r ≡ dayNumber (date .year) (date .month) (date .day) ⌝ }
 {

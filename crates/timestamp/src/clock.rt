@@ -10,16 +10,16 @@ const HOURS_PER_DAY: u32 = 24;
 const MINUTES_PER_HOUR: u32 = 60;
 const SECONDS_PER_MINUTE: u32 = 60;
 
-pub struct Time {
-    pub hour: u32,
-    pub minute: u32,
-    pub second: u32,
+pub(crate) struct Time {
+    pub(crate) hour: u32,
+    pub(crate) minute: u32,
+    pub(crate) second: u32,
     // In ticks.
-    pub fraction: u32,
+    pub(crate) fraction: u32,
 }
 
 // Whether there is such an hour, minute and second, and the fraction is below one second.
-pub fn is_time(ticks: u64, time: Time) -> bool
+pub(crate) fn is_time(ticks: u64, time: Time) -> bool
     ensures { λ r. ⌜ r ≡ isTime ticks (time .hour) (time .minute) (time .second) (time .fraction) ⌝ }
 {
     if time.hour >= HOURS_PER_DAY {
@@ -35,7 +35,7 @@ pub fn is_time(ticks: u64, time: Time) -> bool
 }
 
 // The time at a tick of the day.
-pub fn time_of(ticks: u64, tick: u64) -> Time
+pub(crate) fn time_of(ticks: u64, tick: u64) -> Time
     requires { ⌜ (0 < ticks) × (ticks ≤ ticksPerSecond nanos) × (tick < ticksPerDay ticks) ⌝ }
     ensures { λ r. ⌜ (isTime ticks (r .hour) (r .minute) (r .second) (r .fraction) ≡ true) × (tickOfDay ticks (r .hour) (r .minute) (r .second) (r .fraction) ≡ tick) ⌝ }
 {
@@ -50,7 +50,7 @@ pub fn time_of(ticks: u64, tick: u64) -> Time
 }
 
 // The ticks of the day that have passed at a time.
-pub fn tick_of_day(ticks: u64, time: Time) -> u64
+pub(crate) fn tick_of_day(ticks: u64, time: Time) -> u64
     requires { ⌜ (ticks ≤ ticksPerSecond nanos) × (isTime ticks (time .hour) (time .minute) (time .second) (time .fraction) ≡ true) ⌝ }
     ensures { λ r. ⌜ r ≡ tickOfDay ticks (time .hour) (time .minute) (time .second) (time .fraction) ⌝ }
 {

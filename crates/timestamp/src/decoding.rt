@@ -11,8 +11,8 @@ ghost use Rattle.timestamp.specs.Outcomes.{Decodes, FieldsOf, decoded};
 
 use crate::calendar::date_of;
 use crate::clock::time_of;
+use crate::division::Division;
 use crate::fields::Fields;
-use crate::units::Division;
 use crate::units::Micros;
 use crate::units::Millis;
 use crate::units::Nanos;

@@ -3,7 +3,6 @@
 ghost use mathlib.Core.Path.{_≡_};
 ghost use mathlib.Core.Bool.{cond};
 ghost use Prim.Native.Nat.{_+_, _*_, _<_, _≤_, _^_};
-ghost use lib.Dec.{ltb};
 ghost use lib.IntN.{pos, _+ℤ_, _*ℤ_};
 ghost use Rattle.timestamp.specs.Units.{millis, nanos, ticksPerSecond, ticksPerDay, unitOf};
 ghost use Rattle.timestamp.specs.Count.{isDateTime};
@@ -16,12 +15,12 @@ use crate::calendar::is_date;
 use crate::clock::Time;
 use crate::clock::is_time;
 use crate::clock::tick_of_day;
+use crate::division::Division;
+use crate::division::turned;
 use crate::fields::Fields;
 use crate::signed::is_negative;
 use crate::signed::magnitude;
-use crate::signed::negative;
-use crate::signed::nonnegative;
-use crate::units::Division;
+use crate::signed::signed;
 use crate::units::Micros;
 use crate::units::Millis;
 use crate::units::Nanos;
@@ -38,12 +37,6 @@ pub enum Encoded {
     NotRepresentable,
     // The unit is not 1 to 3.
     UnknownUnit,
-}
-
-// A magnitude, where it is not above the greatest.
-enum Magnitude {
-    Of(u64),
-    TooGreat,
 }
 
 // The count of the fields, as ticks since 1 January 1970 in the unit of that number.
@@ -101,30 +94,14 @@ fn count_of(division: Division, ticks: u64) -> Encoded
     requires { ⌜ (division .rest < ticks) × (ticks < 2 ^ 63) ⌝ }
     ensures { λ r. ⌜ encoded r ≡ cond (isSigned64 (division .day *ℤ pos ticks +ℤ pos (division .rest))) (given (division .day *ℤ pos ticks +ℤ pos (division .rest))) notRepresentable ⌝ }
 {
+    let negative = is_negative(division.day);
     let days = magnitude(division.day);
-    if is_negative(division.day) {
-        let Magnitude::Of(size) = size_of(days, ticks - 1 - division.rest, ticks) else {
-            return Encoded::NotRepresentable;
-        };
-        return Encoded::Count(negative(size));
-    }
-    let Magnitude::Of(size) = size_of(days, division.rest, ticks) else {
-        return Encoded::NotRepresentable;
-    };
-    Encoded::Count(nonnegative(size))
-}
-
-// `days * ticks + over`, where that is a magnitude.
-fn size_of(days: u64, over: u64, ticks: u64) -> Magnitude
-    requires { ⌜ (over < ticks) × (ticks < 2 ^ 63) ⌝ }
-    ensures { λ r. ⌜ r ≡ cond (ltb (days * ticks + over) (2 ^ 63)) (Magnitude.Of (days * ticks + over)) Magnitude.TooGreat ⌝ }
-{
     if GREATEST / ticks < days {
-        return Magnitude::TooGreat;
+        return Encoded::NotRepresentable;
     }
-    let size = days * ticks + over;
+    let size = days * ticks + turned(negative, division.rest, ticks);
     if GREATEST < size {
-        return Magnitude::TooGreat;
+        return Encoded::NotRepresentable;
     }
-    Magnitude::Of(size)
+    Encoded::Count(signed(negative, size))
 }

@@ -13,8 +13,8 @@ ghost use Prim.Native.Nat.{_+_, _*_, _/_, _<_, _≤_, _^_, min};
 ghost use lib.IntN.{pos};
 ghost use Rattle.timestamp.specs.Calendar.{dayOf, daysOfYear, isDate};
 
-pub const YEARS_PER_ERA: u64 = 400;
-pub const DAYS_PER_ERA: u64 = 146_097;
+pub(crate) const YEARS_PER_ERA: u64 = 400;
+pub(crate) const DAYS_PER_ERA: u64 = 146_097;
 const YEARS_PER_CENTURY: u64 = 100;
 const DAYS_PER_CENTURY: u64 = 36_524;
 const YEARS_PER_FOUR: u64 = 4;
@@ -23,14 +23,14 @@ const DAYS_PER_YEAR: u64 = 365;
 const MONTHS_PER_FIVE: u64 = 5;
 const DAYS_PER_FIVE: u64 = 153;
 
-pub const MONTHS_PER_YEAR: u32 = 12;
+pub(crate) const MONTHS_PER_YEAR: u32 = 12;
 const MARCH: u32 = 3;
 
 // A date of year 0 or later.
-pub struct EraDate {
-    pub year: u64,
-    pub month: u32,
-    pub day: u32,
+pub(crate) struct EraDate {
+    pub(crate) year: u64,
+    pub(crate) month: u32,
+    pub(crate) day: u32,
 }
 
 // A year that begins in March, and a day of it, from 0.
@@ -40,7 +40,7 @@ struct YearDay {
 }
 
 // The date of a day. 1 March of year 0 is day 0 here, and day 61 of its year.
-pub fn date_of(day: u64) -> EraDate
+pub(crate) fn date_of(day: u64) -> EraDate
     requires { ⌜ day < 2 ^ 62 ⌝ }
     ensures { λ r. ⌜ (isDate (pos (r .year)) (r .month) (r .day) ≡ true) × (dayOf (pos (r .year)) (r .month) (r .day) ≡ pos (day + 61)) × (r .year ≤ day + 1) ⌝ }
 {
@@ -63,7 +63,7 @@ pub fn date_of(day: u64) -> EraDate
 }
 
 // The day of a date, which is of year 1 or later.
-pub fn day_of(date: EraDate) -> u64
+pub(crate) fn day_of(date: EraDate) -> u64
     requires { ⌜ (1 ≤ date .year) × (date .year < 2 ^ 32) × (isDate (pos (date .year)) (date .month) (date .day) ≡ true) ⌝ }
     ensures { λ r. ⌜ (dayOf (pos (date .year)) (date .month) (date .day) ≡ pos (r + 61)) × (r < 2 ^ 42) ⌝ }
 {

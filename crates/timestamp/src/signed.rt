@@ -1,20 +1,20 @@
 // Signed numbers as natural ones: `n` and `-1 - n` are told by their sign and by the one magnitude n, which fits 63 bits.
 
 ghost use mathlib.Core.Path.{_≡_};
-ghost use mathlib.Core.Bool.{not};
+ghost use mathlib.Core.Bool.{not, cond};
 ghost use Prim.Native.Nat.{_<_, _^_};
 ghost use lib.IntN.{pos, negsuc, natAbs, subℕ};
 ghost use lib.Signed.{mag, nonNeg};
 
 // Whether `x` is below 0.
-pub fn is_negative(x: i64) -> bool
+pub(crate) fn is_negative(x: i64) -> bool
     ensures { λ r. ⌜ r ≡ not (nonNeg x) ⌝ }
 {
     x < 0
 }
 
 // The n for which `x` is n or `-1 - n`.
-pub fn magnitude(x: i64) -> u64
+pub(crate) fn magnitude(x: i64) -> u64
     ensures { λ r. ⌜ r ≡ mag x ⌝ }
 {
     if is_negative(x) {
@@ -24,7 +24,7 @@ pub fn magnitude(x: i64) -> u64
 }
 
 // How far `x` lies from 0.
-pub fn absolute(x: i64) -> u64
+pub(crate) fn absolute(x: i64) -> u64
     ensures { λ r. ⌜ r ≡ natAbs x ⌝ }
 {
     if is_negative(x) {
@@ -33,24 +33,20 @@ pub fn absolute(x: i64) -> u64
     magnitude(x)
 }
 
-// The number `n`.
-pub fn nonnegative(n: u64) -> i64
+// The number `-1 - n` or the number `n`.
+pub(crate) fn signed(negative: bool, n: u64) -> i64
     requires { ⌜ n < 2 ^ 63 ⌝ }
-    ensures { λ r. ⌜ r ≡ pos n ⌝ }
+    ensures { λ r. ⌜ r ≡ cond negative (negsuc n) (pos n) ⌝ }
 {
-    n as i64
-}
-
-// The number `-1 - n`.
-pub fn negative(n: u64) -> i64
-    requires { ⌜ n < 2 ^ 63 ⌝ }
-    ensures { λ r. ⌜ r ≡ negsuc n ⌝ }
-{
-    -1 - nonnegative(n)
+    let x = n as i64;
+    if negative {
+        return -1 - x;
+    }
+    x
 }
 
 // `x` counted from `-by`, which lies before it.
-pub fn raised(x: i64, by: u64) -> u64
+pub(crate) fn raised(x: i64, by: u64) -> u64
     requires { ⌜ (mag x < by) × (by < 2 ^ 63) ⌝ }
     ensures { λ r. ⌜ x ≡ subℕ r by ⌝ }
 {
@@ -61,12 +57,12 @@ pub fn raised(x: i64, by: u64) -> u64
 }
 
 // The number that counted from `-by` is `n`.
-pub fn lowered(n: u64, by: u64) -> i64
+pub(crate) fn lowered(n: u64, by: u64) -> i64
     requires { ⌜ (n < 2 ^ 63) × (by < 2 ^ 63) ⌝ }
     ensures { λ r. ⌜ r ≡ subℕ n by ⌝ }
 {
     if n < by {
-        return negative(by - 1 - n);
+        return signed(true, by - 1 - n);
     }
-    nonnegative(n - by)
+    signed(false, n - by)
 }

@@ -1,22 +1,13 @@
 // The three time units, each a type that knows its ticks in a second and in a day and divides a count into days.
 
-ghost use Prim.Native.Nat.{_<_};
 ghost use Rattle.timestamp.specs.Units.{TimeUnit, millis, micros, nanos, ticksPerSecond, ticksPerDay};
 ghost use Rattle.timestamp.specs.FloorDivision.{FloorDivision};
 
-use crate::signed::is_negative;
-use crate::signed::magnitude;
-use crate::signed::negative;
-use crate::signed::nonnegative;
+use crate::division::Division;
+use crate::division::floor_divide;
 
 // The seconds of a day.
 pub const SECONDS_PER_DAY: u64 = 86_400;
-
-// A count as whole days since 1 January 1970, negative before it, and the ticks of the day that have passed.
-pub struct Division {
-    pub day: i64,
-    pub rest: u64,
-}
 
 // Thousandths of a second.
 pub struct Millis;
@@ -66,26 +57,5 @@ impl Nanos {
         ensures { λ r. ⌜ FloorDivision count (ticksPerDay (ticksPerSecond nanos)) r ⌝ }
     {
         floor_divide(count, Self::TICKS_PER_DAY)
-    }
-}
-
-// Signed division that rounds down: where the magnitude m of a count before 0 is `q * ticks + r`, the count
-// `-1 - m` is `(-1 - q) * ticks + (ticks - 1 - r)`.
-fn floor_divide(count: i64, ticks: u64) -> Division
-    requires { ⌜ 0 < ticks ⌝ }
-    ensures { λ r. ⌜ FloorDivision count ticks r ⌝ }
-{
-    let size = magnitude(count);
-    let days = size / ticks;
-    let over = size % ticks;
-    if is_negative(count) {
-        return Division {
-            day: negative(days),
-            rest: ticks - 1 - over,
-        };
-    }
-    Division {
-        day: nonnegative(days),
-        rest: over,
     }
 }

@@ -9,31 +9,31 @@ use Rattle.timestamp.proofs.SignedLaws.{read-back}
 use Rattle.timestamp.proofs.signed.lowered.Statement.{statement}
 use Rattle.timestamp.proofs.signed.lowered.Tie as tie
 
-sub-negative : tie.Need-sub-negative
-sub-negative c = search needs
+sub-signed : tie.Need-sub-signed
+sub-signed c = search needs
 
-sub-negative-2 : tie.Need-sub-negative-2
-sub-negative-2 c = search needs
+sub-signed-2 : tie.Need-sub-signed-2
+sub-signed-2 c = search needs
 
-negative-requires : tie.Need-negative-requires
-negative-requires c κs = search needs
+signed-requires : tie.Need-signed-requires
+signed-requires c κs = search needs
 
 returns : tie.Need-returns
 returns c =
     let n = c .before .before .args .n in
     let by = c .before .before .args .by in
-    read-back (c .negative .ensures) (omega arith) ∙ ap negsuc (omega arith) ∙ sym (sub-below n by (c .before .if1 .taken))
+    read-back (c .signed .ensures) (omega arith) ∙ ap negsuc (omega arith) ∙ sym (sub-below n by (c .before .if1 .taken))
 
-nonnegative-requires : tie.Need-nonnegative-requires
-nonnegative-requires c κs = search needs
+signed-requires-2 : tie.Need-signed-requires-2
+signed-requires-2 c κs = search needs
 
 returns-2 : tie.Need-returns-2
 returns-2 c =
     let n = c .before .before .args .n in
     let by = c .before .before .args .by in
-    read-back (c .nonnegative .ensures) (omega arith) ∙ sym (sub-above n by (c .before .if1 .left))
+    read-back (c .signed2 .ensures) (omega arith) ∙ sym (sub-above n by (c .before .if1 .left))
 
 pub lowered-spec : {M : Type 1} → statement M
 lowered-spec =
     tie.close
-    (tie.spec sub-negative sub-negative-2 negative-requires returns nonnegative-requires returns-2)
+    (tie.spec sub-signed sub-signed-2 signed-requires returns signed-requires-2 returns-2)
