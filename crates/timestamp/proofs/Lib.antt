@@ -13,4 +13,5 @@ pub mod FloorLaws
 pub mod ReachLaws
 pub mod ClockLaws
 pub mod CountLaws
+pub mod UnitLaws
 pub mod Points

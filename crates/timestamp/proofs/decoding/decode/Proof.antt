@@ -1,52 +1,65 @@
+-- `timestamp::decoding::decode` meets its contract, unit by unit.
+use Prim.Native.Nat.{ℕ, _*_, _<_, _≤_, _^_}
+use native.Mathlib.Omega.{arith}
+use mathlib.Core.Path.{_≡_, refl, sym, subst, _∙_}
+use mathlib.Core.Option.{Option}
 use borrow.Author.Needs.{needs}
+use lib.IntN.{ℤ}
+use lib.Signed.{mag}
+use mir.Syntax.{w64}
+use mir.Val.{SFits}
+use Rattle.timestamp.specs.declared.division.Division.{Division}
+use Rattle.timestamp.specs.Units.{TimeUnit, unitOf, ticksPerDay, ticksPerSecond}
+use Rattle.timestamp.specs.FloorDivision.{FloorDivision}
+use Rattle.timestamp.specs.Outcomes.{Decodes, given, unknownUnit}
+use Rattle.timestamp.proofs.FloorLaws.{division-reach, division-told}
+use Rattle.timestamp.proofs.UnitLaws.{unit-none}
 use Rattle.timestamp.proofs.decoding.decode.Statement.{statement}
 use Rattle.timestamp.proofs.decoding.decode.Tie as tie
-use Rattle.timestamp.proofs.decoding.decode.Reads as reads
-use Rattle.timestamp.proofs.decoding.decode.Lts as lts
-use Rattle.timestamp.proofs.decoding.fields_of.Reads as fields-of-reads
-use Rattle.timestamp.proofs.units.Micros.divide.Reads as units-Micros-divide-reads
-use Rattle.timestamp.proofs.units.Millis.divide.Reads as units-Millis-divide-reads
-use Rattle.timestamp.proofs.units.Nanos.divide.Reads as units-Nanos-divide-reads
 
--- src/decoding.rt:32:68
 divide-requires : tie.Need-divide-requires
 divide-requires c κs = search needs
 
--- src/decoding.rt:32:32
 fields-of-requires : tie.Need-fields-of-requires
-fields-of-requires c κs = ?
+fields-of-requires c κs =
+    let d = division-told (c .before .before .fits .count) (c .divide .ensures) in
+    (omega arith, omega arith, omega (arith, division-reach d, c .before .before .fits .count .sfits), d .below)
 
--- src/decoding.rt:32:9
 returns : tie.Need-returns
-returns c = ?
+returns c =
+    let s = c .before .before .before in
+    subst (λ (n : ℕ). Decodes (unitOf n) (s .args .count) (given (c .fields-of .result))) (sym (c .before .before .if1 .taken)) (c .fields-of .result, refl, c .fields-of .ensures (s .args .count) (division-told (s .fits .count) (c .before .divide .ensures)))
 
--- src/decoding.rt:35:68
 divide-requires-2 : tie.Need-divide-requires-2
 divide-requires-2 c κs = search needs
 
--- src/decoding.rt:35:32
 fields-of-requires-2 : tie.Need-fields-of-requires-2
-fields-of-requires-2 c κs = ?
+fields-of-requires-2 c κs =
+    let d = division-told (c .before .before .before .fits .count) (c .divide2 .ensures) in
+    (omega arith, omega arith, omega (arith, division-reach d, c .before .before .before .fits .count .sfits), d .below)
 
--- src/decoding.rt:35:9
 returns-2 : tie.Need-returns-2
-returns-2 c = ?
+returns-2 c =
+    let s = c .before .before .before .before in
+    subst (λ (n : ℕ). Decodes (unitOf n) (s .args .count) (given (c .fields-of2 .result))) (sym (c .before .before .if2 .taken)) (c .fields-of2 .result, refl, c .fields-of2 .ensures (s .args .count) (division-told (s .fits .count) (c .before .divide2 .ensures)))
 
--- src/decoding.rt:38:67
 divide-requires-3 : tie.Need-divide-requires-3
 divide-requires-3 c κs = search needs
 
--- src/decoding.rt:38:32
 fields-of-requires-3 : tie.Need-fields-of-requires-3
-fields-of-requires-3 c κs = ?
+fields-of-requires-3 c κs =
+    let d = division-told (c .before .before .before .before .fits .count) (c .divide3 .ensures) in
+    (omega arith, omega arith, omega (arith, division-reach d, c .before .before .before .before .fits .count .sfits), d .below)
 
--- src/decoding.rt:38:9
 returns-3 : tie.Need-returns-3
-returns-3 c = ?
+returns-3 c =
+    let s = c .before .before .before .before .before in
+    subst (λ (n : ℕ). Decodes (unitOf n) (s .args .count) (given (c .fields-of3 .result))) (sym (c .before .before .if3 .taken)) (c .fields-of3 .result, refl, c .fields-of3 .ensures (s .args .count) (division-told (s .fits .count) (c .before .divide3 .ensures)))
 
--- src/decoding.rt:28:1
 returns-4 : tie.Need-returns-4
-returns-4 c = ?
+returns-4 c =
+    let s = c .before .before .before in
+    subst (λ (u : Option TimeUnit). Decodes u (s .args .count) unknownUnit) (sym (unit-none (s .args .unit) (c .before .before .if1 .left) (c .before .if2 .left) (c .if3 .left))) refl
 
 pub decode-spec : {M : Type 1} → statement M
 decode-spec =

@@ -1,37 +1,42 @@
+-- `timestamp::encoding::encode` meets its contract, unit by unit.
+use Prim.Native.Nat.{ℕ}
+use mathlib.Core.Path.{_≡_, sym, ap, _∙_}
+use mathlib.Core.Option.{Option}
 use borrow.Author.Needs.{needs}
+use Rattle.timestamp.specs.Units.{TimeUnit, unitOf}
+use Rattle.timestamp.specs.Outcomes.{encoding}
+use Rattle.timestamp.proofs.UnitLaws.{unit-none}
 use Rattle.timestamp.proofs.encoding.encode.Statement.{statement}
 use Rattle.timestamp.proofs.encoding.encode.Tie as tie
-use Rattle.timestamp.proofs.encoding.encode.Reads as reads
-use Rattle.timestamp.proofs.encoding.encode.Lts as lts
-use Rattle.timestamp.proofs.encoding.encode_in.Reads as encode-in-reads
 
--- src/encoding.rt:54:9
 encode-in-requires : tie.Need-encode-in-requires
 encode-in-requires c κs = search needs
 
--- src/encoding.rt:54:9
 returns : tie.Need-returns
-returns c = ?
+returns c =
+    let s = c .before .before in
+    c .encode-in .ensures ∙ ap (λ (n : ℕ). encoding (unitOf n) (s .args .fields)) (sym (c .before .if1 .taken))
 
--- src/encoding.rt:57:9
 encode-in-requires-2 : tie.Need-encode-in-requires-2
 encode-in-requires-2 c κs = search needs
 
--- src/encoding.rt:57:9
 returns-2 : tie.Need-returns-2
-returns-2 c = ?
+returns-2 c =
+    let s = c .before .before .before in
+    c .encode-in2 .ensures ∙ ap (λ (n : ℕ). encoding (unitOf n) (s .args .fields)) (sym (c .before .if2 .taken))
 
--- src/encoding.rt:60:9
 encode-in-requires-3 : tie.Need-encode-in-requires-3
 encode-in-requires-3 c κs = search needs
 
--- src/encoding.rt:60:9
 returns-3 : tie.Need-returns-3
-returns-3 c = ?
+returns-3 c =
+    let s = c .before .before .before .before in
+    c .encode-in3 .ensures ∙ ap (λ (n : ℕ). encoding (unitOf n) (s .args .fields)) (sym (c .before .if3 .taken))
 
--- src/encoding.rt:50:1
 returns-4 : tie.Need-returns-4
-returns-4 c = ?
+returns-4 c =
+    let s = c .before .before .before in
+    ap (λ (u : Option TimeUnit). encoding u (s .args .fields)) (sym (unit-none (s .args .unit) (c .before .before .if1 .left) (c .before .if2 .left) (c .if3 .left)))
 
 pub encode-spec : {M : Type 1} → statement M
 encode-spec =
