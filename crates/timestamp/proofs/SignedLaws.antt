@@ -66,3 +66,10 @@ signed-told {x} h p q = signed-is x ∙ ap₂ signed-of (sign-told h p refl) (sy
 
 pub signed-back : {x : ℤ} (b : Bool) (n : ℕ) → x ≡ signed-of b n → n < 2 ^ 63 → toZ w64 (ofZ w64 x) ≡ signed-of b n
 signed-back b n e h = read-back e (subst (λ (k : ℕ). k < 2 ^ 63) (sym (signed-mag b n)) h)
+
+-- -1 less a number below 0, and a number from 0 on, are the magnitude
+pub complement-read : {x : ℤ} → SFits w64 x → not (nonNeg x) ≡ true → negsuc 0 -ℤ toZ w64 (ofZ w64 x) ≡ pos (mag x)
+complement-read {x} h e = ap (λ (z : ℤ). negsuc 0 -ℤ z) (read-back (negative-is x e) (h .sfits)) ∙ complement-negative (mag x)
+
+pub nonnegative-read : {x : ℤ} → SFits w64 x → not (nonNeg x) ≡ false → toZ w64 (ofZ w64 x) ≡ pos (mag x)
+nonnegative-read {x} h e = read-back (nonnegative-is x e) (h .sfits)

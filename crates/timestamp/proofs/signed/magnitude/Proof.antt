@@ -1,27 +1,24 @@
 -- `timestamp::signed::magnitude` meets its contract: below 0 it is -1 less the number, and else the number.
-use mathlib.Core.Path.{_≡_, sym, ap, subst, _∙_}
+use mathlib.Core.Path.{_≡_, sym, ap, subst}
 use borrow.Author.Needs.{needs}
-use lib.IntN.{ℤ, pos, negsuc, natAbs, _-ℤ_}
+use lib.IntN.{pos, negsuc, natAbs, _-ℤ_}
 use lib.Signed.{mag}
 use mir.Syntax.{w64}
 use mir.Val.{SFits, toZ, ofZ}
-use Rattle.timestamp.proofs.SignedLaws.{negative-is, nonnegative-is, complement-negative, read-back, cast-fits, sign-told}
+use Rattle.timestamp.proofs.SignedLaws.{read-back, cast-fits, sign-told, complement-read, nonnegative-read}
 use Rattle.timestamp.proofs.signed.magnitude.Statement.{statement}
 use Rattle.timestamp.proofs.signed.magnitude.Tie as tie
 
 is-negative-requires : tie.Need-is-negative-requires
 is-negative-requires c κs = search needs
 
--- the difference, and the number, are the magnitude
 difference : (c : tie.Then1) → negsuc 0 -ℤ toZ w64 (ofZ w64 (c .before .before .args .x)) ≡ pos (mag (c .before .before .args .x))
 difference c =
-    let x = c .before .before .args .x in
-    ap (λ (z : ℤ). negsuc 0 -ℤ z) (read-back (negative-is x (sign-told (c .before .before .fits .x) (c .before .is-negative .ensures) (c .if1 .taken))) (c .before .before .fits .x .sfits)) ∙ complement-negative (mag x)
+    complement-read (c .before .before .fits .x) (sign-told (c .before .before .fits .x) (c .before .is-negative .ensures) (c .if1 .taken))
 
 itself : (c : tie.Else1) → toZ w64 (ofZ w64 (c .before .before .args .x)) ≡ pos (mag (c .before .before .args .x))
 itself c =
-    let x = c .before .before .args .x in
-    read-back (nonnegative-is x (sign-told (c .before .before .fits .x) (c .before .is-negative .ensures) (c .if1 .left))) (c .before .before .fits .x .sfits)
+    nonnegative-read (c .before .before .fits .x) (sign-told (c .before .before .fits .x) (c .before .is-negative .ensures) (c .if1 .left))
 
 sub-result : tie.Need-sub-result
 sub-result c = subst (SFits w64) (sym (difference c)) (record { sfits = c .before .before .fits .x .sfits })
