@@ -1,8 +1,8 @@
 -- Times of a day and their ticks: within the day, and one time for each tick.
-use Prim.Native.Nat.{ℕ, zero, suc, _+_, _*_, _-_, _/_, _%_, _<_, _≤_}
+use Prim.Native.Nat.{ℕ, suc, _+_, _*_, _/_, _%_, _<_, _≤_}
 use native.Mathlib.Omega.{arith}
 use native.Mathlib.Nat.{mul-le-mul-right, mod-lt, div-add-mod', div-lt-iff-lt-mul}
-use mathlib.Core.Path.{_≡_, refl, sym, ap, ap₂, subst, _∙_}
+use mathlib.Core.Path.{_≡_, ap, _∙_}
 use mathlib.Core.Bool.{Bool, true, false, _&&_, and-false}
 use borrow.Author.Tests.{ltb-true, lt-ltb, le-ltb}
 use lib.Dec.{ltb}
@@ -27,7 +27,7 @@ time-parts t h m s f e =
       hour-below = ltb-true h 24 (first .0);
       minute-below = ltb-true m 60 (first .1);
       second-below = ltb-true s 60 (second .0);
-      fraction-below = ltb-true f t (second .1)
+      fraction-below = ltb-true f t (second .1);
     }
 
 pub parts-time : (t h m s f : ℕ) → Time t h m s f → isTime t h m s f ≡ true
@@ -75,10 +75,13 @@ time-one t h m s f h′ m′ s′ f′ p q e = (hours, (minutes, (seconds, one .
   where
     one : (second-of-day h m s ≡ second-of-day h′ m′ s′) × (f ≡ f′)
     one = steps-one (λ (n : ℕ). n * t) (λ (n : ℕ). t) (λ (n : ℕ). suc-times n t) (second-of-day h m s) (second-of-day h′ m′ s′) f f′ (p .fraction-below) (q .fraction-below) e
+
     hours : h ≡ h′
     hours = omega (arith, one .0, p .minute-below, p .second-below, q .minute-below, q .second-below)
+
     minutes : m ≡ m′
     minutes = omega (arith, one .0, p .minute-below, p .second-below, q .minute-below, q .second-below)
+
     seconds : s ≡ s′
     seconds = omega (arith, one .0, p .minute-below, p .second-below, q .minute-below, q .second-below)
 

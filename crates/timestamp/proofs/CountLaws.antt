@@ -4,19 +4,19 @@ use native.Mathlib.Omega.{arith}
 use mathlib.Core.Path.{_≡_, refl, sym, ap, subst, _∙_}
 use mathlib.Core.Bool.{Bool, true, false, cond, _&&_, and-false}
 use mathlib.Core.Option.{Option, none, some}
-use lib.IntN.{ℤ, pos, _+ℤ_, _*ℤ_}
+use lib.IntN.{ℤ}
 use lib.Signed.{mag}
 use Rattle.timestamp.specs.declared.fields.Fields.{Fields}
 use Rattle.timestamp.specs.Calendar.{isDate, dayNumber}
 use Rattle.timestamp.specs.Clock.{isTime, tickOfDay}
 use Rattle.timestamp.specs.Units.{TimeUnit, ticksPerSecond, ticksPerDay}
-use Rattle.timestamp.specs.Count.{isDateTime, countOf}
-use Rattle.timestamp.specs.Outcomes.{Outcome, refused, given, noDateTime, notRepresentable, unknownUnit, isSigned64, FieldsOf, Decodes, encodingIn, encoding}
+use Rattle.timestamp.specs.Count.{isDateTime, countOf, FieldsOf}
+use Rattle.timestamp.specs.Outcomes.{Outcome, refused, given, noDateTime, notRepresentable, isSigned64, Decodes, encodingIn, encoding}
 use Rattle.timestamp.proofs.TestLaws.{and-both, both-and}
 use Rattle.timestamp.proofs.DateLaws.{date-one}
 use Rattle.timestamp.proofs.ReachLaws.{count-far}
 use Rattle.timestamp.proofs.ClockLaws.{time-parts, tick-below, time-one}
-use Rattle.timestamp.proofs.FloorLaws.{joined, joined-one, signed-fits, signed-beyond}
+use Rattle.timestamp.proofs.FloorLaws.{joined-one, signed-fits, signed-beyond}
 use Rattle.timestamp.proofs.SignedLaws.{signed-of, signed-mag}
 
 -- fields that form a date and time are of a date and of a time
@@ -32,16 +32,20 @@ count-one t f g p q e =
   where
     fp : (isDate (f .year) (f .month) (f .day) ≡ true) × (isTime t (f .hour) (f .minute) (f .second) (f .fraction) ≡ true)
     fp = date-time-parts t f p
+
     gp : (isDate (g .year) (g .month) (g .day) ≡ true) × (isTime t (g .hour) (g .minute) (g .second) (g .fraction) ≡ true)
     gp = date-time-parts t g q
+
     days : (dayNumber (f .year) (f .month) (f .day) ≡ dayNumber (g .year) (g .month) (g .day)) × (tickOfDay t (f .hour) (f .minute) (f .second) (f .fraction) ≡ tickOfDay t (g .hour) (g .minute) (g .second) (g .fraction))
     days =
         joined-one (dayNumber (f .year) (f .month) (f .day)) (dayNumber (g .year) (g .month) (g .day)) (ticksPerDay t) (tickOfDay t (f .hour) (f .minute) (f .second) (f .fraction)) (tickOfDay t (g .hour) (g .minute) (g .second) (g .fraction))
         (tick-below t (f .hour) (f .minute) (f .second) (f .fraction) (time-parts t (f .hour) (f .minute) (f .second) (f .fraction) (fp .1)))
         (tick-below t (g .hour) (g .minute) (g .second) (g .fraction) (time-parts t (g .hour) (g .minute) (g .second) (g .fraction) (gp .1)))
         e
+
     dates : (f .year ≡ g .year) × ((f .month ≡ g .month) × (f .day ≡ g .day))
     dates = date-one (f .year) (f .month) (f .day) (g .year) (g .month) (g .day) (fp .0) (gp .0) (days .0)
+
     times : (f .hour ≡ g .hour) × ((f .minute ≡ g .minute) × ((f .second ≡ g .second) × (f .fraction ≡ g .fraction)))
     times =
         time-one t (f .hour) (f .minute) (f .second) (f .fraction) (g .hour) (g .minute) (g .second) (g .fraction)

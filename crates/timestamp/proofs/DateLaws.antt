@@ -1,5 +1,5 @@
 -- Dates and their days: as many eras on, from March on, and that a day has one date.
-use Prim.Native.Nat.{ℕ, zero, suc, _+_, _*_, _-_, _/_, _<_, _≤_}
+use Prim.Native.Nat.{ℕ, suc, _+_, _*_, _-_, _<_, _≤_}
 use native.Mathlib.Omega.{arith}
 use mathlib.Core.Path.{_≡_, refl, sym, ap, ap₂, subst, _∙_}
 use mathlib.Core.Bool.{Bool, true, _&&_}
@@ -8,11 +8,11 @@ use lib.Dec.{leb}
 use lib.ListN.{getD, take}
 use lib.IntN.{ℤ, pos, negsuc, natAbs, subℕ, _+ℤ_, _-ℤ_}
 use Rattle.timestamp.specs.Calendar.{isLeap, months, sum, monthsPerYear, daysOfMonth, daysBeforeMonth, daysOfYear, daysBeforeYear, dayOf, epoch, dayNumber, isDate}
-use Rattle.timestamp.proofs.DifferenceLaws.{pos-sub, negsuc-sub, sub-eq, sub-inj, sub-add-pos, sub-sub-pos, sub-above}
+use Rattle.timestamp.proofs.DifferenceLaws.{pos-sub, negsuc-sub, sub-eq, sub-inj, sub-add-pos, sub-sub-pos}
 use Rattle.timestamp.proofs.DivisionLaws.{steps-one}
-use Rattle.timestamp.proofs.TestLaws.{one-if, and-both, both-and}
+use Rattle.timestamp.proofs.TestLaws.{and-both, both-and}
 use Rattle.timestamp.proofs.YearLaws.{elapsed, elapsed-suc, elapsed-march, march, leap-era, days-of-year, days-before-year, days-before-era}
-use Rattle.timestamp.proofs.MonthLaws.{month-days, month-start, march-month, march-month-start, january-start, month-within, month-one}
+use Rattle.timestamp.proofs.MonthLaws.{march-month, march-month-start, january-start, month-within, month-one}
 
 -- ---- what a date is
 
@@ -32,7 +32,7 @@ date-parts y m d e =
       month-first = leb-true 1 m (month .0);
       month-last = leb-true m 12 (month .1);
       day-first = leb-true 1 d (day .0);
-      day-last = leb-true d (daysOfMonth y m) (day .1)
+      day-last = leb-true d (daysOfMonth y m) (day .1);
     }
 
 pub parts-date : (y : ℤ) (m d : ℕ) → Date y m d → isDate y m d ≡ true
@@ -103,6 +103,7 @@ era-date-one n m d n′ m′ d′ p q e = (years .0, month-day-one n m d m′ d�
     years : (n ≡ n′) × (daysBeforeMonth (pos n) m + (d - 1) ≡ daysBeforeMonth (pos n′) m′ + (d′ - 1))
     years =
         steps-one elapsed (λ (k : ℕ). daysOfYear (pos k)) elapsed-suc n n′ (daysBeforeMonth (pos n) m + (d - 1)) (daysBeforeMonth (pos n′) m′ + (d′ - 1)) (place-in-year (pos n) m d p) (place-in-year (pos n′) m′ d′ q) (omega (arith, p .day-first, q .day-first))
+
     same : Date (pos n′) m′ d′ → Date (pos n) m′ d′
     same = subst (λ (k : ℕ). Date (pos k) m′ d′) (sym (years .0))
 
@@ -116,15 +117,21 @@ date-one y m d y′ m′ d′ p q e = (n-is ∙ ap (λ (k : ℕ). subℕ k (400 
   where
     eras : ℕ
     eras = natAbs y + natAbs y′
+
     from : (n : ℕ) × (y ≡ subℕ n (400 * eras))
     from = counted-on y eras (omega arith)
+
     from′ : (n : ℕ) × (y′ ≡ subℕ n (400 * eras))
     from′ = counted-on y′ eras (omega arith)
+
     n-is : y ≡ subℕ (from .0) (400 * eras)
     n-is = from .1
+
     n′-is : y′ ≡ subℕ (from′ .0) (400 * eras)
     n′-is = from′ .1
+
     days : era-day-of (from .0) m d ≡ era-day-of (from′ .0) m′ d′
     days = omega (arith, sub-inj (era-day-of (from .0) m d) (146097 * eras + 719529) (era-day-of (from′ .0) m′ d′) (146097 * eras + 719529) (sym (day-number-era y (from .0) eras m d n-is) ∙ e ∙ day-number-era y′ (from′ .0) eras m′ d′ n′-is))
+
     one : (from .0 ≡ from′ .0) × ((m ≡ m′) × (d ≡ d′))
     one = era-date-one (from .0) m d (from′ .0) m′ d′ (date-parts (pos (from .0)) m d (sym (date-era y (from .0) eras m d n-is) ∙ p)) (date-parts (pos (from′ .0)) m′ d′ (sym (date-era y′ (from′ .0) eras m′ d′ n′-is) ∙ q)) days

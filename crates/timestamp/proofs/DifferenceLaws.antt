@@ -4,7 +4,7 @@ use native.Mathlib.Omega.{arith}
 use native.Mathlib.Nat.{add-mul}
 use native.Mathlib.Decide.{decLt}
 use mathlib.Core.Path.{_≡_, refl, sym, ap, ap₂, _∙_}
-use mathlib.Core.Bool.{Bool, true, false, cond}
+use mathlib.Core.Bool.{Bool, cond}
 use borrow.Author.Tests.{lt-ltb, le-ltb}
 use lib.IntN.{ℤ, pos, negsuc, subℕ, _+ℤ_, _-ℤ_, _*ℤ_, negℤ, pos-ne-negsuc}
 
@@ -55,44 +55,41 @@ sub-inj a b c d e =
   where
     both-below : a < b → c < d → negsuc (b - suc a) ≡ negsuc (d - suc c) → a + d ≡ c + b
     both-below h k p = let q : b - suc a ≡ d - suc c = cc in omega arith
+
     both-above : b ≤ a → d ≤ c → pos (a - b) ≡ pos (c - d) → a + d ≡ c + b
     both-above h k p = let q : a - b ≡ c - d = cc in omega arith
 
--- the sum, the negation and a multiple of differences
+-- the sum and a multiple of differences
 pub sub-add : (a b c d : ℕ) → subℕ a b +ℤ subℕ c d ≡ subℕ (a + c) (b + d)
 sub-add a b c d =
     below? a b
     (λ h.
-        below? c d
-        (λ k. ap₂ _+ℤ_ (sub-below a b h) (sub-below c d k) ∙ ap negsuc (omega arith) ∙ sym (sub-below (a + c) (b + d) (omega arith)))
-        (λ k. ap₂ _+ℤ_ (sub-below a b h) (sub-above c d k) ∙ sub-eq (c - d) (suc (b - suc a)) (a + c) (b + d) (omega arith)))
+    below? c d
+    (λ k. ap₂ _+ℤ_ (sub-below a b h) (sub-below c d k) ∙ ap negsuc (omega arith) ∙ sym (sub-below (a + c) (b + d) (omega arith)))
+    (λ k. ap₂ _+ℤ_ (sub-below a b h) (sub-above c d k) ∙ sub-eq (c - d) (suc (b - suc a)) (a + c) (b + d) (omega arith)))
     (λ h.
-        below? c d
-        (λ k. ap₂ _+ℤ_ (sub-above a b h) (sub-below c d k) ∙ sub-eq (a - b) (suc (d - suc c)) (a + c) (b + d) (omega arith))
-        (λ k. ap₂ _+ℤ_ (sub-above a b h) (sub-above c d k) ∙ ap pos (omega arith) ∙ sym (sub-above (a + c) (b + d) (omega arith))))
+    below? c d
+    (λ k. ap₂ _+ℤ_ (sub-above a b h) (sub-below c d k) ∙ sub-eq (a - b) (suc (d - suc c)) (a + c) (b + d) (omega arith))
+    (λ k. ap₂ _+ℤ_ (sub-above a b h) (sub-above c d k) ∙ ap pos (omega arith) ∙ sym (sub-above (a + c) (b + d) (omega arith))))
 
 neg-pos : (n : ℕ) → negℤ (pos n) ≡ subℕ 0 n
 neg-pos zero = refl
 neg-pos (suc n) = negsuc-sub n
 
-pub sub-neg : (a b : ℕ) → negℤ (subℕ a b) ≡ subℕ b a
-sub-neg a b =
-    below? a b
-    (λ h. ap negℤ (sub-below a b h) ∙ ap pos (omega arith) ∙ sym (sub-above b a (omega arith)))
-    (λ h. ap negℤ (sub-above a b h) ∙ neg-pos (a - b) ∙ sub-eq 0 (a - b) b a (omega arith))
-
 pub sub-mul : (a b c : ℕ) → subℕ a b *ℤ pos c ≡ subℕ (a * c) (b * c)
 sub-mul a b c =
     below? a b
     (λ h.
-        ap (λ (z : ℤ). z *ℤ pos c) (sub-below a b h) ∙ neg-pos (suc (b - suc a) * c) ∙ sub-eq 0 (suc (b - suc a) * c) (a * c) (b * c) (split a (suc (b - suc a)) b (omega arith)))
+    ap (λ (z : ℤ). z *ℤ pos c) (sub-below a b h) ∙ neg-pos (suc (b - suc a) * c) ∙ sub-eq 0 (suc (b - suc a) * c) (a * c) (b * c) (split a (suc (b - suc a)) b (omega arith)))
     (λ h.
-        ap (λ (z : ℤ). z *ℤ pos c) (sub-above a b h) ∙ pos-sub ((a - b) * c) ∙ sub-eq ((a - b) * c) 0 (a * c) (b * c) (split′ b (a - b) a (omega arith)))
+    ap (λ (z : ℤ). z *ℤ pos c) (sub-above a b h) ∙ pos-sub ((a - b) * c) ∙ sub-eq ((a - b) * c) 0 (a * c) (b * c) (split′ b (a - b) a (omega arith)))
   where
     parts : (x y z : ℕ) → z ≡ x + y → z * c ≡ x * c + y * c
     parts x y z e = ap (λ (n : ℕ). n * c) e ∙ add-mul x y c
+
     split : (x y z : ℕ) → z ≡ x + y → 0 + z * c ≡ x * c + y * c
     split x y z e = let p : z * c ≡ x * c + y * c = parts x y z e in omega arith
+
     split′ : (x y z : ℕ) → z ≡ x + y → y * c + x * c ≡ z * c + 0
     split′ x y z e = let p : z * c ≡ x * c + y * c = parts x y z e in omega arith
 

@@ -1,9 +1,8 @@
 -- Division of natural numbers: what quotient and rest are, and how they go on from a number to the next.
-use Prim.Native.Nat.{ℕ, zero, suc, _+_, _*_, _-_, _/_, _%_, _<_, _≤_}
+use Prim.Native.Nat.{ℕ, zero, suc, _+_, _*_, _/_, _%_, _<_, _≤_}
 use native.Mathlib.Omega.{arith}
-use native.Mathlib.Numerals.{add-one}
 use native.Mathlib.Nat.{add-mod, add-comm, mod-mod, mod-lt, div-add-mod', mul-add-div-right, mul-add-mod-self-right, div-eq-of-lt, mod-eq-of-lt, add-mul, le-of-eq}
-use mathlib.Core.Path.{_≡_, refl, sym, ap, ap₂, _∙_}
+use mathlib.Core.Path.{_≡_, sym, ap, _∙_}
 use mathlib.Core.Bool.{Bool, true, false}
 use borrow.Author.Tests.{eq-eqb, ne-eqb, eqb-true, eqb-false}
 use lib.Dec.{eqb}
@@ -27,6 +26,7 @@ quotient-suc k n h = below? (suc (n % k)) k inside at-end
   where
     split : n / k * k + n % k ≡ n
     split = div-add-mod' n k
+
     inside : suc (n % k) < k → suc n / k ≡ n / k + one-if (divides k (suc n))
     inside g =
         let e : suc n ≡ n / k * k + suc (n % k) = omega (arith, split) in
@@ -35,6 +35,7 @@ quotient-suc k n h = below? (suc (n % k)) k inside at-end
       where
         not-zero : suc (n % k) ≡ 0 → ⊥
         not-zero z = omega arith
+
     at-end : k ≤ suc (n % k) → suc n / k ≡ n / k + one-if (divides k (suc n))
     at-end g =
         let l : n % k < k = mod-lt n h in

@@ -1,16 +1,16 @@
 -- Days to dates and back, by years that begin in March.
-use Prim.Native.Nat.{ℕ, zero, suc, _+_, _*_, _-_, _/_, _<_, _≤_}
+use Prim.Native.Nat.{ℕ, suc, _+_, _*_, _-_, _/_, _<_, _≤_}
 use native.Mathlib.Numerals.{add-one}
 use native.Mathlib.Nat.{add-zero}
 use native.Mathlib.Omega.{arith}
-use mathlib.Core.Path.{_≡_, refl, sym, ap, subst, _∙_}
-use mathlib.Core.Bool.{Bool, true, false}
-use lib.IntN.{ℤ, pos}
+use mathlib.Core.Path.{_≡_, sym, ap, subst, _∙_}
+use mathlib.Core.Bool.{true}
+use lib.IntN.{pos}
 use Rattle.timestamp.specs.Calendar.{isLeap, daysOfMonth, daysOfYear, dayOf, isDate}
 use Rattle.timestamp.proofs.TestLaws.{one-if}
 use Rattle.timestamp.proofs.YearLaws.{march, days-of-year, days-of-year-most}
 use Rattle.timestamp.proofs.MonthLaws.{month-days, march-month, march-month-of, march-month-end, january-end}
-use Rattle.timestamp.proofs.DateLaws.{Date, parts-date, era-day-of, day-of-pos, day-of-march, day-of-january}
+use Rattle.timestamp.proofs.DateLaws.{parts-date, era-day-of, day-of-pos, day-of-march, day-of-january}
 
 -- 1 March of a year, and days after it
 pub march-day : (n k : ℕ) → dayOf (pos n) 3 (k + 1) ≡ pos (march n + k + 61)
@@ -34,10 +34,9 @@ module _ (n k i s : ℕ) (i-is : i ≡ (5 * k + 2) / 153) (s-is : s ≡ march-mo
       let at = march-month-of k m in
       let end : march-month i + month-days (isLeap (pos n)) (i + 3) ≡ march-month (suc i) = march-month-end (isLeap (pos n)) i (omega arith) in
       let first : march-month i ≤ k = subst (λ (j : ℕ). march-month j ≤ k) (sym i-is) (at .0) in
-      let last : k < march-month (suc i) = subst (λ (j : ℕ). k < march-month (suc j)) (sym i-is) (at .1) in
-      (
+      let last : k < march-month (suc i) = subst (λ (j : ℕ). k < march-month (suc j)) (sym i-is) (at .1) in (
         parts-date (pos n) (i + 3) (k - s + 1) (record { month-first = omega arith; month-last = h; day-first = omega arith; day-last = within (march-month i) (march-month (suc i)) (month-days (isLeap (pos n)) (i + 3)) s-is end last first }),
-        day-of-pos n (i + 3) (k - s + 1) ∙ ap pos (day-of-march n i (k - s + 1) (omega arith) ∙ together (march n) (march-month i) s-is first)
+        day-of-pos n (i + 3) (k - s + 1) ∙ ap pos (day-of-march n i (k - s + 1) (omega arith) ∙ together (march n) (march-month i) s-is first),
       )
     where
       within : (x y d : ℕ) → s ≡ x → x + d ≡ y → k < y → x ≤ k → k - s + 1 ≤ d
@@ -53,10 +52,9 @@ module _ (n k i s : ℕ) (i-is : i ≡ (5 * k + 2) / 153) (s-is : s ≡ march-mo
       let first : march-month (i + 3 - 12 + 9) ≤ k = subst (λ (j : ℕ). march-month j ≤ k) (sym (month ∙ i-is)) (at .0) in
       let last : k < march-month (suc (i + 3 - 12 + 9)) = subst (λ (j : ℕ). k < march-month (suc j)) (sym (month ∙ i-is)) (at .1) in
       let start : s ≡ march-month (i + 3 - 12 + 9) = s-is ∙ ap march-month (sym month) in
-      let year : k < 365 + one-if (isLeap (pos (n + 1))) = omega (arith, days-of-year (pos (n + 1))) in
-      (
+      let year : k < 365 + one-if (isLeap (pos (n + 1))) = omega (arith, days-of-year (pos (n + 1))) in (
         parts-date (pos (n + 1)) (i + 3 - 12) (k - s + 1) (record { month-first = omega arith; month-last = omega arith; day-first = omega arith; day-last = subst (λ (x : ℕ). k - x + 1 ≤ month-days (isLeap (pos (n + 1))) (i + 3 - 12)) (sym start) (january-end (isLeap (pos (n + 1))) (i + 3 - 12) k (omega arith) (omega arith) first last year) }),
-        day-of-pos (n + 1) (i + 3 - 12) (k - s + 1) ∙ ap pos (ap (λ (y : ℕ). era-day-of y (i + 3 - 12) (k - s + 1)) (add-one n) ∙ day-of-january n (i + 3 - 12) (k - s + 1) (omega arith) (omega arith) ∙ together (march n) (march-month (i + 3 - 12 + 9)) start first)
+        day-of-pos (n + 1) (i + 3 - 12) (k - s + 1) ∙ ap pos (ap (λ (y : ℕ). era-day-of y (i + 3 - 12) (k - s + 1)) (add-one n) ∙ day-of-january n (i + 3 - 12) (k - s + 1) (omega arith) (omega arith) ∙ together (march n) (march-month (i + 3 - 12 + 9)) start first),
       )
 
 -- and the day of a date is told by the days before its year from March on and those before its month
@@ -67,6 +65,7 @@ march-date-day n m d r s h g k e p =
   where
     month : m ≡ m - 3 + 3
     month = omega arith
+
     together : (x y : ℕ) → x + 0 ≡ r → s ≡ y → x + y + d + 60 ≡ r + s + (d - 1) + 61
     together x y p q = omega arith
 
@@ -77,8 +76,10 @@ january-date-day n m d r s l h g k e p =
   where
     year : n ≡ suc (n - 1)
     year = omega arith
+
     month : m + 12 - 3 ≡ m + 9
     month = omega arith
+
     together : (x y : ℕ) → x + 0 ≡ r → s ≡ y → x + y + d + 60 ≡ r + s + (d - 1) + 61
     together x y p q = omega arith
 

@@ -1,14 +1,12 @@
 -- The arithmetic of eras: years that begin in March, by their eras, centuries and fours.
-use Prim.Native.Nat.{ℕ, zero, suc, _+_, _*_, _-_, _/_, _%_, _<_, _≤_, min}
+use Prim.Native.Nat.{ℕ, suc, _+_, _*_, _-_, _/_, _%_, _<_, _≤_, min}
 use native.Mathlib.Nat.{div-le-self}
 use native.Mathlib.Numerals.{add-one}
 use native.Mathlib.Omega.{arith}
-use mathlib.Core.Path.{_≡_, refl, sym, ap, subst, _∙_}
-use mathlib.Core.Bool.{Bool}
+use mathlib.Core.Path.{_≡_, refl, sym, ap, subst}
 use lib.IntN.{pos}
-use Rattle.timestamp.specs.Calendar.{isLeap, daysOfYear}
+use Rattle.timestamp.specs.Calendar.{daysOfYear}
 use Rattle.timestamp.proofs.DifferenceLaws.{below?}
-use Rattle.timestamp.proofs.TestLaws.{one-if}
 use Rattle.timestamp.proofs.YearLaws.{march, march-sum, march-suc, days-of-year}
 
 -- the days before a year of an era
@@ -18,6 +16,7 @@ march-parts e c q a hc hq ha =
   where
     year : ℕ
     year = 400 * e + 100 * c + 4 * q + a
+
     total : (m : ℕ) → m + (4 * e + c) ≡ 365 * (400 * e + 100 * c + 4 * q + a) + (100 * e + 25 * c + q) + e → m ≡ 146097 * e + 36524 * c + 1461 * q + 365 * a
     total m p = omega arith
 
@@ -39,11 +38,11 @@ module _ (e c q a day : ℕ) (hc : c ≤ 3) (ha : a ≤ 3) (in-era : 36524 * c +
       below? a 3
       (λ g. let h : day < 365 = in-year g in before e c q (suc a) hc most g (omega arith) (omega arith))
       (λ g.
-          below? q 24 (λ k. before e c (suc q) 0 hc k (omega arith) (omega arith) (omega arith))
-          (λ k.
-              below? c 3
-              (λ l. let h : 1461 * q + 365 * a + day < 36524 = in-century l in before e (suc c) 0 0 l (omega arith) (omega arith) (omega arith) (omega arith))
-              (λ l. before (suc e) 0 0 0 (omega arith) (omega arith) (omega arith) (omega arith) (omega arith))))
+      below? q 24 (λ k. before e c (suc q) 0 hc k (omega arith) (omega arith) (omega arith))
+      (λ k.
+      below? c 3
+      (λ l. let h : 1461 * q + 365 * a + day < 36524 = in-century l in before e (suc c) 0 0 l (omega arith) (omega arith) (omega arith) (omega arith))
+      (λ l. before (suc e) 0 0 0 (omega arith) (omega arith) (omega arith) (omega arith) (omega arith))))
 
   pub era-year : day < daysOfYear (pos (suc (400 * e + 100 * c + 4 * q + a)))
   era-year = omega (arith, next, march-parts e c q a hc four-most ha, march-suc (400 * e + 100 * c + 4 * q + a), days-of-year (pos (suc (400 * e + 100 * c + 4 * q + a))))
@@ -97,7 +96,7 @@ module _ (day e w c o q r a k : ℕ) (day-is : day ≡ 146097 * e + w) (w-most :
       record {
         is = same;
         within = subst (λ (y : ℕ). k < daysOfYear (pos y)) (sym (add-one year)) (era-year e c q a k c-most a-most in-era in-century in-four in-year);
-        most = omega (arith, march-least year)
+        most = omega (arith, march-least year);
       }
 
 -- so quotients tell a day's year and its day there: c by a century and a by a year, at most 3

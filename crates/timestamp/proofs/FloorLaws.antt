@@ -1,12 +1,12 @@
 -- Floor division of integers: a count from its days and its rest, by the sign, and that both are told by the count.
-use Prim.Native.Nat.{ℕ, zero, suc, _+_, _*_, _-_, _/_, _%_, _<_, _≤_, _^_}
+use Prim.Native.Nat.{ℕ, suc, _+_, _*_, _-_, _/_, _%_, _<_, _≤_, _^_}
 use native.Mathlib.Omega.{arith}
 use native.Mathlib.Nat.{add-mul, div-add-mod', mod-lt}
-use mathlib.Core.Path.{_≡_, refl, sym, ap, ap₂, subst, _∙_}
+use mathlib.Core.Path.{_≡_, refl, sym, ap, subst, _∙_}
 use mathlib.Core.Bool.{Bool, true, false, cond, _&&_}
 use borrow.Author.Tests.{le-leb, lt-leb}
 use lib.IntN.{ℤ, pos, negsuc, subℕ, _+ℤ_, _*ℤ_}
-use lib.Signed.{mag, leZ}
+use lib.Signed.{mag}
 use mir.Syntax.{w64}
 use mir.Val.{SFits, toZ, ofZ}
 use mir.ValLaws.{toZ-ofZ}
@@ -57,12 +57,16 @@ joined-one day day′ t r r′ h k e = (x .is ∙ sub-eq (x .more) (x .less) (y 
   where
     x : Difference day
     x = difference day
+
     y : Difference day′
     y = difference day′
+
     apart : (z : ℤ) (d : Difference z) (s : ℕ) → joined z t s ≡ subℕ (d .more * t + s) (d .less * t)
     apart z d s = ap (λ (w : ℤ). w *ℤ pos t +ℤ pos s) (d .is) ∙ ap (λ (w : ℤ). w +ℤ pos s) (sub-mul (d .more) (d .less) t) ∙ sub-add-pos (d .more * t) (d .less * t) s
+
     crossed : x .more * t + r + y .less * t ≡ y .more * t + r′ + x .less * t
     crossed = sub-inj (x .more * t + r) (x .less * t) (y .more * t + r′) (y .less * t) (sym (apart day x r) ∙ e ∙ apart day′ y r′)
+
     one : (x .more + y .less ≡ y .more + x .less) × (r ≡ r′)
     one = steps-one (λ (n : ℕ). n * t) (λ (n : ℕ). t) (λ (n : ℕ). suc-times n t) (x .more + y .less) (y .more + x .less) r r′ h k (omega (arith, crossed, add-mul (x .more) (y .less) t, add-mul (y .more) (x .less) t))
 

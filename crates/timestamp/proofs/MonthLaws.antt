@@ -1,16 +1,15 @@
 -- Months: each begins where the one before ends, also where the year begins in March.
 use Prim.Native.Nat.{ℕ, zero, suc, _+_, _*_, _-_, _/_, _<_, _≤_}
 use native.Mathlib.Omega.{arith}
-use mathlib.Core.Path.{_≡_, refl, sym, ap, ap₂, _∙_}
-use mathlib.Core.Bool.{Bool, true, false, cond}
+use mathlib.Core.Path.{_≡_, refl}
+use mathlib.Core.Bool.{Bool, true, false}
 use mathlib.Core.List.{List, [], _∷_}
 use borrow.Author.Tests.{eqb-true}
 use lib.Dec.{eqb}
 use lib.ListN.{getD, take}
-use lib.IntN.{ℤ, pos}
-use Rattle.timestamp.specs.Calendar.{months, sum, isLeap, daysOfMonth, daysBeforeMonth, daysOfYear}
+use Rattle.timestamp.specs.Calendar.{months, sum}
 use Rattle.timestamp.proofs.DivisionLaws.{steps-up, steps-one}
-use Rattle.timestamp.proofs.TestLaws.{one-if, all-below, at-each}
+use Rattle.timestamp.proofs.TestLaws.{one-if, at-each}
 
 -- the days of a month and those before it, in a common year or a leap year
 abbrev pub month-days : Bool → ℕ → ℕ

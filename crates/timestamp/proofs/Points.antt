@@ -1,14 +1,14 @@
 -- The starred points of document 01 on timestamps, each by computation from the definitions.
 use Prim.Native.Nat.{ℕ, _-_, _^_}
 use mathlib.Core.Path.{_≡_, refl}
-use mathlib.Core.Option.{Option, some}
+use mathlib.Core.Option.{some}
 use lib.IntN.{ℤ, pos, negsuc}
 use Rattle.timestamp.specs.declared.fields.Fields.{Fields}
 use Rattle.timestamp.specs.Calendar.{isLeap, sum, daysOfMonth, daysBeforeMonth, daysOfYear, daysBeforeYear, dayOf, epoch, dayNumber, isDate}
 use Rattle.timestamp.specs.Clock.{isTime, tickOfDay}
 use Rattle.timestamp.specs.Units.{TimeUnit, millis, nanos, ticksPerSecond}
-use Rattle.timestamp.specs.Count.{isDateTime, countOf}
-use Rattle.timestamp.specs.Outcomes.{Outcome, given, noDateTime, FieldsOf, encodingIn, encoding}
+use Rattle.timestamp.specs.Count.{isDateTime, countOf, FieldsOf}
+use Rattle.timestamp.specs.Outcomes.{noDateTime, encodingIn, encoding}
 
 -- year, month, day, hour, minute, second, fraction
 abbrev pub fields : ℤ → ℕ → ℕ → ℕ → ℕ → ℕ → ℕ → Fields
@@ -31,5 +31,5 @@ points =
       third-day = record { formed = refl; counted = refl };
       tick-before = record { formed = refl; counted = refl };
       least-nanos = record { formed = refl; counted = refl };
-      no-leap-1900 = λ unit h m s f. refl
+      no-leap-1900 = λ unit h m s f. refl;
     }

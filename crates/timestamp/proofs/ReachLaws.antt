@@ -2,16 +2,15 @@
 use Prim.Native.Nat.{ℕ, zero, suc, _+_, _*_, _-_, _<_, _≤_, _^_}
 use native.Mathlib.Omega.{arith}
 use native.Mathlib.Nat.{mul-le-mul, le-trans}
-use mathlib.Core.Path.{_≡_, refl, sym, ap, ap₂, subst, _∙_}
-use mathlib.Core.Bool.{Bool, true, false}
+use mathlib.Core.Path.{_≡_, sym, ap, ap₂, subst, _∙_}
+use mathlib.Core.Bool.{true, false}
 use lib.IntN.{ℤ, pos, negsuc, subℕ, _+ℤ_, _-ℤ_}
 use lib.Signed.{mag}
 use lib.Dec.{lit≤}
-use Rattle.timestamp.specs.Calendar.{isLeap, daysBeforeMonth, daysOfYear, daysBeforeYear, dayOf, epoch, dayNumber, isDate}
+use Rattle.timestamp.specs.Calendar.{daysBeforeMonth, daysOfYear, daysBeforeYear, dayOf, epoch, dayNumber, isDate}
 use Rattle.timestamp.specs.Outcomes.{isSigned64}
 use Rattle.timestamp.specs.Units.{ticksPerDay}
 use Rattle.timestamp.proofs.DifferenceLaws.{pos-sub, sub-above, sub-below, sub-add-pos, sub-sub-pos}
-use Rattle.timestamp.proofs.TestLaws.{one-if}
 use Rattle.timestamp.proofs.YearLaws.{elapsed, elapsed-suc, elapsed-zero, days-of-year, days-of-year-most}
 use Rattle.timestamp.proofs.DateLaws.{date-parts, place-in-year, era-day-of, day-number-era, epoch-is}
 use Rattle.timestamp.proofs.FloorLaws.{joined, joined-reach, signed-beyond}
@@ -34,7 +33,7 @@ before (suc n) =
     record {
       days = b .days + daysOfYear (negsuc (suc n));
       is = ap (λ (z : ℤ). z -ℤ pos (daysOfYear (negsuc (suc n)))) (b .is) ∙ sub-sub-pos 0 (b .days) (daysOfYear (negsuc (suc n)));
-      least = omega (arith, b .least, days-of-year (negsuc (suc n)))
+      least = omega (arith, b .least, days-of-year (negsuc (suc n)));
     }
 
 -- so the day number of a far year is far
@@ -48,10 +47,13 @@ days-far (negsuc n) m d p h = subst (λ (z : ℤ). 109000000000 ≤ mag z) (sym 
   where
     b : Before n
     b = before n
+
     passed : ℕ
     passed = daysBeforeMonth (negsuc n) m + d
+
     within : passed ≤ 366
     within = omega (arith, place-in-year (negsuc n) m d (date-parts (negsuc n) m d p), days-of-year-most (negsuc n))
+
     is : dayNumber (negsuc n) m d ≡ negsuc (b .days + 719529 - suc (0 + passed))
     is =
         ap (λ (z : ℤ). z +ℤ pos passed -ℤ epoch) (b .is) ∙ ap₂ (λ (v w : ℤ). v -ℤ w) (sub-add-pos 0 (b .days) passed) epoch-is ∙ sub-sub-pos (0 + passed) (b .days) 719529 ∙ sub-below (0 + passed) (b .days + 719529) (omega (arith, b .least, within))

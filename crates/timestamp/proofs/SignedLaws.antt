@@ -1,16 +1,16 @@
 -- Signed numbers of 64 bits by sign and magnitude, as the machine reads them back from their bits.
-use Prim.Native.Nat.{ℕ, zero, suc, _+_, _-_, _<_, _≤_, _^_}
+use Prim.Native.Nat.{ℕ, zero, suc, _<_, _^_}
 use native.Mathlib.Omega.{arith}
 use mathlib.Core.Path.{_≡_, refl, sym, ap, ap₂, subst, _∙_}
 use mathlib.Core.Bool.{Bool, true, false, not, cond, false≢true, true≢false}
 use borrow.Author.Tests.{le-ltb}
 use lib.Dec.{T}
-use lib.IntN.{ℤ, pos, negsuc, natAbs, subℕ, _-ℤ_}
+use lib.IntN.{ℤ, pos, negsuc, natAbs, _-ℤ_}
 use lib.Signed.{mag, ltZ, nonNeg}
 use mir.Syntax.{w64}
 use mir.Val.{Fits, SFits, toZ, ofZ}
 use mir.ValLaws.{toZ-ofZ}
-use Rattle.timestamp.proofs.DifferenceLaws.{sub-above, sub-below, sub-eq, pos-sub, negsuc-sub}
+use Rattle.timestamp.proofs.DifferenceLaws.{sub-above}
 
 -- a number below 0 is one that is not nonnegative
 pub below-zero : (x : ℤ) → ltZ x (pos 0) ≡ not (nonNeg x)

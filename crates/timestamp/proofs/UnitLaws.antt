@@ -1,11 +1,11 @@
 -- Which unit a number names.
 use Prim.Native.Nat.{ℕ}
-use mathlib.Core.Path.{_≡_, refl, ap, _∙_}
+use mathlib.Core.Path.{_≡_, ap, _∙_}
 use mathlib.Core.Bool.{Bool, cond}
-use mathlib.Core.Option.{Option, none, some}
+use mathlib.Core.Option.{none, some}
 use borrow.Author.Tests.{ne-eqb}
 use lib.Dec.{eqb}
-use Rattle.timestamp.specs.Units.{TimeUnit, millis, micros, nanos, unitOf}
+use Rattle.timestamp.specs.Units.{millis, micros, nanos, unitOf}
 
 pub unit-none : (n : ℕ) → (n ≡ 1 → ⊥) → (n ≡ 2 → ⊥) → (n ≡ 3 → ⊥) → unitOf n ≡ none
 unit-none n h k l =

@@ -1,16 +1,15 @@
 -- Years: their days, and the days before them, also as eras of 400 years that all have the same days.
-use Prim.Native.Nat.{ℕ, zero, suc, _+_, _*_, _-_, _/_, _%_, _<_, _≤_}
+use Prim.Native.Nat.{ℕ, zero, suc, _+_, _*_, _-_, _/_, _%_, _≤_}
 use native.Mathlib.Omega.{arith}
 use native.Mathlib.Nat.{div-le-self, dvd-mul-right-of-dvd, mod-eq-zero-of-dvd, dvd-of-mod-eq-zero}
 use mathlib.Core.Path.{_≡_, refl, sym, ap, ap₂, subst, _∙_}
-use mathlib.Core.Bool.{Bool, true, false, cond, not, _&&_, _||_, false≢true}
-use borrow.Author.Tests.{eqb-true, eqb-false, eq-eqb}
-use lib.Dec.{eqb}
+use mathlib.Core.Bool.{Bool, true, false, not, _&&_, _||_, false≢true}
+use borrow.Author.Tests.{eqb-true, eq-eqb}
 use lib.IntN.{ℤ, pos, negsuc, natAbs, subℕ, _+ℤ_, _-ℤ_}
 use Rattle.timestamp.specs.Calendar.{divides, isLeap, months, sum, daysOfYear, daysBeforeYear}
-use Rattle.timestamp.proofs.DifferenceLaws.{pos-sub, negsuc-sub, sub-eq, sub-inj, sub-add-pos, sub-sub-pos}
+use Rattle.timestamp.proofs.DifferenceLaws.{pos-sub, negsuc-sub, sub-eq, sub-inj, sub-sub-pos}
 use Rattle.timestamp.proofs.DivisionLaws.{quotient-suc, divides-add, divides-rest}
-use Rattle.timestamp.proofs.TestLaws.{one-if, by-test}
+use Rattle.timestamp.proofs.TestLaws.{one-if}
 
 -- a leap year has one day more
 year-days : (b : Bool) → sum (months b) ≡ 365 + one-if b

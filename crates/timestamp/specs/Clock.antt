@@ -3,12 +3,15 @@ use Prim.Native.Nat.{ℕ, _+_, _*_}
 use mathlib.Core.Bool.{Bool, _&&_}
 use lib.Dec.{ltb}
 
+-- hour 0 to 23
 abbrev pub hoursPerDay : ℕ
 hoursPerDay = 24
 
+-- minute 0 to 59
 abbrev pub minutesPerHour : ℕ
 minutesPerHour = 60
 
+-- second 0 to 59
 abbrev pub secondsPerMinute : ℕ
 secondsPerMinute = 60
 
@@ -16,7 +19,7 @@ secondsPerMinute = 60
 abbrev pub secondsPerDay : ℕ
 secondsPerDay = hoursPerDay * minutesPerHour * secondsPerMinute
 
--- hour 0 to 23, minute and second 0 to 59, the fraction in ticks below one second
+-- an hour, a minute and a second in their ranges, and the fraction, in ticks, below one second
 unfoldable pub isTime : ℕ → ℕ → ℕ → ℕ → ℕ → Bool
 isTime ticks hour minute second fraction =
     ltb hour hoursPerDay && ltb minute minutesPerHour && (ltb second secondsPerMinute && ltb fraction ticks)

@@ -1,7 +1,7 @@
 -- What decoding and encoding answer: document 01's refusals by number and place, or the value.
 use Prim.Native.Nat.{ℕ, _-_, _^_}
 use mathlib.Core.Path.{_≡_}
-use mathlib.Core.Bool.{Bool, true, cond, _&&_}
+use mathlib.Core.Bool.{Bool, cond, _&&_}
 use mathlib.Core.Option.{Option, none, some}
 use lib.IntN.{ℤ, pos, negsuc}
 use lib.Signed.{leZ}
@@ -10,8 +10,8 @@ use Rattle.timestamp.specs.declared.decoding.Decoded
 use Rattle.timestamp.specs.declared.decoding.Decoded.{Decoded}
 use Rattle.timestamp.specs.declared.encoding.Encoded
 use Rattle.timestamp.specs.declared.encoding.Encoded.{Encoded}
-use Rattle.timestamp.specs.Units.{TimeUnit, unitOf, ticksPerSecond}
-use Rattle.timestamp.specs.Count.{isDateTime, countOf}
+use Rattle.timestamp.specs.Units.{TimeUnit, ticksPerSecond}
+use Rattle.timestamp.specs.Count.{isDateTime, countOf, FieldsOf}
 
 -- a refusal, by its number and place, or what was asked for
 pub data Outcome (A : Type 0) : Type 0 where
@@ -42,14 +42,13 @@ encoded Encoded.NoDateTime = noDateTime
 encoded Encoded.NotRepresentable = notRepresentable
 encoded Encoded.UnknownUnit = unknownUnit
 
--- a signed 64-bit number
-unfoldable pub isSigned64 : ℤ → Bool
-isSigned64 z = leZ (negsuc (2 ^ 63 - 1)) z && leZ z (pos (2 ^ 63 - 1))
+-- the greatest signed 64-bit number
+abbrev pub greatest : ℕ
+greatest = 2 ^ 63 - 1
 
--- the fields that a count stands for: they form a date and time, and it is their count
-pub record FieldsOf (ticks : ℕ) (count : ℤ) (f : Fields) : Type 0 where
-  pub formed : isDateTime ticks f ≡ true
-  pub counted : countOf ticks f ≡ count
+-- a signed 64-bit number: from -1 less the greatest to the greatest
+unfoldable pub isSigned64 : ℤ → Bool
+isSigned64 z = leZ (negsuc greatest) z && leZ z (pos greatest)
 
 -- what decoding answers: 20 where no unit is named, else the fields that the count stands for
 abbrev pub Decodes : Option TimeUnit → ℤ → Outcome Fields → Type 0

@@ -5,6 +5,7 @@ use mathlib.Core.Option.{Option, none, some}
 use lib.Dec.{eqb}
 use Rattle.timestamp.specs.Clock.{secondsPerDay}
 
+-- MILLIS, MICROS and NANOS
 pub data TimeUnit : Type 0 where
   millis micros nanos : TimeUnit
 

@@ -3,15 +3,15 @@
 ghost use mathlib.Core.Path.{_≡_};
 ghost use mathlib.Core.Bool.{true};
 ghost use Prim.Native.Nat.{_+_, _<_, _≤_, _^_};
-ghost use lib.IntN.{pos};
 ghost use lib.Signed.{mag};
 ghost use Rattle.timestamp.specs.Calendar.{isLeap, divides, daysOfMonth, dayNumber, isDate};
-
+use crate::eras;
 use crate::eras::DAYS_PER_ERA;
 use crate::eras::EraDate;
 use crate::eras::MONTHS_PER_YEAR;
+use crate::eras::YEARS_PER_CENTURY;
 use crate::eras::YEARS_PER_ERA;
-use crate::eras;
+use crate::eras::YEARS_PER_FOUR;
 use crate::signed::absolute;
 use crate::signed::lowered;
 use crate::signed::raised;
@@ -19,10 +19,10 @@ use crate::signed::raised;
 // The eras before year 0 from which dates are counted, so that no number on the way is negative.
 const ERAS: u64 = 1_000_000;
 
-// The years from the first of those to year 0.
+// The years of those eras.
 const YEARS_BEFORE: u64 = ERAS * YEARS_PER_ERA;
 
-// The years from year 0, before or after it, in which no count of 64 bits lies any more, in any unit.
+// A year as far from year 0 as this or farther, before it or after, has no count of 64 bits in any unit.
 pub(crate) const YEARS_REACHED: u64 = 300_000_000;
 
 // The days from 1 March of year 0 to 1 January 1970.
@@ -105,13 +105,13 @@ fn is_leap(year: i64) -> bool
     ensures { λ r. ⌜ r ≡ isLeap year ⌝ }
 {
     let years = absolute(year);
-    if !is_multiple(years, 4) {
+    if !is_multiple(years, YEARS_PER_FOUR) {
         return false;
     }
-    if !is_multiple(years, 100) {
+    if !is_multiple(years, YEARS_PER_CENTURY) {
         return true;
     }
-    is_multiple(years, 400)
+    is_multiple(years, YEARS_PER_ERA)
 }
 
 // Whether `n` is a multiple of `k`.

@@ -7,7 +7,9 @@ ghost use Rattle.timestamp.specs.Clock.{isTime, tickOfDay};
 ghost use Rattle.timestamp.specs.Units.{nanos, ticksPerSecond, ticksPerDay};
 
 const HOURS_PER_DAY: u32 = 24;
+
 const MINUTES_PER_HOUR: u32 = 60;
+
 const SECONDS_PER_MINUTE: u32 = 60;
 
 pub(crate) struct Time {

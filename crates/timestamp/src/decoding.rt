@@ -1,14 +1,12 @@
 // From a count to the fields of its date and time.
 
-ghost use mathlib.Core.Path.{_≡_};
-ghost use mathlib.Core.Bool.{true};
 ghost use Prim.Native.Nat.{_<_, _≤_, _^_};
 ghost use lib.IntN.{ℤ};
 ghost use lib.Signed.{mag};
 ghost use Rattle.timestamp.specs.Units.{nanos, ticksPerSecond, ticksPerDay, unitOf};
 ghost use Rattle.timestamp.specs.FloorDivision.{FloorDivision};
-ghost use Rattle.timestamp.specs.Outcomes.{Decodes, FieldsOf, decoded};
-
+ghost use Rattle.timestamp.specs.Count.{FieldsOf};
+ghost use Rattle.timestamp.specs.Outcomes.{Decodes, decoded};
 use crate::calendar::date_of;
 use crate::clock::time_of;
 use crate::division::Division;

@@ -7,7 +7,6 @@ ghost use mathlib.Core.Path.{_≡_};
 ghost use mathlib.Core.Bool.{cond};
 ghost use Prim.Native.Nat.{_-_, _<_};
 ghost use Rattle.timestamp.specs.FloorDivision.{FloorDivision};
-
 use crate::signed::is_negative;
 use crate::signed::magnitude;
 use crate::signed::signed;

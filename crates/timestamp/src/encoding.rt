@@ -5,9 +5,7 @@ ghost use mathlib.Core.Bool.{cond};
 ghost use Prim.Native.Nat.{_+_, _*_, _<_, _≤_, _^_};
 ghost use lib.IntN.{pos, _+ℤ_, _*ℤ_};
 ghost use Rattle.timestamp.specs.Units.{millis, nanos, ticksPerSecond, ticksPerDay, unitOf};
-ghost use Rattle.timestamp.specs.Count.{isDateTime};
 ghost use Rattle.timestamp.specs.Outcomes.{encoded, encoding, encodingIn, isSigned64, given, notRepresentable};
-
 use crate::calendar::Date;
 use crate::calendar::YEARS_REACHED;
 use crate::calendar::day_number;

@@ -14,16 +14,25 @@ ghost use lib.IntN.{pos};
 ghost use Rattle.timestamp.specs.Calendar.{dayOf, daysOfYear, isDate};
 
 pub(crate) const YEARS_PER_ERA: u64 = 400;
+
 pub(crate) const DAYS_PER_ERA: u64 = 146_097;
-const YEARS_PER_CENTURY: u64 = 100;
+
+pub(crate) const YEARS_PER_CENTURY: u64 = 100;
+
 const DAYS_PER_CENTURY: u64 = 36_524;
-const YEARS_PER_FOUR: u64 = 4;
+
+pub(crate) const YEARS_PER_FOUR: u64 = 4;
+
 const DAYS_PER_FOUR: u64 = 1_461;
+
 const DAYS_PER_YEAR: u64 = 365;
+
 const MONTHS_PER_FIVE: u64 = 5;
+
 const DAYS_PER_FIVE: u64 = 153;
 
 pub(crate) const MONTHS_PER_YEAR: u32 = 12;
+
 const MARCH: u32 = 3;
 
 // A date of year 0 or later.

@@ -1,14 +1,13 @@
 // Timestamps: counts of ticks since 1 January 1970 in three units, and the dates and times that they stand for.
+mod calendar;
+mod clock;
 pub mod decoding;
 pub mod division;
 pub mod encoding;
-pub mod fields;
-pub mod units;
-
-mod calendar;
-mod clock;
 mod eras;
+pub mod fields;
 mod signed;
+pub mod units;
 
 pub use decoding::Decoded;
 pub use decoding::decode;

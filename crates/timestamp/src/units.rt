@@ -1,13 +1,12 @@
 // The three time units, each a type that knows its ticks in a second and in a day and divides a count into days.
 
-ghost use Rattle.timestamp.specs.Units.{TimeUnit, millis, micros, nanos, ticksPerSecond, ticksPerDay};
+ghost use Rattle.timestamp.specs.Units.{millis, micros, nanos, ticksPerSecond, ticksPerDay};
 ghost use Rattle.timestamp.specs.FloorDivision.{FloorDivision};
-
 use crate::division::Division;
 use crate::division::floor_divide;
 
 // The seconds of a day.
-pub const SECONDS_PER_DAY: u64 = 86_400;
+const SECONDS_PER_DAY: u64 = 86_400;
 
 // Thousandths of a second.
 pub struct Millis;
@@ -15,7 +14,9 @@ pub struct Millis;
 impl Millis {
     // The number that names the unit.
     pub const NUMBER: u32 = 1;
+
     pub const TICKS_PER_SECOND: u64 = 1_000;
+
     pub const TICKS_PER_DAY: u64 = Self::TICKS_PER_SECOND * SECONDS_PER_DAY;
 
     // The days of a count, rounded down, and the ticks left.
@@ -32,7 +33,9 @@ pub struct Micros;
 impl Micros {
     // The number that names the unit.
     pub const NUMBER: u32 = 2;
+
     pub const TICKS_PER_SECOND: u64 = 1_000_000;
+
     pub const TICKS_PER_DAY: u64 = Self::TICKS_PER_SECOND * SECONDS_PER_DAY;
 
     // The days of a count, rounded down, and the ticks left.
@@ -49,7 +52,9 @@ pub struct Nanos;
 impl Nanos {
     // The number that names the unit.
     pub const NUMBER: u32 = 3;
+
     pub const TICKS_PER_SECOND: u64 = 1_000_000_000;
+
     pub const TICKS_PER_DAY: u64 = Self::TICKS_PER_SECOND * SECONDS_PER_DAY;
 
     // The days of a count, rounded down, and the ticks left.

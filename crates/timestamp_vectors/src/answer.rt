@@ -9,7 +9,9 @@ use timestamp::Fields;
 
 // The numbers of document 01's refusals.
 const NO_DATE_TIME: u32 = 18;
+
 const NOT_REPRESENTABLE: u32 = 19;
+
 const UNKNOWN_UNIT: u32 = 20;
 
 // Decodes, and prints the unit, the count and the fields or the refusal.

@@ -11,7 +11,9 @@ use timestamp::Millis;
 use timestamp::Nanos;
 
 const LEAST: i64 = -9_223_372_036_854_775_808;
+
 const GREATEST: i64 = 9_223_372_036_854_775_807;
+
 const MOST: u32 = 0xffff_ffff;
 
 fn main() {
@@ -150,7 +152,15 @@ fn last_of(ticks: u32) -> u32 {
     ticks - 1
 }
 
-fn moment(year: i64, month: u32, day: u32, hour: u32, minute: u32, second: u32, fraction: u32) -> Fields {
+fn moment(
+    year: i64,
+    month: u32,
+    day: u32,
+    hour: u32,
+    minute: u32,
+    second: u32,
+    fraction: u32,
+) -> Fields {
     Fields {
         year,
         month,

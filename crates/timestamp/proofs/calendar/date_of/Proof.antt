@@ -1,8 +1,7 @@
 -- `timestamp::calendar::date_of` meets its contract: the day and the year are counted from a million eras before.
-use Prim.Native.Nat.{ℕ, _+_, _<_, _≤_, _^_}
+use Prim.Native.Nat.{_<_, _^_}
 use native.Mathlib.Omega.{arith}
-use mathlib.Core.Path.{_≡_, sym, ap, subst, _∙_}
-use borrow.Author.Needs.{needs}
+use mathlib.Core.Path.{_≡_, sym, subst, _∙_}
 use lib.IntN.{ℤ, subℕ}
 use lib.Signed.{mag}
 use mir.Syntax.{w64}
@@ -37,10 +36,9 @@ returns : tie.Need-returns
 returns c =
     let d = c .before in
     let date = d .date-of .result in
-    let year : toZ w64 (ofZ w64 (c .lowered .result)) ≡ subℕ (date .year) 400000000 = read-back (c .lowered .ensures) (difference-most (date .year) 400000000 (2 ^ 63) (omega (arith, raised-below (d .before), d .date-of .ensures .2)) (omega arith)) in
-    (
+    let year : toZ w64 (ofZ w64 (c .lowered .result)) ≡ subℕ (date .year) 400000000 = read-back (c .lowered .ensures) (difference-most (date .year) 400000000 (2 ^ 63) (omega (arith, raised-below (d .before), d .date-of .ensures .2)) (omega arith)) in (
       date-era _ (date .year) 1000000 (date .month) (date .day) year ∙ d .date-of .ensures .0,
-      day-number-from _ (date .year) (date .month) (date .day) (d .before .raised .result) year (d .date-of .ensures .1) ∙ sym (day-is (d .before))
+      day-number-from _ (date .year) (date .month) (date .day) (d .before .raised .result) year (d .date-of .ensures .1) ∙ sym (day-is (d .before)),
     )
 
 pub date-of-spec : {M : Type 1} → statement M

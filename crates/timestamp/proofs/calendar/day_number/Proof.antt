@@ -1,7 +1,7 @@
 -- `timestamp::calendar::day_number` meets its contract: the year and the day are counted from a million eras before.
-use Prim.Native.Nat.{ℕ, _+_, _<_, _≤_, _^_}
+use Prim.Native.Nat.{_<_, _^_}
 use native.Mathlib.Omega.{arith}
-use mathlib.Core.Path.{_≡_, sym, ap, subst, _∙_}
+use mathlib.Core.Path.{_≡_, sym, subst, _∙_}
 use borrow.Author.Needs.{needs}
 use lib.IntN.{ℤ, subℕ}
 use lib.Signed.{mag}
@@ -27,11 +27,10 @@ year-is c = sym (year-back (c .before)) ∙ c .raised .ensures
 day-of-requires : tie.Need-day-of-requires
 day-of-requires c κs =
     let s = c .before .before in
-    let d = s .args .date in
-    (
+    let d = s .args .date in (
       omega (arith, raised-least (d .year) (c .raised .result) 400000000 300000000 (year-is c) (s .pre .0)),
       omega (arith, raised-most (d .year) (c .raised .result) 400000000 300000000 (year-is c) (s .pre .0)),
-      sym (date-era (d .year) (c .raised .result) 1000000 (d .month) (d .day) (year-is c)) ∙ s .pre .1
+      sym (date-era (d .year) (c .raised .result) 1000000 (d .month) (d .day) (year-is c)) ∙ s .pre .1,
     )
 
 lowered-requires : tie.Need-lowered-requires

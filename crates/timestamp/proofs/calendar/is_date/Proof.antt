@@ -1,7 +1,6 @@
 -- `timestamp::calendar::is_date` meets its contract, test by test.
-use Prim.Native.Nat.{ℕ}
 use native.Mathlib.Omega.{arith}
-use mathlib.Core.Path.{_≡_, sym, ap, _∙_}
+use mathlib.Core.Path.{sym, ap, _∙_}
 use borrow.Author.Needs.{needs}
 use lib.Dec.{leb}
 use lib.IntN.{ℤ}

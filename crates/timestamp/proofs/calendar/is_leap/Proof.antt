@@ -1,5 +1,4 @@
 -- `timestamp::calendar::is_leap` meets its contract.
-use Prim.Native.Nat.{ℕ}
 use mathlib.Core.Path.{_≡_, sym, ap, _∙_}
 use mathlib.Core.Bool.{Bool, not, _&&_, _||_}
 use borrow.Author.Needs.{needs}

@@ -1,5 +1,5 @@
 -- `timestamp::clock::tick_of_day` meets its contract: within a day no sum is too great.
-use Prim.Native.Nat.{_<_, _≤_, _*_}
+use Prim.Native.Nat.{_<_}
 use native.Mathlib.Omega.{arith}
 use mathlib.Core.Path.{refl}
 use borrow.Author.Needs.{needs}

@@ -1,16 +1,10 @@
 -- `timestamp::decoding::decode` meets its contract, unit by unit.
-use Prim.Native.Nat.{ℕ, _*_, _<_, _≤_, _^_}
+use Prim.Native.Nat.{ℕ}
 use native.Mathlib.Omega.{arith}
-use mathlib.Core.Path.{_≡_, refl, sym, subst, _∙_}
+use mathlib.Core.Path.{refl, sym, subst}
 use mathlib.Core.Option.{Option}
 use borrow.Author.Needs.{needs}
-use lib.IntN.{ℤ}
-use lib.Signed.{mag}
-use mir.Syntax.{w64}
-use mir.Val.{SFits}
-use Rattle.timestamp.specs.declared.division.Division.{Division}
-use Rattle.timestamp.specs.Units.{TimeUnit, unitOf, ticksPerDay, ticksPerSecond}
-use Rattle.timestamp.specs.FloorDivision.{FloorDivision}
+use Rattle.timestamp.specs.Units.{TimeUnit, unitOf}
 use Rattle.timestamp.specs.Outcomes.{Decodes, given, unknownUnit}
 use Rattle.timestamp.proofs.FloorLaws.{division-reach, division-told}
 use Rattle.timestamp.proofs.UnitLaws.{unit-none}

@@ -1,11 +1,9 @@
 -- `timestamp::decoding::fields_of` meets its contract: the date of the day and the time of the rest.
 use Prim.Native.Nat.{ℕ}
-use mathlib.Core.Path.{_≡_, sym, ap, ap₂, subst, _∙_}
+use mathlib.Core.Path.{sym, ap, ap₂, _∙_}
 use borrow.Author.Needs.{needs}
 use lib.IntN.{ℤ}
-use lib.Signed.{mag}
 use mir.Syntax.{w64}
-use mir.Val.{toZ, ofZ}
 use mir.ValLaws.{toZ-ofZ}
 use Rattle.timestamp.specs.Calendar.{isDate, dayNumber}
 use Rattle.timestamp.specs.Units.{ticksPerDay}
@@ -33,7 +31,7 @@ returns c count p =
     record {
       formed = both-and _ _ (ap (λ (y : ℤ). isDate y (date .month) (date .day)) year ∙ made .0) (time .0);
       counted =
-          ap₂ (λ (z : ℤ) (r : ℕ). joined z (ticksPerDay (s .args .ticks)) r) (ap (λ (y : ℤ). dayNumber y (date .month) (date .day)) year ∙ made .1 ∙ day) (time .1) ∙ sym (p .exact)
+          ap₂ (λ (z : ℤ) (r : ℕ). joined z (ticksPerDay (s .args .ticks)) r) (ap (λ (y : ℤ). dayNumber y (date .month) (date .day)) year ∙ made .1 ∙ day) (time .1) ∙ sym (p .exact);
     }
 
 pub fields-of-spec : {M : Type 1} → statement M

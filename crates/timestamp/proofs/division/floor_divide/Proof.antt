@@ -2,7 +2,7 @@
 use Prim.Native.Nat.{ℕ, _/_, _%_, _<_, _^_}
 use native.Mathlib.Nat.{mod-lt, div-le-self}
 use native.Mathlib.Omega.{arith}
-use mathlib.Core.Path.{_≡_, sym, ap₂, subst, _∙_}
+use mathlib.Core.Path.{sym, ap₂, subst, _∙_}
 use borrow.Author.Needs.{needs}
 use lib.IntN.{ℤ}
 use Rattle.timestamp.proofs.FloorLaws.{joined, divided-signed, turned-below}
@@ -45,7 +45,7 @@ returns c =
     record {
       exact =
           signed-told (s .fits .count) (m .before .is-negative .ensures) (m .magnitude .ensures) ∙ divided-signed negative size ticks (s .pre) ∙ ap₂ (λ (z : ℤ) (r : ℕ). joined z ticks r) (sym day) (sym (c .turned .ensures));
-      below = subst (λ (r : ℕ). r < ticks) (sym (c .turned .ensures)) (turned-below negative (size % ticks) ticks (mod-lt size (s .pre)))
+      below = subst (λ (r : ℕ). r < ticks) (sym (c .turned .ensures)) (turned-below negative (size % ticks) ticks (mod-lt size (s .pre)));
     }
 
 pub floor-divide-spec : {M : Type 1} → statement M

@@ -1,6 +1,6 @@
 -- `timestamp::encoding::encode` meets its contract, unit by unit.
 use Prim.Native.Nat.{ℕ}
-use mathlib.Core.Path.{_≡_, sym, ap, _∙_}
+use mathlib.Core.Path.{sym, ap, _∙_}
 use mathlib.Core.Option.{Option}
 use borrow.Author.Needs.{needs}
 use Rattle.timestamp.specs.Units.{TimeUnit, unitOf}

@@ -1,8 +1,8 @@
 -- `timestamp::encoding::encode_in` meets its contract: 18 and far years test by test, and else the count of the day and the tick.
-use Prim.Native.Nat.{ℕ, _+_, _*_, _<_, _≤_}
+use Prim.Native.Nat.{ℕ, _<_}
 use native.Mathlib.Omega.{arith}
-use mathlib.Core.Path.{_≡_, sym, ap, ap₂, subst, _∙_}
-use mathlib.Core.Bool.{Bool, true, cond}
+use mathlib.Core.Path.{_≡_, sym, ap, subst, _∙_}
+use mathlib.Core.Bool.{true, cond}
 use borrow.Author.Needs.{needs}
 use borrow.Author.Tests.{not-true, not-false}
 use lib.IntN.{ℤ}
@@ -13,7 +13,7 @@ use mir.ValLaws.{toZ-ofZ}
 use Rattle.timestamp.specs.Calendar.{isDate, dayNumber}
 use Rattle.timestamp.specs.Clock.{isTime, tickOfDay}
 use Rattle.timestamp.specs.Count.{countOf}
-use Rattle.timestamp.specs.Outcomes.{isSigned64, given, notRepresentable}
+use Rattle.timestamp.specs.Outcomes.{Outcome, encoded, isSigned64, given, notRepresentable}
 use Rattle.timestamp.proofs.ClockLaws.{time-parts, tick-below}
 use Rattle.timestamp.proofs.CountLaws.{encoding-no-date, encoding-no-time, encoding-date-time, encoding-far}
 use Rattle.timestamp.proofs.FloorLaws.{joined}
@@ -85,21 +85,39 @@ count-of-requires c κs =
     let below = tick-below (s .args .ticks) (f .hour) (f .minute) (f .second) (f .fraction) (time-parts (s .args .ticks) (f .hour) (f .minute) (f .second) (f .fraction) (is-a-time e)) in
     (omega (arith, below, c .tick-of-day .ensures, s .pre .2), omega (arith, s .pre .1, s .pre .2))
 
--- the count of the day number and the tick
-count-is : (c : tie.After-tick-of-day) → joined (toZ w64 (ofZ w64 (c .before .day-number .result))) (start (c .before .before .before .before .before .before .before .before) .args .ticks-per-day) (c .tick-of-day .result) ≡ countOf (start (c .before .before .before .before .before .before .before .before) .args .ticks) (start (c .before .before .before .before .before .before .before .before) .args .fields)
+-- what is passed in, at the call of `count_of`, and the count of the day number and the tick
+abbrev given-at : tie.After-tick-of-day → tie.Start
+given-at c = start (c .before .before .before .before .before .before .before .before)
+
+abbrev day-of : tie.After-tick-of-day → ℤ
+day-of c = dayNumber (given-at c .args .fields .year) (given-at c .args .fields .month) (given-at c .args .fields .day)
+
+abbrev tick-of : tie.After-tick-of-day → ℕ
+tick-of c =
+    tickOfDay (given-at c .args .ticks) (given-at c .args .fields .hour) (given-at c .args .fields .minute) (given-at c .args .fields .second) (given-at c .args .fields .fraction)
+
+day-is : (c : tie.After-tick-of-day) → toZ w64 (ofZ w64 (c .before .day-number .result)) ≡ day-of c
+day-is c =
+    let d = c .before in
+    let f = given-at c .args .fields in
+    toZ-ofZ w64 (d .day-number .result) (record { sfits = d .day-number .ok }) ∙ d .day-number .ensures ∙ ap (λ (y : ℤ). dayNumber y (f .month) (f .day)) (year-back (d .before .before .before .before .before .before .before .before))
+
+count-is : (c : tie.After-tick-of-day) → joined (toZ w64 (ofZ w64 (c .before .day-number .result))) (given-at c .args .ticks-per-day) (c .tick-of-day .result) ≡ countOf (given-at c .args .ticks) (given-at c .args .fields)
 unfolding countOf
 count-is c =
-    let d = c .before in
-    let s = start (d .before .before .before .before .before .before .before) in
-    let f = s .args .fields in
-    let day = toZ-ofZ w64 (d .day-number .result) (record { sfits = d .day-number .ok }) ∙ d .day-number .ensures ∙ ap (λ (y : ℤ). dayNumber y (f .month) (f .day)) (year-back (d .before .before .before .before .before .before .before .before)) in
-    ap₂ (λ (z : ℤ) (r : ℕ). joined z (s .args .ticks-per-day) r) day (c .tick-of-day .ensures) ∙ ap (λ (t : ℕ). joined (dayNumber (f .year) (f .month) (f .day)) t (tickOfDay (s .args .ticks) (f .hour) (f .minute) (f .second) (f .fraction))) (s .pre .2)
+    ap (λ (z : ℤ). joined z (given-at c .args .ticks-per-day) (c .tick-of-day .result)) (day-is c) ∙ ap (λ (r : ℕ). joined (day-of c) (given-at c .args .ticks-per-day) r) (c .tick-of-day .ensures) ∙ ap (λ (t : ℕ). joined (day-of c) t (tick-of c)) (given-at c .pre .2)
+
+-- what `count_of` answers of a count
+abbrev answered : ℤ → Outcome ℤ
+answered z = cond (isSigned64 z) (given z) notRepresentable
+
+count-told : (c : tie.After-count-of) → encoded (c .count-of .result) ≡ answered (joined (toZ w64 (ofZ w64 (c .before .before .day-number .result))) (given-at (c .before) .args .ticks-per-day) (c .before .tick-of-day .result))
+count-told c = c .count-of .ensures
 
 returns-4 : tie.Need-returns-4
 returns-4 c =
     let e = c .before .before .before .before .before .before in
-    let s = start (e .before .before .before) in
-    c .count-of .ensures ∙ ap (λ (z : ℤ). cond (isSigned64 z) (given z) notRepresentable) (count-is (c .before)) ∙ sym (encoding-date-time (s .args .ticks) (s .args .fields) (is-a-date (e .before .before)) (is-a-time e))
+    count-told c ∙ ap answered (count-is (c .before)) ∙ sym (encoding-date-time (given-at (c .before) .args .ticks) (given-at (c .before) .args .fields) (is-a-date (e .before .before)) (is-a-time e))
 
 pub encode-in-spec : {M : Type 1} → statement M
 encode-in-spec =

@@ -1,10 +1,8 @@
 -- `timestamp::eras::day_of` meets its contract: the days before the year from March on, those before the month, and the day.
-use Prim.Native.Nat.{ℕ, _≤_, _-_}
+use Prim.Native.Nat.{_≤_}
 use native.Mathlib.Omega.{arith}
-use mathlib.Core.Path.{_≡_}
 use borrow.Author.Needs.{needs}
 use lib.IntN.{pos}
-use Rattle.timestamp.specs.Calendar.{daysOfMonth, daysBeforeMonth, daysOfYear}
 use Rattle.timestamp.proofs.DateLaws.{Date, date-parts, place-in-year}
 use Rattle.timestamp.proofs.EraDateLaws.{march-date-day, january-date-day}
 use Rattle.timestamp.proofs.YearLaws.{days-of-year-most}
@@ -52,10 +50,9 @@ add-result-2 c = search needs
 returns : tie.Need-returns
 returns c =
     let s = c .before .before .before .before .before .before .before in
-    let d = date s in
-    (
+    let d = date s in (
       january-date-day (s .args .date .year) (s .args .date .month) (s .args .date .day) (c .before .days-before-year .result) (c .days-before-month .result) (s .pre .0) (d .month-first) (omega arith) (d .day-first) (c .before .days-before-year .ensures .0) (c .days-before-month .ensures),
-      omega (arith, c .before .days-before-year .ensures .1, c .days-before-month .ensures, day-most s, d .month-last)
+      omega (arith, c .before .days-before-year .ensures .1, c .days-before-month .ensures, day-most s, d .month-last),
     )
 
 cast-month-2 : tie.Need-cast-month-2
@@ -76,10 +73,9 @@ add-result-4 c = search needs
 returns-2 : tie.Need-returns-2
 returns-2 c =
     let s = c .before .before .before .before .before .before in
-    let d = date s in
-    (
+    let d = date s in (
       march-date-day (s .args .date .year) (s .args .date .month) (s .args .date .day) (c .before .days-before-year2 .result) (c .days-before-month2 .result) (omega arith) (d .month-last) (d .day-first) (c .before .days-before-year2 .ensures .0) (c .days-before-month2 .ensures),
-      omega (arith, c .before .days-before-year2 .ensures .1, c .days-before-month2 .ensures, day-most s, d .month-last)
+      omega (arith, c .before .days-before-year2 .ensures .1, c .days-before-month2 .ensures, day-most s, d .month-last),
     )
 
 pub day-of-spec : {M : Type 1} → statement M

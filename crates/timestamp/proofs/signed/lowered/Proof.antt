@@ -1,5 +1,4 @@
 -- `timestamp::signed::lowered` meets its contract: below `by` the number is negative.
-use Prim.Native.Nat.{suc, _-_}
 use native.Mathlib.Omega.{arith}
 use mathlib.Core.Path.{sym, ap, _∙_}
 use borrow.Author.Needs.{needs}

@@ -1,7 +1,7 @@
 -- `timestamp::signed::raised` meets its contract, by the sign.
 use Prim.Native.Nat.{suc, _+_, _-_}
 use native.Mathlib.Omega.{arith}
-use mathlib.Core.Path.{_≡_, sym, ap, _∙_}
+use mathlib.Core.Path.{_∙_}
 use borrow.Author.Needs.{needs}
 use lib.Signed.{mag}
 use Rattle.timestamp.proofs.DifferenceLaws.{pos-sub, negsuc-sub, sub-eq}

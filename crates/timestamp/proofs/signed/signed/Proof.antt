@@ -1,11 +1,10 @@
 -- `timestamp::signed::signed` meets its contract: -1 less a number takes one sign to the other.
-use Prim.Native.Nat.{ℕ}
 use mathlib.Core.Path.{_≡_, sym, ap, subst, _∙_}
 use mathlib.Core.Bool.{Bool}
 use borrow.Author.Needs.{needs}
 use lib.IntN.{ℤ, negsuc, _-ℤ_}
 use mir.Syntax.{w64}
-use mir.Val.{SFits, toZ, ofZ}
+use mir.Val.{SFits, toZ}
 use mir.ValLaws.{toZ-pos}
 use Rattle.timestamp.proofs.SignedLaws.{signed-of, complement-nonnegative, read-back}
 use Rattle.timestamp.proofs.signed.signed.Statement.{statement}

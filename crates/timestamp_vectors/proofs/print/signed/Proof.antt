@@ -1,7 +1,7 @@
 -- `timestamp_vectors::print::signed` is safe.
 use Prim.Native.Nat.{_<_, _^_}
 use native.Mathlib.Omega.{arith}
-use mathlib.Core.Path.{_≡_, sym, ap, subst, _∙_}
+use mathlib.Core.Path.{sym, ap, subst, _∙_}
 use borrow.Author.Needs.{needs}
 use lib.IntN.{ℤ, negsuc, _-ℤ_}
 use mir.Syntax.{w64}
