@@ -1,7 +1,7 @@
 -- Floor division of integers: a count from its days and its rest, by the sign, and that both are told by the count.
 use Prim.Native.Nat.{ℕ, suc, _+_, _*_, _-_, _/_, _%_, _<_, _≤_, _^_}
 use native.Mathlib.Omega.{arith}
-use native.Mathlib.Nat.{add-mul, div-add-mod', mod-lt}
+use native.Mathlib.Nat.{add-mul, div-add-mod', mod-lt, mul-le-mul-left}
 use mathlib.Core.Path.{_≡_, refl, sym, ap, subst, _∙_}
 use mathlib.Core.Bool.{Bool, true, false, cond, _&&_}
 use borrow.Author.Tests.{le-leb, lt-leb}
@@ -100,3 +100,9 @@ divided-signed b n t h =
 -- what is told of the number that the machine reads back is told of the number
 pub division-told : {count : ℤ} {t : ℕ} {d : Division} → SFits w64 count → FloorDivision (toZ w64 (ofZ w64 count)) t d → FloorDivision count t d
 division-told {count} {t} {d} h p = subst (λ (z : ℤ). FloorDivision z t d) (toZ-ofZ w64 count h) p
+
+-- at a thousand ticks a second or more the days of a count of 64 bits are few
+pub division-days : {count : ℤ} {t : ℕ} {d : Division} → 86400000 ≤ t → SFits w64 count → FloorDivision count t d → mag (d .day) < 2 ^ 37
+division-days {count} {t} {d} h k p =
+    let least : mag (d .day) * 86400000 ≤ mag (d .day) * t = mul-le-mul-left (mag (d .day)) h in
+    omega (arith, least, division-reach p, k .sfits)
