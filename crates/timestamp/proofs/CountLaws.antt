@@ -1,0 +1,128 @@
+-- What is promised of decoding and encoding, over the ticks in a second and so once for all units.
+use Prim.Native.Nat.{ℕ, _<_, _≤_, _^_}
+use native.Mathlib.Omega.{arith}
+use mathlib.Core.Path.{_≡_, refl, sym, ap, subst, _∙_}
+use mathlib.Core.Bool.{Bool, true, false, cond, _&&_, and-false}
+use mathlib.Core.Option.{Option, none, some}
+use lib.IntN.{ℤ}
+use lib.Signed.{mag}
+use Rattle.timestamp.specs.declared.fields.Fields.{Fields}
+use Rattle.timestamp.specs.Calendar.{isDate, dayNumber}
+use Rattle.timestamp.specs.Clock.{isTime, tickOfDay}
+use Rattle.timestamp.specs.Units.{TimeUnit, ticksPerSecond, ticksPerDay}
+use Rattle.timestamp.specs.Count.{isDateTime, countOf, FieldsOf}
+use Rattle.timestamp.specs.Outcomes.{Outcome, refused, given, noDateTime, notRepresentable, isSigned64, Decodes, encodingIn, encoding}
+use Rattle.timestamp.proofs.TestLaws.{and-both, both-and}
+use Rattle.timestamp.proofs.DateLaws.{date-one}
+use Rattle.timestamp.proofs.ReachLaws.{count-far}
+use Rattle.timestamp.proofs.ClockLaws.{time-parts, tick-below, time-one}
+use Rattle.timestamp.proofs.FloorLaws.{joined-one, signed-fits, signed-beyond}
+use Rattle.timestamp.proofs.SignedLaws.{signed-of, signed-mag}
+
+-- fields that form a date and time are of a date and of a time
+pub date-time-parts : (t : ℕ) (f : Fields) → isDateTime t f ≡ true → (isDate (f .year) (f .month) (f .day) ≡ true) × (isTime t (f .hour) (f .minute) (f .second) (f .fraction) ≡ true)
+unfolding isDateTime
+date-time-parts t f e = and-both (isDate (f .year) (f .month) (f .day)) (isTime t (f .hour) (f .minute) (f .second) (f .fraction)) e
+
+-- fields that have the same count are equal
+pub count-one : (t : ℕ) (f g : Fields) → isDateTime t f ≡ true → isDateTime t g ≡ true → countOf t f ≡ countOf t g → f ≡ g
+unfolding countOf
+count-one t f g p q e =
+    λ i. record { year = dates .0 i; month = dates .1 .0 i; day = dates .1 .1 i; hour = times .0 i; minute = times .1 .0 i; second = times .1 .1 .0 i; fraction = times .1 .1 .1 i }
+  where
+    fp : (isDate (f .year) (f .month) (f .day) ≡ true) × (isTime t (f .hour) (f .minute) (f .second) (f .fraction) ≡ true)
+    fp = date-time-parts t f p
+
+    gp : (isDate (g .year) (g .month) (g .day) ≡ true) × (isTime t (g .hour) (g .minute) (g .second) (g .fraction) ≡ true)
+    gp = date-time-parts t g q
+
+    days : (dayNumber (f .year) (f .month) (f .day) ≡ dayNumber (g .year) (g .month) (g .day)) × (tickOfDay t (f .hour) (f .minute) (f .second) (f .fraction) ≡ tickOfDay t (g .hour) (g .minute) (g .second) (g .fraction))
+    days =
+        joined-one (dayNumber (f .year) (f .month) (f .day)) (dayNumber (g .year) (g .month) (g .day)) (ticksPerDay t) (tickOfDay t (f .hour) (f .minute) (f .second) (f .fraction)) (tickOfDay t (g .hour) (g .minute) (g .second) (g .fraction))
+        (tick-below t (f .hour) (f .minute) (f .second) (f .fraction) (time-parts t (f .hour) (f .minute) (f .second) (f .fraction) (fp .1)))
+        (tick-below t (g .hour) (g .minute) (g .second) (g .fraction) (time-parts t (g .hour) (g .minute) (g .second) (g .fraction) (gp .1)))
+        e
+
+    dates : (f .year ≡ g .year) × ((f .month ≡ g .month) × (f .day ≡ g .day))
+    dates = date-one (f .year) (f .month) (f .day) (g .year) (g .month) (g .day) (fp .0) (gp .0) (days .0)
+
+    times : (f .hour ≡ g .hour) × ((f .minute ≡ g .minute) × ((f .second ≡ g .second) × (f .fraction ≡ g .fraction)))
+    times =
+        time-one t (f .hour) (f .minute) (f .second) (f .fraction) (g .hour) (g .minute) (g .second) (g .fraction)
+        (time-parts t (f .hour) (f .minute) (f .second) (f .fraction) (fp .1))
+        (time-parts t (g .hour) (g .minute) (g .second) (g .fraction) (gp .1))
+        (days .1)
+
+-- a count stands for one set of fields
+pub fields-one : {t : ℕ} {count : ℤ} {f g : Fields} → FieldsOf t count f → FieldsOf t count g → f ≡ g
+fields-one {t} {count} {f} {g} p q = count-one t f g (p .formed) (q .formed) (p .counted ∙ sym (q .counted))
+
+-- and decoding has one answer
+pub decodes-one : (u : Option TimeUnit) (count : ℤ) (o o′ : Outcome Fields) → Decodes u count o → Decodes u count o′ → o ≡ o′
+decodes-one none count o o′ p q = p ∙ sym q
+decodes-one (some unit) count o o′ p q = p .1 ∙ ap given (fields-one (p .2) (q .2)) ∙ sym (q .1)
+
+-- ---- encoding, refusal by refusal
+
+pub encoding-no-date : (t : ℕ) (f : Fields) → isDate (f .year) (f .month) (f .day) ≡ false → encodingIn t f ≡ noDateTime
+unfolding encodingIn isDateTime
+encoding-no-date t f e =
+    ap (λ (b : Bool). cond (b && isTime t (f .hour) (f .minute) (f .second) (f .fraction)) (cond (isSigned64 (countOf t f)) (given (countOf t f)) notRepresentable) noDateTime) e
+
+pub encoding-no-time : (t : ℕ) (f : Fields) → isTime t (f .hour) (f .minute) (f .second) (f .fraction) ≡ false → encodingIn t f ≡ noDateTime
+unfolding encodingIn isDateTime
+encoding-no-time t f e =
+    ap (λ (b : Bool). cond b (cond (isSigned64 (countOf t f)) (given (countOf t f)) notRepresentable) noDateTime) (ap (λ (b : Bool). isDate (f .year) (f .month) (f .day) && b) e ∙ and-false (isDate (f .year) (f .month) (f .day)))
+
+pub encoding-date-time : (t : ℕ) (f : Fields) → isDate (f .year) (f .month) (f .day) ≡ true → isTime t (f .hour) (f .minute) (f .second) (f .fraction) ≡ true → encodingIn t f ≡ cond (isSigned64 (countOf t f)) (given (countOf t f)) notRepresentable
+unfolding encodingIn isDateTime
+encoding-date-time t f p q =
+    ap (λ (b : Bool). cond b (cond (isSigned64 (countOf t f)) (given (countOf t f)) notRepresentable) noDateTime) (both-and (isDate (f .year) (f .month) (f .day)) (isTime t (f .hour) (f .minute) (f .second) (f .fraction)) p q)
+
+pub encoding-far : (t : ℕ) (f : Fields) → isDate (f .year) (f .month) (f .day) ≡ true → isTime t (f .hour) (f .minute) (f .second) (f .fraction) ≡ true → 300000000 ≤ mag (f .year) → 1000 ≤ t → encodingIn t f ≡ notRepresentable
+unfolding countOf
+encoding-far t f p q h k =
+    encoding-date-time t f p q ∙ ap (λ (b : Bool). cond b (given (countOf t f)) notRepresentable) (count-far (f .year) (f .month) (f .day) t (tickOfDay t (f .hour) (f .minute) (f .second) (f .fraction)) p h k (tick-below t (f .hour) (f .minute) (f .second) (f .fraction) (time-parts t (f .hour) (f .minute) (f .second) (f .fraction) q)))
+
+-- encoding gives the count exactly where the fields are good and the count fits
+pub encoding-good : (t : ℕ) (f : Fields) → isDateTime t f ≡ true → isSigned64 (countOf t f) ≡ true → encodingIn t f ≡ given (countOf t f)
+unfolding encodingIn
+encoding-good t f p q =
+    ap (λ (b : Bool). cond b (cond (isSigned64 (countOf t f)) (given (countOf t f)) notRepresentable) noDateTime) p ∙ ap (λ (b : Bool). cond b (given (countOf t f)) notRepresentable) q
+
+refused-given : {A : Type 0} (n p : ℕ) (a : A) → refused n p ≡ given a → ⊥
+refused-given n p a e = let z : _≡_ {A = ℕ} 0 1 = cc in omega arith
+
+given-inj : (a b : ℤ) → given a ≡ given b → a ≡ b
+given-inj a b e = cc
+
+pub encoding-given : (t : ℕ) (f : Fields) (count : ℤ) → encodingIn t f ≡ given count → FieldsOf t count f × (isSigned64 count ≡ true)
+unfolding encodingIn
+encoding-given t f count = by-tests (isDateTime t f) (isSigned64 (countOf t f)) refl refl
+  where
+    by-tests : (a b : Bool) → isDateTime t f ≡ a → isSigned64 (countOf t f) ≡ b → cond a (cond b (given (countOf t f)) notRepresentable) noDateTime ≡ given count → FieldsOf t count f × (isSigned64 count ≡ true)
+    by-tests true true p q e =
+        let same : countOf t f ≡ count = given-inj (countOf t f) count e in
+        (record { formed = p; counted = same }, ap isSigned64 (sym same) ∙ q)
+    by-tests true false p q e = absurd (refused-given 19 0 count e)
+    by-tests false b p q e = absurd (refused-given 18 0 count e)
+
+-- every decoded count is encoded again, and what is encoded decodes to the fields that it was encoded from
+pub encoding-decoded : (unit : TimeUnit) (count : ℤ) (o : Outcome Fields) → isSigned64 count ≡ true → Decodes (some unit) count o → (f : Fields) × (o ≡ given f) × (encoding (some unit) f ≡ given count)
+encoding-decoded unit count o h p =
+    let same : countOf (ticksPerSecond unit) (p .0) ≡ count = p .2 .counted in
+    (p .0, p .1, encoding-good (ticksPerSecond unit) (p .0) (p .2 .formed) (ap isSigned64 same ∙ h) ∙ ap given same)
+
+pub decoding-encoded : (u : Option TimeUnit) (f : Fields) (count : ℤ) (o : Outcome Fields) → encoding u f ≡ given count → Decodes u count o → o ≡ given f
+decoding-encoded none f count o e p = absurd (refused-given 20 0 count e)
+decoding-encoded (some unit) f count o e p = p .1 ∙ ap given (fields-one (p .2) (encoding-given (ticksPerSecond unit) f count e .0))
+
+-- ---- a count by its sign and magnitude, where it is a number of 64 bits and where it is not
+
+pub counted-fits : (z : ℤ) (b : Bool) (n : ℕ) → z ≡ signed-of b n → n < 2 ^ 63 → cond (isSigned64 z) (given z) notRepresentable ≡ given (signed-of b n)
+counted-fits z b n e h =
+    ap (λ (w : ℤ). cond (isSigned64 w) (given w) notRepresentable) e ∙ ap (λ (t : Bool). cond t (given (signed-of b n)) notRepresentable) (signed-fits (signed-of b n) (subst (λ (k : ℕ). k < 2 ^ 63) (sym (signed-mag b n)) h))
+
+pub counted-beyond : (z : ℤ) (b : Bool) (n : ℕ) → z ≡ signed-of b n → 2 ^ 63 ≤ n → cond (isSigned64 z) (given z) notRepresentable ≡ notRepresentable
+counted-beyond z b n e h =
+    ap (λ (w : ℤ). cond (isSigned64 w) (given w) notRepresentable) e ∙ ap (λ (t : Bool). cond t (given (signed-of b n)) notRepresentable) (signed-beyond (signed-of b n) (subst (λ (k : ℕ). 2 ^ 63 ≤ k) (sym (signed-mag b n)) h))

@@ -1,0 +1,108 @@
+-- Floor division of integers: a count from its days and its rest, by the sign, and that both are told by the count.
+use Prim.Native.Nat.{ℕ, suc, _+_, _*_, _-_, _/_, _%_, _<_, _≤_, _^_}
+use native.Mathlib.Omega.{arith}
+use native.Mathlib.Nat.{add-mul, div-add-mod', mod-lt, mul-le-mul-left}
+use mathlib.Core.Path.{_≡_, refl, sym, ap, subst, _∙_}
+use mathlib.Core.Bool.{Bool, true, false, cond, _&&_}
+use borrow.Author.Tests.{le-leb, lt-leb}
+use lib.IntN.{ℤ, pos, negsuc, subℕ, _+ℤ_, _*ℤ_}
+use lib.Signed.{mag}
+use mir.Syntax.{w64}
+use mir.Val.{SFits, toZ, ofZ}
+use mir.ValLaws.{toZ-ofZ}
+use Rattle.timestamp.specs.declared.division.Division.{Division}
+use Rattle.timestamp.specs.FloorDivision.{FloorDivision}
+use Rattle.timestamp.specs.Outcomes.{isSigned64}
+use Rattle.timestamp.proofs.DifferenceLaws.{Difference, difference, negsuc-sub, sub-eq, sub-inj, sub-mul, sub-add-pos}
+use Rattle.timestamp.proofs.SignedLaws.{signed-of}
+use Rattle.timestamp.proofs.DivisionLaws.{steps-one, suc-times}
+
+-- so many days of so many ticks and a rest
+abbrev pub joined : ℤ → ℕ → ℕ → ℤ
+joined day ticks rest = day *ℤ pos ticks +ℤ pos rest
+
+-- before 0 the magnitude is that of the days, with the rest counted back from the day's end
+pub joined-negative : (q t r : ℕ) → r < t → joined (negsuc q) t r ≡ negsuc (q * t + (t - 1 - r))
+joined-negative q t r h =
+    ap (λ (z : ℤ). z *ℤ pos t +ℤ pos r) (negsuc-sub q) ∙ ap (λ (z : ℤ). z +ℤ pos r) (sub-mul 0 (suc q) t) ∙ sub-add-pos (0 * t) (suc q * t) r ∙ sub-eq (0 * t + r) (suc q * t) 0 (suc (q * t + (t - 1 - r))) (crossed (q * t) (suc q * t) (suc-times q t)) ∙ sym (negsuc-sub (q * t + (t - 1 - r)))
+  where
+    crossed : (x y : ℕ) → y ≡ x + t → 0 * t + r + suc (x + (t - 1 - r)) ≡ 0 + y
+    crossed x y e = omega arith
+
+-- ---- numbers of 64 bits
+
+pub signed-fits : (z : ℤ) → mag z < 2 ^ 63 → isSigned64 z ≡ true
+unfolding isSigned64
+signed-fits (pos n) h = le-leb n (2 ^ 63 - 1) (omega arith)
+signed-fits (negsuc n) h = ap (λ (b : Bool). b && true) (le-leb n (2 ^ 63 - 1) (omega arith))
+
+pub signed-beyond : (z : ℤ) → 2 ^ 63 ≤ mag z → isSigned64 z ≡ false
+unfolding isSigned64
+signed-beyond (pos n) h = lt-leb n (2 ^ 63 - 1) (omega arith)
+signed-beyond (negsuc n) h = ap (λ (b : Bool). b && true) (lt-leb n (2 ^ 63 - 1) (omega arith))
+
+-- ---- a division
+
+-- the days times the ticks reach no further than the count
+pub joined-reach : (day : ℤ) (t r : ℕ) → r < t → mag day * t ≤ mag (joined day t r)
+joined-reach (pos q) t r h = omega arith
+joined-reach (negsuc q) t r h = subst (λ (z : ℤ). q * t ≤ mag z) (sym (joined-negative q t r h)) (omega arith)
+
+pub division-reach : {count : ℤ} {t : ℕ} {d : Division} → FloorDivision count t d → mag (d .day) * t ≤ mag count
+division-reach {count} {t} {d} p = subst (λ (z : ℤ). mag (d .day) * t ≤ mag z) (sym (p .exact)) (joined-reach (d .day) t (d .rest) (p .below))
+
+-- a count has one day and one rest
+pub joined-one : (day day′ : ℤ) (t r r′ : ℕ) → r < t → r′ < t → joined day t r ≡ joined day′ t r′ → (day ≡ day′) × (r ≡ r′)
+joined-one day day′ t r r′ h k e = (x .is ∙ sub-eq (x .more) (x .less) (y .more) (y .less) (one .0) ∙ sym (y .is), one .1)
+  where
+    x : Difference day
+    x = difference day
+
+    y : Difference day′
+    y = difference day′
+
+    apart : (z : ℤ) (d : Difference z) (s : ℕ) → joined z t s ≡ subℕ (d .more * t + s) (d .less * t)
+    apart z d s = ap (λ (w : ℤ). w *ℤ pos t +ℤ pos s) (d .is) ∙ ap (λ (w : ℤ). w +ℤ pos s) (sub-mul (d .more) (d .less) t) ∙ sub-add-pos (d .more * t) (d .less * t) s
+
+    crossed : x .more * t + r + y .less * t ≡ y .more * t + r′ + x .less * t
+    crossed = sub-inj (x .more * t + r) (x .less * t) (y .more * t + r′) (y .less * t) (sym (apart day x r) ∙ e ∙ apart day′ y r′)
+
+    one : (x .more + y .less ≡ y .more + x .less) × (r ≡ r′)
+    one = steps-one (λ (n : ℕ). n * t) (λ (n : ℕ). t) (λ (n : ℕ). suc-times n t) (x .more + y .less) (y .more + x .less) r r′ h k (omega (arith, crossed, add-mul (x .more) (y .less) t, add-mul (y .more) (x .less) t))
+
+pub division-one : {count : ℤ} {t : ℕ} {d d′ : Division} → FloorDivision count t d → FloorDivision count t d′ → d ≡ d′
+division-one {count} {t} {d} {d′} p q = λ i. record { day = one .0 i; rest = one .1 i }
+  where
+    one : (d .day ≡ d′ .day) × (d .rest ≡ d′ .rest)
+    one = joined-one (d .day) (d′ .day) t (d .rest) (d′ .rest) (p .below) (q .below) (sym (p .exact) ∙ q .exact)
+
+-- the rest, counted from the day's other end before 0
+abbrev pub turned-of : Bool → ℕ → ℕ → ℕ
+turned-of b r t = cond b (t - 1 - r) r
+
+pub turned-below : (b : Bool) (r t : ℕ) → r < t → turned-of b r t < t
+turned-below true r t h = omega arith
+turned-below false r t h = h
+
+-- a count by its sign and magnitude, from those of its days, and back
+pub joined-signed : (b : Bool) (q t r : ℕ) → r < t → joined (signed-of b q) t r ≡ signed-of b (q * t + turned-of b r t)
+joined-signed true q t r h = joined-negative q t r h
+joined-signed false q t r h = refl
+
+pub divided-signed : (b : Bool) (n t : ℕ) → 0 < t → signed-of b n ≡ joined (signed-of b (n / t)) t (turned-of b (n % t) t)
+divided-signed b n t h =
+    sym (joined-signed b (n / t) t (turned-of b (n % t) t) (turned-below b (n % t) t (mod-lt n h)) ∙ ap (signed-of b) (ap (λ (r : ℕ). n / t * t + r) (twice b (n % t) (mod-lt n h)) ∙ div-add-mod' n t))
+  where
+    twice : (b : Bool) (r : ℕ) → r < t → turned-of b (turned-of b r t) t ≡ r
+    twice true r k = omega arith
+    twice false r k = refl
+
+-- what is told of the number that the machine reads back is told of the number
+pub division-told : {count : ℤ} {t : ℕ} {d : Division} → SFits w64 count → FloorDivision (toZ w64 (ofZ w64 count)) t d → FloorDivision count t d
+division-told {count} {t} {d} h p = subst (λ (z : ℤ). FloorDivision z t d) (toZ-ofZ w64 count h) p
+
+-- at a thousand ticks a second or more the days of a count of 64 bits are few
+pub division-days : {count : ℤ} {t : ℕ} {d : Division} → 86400000 ≤ t → SFits w64 count → FloorDivision count t d → mag (d .day) < 2 ^ 37
+division-days {count} {t} {d} h k p =
+    let least : mag (d .day) * 86400000 ≤ mag (d .day) * t = mul-le-mul-left (mag (d .day)) h in
+    omega (arith, least, division-reach p, k .sfits)

@@ -1,0 +1,66 @@
+-- What decoding and encoding answer: document 01's refusals by number and place, or the value.
+use Prim.Native.Nat.{ℕ, _-_, _^_}
+use mathlib.Core.Path.{_≡_}
+use mathlib.Core.Bool.{Bool, cond, _&&_}
+use mathlib.Core.Option.{Option, none, some}
+use lib.IntN.{ℤ, pos, negsuc}
+use lib.Signed.{leZ}
+use Rattle.timestamp.specs.declared.fields.Fields.{Fields}
+use Rattle.timestamp.specs.declared.decoding.Decoded
+use Rattle.timestamp.specs.declared.decoding.Decoded.{Decoded}
+use Rattle.timestamp.specs.declared.encoding.Encoded
+use Rattle.timestamp.specs.declared.encoding.Encoded.{Encoded}
+use Rattle.timestamp.specs.Units.{TimeUnit, ticksPerSecond}
+use Rattle.timestamp.specs.Count.{isDateTime, countOf, FieldsOf}
+
+-- a refusal, by its number and place, or what was asked for
+pub data Outcome (A : Type 0) : Type 0 where
+  refused : ℕ → ℕ → Outcome A
+  given : A → Outcome A
+
+-- fields form no date or time
+abbrev pub noDateTime : {A : Type 0} → Outcome A
+noDateTime = refused 18 0
+
+-- fields not representable in a signed 64-bit count
+abbrev pub notRepresentable : {A : Type 0} → Outcome A
+notRepresentable = refused 19 0
+
+-- a time unit is not 1 to 3
+abbrev pub unknownUnit : {A : Type 0} → Outcome A
+unknownUnit = refused 20 0
+
+-- what each answer of decode stands for
+abbrev pub decoded : Decoded → Outcome Fields
+decoded (Decoded.Fields f) = given f
+decoded Decoded.UnknownUnit = unknownUnit
+
+-- what each answer of encode stands for
+abbrev pub encoded : Encoded → Outcome ℤ
+encoded (Encoded.Count z) = given z
+encoded Encoded.NoDateTime = noDateTime
+encoded Encoded.NotRepresentable = notRepresentable
+encoded Encoded.UnknownUnit = unknownUnit
+
+-- the greatest signed 64-bit number
+abbrev pub greatest : ℕ
+greatest = 2 ^ 63 - 1
+
+-- a signed 64-bit number: from -1 less the greatest to the greatest
+unfoldable pub isSigned64 : ℤ → Bool
+isSigned64 z = leZ (negsuc greatest) z && leZ z (pos greatest)
+
+-- what decoding answers: 20 where no unit is named, else the fields that the count stands for
+abbrev pub Decodes : Option TimeUnit → ℤ → Outcome Fields → Type 0
+Decodes none count o = o ≡ unknownUnit
+Decodes (some unit) count o = (f : Fields) × (o ≡ given f) × FieldsOf (ticksPerSecond unit) count f
+
+-- what encoding answers in a unit with so many ticks in a second: 18, then 19, else the count of the fields
+unfoldable pub encodingIn : ℕ → Fields → Outcome ℤ
+encodingIn ticks f =
+    cond (isDateTime ticks f) (cond (isSigned64 (countOf ticks f)) (given (countOf ticks f)) notRepresentable) noDateTime
+
+-- what encoding answers: 20 where no unit is named, else as in that unit
+abbrev pub encoding : Option TimeUnit → Fields → Outcome ℤ
+encoding none f = unknownUnit
+encoding (some unit) f = encodingIn (ticksPerSecond unit) f

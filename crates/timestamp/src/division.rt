@@ -1,0 +1,42 @@
+// The floor division of a count into days and a rest that is never negative.
+//
+// Where the magnitude m of a count before 0 is `q * ticks + r`, the count `-1 - m` is
+// `(-1 - q) * ticks + (ticks - 1 - r)`: the same division, with the rest counted from the day's other end.
+
+ghost use mathlib.Core.Path.{_≡_};
+ghost use mathlib.Core.Bool.{cond};
+ghost use Prim.Native.Nat.{_-_, _<_};
+ghost use Rattle.timestamp.specs.FloorDivision.{FloorDivision};
+use crate::signed::is_negative;
+use crate::signed::magnitude;
+use crate::signed::signed;
+
+// Whole days since 1 January 1970, negative before it, and the ticks of the day that have passed.
+pub struct Division {
+    pub day: i64,
+    pub rest: u64,
+}
+
+// The days of a count, rounded down, and the ticks left, at so many ticks in a day.
+pub(crate) fn floor_divide(count: i64, ticks: u64) -> Division
+    requires { ⌜ 0 < ticks ⌝ }
+    ensures { λ r. ⌜ FloorDivision count ticks r ⌝ }
+{
+    let negative = is_negative(count);
+    let size = magnitude(count);
+    Division {
+        day: signed(negative, size / ticks),
+        rest: turned(negative, size % ticks, ticks),
+    }
+}
+
+// The rest itself, or counted from the day's other end.
+pub(crate) fn turned(negative: bool, rest: u64, ticks: u64) -> u64
+    requires { ⌜ rest < ticks ⌝ }
+    ensures { λ r. ⌜ r ≡ cond negative (ticks - 1 - rest) rest ⌝ }
+{
+    if negative {
+        return ticks - 1 - rest;
+    }
+    rest
+}

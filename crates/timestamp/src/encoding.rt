@@ -1,0 +1,105 @@
+// From fields to the count of their date and time.
+
+ghost use mathlib.Core.Path.{_≡_};
+ghost use mathlib.Core.Bool.{cond};
+ghost use Prim.Native.Nat.{_+_, _*_, _<_, _≤_, _^_};
+ghost use lib.IntN.{pos, _+ℤ_, _*ℤ_};
+ghost use Rattle.timestamp.specs.Units.{millis, nanos, ticksPerSecond, ticksPerDay, unitOf};
+ghost use Rattle.timestamp.specs.Outcomes.{encoded, encoding, encodingIn, isSigned64, given, notRepresentable};
+use crate::calendar::Date;
+use crate::calendar::YEARS_REACHED;
+use crate::calendar::day_number;
+use crate::calendar::is_date;
+use crate::clock::Time;
+use crate::clock::is_time;
+use crate::clock::tick_of_day;
+use crate::division::Division;
+use crate::division::turned;
+use crate::fields::Fields;
+use crate::signed::is_negative;
+use crate::signed::magnitude;
+use crate::signed::signed;
+use crate::units::Micros;
+use crate::units::Millis;
+use crate::units::Nanos;
+
+// The greatest magnitude of a signed number of 64 bits.
+const GREATEST: u64 = 0x7fff_ffff_ffff_ffff;
+
+// What encoding answers.
+pub enum Encoded {
+    Count(i64),
+    // The fields form no date or time.
+    NoDateTime,
+    // No signed number of 64 bits is their count.
+    NotRepresentable,
+    // The unit is not 1 to 3.
+    UnknownUnit,
+}
+
+// The count of the fields, as ticks since 1 January 1970 in the unit of that number.
+pub fn encode(unit: u32, fields: Fields) -> Encoded
+    ensures { λ r. ⌜ encoded r ≡ encoding (unitOf unit) fields ⌝ }
+{
+    if unit == Millis::NUMBER {
+        return encode_in(Millis::TICKS_PER_SECOND, Millis::TICKS_PER_DAY, fields);
+    }
+    if unit == Micros::NUMBER {
+        return encode_in(Micros::TICKS_PER_SECOND, Micros::TICKS_PER_DAY, fields);
+    }
+    if unit == Nanos::NUMBER {
+        return encode_in(Nanos::TICKS_PER_SECOND, Nanos::TICKS_PER_DAY, fields);
+    }
+    Encoded::UnknownUnit
+}
+
+// The count of the fields at so many ticks in a second and in a day.
+fn encode_in(ticks: u64, ticks_per_day: u64, fields: Fields) -> Encoded
+    requires { ⌜ (ticksPerSecond millis ≤ ticks) × (ticks ≤ ticksPerSecond nanos) × («ticks_per_day» ≡ ticksPerDay ticks) ⌝ }
+    ensures { λ r. ⌜ encoded r ≡ encodingIn ticks fields ⌝ }
+{
+    let date = Date {
+        year: fields.year,
+        month: fields.month,
+        day: fields.day,
+    };
+    let time = Time {
+        hour: fields.hour,
+        minute: fields.minute,
+        second: fields.second,
+        fraction: fields.fraction,
+    };
+    if !is_date(date) {
+        return Encoded::NoDateTime;
+    }
+    if !is_time(ticks, time) {
+        return Encoded::NoDateTime;
+    }
+    if magnitude(fields.year) >= YEARS_REACHED {
+        return Encoded::NotRepresentable;
+    }
+    count_of(
+        Division {
+            day: day_number(date),
+            rest: tick_of_day(ticks, time),
+        },
+        ticks_per_day,
+    )
+}
+
+// The count of a day and a rest of so many ticks.
+fn count_of(division: Division, ticks: u64) -> Encoded
+    requires { ⌜ (division .rest < ticks) × (ticks < 2 ^ 63) ⌝ }
+    ensures { λ r. ⌜ encoded r ≡ cond (isSigned64 (division .day *ℤ pos ticks +ℤ pos (division .rest))) (given (division .day *ℤ pos ticks +ℤ pos (division .rest))) notRepresentable ⌝ }
+{
+    let negative = is_negative(division.day);
+    let days = magnitude(division.day);
+    if GREATEST / ticks < days {
+        return Encoded::NotRepresentable;
+    }
+    let size = days * ticks + turned(negative, division.rest, ticks);
+    if GREATEST < size {
+        return Encoded::NotRepresentable;
+    }
+    Encoded::Count(signed(negative, size))
+}

@@ -1,0 +1,134 @@
+// Dates of year 0 and later as arithmetic on days, by eras of 400 years.
+//
+// A year here begins in March, so that a leap day is its last day, and days are counted from 1 March of year 0. An era
+// has a leap day in each fourth year but for three of its centuries: 146,097 days. Its centuries have 36,524 days and
+// the last one more; the fours of years in a century have 1,461 days, and the last of a shorter century one less; the
+// years have 365 days, and the fourth mostly one more. So a quotient that is at most 3 tells the century and the year.
+// From March on the months have 31, 30, 31, 30 and 31 days, again and again: 153 days in five of them, and
+// `(153 * m + 2) / 5` days before the m-th.
+
+ghost use mathlib.Core.Path.{_≡_};
+ghost use mathlib.Core.Bool.{true};
+ghost use Prim.Native.Nat.{_+_, _*_, _/_, _<_, _≤_, _^_, min};
+ghost use lib.IntN.{pos};
+ghost use Rattle.timestamp.specs.Calendar.{dayOf, daysOfYear, isDate};
+
+pub(crate) const YEARS_PER_ERA: u64 = 400;
+
+pub(crate) const DAYS_PER_ERA: u64 = 146_097;
+
+pub(crate) const YEARS_PER_CENTURY: u64 = 100;
+
+const DAYS_PER_CENTURY: u64 = 36_524;
+
+pub(crate) const YEARS_PER_FOUR: u64 = 4;
+
+const DAYS_PER_FOUR: u64 = 1_461;
+
+const DAYS_PER_YEAR: u64 = 365;
+
+const MONTHS_PER_FIVE: u64 = 5;
+
+const DAYS_PER_FIVE: u64 = 153;
+
+pub(crate) const MONTHS_PER_YEAR: u32 = 12;
+
+const MARCH: u32 = 3;
+
+// A date of year 0 or later.
+pub(crate) struct EraDate {
+    pub(crate) year: u64,
+    pub(crate) month: u32,
+    pub(crate) day: u32,
+}
+
+// A year that begins in March, and a day of it, from 0.
+struct YearDay {
+    year: u64,
+    day: u64,
+}
+
+// The date of a day. 1 March of year 0 is day 0 here, and day 61 of its year.
+pub(crate) fn date_of(day: u64) -> EraDate
+    requires { ⌜ day < 2 ^ 62 ⌝ }
+    ensures { λ r. ⌜ (isDate (pos (r .year)) (r .month) (r .day) ≡ true) × (dayOf (pos (r .year)) (r .month) (r .day) ≡ pos (day + 61)) × (r .year ≤ day + 1) ⌝ }
+{
+    let at = year_of(day);
+    let from_march = month_of(at.day);
+    let day_of_month = (at.day - days_before_month(from_march) + 1) as u32;
+    let month = from_march as u32 + MARCH;
+    if month <= MONTHS_PER_YEAR {
+        return EraDate {
+            year: at.year,
+            month,
+            day: day_of_month,
+        };
+    }
+    EraDate {
+        year: at.year + 1,
+        month: month - MONTHS_PER_YEAR,
+        day: day_of_month,
+    }
+}
+
+// The day of a date, which is of year 1 or later.
+pub(crate) fn day_of(date: EraDate) -> u64
+    requires { ⌜ (1 ≤ date .year) × (date .year < 2 ^ 32) × (isDate (pos (date .year)) (date .month) (date .day) ≡ true) ⌝ }
+    ensures { λ r. ⌜ (dayOf (pos (date .year)) (date .month) (date .day) ≡ pos (r + 61)) × (r < 2 ^ 42) ⌝ }
+{
+    let day = (date.day - 1) as u64;
+    if date.month < MARCH {
+        let month = (date.month + MONTHS_PER_YEAR - MARCH) as u64;
+        return days_before_year(date.year - 1) + days_before_month(month) + day;
+    }
+    let month = (date.month - MARCH) as u64;
+    days_before_year(date.year) + days_before_month(month) + day
+}
+
+// The year and the day of the year that a day is.
+fn year_of(day: u64) -> YearDay
+    ensures { λ r. ⌜ (dayOf (pos (r .year)) 3 (r .day + 1) ≡ pos (day + 61)) × (r .day < daysOfYear (pos (r .year + 1))) × (r .year ≤ day) ⌝ }
+{
+    let era = day / DAYS_PER_ERA;
+    let of_era = day % DAYS_PER_ERA;
+    let century = at_most_three(of_era / DAYS_PER_CENTURY);
+    let of_century = of_era - century * DAYS_PER_CENTURY;
+    let four = of_century / DAYS_PER_FOUR;
+    let of_four = of_century % DAYS_PER_FOUR;
+    let one = at_most_three(of_four / DAYS_PER_YEAR);
+    YearDay {
+        year: YEARS_PER_ERA * era + YEARS_PER_CENTURY * century + YEARS_PER_FOUR * four + one,
+        day: of_four - one * DAYS_PER_YEAR,
+    }
+}
+
+// The lesser of `n` and 3.
+fn at_most_three(n: u64) -> u64
+    ensures { λ r. ⌜ r ≡ min n 3 ⌝ }
+{
+    if n < 3 { n } else { 3 }
+}
+
+// The days before a year.
+fn days_before_year(year: u64) -> u64
+    requires { ⌜ year < 2 ^ 32 ⌝ }
+    ensures { λ r. ⌜ (dayOf (pos year) 3 1 ≡ pos (r + 61)) × (r < 2 ^ 41) ⌝ }
+{
+    DAYS_PER_YEAR * year + year / YEARS_PER_FOUR + year / YEARS_PER_ERA - year / YEARS_PER_CENTURY
+}
+
+// The month that a day of a year is in, where March is 0.
+fn month_of(day: u64) -> u64
+    requires { ⌜ day ≤ 365 ⌝ }
+    ensures { λ r. ⌜ r ≡ (5 * day + 2) / 153 ⌝ }
+{
+    (MONTHS_PER_FIVE * day + 2) / DAYS_PER_FIVE
+}
+
+// The days of a year before a month, where March is 0.
+fn days_before_month(month: u64) -> u64
+    requires { ⌜ month ≤ 11 ⌝ }
+    ensures { λ r. ⌜ r ≡ (153 * month + 2) / 5 ⌝ }
+{
+    (DAYS_PER_FIVE * month + 2) / MONTHS_PER_FIVE
+}

@@ -1,0 +1,15 @@
+// The fields of a date and time.
+
+// A date and time, as fields that may each hold any number of its type.
+pub struct Fields {
+    pub year: i64,
+    // From 1.
+    pub month: u32,
+    // From 1.
+    pub day: u32,
+    pub hour: u32,
+    pub minute: u32,
+    pub second: u32,
+    // In ticks of the unit.
+    pub fraction: u32,
+}
