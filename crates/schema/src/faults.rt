@@ -20,12 +20,6 @@ pub(crate) const KEPT: u32 = 0;
 
 const SHAPE: u32 = 8;
 
-const DISAGREEMENT: u32 = 9;
-
-const MISPLACED: u32 = 10;
-
-const BAD_DECIMAL: u32 = 11;
-
 const LIST_STRUCTURE: u32 = 12;
 
 const MAP_STRUCTURE: u32 = 13;
@@ -47,9 +41,9 @@ pub(crate) fn broken(sheet: &[u8], at: usize, place: Place, s: Slot, value: usiz
     let resolution = annotation::resolve(annotated(s), under_map(place));
     match resolution {
         Resolution::Resolved(k) => structure_broken(sheet, at, s, k.kind, value),
-        Resolution::Disagreement => DISAGREEMENT,
-        Resolution::Misplaced => MISPLACED,
-        Resolution::BadDecimal => BAD_DECIMAL,
+        Resolution::Disagreement => annotation::refusal(resolution),
+        Resolution::Misplaced => annotation::refusal(resolution),
+        Resolution::BadDecimal => annotation::refusal(resolution),
     }
 }
 

@@ -1,7 +1,8 @@
 -- `schema::faults::broken` meets its contract, answer by answer.
 use Rattle.schema.proofs.NodeLaws.{brokenBy, broken-shape, broken-resolved}
+use Rattle.annotation.specs.Outcome.{refusalOf}
 use borrow.Author.Tests.{not-true, not-false}
-use mathlib.Core.Path.{sym, _∙_}
+use mathlib.Core.Path.{sym, ap, _∙_}
 use borrow.Author.Needs.{needs}
 use Rattle.schema.proofs.faults.broken.Statement.{statement}
 use Rattle.schema.proofs.faults.broken.Tie as tie
@@ -30,11 +31,20 @@ structure-broken-requires c κs = search needs
 enum-told : tie.Need-enum-told
 enum-told c = search needs
 
+refusal-requires : tie.Need-refusal-requires
+refusal-requires c κs = search needs
+
 enum-told-2 : tie.Need-enum-told-2
 enum-told-2 c = search needs
 
+refusal-requires-2 : tie.Need-refusal-requires-2
+refusal-requires-2 c κs = search needs
+
 enum-told-3 : tie.Need-enum-told-3
 enum-told-3 c = search needs
+
+refusal-requires-3 : tie.Need-refusal-requires-3
+refusal-requires-3 c κs = search needs
 
 returns-2 : tie.Need-returns-2
 unfolding brokenBy
@@ -42,15 +52,15 @@ returns-2 c = c .structure-broken .ensures ∙ sym (broken-resolved _ _ _ _ (c .
 
 returns-3 : tie.Need-returns-3
 unfolding brokenBy
-returns-3 c = sym (broken-resolved _ _ _ _ (c .before .before .before .before .before .before .before .before .pre .0) _ _ _ (sym (c .before .before .before .before .before .before .shape-kept .ensures) ∙ not-false _ (c .before .before .before .before .before .if1 .left)) (c .before .before .before .before .annotated .ensures) (c .before .before .before .under-map .ensures) (c .before .before .resolve .ensures) ∙ rw (c .enum-told .given .1))
+returns-3 c = c .refusal .ensures ∙ ap refusalOf (c .before .enum-told .given .1) ∙ sym (broken-resolved _ _ _ _ (c .before .before .before .before .before .before .before .before .before .pre .0) _ _ _ (sym (c .before .before .before .before .before .before .before .shape-kept .ensures) ∙ not-false _ (c .before .before .before .before .before .before .if1 .left)) (c .before .before .before .before .before .annotated .ensures) (c .before .before .before .before .under-map .ensures) (c .before .before .before .resolve .ensures) ∙ rw (c .before .enum-told .given .1))
 
 returns-4 : tie.Need-returns-4
 unfolding brokenBy
-returns-4 c = sym (broken-resolved _ _ _ _ (c .before .before .before .before .before .before .before .before .pre .0) _ _ _ (sym (c .before .before .before .before .before .before .shape-kept .ensures) ∙ not-false _ (c .before .before .before .before .before .if1 .left)) (c .before .before .before .before .annotated .ensures) (c .before .before .before .under-map .ensures) (c .before .before .resolve .ensures) ∙ rw (c .enum-told2 .given .1))
+returns-4 c = c .refusal2 .ensures ∙ ap refusalOf (c .before .enum-told2 .given .1) ∙ sym (broken-resolved _ _ _ _ (c .before .before .before .before .before .before .before .before .before .pre .0) _ _ _ (sym (c .before .before .before .before .before .before .before .shape-kept .ensures) ∙ not-false _ (c .before .before .before .before .before .before .if1 .left)) (c .before .before .before .before .before .annotated .ensures) (c .before .before .before .before .under-map .ensures) (c .before .before .before .resolve .ensures) ∙ rw (c .before .enum-told2 .given .1))
 
 returns-5 : tie.Need-returns-5
 unfolding brokenBy
-returns-5 c = sym (broken-resolved _ _ _ _ (c .before .before .before .before .before .before .before .before .pre .0) _ _ _ (sym (c .before .before .before .before .before .before .shape-kept .ensures) ∙ not-false _ (c .before .before .before .before .before .if1 .left)) (c .before .before .before .before .annotated .ensures) (c .before .before .before .under-map .ensures) (c .before .before .resolve .ensures) ∙ rw (c .enum-told3 .given .1))
+returns-5 c = c .refusal3 .ensures ∙ ap refusalOf (c .before .enum-told3 .given .1) ∙ sym (broken-resolved _ _ _ _ (c .before .before .before .before .before .before .before .before .before .pre .0) _ _ _ (sym (c .before .before .before .before .before .before .before .shape-kept .ensures) ∙ not-false _ (c .before .before .before .before .before .before .if1 .left)) (c .before .before .before .before .before .annotated .ensures) (c .before .before .before .before .under-map .ensures) (c .before .before .before .resolve .ensures) ∙ rw (c .before .enum-told3 .given .1))
 
 pub broken-spec : {M : Type 1} → statement M
 broken-spec =
@@ -64,8 +74,11 @@ broken-spec =
     enum-known-resolution
     structure-broken-requires
     enum-told
+    refusal-requires
     enum-told-2
+    refusal-requires-2
     enum-told-3
+    refusal-requires-3
     returns-2
     returns-3
     returns-4
