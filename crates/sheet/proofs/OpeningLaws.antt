@@ -1,5 +1,5 @@
 -- Laws of opening a sheet.
-use mathlib.Core.Path.{_≡_, refl, sym, _∙_}
+use mathlib.Core.Path.{_≡_, refl, sym, _∙_, ap}
 use mathlib.Core.Bool.{Bool, true, false, and-eq-true-iff}
 use mathlib.Core.List.{List}
 use Prim.Native.Nat.{ℕ, _*_, _≤_, _<_}
@@ -14,7 +14,7 @@ use Rattle.sheet.specs.Header.{lengthRight, totalRight, fieldsRight, hea
 use Rattle.sheet.specs.Slot.{slotAt, slots}
 use Rattle.sheet.specs.Sound.{slotSound, slotRight}
 use Rattle.sheet.specs.First.{firstWrong}
-use Rattle.sheet.specs.Opening.{atFirst, openOf, BlocksSound, SlotsSound}
+use Rattle.sheet.specs.Opening.{atFirst, openOf, BlocksSound, SlotsSound, outcome, outcomeOf}
 use Rattle.sheet.proofs.FirstLaws.{firstWrong-none, firstWrong-all}
 use Rattle.sheet.proofs.SlotLaws.{slots-length}
 use Rattle.sheet.proofs.SoundLaws.{slotRight-used}
@@ -163,3 +163,8 @@ openOf-accepts sheet blocks slots-sound =
     openOf-nodes sheet (blocks .length-right) refl (le-of-eq (sym (firstWrong-none _ _ (blocks .checks-right))))
     refl (le-of-eq (sym (firstWrong-none _ _ (blocks .headers-right))))
     refl (le-of-eq (sym (firstWrong-none _ _ (slots-sound .slots-right))))
+
+-- an answer that opening gives has the sheet's outcome
+pub with-outcome : (sheet : List ℕ) (r : Opened) → r ≡ openOf sheet → (r ≡ openOf sheet) × (outcomeOf sheet r ≡ outcome sheet)
+unfolding outcome
+with-outcome sheet r e = (e, ap (outcomeOf sheet) e)

@@ -7,7 +7,7 @@ ghost use Rattle.sheet.specs.Check.{checkRight};
 ghost use Rattle.sheet.specs.Header.{lengthRight, headerRight};
 ghost use Rattle.sheet.specs.Sound.{slotRight};
 ghost use Rattle.sheet.specs.First.{firstWrong};
-ghost use Rattle.sheet.specs.Opening.{openOf};
+ghost use Rattle.sheet.specs.Opening.{openOf, outcome, outcomeOf};
 use crate::block::check_right;
 use crate::block::header_right;
 use crate::block::total_of;
@@ -31,6 +31,7 @@ pub enum Opened {
 // The number of nodes of a sheet, or the first refusal that holds of it.
 pub fn open(sheet: &[u8]) -> Opened
     ensures { λ r. ⌜ r ≡ openOf (now (sheet .entry)) ⌝ }
+    ensures { λ r. ⌜ outcomeOf (now (sheet .entry)) r ≡ outcome (now (sheet .entry)) ⌝ }
 {
     if !length_right(sheet.len()) {
         return Opened::BadLength;

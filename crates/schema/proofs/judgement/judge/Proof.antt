@@ -13,7 +13,7 @@ enum-known-opened : tie.Need-enum-known-opened
 enum-known-opened c = search needs
 
 judge-slots-requires : tie.Need-judge-slots-requires
-judge-slots-requires c κs = sym (c .before .before .before .open .ensures) ∙ c .before .opened .given .1
+judge-slots-requires c κs = sym (c .before .before .before .open .ensures .0) ∙ c .before .opened .given .1
 
 nodes-or-requires : tie.Need-nodes-or-requires
 nodes-or-requires c κs = search needs
@@ -45,25 +45,25 @@ refused-requires-4 c κs = search needs
 returns : tie.Need-returns
 unfolding judgementOf
 returns c =
-    let o = sym (c .before .before .before .before .before .open .ensures) ∙ c .before .before .before .opened .given .1 in
+    let o = sym (c .before .before .before .before .before .open .ensures .0) ∙ c .before .before .before .opened .given .1 in
     c .nodes-or .ensures
     ∙ rw (judgement-nodes _ _ o, ← nodes-total _ _ o, ← c .before .judge-slots .ensures)
 
 returns-2 : tie.Need-returns-2
 unfolding judgementOf judgedNodes
-returns-2 c = c .refused .ensures ∙ sym (rw (judgement-length _ (sym (c .before .before .before .open .ensures) ∙ c .before .enum-told .given .1)))
+returns-2 c = c .refused .ensures ∙ sym (rw (judgement-length _ (sym (c .before .before .before .open .ensures .0) ∙ c .before .enum-told .given .1)))
 
 returns-3 : tie.Need-returns-3
 unfolding judgementOf judgedNodes
-returns-3 c = c .refused2 .ensures ∙ sym (rw (judgement-check _ _ (sym (c .before .before .before .before .open .ensures) ∙ c .before .before .opened2 .given .1)))
+returns-3 c = c .refused2 .ensures ∙ sym (rw (judgement-check _ _ (sym (c .before .before .before .before .open .ensures .0) ∙ c .before .before .opened2 .given .1)))
 
 returns-4 : tie.Need-returns-4
 unfolding judgementOf judgedNodes
-returns-4 c = c .refused3 .ensures ∙ sym (rw (judgement-header _ _ (sym (c .before .before .before .before .open .ensures) ∙ c .before .before .opened3 .given .1)))
+returns-4 c = c .refused3 .ensures ∙ sym (rw (judgement-header _ _ (sym (c .before .before .before .before .open .ensures .0) ∙ c .before .before .opened3 .given .1)))
 
 returns-5 : tie.Need-returns-5
 unfolding judgementOf judgedNodes
-returns-5 c = c .refused4 .ensures ∙ sym (rw (judgement-slot _ _ (sym (c .before .before .before .before .open .ensures) ∙ c .before .before .opened4 .given .1)))
+returns-5 c = c .refused4 .ensures ∙ sym (rw (judgement-slot _ _ (sym (c .before .before .before .before .open .ensures .0) ∙ c .before .before .opened4 .given .1)))
 
 pub judge-spec : {M : Type 1} → statement M
 judge-spec =

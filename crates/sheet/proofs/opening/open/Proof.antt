@@ -9,7 +9,7 @@ use Rattle.sheet.specs.Header.{lengthRight}
 use Rattle.sheet.specs.declared.opening.Opened.the-variants.{Nodes}
 use Rattle.sheet.proofs.TestLaws.{failed, passed}
 use Rattle.sheet.proofs.HeaderLaws.{lengthRight-least, lengthRight-most}
-use Rattle.sheet.proofs.OpeningLaws.{openOf-length, openOf-check, openOf-header, openOf-slot, openOf-nodes}
+use Rattle.sheet.proofs.OpeningLaws.{openOf-length, openOf-check, openOf-header, openOf-slot, openOf-nodes, with-outcome}
 use Rattle.sheet.proofs.opening.open.Statement.{statement}
 use Rattle.sheet.proofs.opening.open.Tie as tie
 
@@ -21,14 +21,14 @@ length-right-requires : tie.Need-length-right-requires
 length-right-requires c κs = search needs
 
 returns : tie.Need-returns
-returns c = sym (openOf-length _ (failed (c .before .length-right .ensures) (c .if1 .taken)))
+returns c = with-outcome _ _ (sym (openOf-length _ (failed (c .before .length-right .ensures) (c .if1 .taken))))
 
 first-bad-check-requires : tie.Need-first-bad-check-requires
 first-bad-check-requires c κs = search needs
 
 returns-2 : tie.Need-returns-2
 unfolding blockCount
-returns-2 c = sym (openOf-check _ (length-is-right (c .before .before)) (c .before .first-bad-check .ensures) (c .if2 .taken))
+returns-2 c = with-outcome _ _ (sym (openOf-check _ (length-is-right (c .before .before)) (c .before .first-bad-check .ensures) (c .if2 .taken)))
 
 total-of-requires : tie.Need-total-of-requires
 total-of-requires c κs = lengthRight-least _ (length-is-right (c .before .before))
@@ -41,8 +41,8 @@ returns-3 : tie.Need-returns-3
 unfolding blockCount
 returns-3 c =
     let checks = c .before .before .before in
-    sym (openOf-header _ (length-is-right (checks .before .before)) (checks .before .first-bad-check .ensures) (checks .if2 .left)
-    (c .before .first-bad-header .ensures) (c .if3 .taken))
+    with-outcome _ _ (sym (openOf-header _ (length-is-right (checks .before .before)) (checks .before .first-bad-check .ensures) (checks .if2 .left)
+    (c .before .first-bad-header .ensures) (c .if3 .taken)))
 
 mul-slots : tie.Need-mul-slots
 mul-slots c = search needs
@@ -57,19 +57,19 @@ unfolding blockCount
 returns-4 c =
     let headers = c .before .before in
     let checks = headers .before .before .before in
-    sym (openOf-slot _ (length-is-right (checks .before .before)) (checks .before .first-bad-check .ensures) (checks .if2 .left)
+    with-outcome _ _ (sym (openOf-slot _ (length-is-right (checks .before .before)) (checks .before .first-bad-check .ensures) (checks .if2 .left)
     (headers .before .first-bad-header .ensures) (headers .if3 .left)
-    (c .before .first-bad-slot .ensures) (c .if4 .taken))
+    (c .before .first-bad-slot .ensures) (c .if4 .taken)))
 
 returns-5 : tie.Need-returns-5
 unfolding blockCount
 returns-5 c =
     let headers = c .before .before in
     let checks = headers .before .before .before in
-    ap Nodes (headers .before .before .total-of .ensures)
+    with-outcome _ _ (ap Nodes (headers .before .before .total-of .ensures)
     ∙ sym (openOf-nodes _ (length-is-right (checks .before .before)) (checks .before .first-bad-check .ensures) (checks .if2 .left)
     (headers .before .first-bad-header .ensures) (headers .if3 .left)
-    (c .before .first-bad-slot .ensures) (c .if4 .left))
+    (c .before .first-bad-slot .ensures) (c .if4 .left)))
 
 pub open-spec : {M : Type 1} → statement M
 open-spec =
