@@ -1,29 +1,28 @@
 // Reads a sheet from standard input and prints the rows of its nodes, a line for each, or the refusal.
-ghost use mathlib.Core.Path.{_≡_};
-ghost use lib.ListN.{length};
 use libc::STDIN_FILENO;
 use libc::STDOUT_FILENO;
 use schema::Refusal;
 use schema::Resolved;
 
-// One byte more than the longest sheet has. Input that fills it is too long, whatever follows.
-const SHEET_ROOM: usize = 65537;
+// The most bytes that a sheet has.
+const MOST_BYTES: usize = 65536;
+
+// The most nodes that a sheet has.
+const MOST_NODES: usize = 896;
 
 // How many numbers a row has.
 const ROW_WIDTH: usize = 9;
 
-// The numbers of the most rows a sheet has: one for each of 896 nodes.
-const ROWS_ROOM: usize = 8064;
-
+// Reads to the end of the input, or to the first byte past the most: what is longer is refused for its length.
 fn main() {
-    let mut sheet = sheet_room();
+    let mut sheet = [0u8; MOST_BYTES + 1];
     let length = io::read_full(STDIN_FILENO, &mut sheet);
     print_answer(&sheet[..length]);
 }
 
 // Resolves a sheet and prints the answer.
 fn print_answer(sheet: &[u8]) {
-    let mut rows = rows_room();
+    let mut rows = [0u32; ROW_WIDTH * MOST_NODES];
     let resolved = schema::resolve(sheet, &mut rows);
     match resolved {
         Resolved::Rows(total) => {
@@ -68,18 +67,6 @@ fn print_number(before: &[u8], n: u64, after: u8) -> bool {
     io::write_all(STDOUT_FILENO, before)
         && io::print_decimal(STDOUT_FILENO, n)
         && io::write_all(STDOUT_FILENO, &[after])
-}
-
-fn sheet_room() -> [u8; SHEET_ROOM]
-    ensures { λ r. ⌜ 65537 ≡ length r ⌝ }
-{
-    [0; SHEET_ROOM]
-}
-
-fn rows_room() -> [u32; ROWS_ROOM]
-    ensures { λ r. ⌜ 8064 ≡ length r ⌝ }
-{
-    [0; ROWS_ROOM]
 }
 
 fn wide(n: u32) -> u64 {

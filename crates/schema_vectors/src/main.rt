@@ -2,9 +2,7 @@
 // the number of nodes, whether the lent numbers that hold no row are as they were, and then the rows.
 //
 // Standard input is a count, and then each sheet as the length of its title, of its bytes and of the numbers lent for its
-// rows, the title and the bytes. Each number is four bytes, the least first. reference/schemas.py writes it, and stdout.
-ghost use mathlib.Core.Path.{_≡_};
-ghost use lib.ListN.{length};
+// rows, the title and the bytes. Each number is four bytes, the least first. reference/vectors.py writes it, and stdout.
 use libc::STDIN_FILENO;
 use libc::STDOUT_FILENO;
 use schema::Refusal;
@@ -27,9 +25,9 @@ const FIRST_MARK: u32 = 2863311530;
 const MARK_STEP: u32 = 1000003;
 
 fn main() {
-    let mut title = title_room();
-    let mut sheet = sheet_room();
-    let mut rows = rows_room();
+    let mut title = [0u8; TITLE_ROOM];
+    let mut sheet = [0u8; SHEET_ROOM];
+    let mut rows = [0u32; ROWS_ROOM];
     run(&mut title, &mut sheet, &mut rows, read_number());
 }
 
@@ -174,22 +172,4 @@ fn wide_byte(byte: u8) -> u32 {
 
 fn wide(n: u32) -> u64 {
     n as u64
-}
-
-fn title_room() -> [u8; TITLE_ROOM]
-    ensures { λ r. ⌜ 128 ≡ length r ⌝ }
-{
-    [0; TITLE_ROOM]
-}
-
-fn sheet_room() -> [u8; SHEET_ROOM]
-    ensures { λ r. ⌜ 66048 ≡ length r ⌝ }
-{
-    [0; SHEET_ROOM]
-}
-
-fn rows_room() -> [u32; ROWS_ROOM]
-    ensures { λ r. ⌜ 8192 ≡ length r ⌝ }
-{
-    [0; ROWS_ROOM]
 }

@@ -29,9 +29,6 @@ outcome-enough : (bytes : List ℕ) (lent n : ℕ) → outcome bytes lent ≡ Re
 unfolding outcome
 outcome-enough bytes lent n e = answer-enough (judgement bytes) _ lent n e
 
-rows-room-requires : tie.Need-rows-room-requires
-rows-room-requires c κs = search needs
-
 slice-aggregate-resolve : tie.Need-slice-aggregate-resolve
 slice-aggregate-resolve c = search needs
 
@@ -41,13 +38,12 @@ resolve-requires c κs = search needs
 enum-known-resolved : tie.Need-enum-known-resolved
 enum-known-resolved c = search needs
 
-mul-end : tie.Need-mul-end
-mul-end c =
-    omega (arith, outcome-enough _ _ _ (sym (c .before .before .before .before .resolve .ensures .0) ∙ c .before .resolved .given .1))
-
 array-share-prefix-rows : tie.Need-array-share-prefix-rows
 array-share-prefix-rows c =
     omega (arith, outcome-enough _ _ _ (sym (c .before .before .before .before .resolve .ensures .0) ∙ c .before .resolved .given .1))
+
+mul-end : tie.Need-mul-end
+mul-end c = omega (arith, array-share-prefix-rows c)
 
 slice-aggregate-print-nodes : tie.Need-slice-aggregate-print-nodes
 slice-aggregate-print-nodes c = sym (length-take-le _ _ (array-share-prefix-rows (c .before)))
@@ -71,7 +67,6 @@ pub print-answer-spec : {M : Type 1} → statement M
 print-answer-spec =
     tie.close
     (tie.spec
-    rows-room-requires
     slice-aggregate-resolve
     resolve-requires
     enum-known-resolved

@@ -1,369 +1,20 @@
 #!/usr/bin/env python3
 """Makes the sheets of ../stdin and the answers of ../stdout, and the sheet of ../../schema_rows/stdin, from document 01 alone.
 
-Run it in any folder: python3 schemas.py. It uses nothing but Python's standard library, and nothing of the Rattle code.
+Run it in any folder: python3 vectors.py. It uses nothing but Python's standard library, and nothing of the Rattle code.
 """
 import os
 import random
 import struct
-
-BLOCK, SLOT, SLOTS, MOST_NODES, MOST_DEPTH = 512, 72, 7, 896, 32
-
-BOOLEAN, INT32, INT64, INT96, FLOAT, DOUBLE, BYTE_ARRAY, FIXED = range(8)
-GROUP = NONE = 255
-REQUIRED, OPTIONAL, REPEATED = range(3)
-
-CONVERTED = dict((name, code) for code, name in enumerate(
-    "UTF8 MAP MAP_KEY_VALUE LIST ENUM DECIMAL DATE TIME_MILLIS TIME_MICROS TIMESTAMP_MILLIS TIMESTAMP_MICROS UINT_8 UINT_16 "
-    "UINT_32 UINT_64 INT_8 INT_16 INT_32 INT_64 JSON BSON INTERVAL".split()))
-LOGICAL = dict(STRING=1, MAP=2, LIST=3, ENUM=4, DECIMAL=5, DATE=6, TIME=7, TIMESTAMP=8, INTEGER=10, UNKNOWN=11, JSON=12,
-               BSON=13, UUID=14)
-CONVERTED_NAME = dict((code, name) for name, code in CONVERTED.items())
-LOGICAL_NAME = dict((code, name) for name, code in LOGICAL.items())
-
-PLAIN_LEAF, INTERVAL_KIND, PLAIN_GROUP = 0, 21, 30
-UNITS = {1: "MILLIS", 2: "MICROS", 3: "NANOS"}
-
-
-# ---- a sheet judged
-
-class Refused(Exception):
-    """A numbered refusal at its place."""
-
-
-def resolved(sheet, lent):
-    """The rows of a sheet, a list of nine numbers for each node, or Refused."""
-    nodes = opened(sheet)
-    root = tree(nodes)
-    for node in nodes:
-        if node.depth > MOST_DEPTH:
-            raise Refused(7, node.number)
-    for node in nodes:
-        for number, keeps in ((8, keeps_8), (9, keeps_9), (10, keeps_10), (11, keeps_11), (12, keeps_12), (13, keeps_13)):
-            if not keeps(node, root):
-                raise Refused(number, node.number)
-    if lent < 9 * len(nodes):
-        raise Refused(14, 0)
-    return [row(node) for node in nodes]
-
-
-def weighted(block):
-    return sum((i + 1) * byte for i, byte in enumerate(block[:510])) % 65521
-
-
-def opened(sheet):
-    """The nodes of a sheet under refusals 1 to 4."""
-    if not sheet or len(sheet) % BLOCK or len(sheet) > 65536:
-        raise Refused(1, 0)
-    blocks = [sheet[at:at + BLOCK] for at in range(0, len(sheet), BLOCK)]
-    for i, block in enumerate(blocks):
-        if int.from_bytes(block[510:], "little") != weighted(block):
-            raise Refused(2, i)
-    total = int.from_bytes(sheet[4:6], "little")
-    for i, block in enumerate(blocks):
-        if i == 0 and not (1 <= total <= MOST_NODES and (total + SLOTS - 1) // SLOTS == len(blocks)):
-            raise Refused(3, 0)
-        if struct.unpack("<HBBH", block[:6]) != (i, min(SLOTS, total - SLOTS * i), 1, total):
-            raise Refused(3, i)
-    slots = [block[6 + SLOT * j:6 + SLOT * (j + 1)] for block in blocks for j in range(SLOTS)]
-    for k, slot in enumerate(slots):
-        if not (sound(slot) if k < total else slot == bytes(SLOT)):
-            raise Refused(4, k)
-    return [Node(k, slot) for k, slot in enumerate(slots[:total])]
-
-
-def sound(slot):
-    return (slot[0] in (0, 1, 2, 3, 4, 5, 6, 7, GROUP) and slot[1] in (REQUIRED, OPTIONAL, REPEATED, NONE)
-            and (slot[2] in CONVERTED_NAME or slot[2] == NONE) and (slot[3] in LOGICAL_NAME or slot[3] == 0)
-            and 1 <= slot[20] <= 48 and slot[21:24] == bytes(3) and slot[24 + slot[20]:] == bytes(48 - slot[20]))
-
-
-class Node:
-    """A node in its tree: the numbers of its slot, its parent, its depth and its fields."""
-
-    def __init__(self, number, slot):
-        (self.physical, self.repetition, self.converted, self.logical, self.a, self.b, self.claim, self.length, self.scale,
-         self.precision, name_length) = struct.unpack("<BBBBBBHiiiB", slot[:21])
-        self.name = slot[24:24 + name_length]
-        self.number, self.parent, self.depth, self.fields = number, None, 0, []
-
-    def is_group(self):
-        return self.physical == GROUP
-
-    def last(self):
-        """The last of the node's descendants, itself where it has none."""
-        return self.fields[-1].last() if self.fields else self
-
-
-def tree(nodes):
-    """The root of the tree that the nodes list, under refusals 5 and 6."""
-    places = [1]
-    for node in nodes:
-        places.append(places[-1] + node.claim - 1)
-    for k in range(len(nodes)):
-        if places[k] == 0:
-            raise Refused(6, k)
-    if places[len(nodes)] != 0:
-        raise Refused(5, len(nodes))
-    unfinished = []
-    for node in nodes:
-        if unfinished:
-            node.parent = unfinished[-1]
-            node.depth = node.parent.depth + 1
-            node.parent.fields.append(node)
-        unfinished.append(node)
-        while unfinished and len(unfinished[-1].fields) == unfinished[-1].claim:
-            unfinished.pop()
-    return nodes[0]
-
-
-def keeps_8(node, root):
-    if node is root:
-        placed = node.is_group() and (node.repetition, node.converted, node.logical) == (NONE, NONE, 0)
-    else:
-        placed = node.repetition != NONE and bool(node.fields) == node.is_group()
-    sized = node.length >= 1 if node.physical == FIXED else node.length == 0
-    is_decimal = node.converted == CONVERTED["DECIMAL"] or node.logical == LOGICAL["DECIMAL"]
-    return placed and sized and (is_decimal or (node.scale, node.precision) == (0, 0))
-
-
-def allowed(logical, a, b):
-    """Whether a and b are parameters of a logical type, None being none."""
-    if logical == "INTEGER":
-        return a in (8, 16, 32, 64) and b in (0, 1)
-    if logical in ("TIME", "TIMESTAMP"):
-        return a in UNITS and b in (0, 1)
-    return (a, b) == (0, 0)
-
-
-def forward(logical, a, b):
-    """The converted type that a logical type is written as, or None."""
-    if not allowed(logical, a, b) or logical in ("UNKNOWN", "UUID"):
-        return None
-    if logical == "STRING":
-        return "UTF8"
-    if logical == "INTEGER":
-        return "%s_%d" % ("INT" if b else "UINT", a)
-    if logical in ("TIME", "TIMESTAMP"):
-        return None if UNITS[a] == "NANOS" else "%s_%s" % (logical, UNITS[a])
-    return logical
-
-
-def backward(converted):
-    """What a converted type alone means: a logical type with its parameters."""
-    for logical in LOGICAL:
-        for a in (0, 8, 16, 32, 64, 1, 2):
-            for b in (1, 0):
-                if forward(logical, a, b) == converted:
-                    return logical, a, b
-    raise AssertionError(converted)
-
-
-def keeps_9(node, root):
-    if node.converted == NONE or node.logical == 0:
-        return True
-    return forward(LOGICAL_NAME[node.logical], node.a, node.b) == CONVERTED_NAME[node.converted]
-
-
-def meaning(node):
-    """What a node's annotation means: a name with its parameters, or None."""
-    if node.logical:
-        return LOGICAL_NAME[node.logical], node.a, node.b
-    if node.converted == NONE:
-        return None
-    converted = CONVERTED_NAME[node.converted]
-    if converted == "MAP_KEY_VALUE":
-        return None if node.parent and means(node.parent, "MAP") else ("MAP", 0, 0)
-    if converted == "INTERVAL":
-        return "INTERVAL", 0, 0
-    return backward(converted)
-
-
-def means(node, name):
-    return meaning(node) is not None and meaning(node)[0] == name
-
-
-def keeps_10(node, root):
-    if not allowed(LOGICAL_NAME.get(node.logical), node.a, node.b):
-        return False
-    if meaning(node) is None:
-        return True
-    name, a, b = meaning(node)
-    on = (node.physical, node.length) if node.physical == FIXED else node.physical
-    if name in ("STRING", "ENUM", "JSON", "BSON"):
-        return on == BYTE_ARRAY
-    if name == "UUID":
-        return on == (FIXED, 16)
-    if name == "INTERVAL":
-        return on == (FIXED, 12)
-    if name == "DATE":
-        return on == INT32
-    if name == "INTEGER":
-        return on == (INT64 if a == 64 else INT32)
-    if name == "TIME":
-        return on == (INT32 if UNITS[a] == "MILLIS" else INT64)
-    if name == "TIMESTAMP":
-        return on == INT64
-    if name == "UNKNOWN":
-        return not node.is_group()
-    if name == "DECIMAL":
-        return node.physical in (INT32, INT64, FIXED, BYTE_ARRAY)
-    return node.is_group()
-
-
-def keeps_11(node, root):
-    if not means(node, "DECIMAL"):
-        return True
-    if not (1 <= node.precision and 0 <= node.scale < node.precision):
-        return False
-    if node.physical == INT32:
-        return node.precision <= 9
-    if node.physical == INT64:
-        return node.precision <= 18
-    if node.physical == FIXED:
-        return node.length <= 256 and node.precision < 1000 and 10 ** node.precision <= 2 ** (8 * node.length - 1) - 1
-    return True
-
-
-def keeps_12(node, root):
-    return not means(node, "LIST") or list_roles(node) is not None
-
-
-def keeps_13(node, root):
-    return not means(node, "MAP") or map_roles(node) is not None
-
-
-def list_roles(node):
-    """The roles that a LIST gives, each with its node, or None where its structure is wrong."""
-    if node.repetition not in (REQUIRED, OPTIONAL) or len(node.fields) != 1:
-        return None
-    layer = node.fields[0]
-    if layer.repetition != REPEATED:
-        return None
-    if not layer.is_group():
-        return [(layer, 2)]
-    if len(layer.fields) > 1 or (len(layer.fields) == 1 and layer.name in (b"array", node.name + b"_tuple")):
-        return [(layer, 3)]
-    if len(layer.fields) == 1 and layer.fields[0].repetition in (REQUIRED, OPTIONAL):
-        return [(layer, 1), (layer.fields[0], 2)]
-    return None
-
-
-def map_roles(node):
-    """The roles that a MAP gives, each with its node, or None where its structure is wrong."""
-    if node.repetition not in (REQUIRED, OPTIONAL) or len(node.fields) != 1:
-        return None
-    layer = node.fields[0]
-    if layer.repetition != REPEATED or not layer.is_group() or len(layer.fields) not in (1, 2):
-        return None
-    if layer.fields[0].repetition != REQUIRED:
-        return None
-    if len(layer.fields) == 2 and layer.fields[1].repetition not in (REQUIRED, OPTIONAL):
-        return None
-    return [(layer, 4)] + list(zip(layer.fields, (5, 6)))
-
-
-def role(node):
-    for above in (node.parent, node.parent and node.parent.parent):
-        if above is not None:
-            given = list_roles(above) if means(above, "LIST") else map_roles(above) if means(above, "MAP") else []
-            for taker, number in given:
-                if taker is node:
-                    return number
-    return 7 if node.repetition == REPEATED else 0
-
-
-def row(node):
-    kind, p1, p2 = PLAIN_GROUP if node.is_group() else PLAIN_LEAF, 0, 0
-    if meaning(node) is not None:
-        name, p1, p2 = meaning(node)
-        kind = INTERVAL_KIND if name == "INTERVAL" else LOGICAL[name]
-        if name == "DECIMAL":
-            p1, p2 = node.precision, node.scale
-    return [node.physical, node.length, node.repetition, kind, p1, p2, node.parent.number if node.parent else 0,
-            node.last().number + 1, role(node)]
-
-
-def answer(sheet, lent):
-    """The lines of an answer: the first, and then the rows."""
-    try:
-        rows = resolved(sheet, lent)
-    except Refused as refusal:
-        return ["refused %d at %d" % refusal.args]
-    return ["nodes %d" % len(rows)] + [" ".join(map(str, numbers)) for numbers in rows]
-
-
-# ---- sheets made of trees
-
-def leaf(physical=INT32, repetition=REQUIRED, converted=None, logical=None, a=0, b=0, length=None, scale=0, precision=0,
-         name=b"v", fields=(), claim=None):
-    """A node to make a slot of. Its type length is right unless it is given, and so is its claim."""
-    if length is None:
-        length = 16 if physical == FIXED else 0
-    return dict(physical=physical, repetition=repetition, converted=CONVERTED.get(converted, NONE),
-                logical=LOGICAL.get(logical, 0), a=a, b=b, length=length, scale=scale, precision=precision, name=name,
-                fields=list(fields), claim=claim)
-
-
-def group(*fields, **given):
-    return leaf(**dict(dict(physical=GROUP, name=b"g", fields=fields), **given))
-
-
-def root(*fields, **given):
-    return group(*fields, **dict(dict(repetition=NONE, name=b"r"), **given))
-
-
-def lists(*fields, **given):
-    return group(*fields, **dict(dict(converted="LIST", name=b"parts"), **given))
-
-
-def maps(*fields, **given):
-    return group(*fields, **dict(dict(logical="MAP", name=b"m"), **given))
-
-
-def layer(*fields, **given):
-    return group(*fields, **dict(dict(repetition=REPEATED, name=b"list"), **given))
-
-
-def key_value(*fields, **given):
-    return layer(*fields, **dict(dict(name=b"key_value"), **given))
-
-
-def entry(key=None, value=None):
-    """A key_value layer, with a plain key and no value unless they are given."""
-    return key_value(*[node for node in (key or leaf(name=b"key"), value) if node])
-
-
-def listing(node):
-    return [node] + [below for field in node["fields"] for below in listing(field)]
-
-
-def slot_of(node):
-    claim = len(node["fields"]) if node["claim"] is None else node["claim"]
-    return struct.pack("<BBBBBBHiiiB3x48s", node["physical"], node["repetition"], node["converted"], node["logical"], node["a"],
-                       node["b"], claim, node["length"], node["scale"], node["precision"], len(node["name"]), node["name"])
-
-
-def sheet_of(slots):
-    made = b""
-    for i in range(0, len(slots), SLOTS):
-        here = slots[i:i + SLOTS]
-        made += struct.pack("<HBBH", i // SLOTS, len(here), 1, len(slots)) + b"".join(here).ljust(SLOT * SLOTS, b"\0") + bytes(2)
-    return sealed(made)
-
-
-def sealed(sheet):
-    """The sheet with the check of each whole block made right."""
-    sheet = bytearray(sheet)
-    for at in range(0, len(sheet) - BLOCK + 1, BLOCK):
-        sheet[at + 510:at + 512] = struct.pack("<H", weighted(sheet[at:at + BLOCK]))
-    return bytes(sheet)
-
-
-def changed(sheet, at, *values):
-    """The sheet with other bytes at a place, and its checks made right."""
-    return sealed(sheet[:at] + bytes(values) + sheet[at + len(values):])
-
+import sys
+
+sys.dont_write_bytecode = True
+
+from random_trees import damage, random_nodes
+from rules import (BLOCK, BOOLEAN, BYTE_ARRAY, CONVERTED, DOUBLE, FIXED, INT32, INT64, MOST_NODES, NONE, OPTIONAL, REPEATED,
+                   REQUIRED, SLOT, answer, backward)
+from trees import (changed, entry, group, key_value, layer, leaf, listing, lists, logical_types, maps, places_of, root,
+                   sheet_of, slot_of)
 
 VECTORS = []
 
@@ -372,6 +23,7 @@ def vector(title, sheet, lent=None):
     """A sheet to resolve, with a few more numbers lent than its rows need unless their number is given."""
     if lent is None:
         lent = 9 * int.from_bytes(sheet[4:6], "little") + 4 if 6 <= len(sheet) <= 65536 else 40
+    assert len(title) <= 128
     VECTORS.append((title, sheet, min(lent, 8192)))
 
 
@@ -383,8 +35,6 @@ def field_vector(title, *fields):
     """Fields of a root, beside a plain leaf on either side."""
     tree_vector(title, root(leaf(name=b"before"), *fields + (leaf(name=b"after"),)))
 
-
-# ---- the vectors
 
 EXAMPLE = root(lists(layer(leaf(BYTE_ARRAY, OPTIONAL, "UTF8", name=b"element"))))
 EXAMPLE_ANSWER = """\
@@ -461,6 +111,9 @@ def depths():
     tree_vector("fault, then a node too deep", root(leaf(length=1), *chain(34)["fields"]))
     tree_vector("fault at the root and a node too deep", dict(chain(34), repetition=REQUIRED))
     tree_vector("two nodes too deep", root(leaf(), *chain(35)["fields"] + chain(36)["fields"]))
+    tree_vector("a tooth of a comb too deep", comb(lambda spine, teeth: teeth + spine, 32, 1))
+    tree_vector("a tooth of a comb too deep, spine first", comb(lambda spine, teeth: spine + teeth, 32, 1))
+    tree_vector("node too deep and one missing", root(*chain(35)["fields"], claim=2))
     tree_vector("node too deep and one left over", root(*chain(35)["fields"] + [leaf()], claim=1))
     tree_vector("leaves of a chain of leaves too deep", leaf_chain(34))
     tree_vector("leaves of a chain of leaves not too deep", leaf_chain(33))
@@ -468,8 +121,8 @@ def depths():
     tree_vector("lists in lists too deep", root(nested_lists(16)))
     for title, nodes in (("896 nodes flat", root(*[leaf(name=b"%d" % k) for k in range(895)])),
                          ("896 nodes in chains of 33", root(*many_chains())),
-                         ("896 nodes in a comb", comb(lambda spine, teeth: teeth + spine)),
-                         ("896 nodes in a comb, spine first", comb(lambda spine, teeth: spine + teeth)),
+                         ("896 nodes in a comb, teeth first", comb(lambda spine, teeth: teeth + spine, 31, 27)),
+                         ("896 nodes in a comb, spine first", comb(lambda spine, teeth: spine + teeth, 31, 27)),
                          ("896 nodes in maps nested in keys", map_combs())):
         assert len(listing(nodes)) == MOST_NODES
         tree_vector(title, nodes, 8192)
@@ -489,13 +142,12 @@ def many_chains():
     return [chain(33)["fields"][0] for _ in range(27)] + chain(32)["fields"]
 
 
-def comb(joined):
-    """A spine of 32 nodes below the root, with teeth on each side or one."""
+def comb(joined, height, width):
+    """A spine of such a height below the root, each node of it with so many leaves, and so many below the root."""
     spine = []
-    for level in range(32):
-        teeth = [leaf(name=b"t%d" % k) for k in range(26 if level else 31)]
-        spine = [group(*joined(spine, teeth))]
-    return root(*joined(spine, [leaf() for _ in range(895 - len(listing(spine[0])))]))
+    for level in range(height):
+        spine = [group(*joined(spine, [leaf(name=b"tooth %d" % k) for k in range(width)]))]
+    return root(*joined(spine, [leaf() for _ in range(width)]))
 
 
 def nested_lists(count):
@@ -574,37 +226,20 @@ def annotated():
     tree_vector("every annotation where it may stand, in groups", root(*[group(one, repetition=REPEATED) for one in leaves]))
 
 
-def logical_types():
-    """Every logical type for a leaf with every parameter."""
-    for logical in sorted(set(LOGICAL) - {"MAP", "LIST"}, key=LOGICAL.get):
-        for a in (0, 1, 2, 3, 8, 16, 32, 64):
-            for b in (0, 1):
-                if allowed(logical, a, b):
-                    yield logical, a, b
-
-
-def places_of(logical, a):
-    """The physical types that a logical type may stand on."""
-    if logical in ("INTEGER", "TIME"):
-        return [INT64 if (a == 64 if logical == "INTEGER" else a > 1) else INT32]
-    return dict(DATE=[INT32], TIMESTAMP=[INT64], UUID=[FIXED], UNKNOWN=range(8),
-                DECIMAL=[INT32, INT64, BYTE_ARRAY, FIXED]).get(logical, [BYTE_ARRAY])
-
-
 def disagreements():
-    given = dict(UTF8=("STRING", 0, 0), ENUM=("STRING", 0, 0), BSON=("JSON", 0, 0), JSON=("BSON", 0, 0), DATE=("TIME", 1, 1),
-                 TIME_MILLIS=("TIME", 3, 1), TIME_MICROS=("TIME", 3, 0), TIMESTAMP_MILLIS=("TIMESTAMP", 2, 1),
-                 TIMESTAMP_MICROS=("TIMESTAMP", 2, 0), UINT_8=("INTEGER", 8, 1), INT_8=("INTEGER", 8, 0),
-                 INT_16=("INTEGER", 32, 1), INT_64=("INTEGER", 64, 1), UINT_64=("INTEGER", 64, 1), INT_32=("INTEGER", 33, 1),
-                 UINT_16=("INTEGER", 16, 2), DECIMAL=("UUID", 0, 0), INTERVAL=("UUID", 0, 0))
-    for converted, (logical, a, b) in given.items():
-        physical = places_of(logical, a)[0]
-        field_vector("%s beside %s(%d, %d)" % (converted, logical, a, b), leaf(physical, OPTIONAL, converted, logical, a, b))
-    for converted, logical, a, b in (("TIME_MILLIS", "TIME", 1, 0), ("TIME_MILLIS", "TIME", 1, 2), ("TIME_MILLIS", "TIME", 0, 1),
-                                     ("UTF8", "STRING", 1, 0), ("UTF8", "STRING", 0, 1), ("UTF8", "UNKNOWN", 0, 0),
-                                     ("DATE", "DATE", 0, 1), ("INT_32", "INTEGER", 32, 1), ("LIST", "STRING", 0, 0)):
-        physical = places_of(logical, a)[0]
-        field_vector("%s beside %s(%d, %d), again" % (converted, logical, a, b), leaf(physical, 0, converted, logical, a, b))
+    for converted, logical, a, b in (
+            ("UTF8", "STRING", 0, 0), ("UTF8", "STRING", 1, 0), ("UTF8", "STRING", 0, 1), ("ENUM", "STRING", 0, 0),
+            ("LIST", "STRING", 0, 0), ("BSON", "JSON", 0, 0), ("JSON", "BSON", 0, 0), ("DATE", "DATE", 0, 1),
+            ("DATE", "TIME", 1, 1), ("TIME_MILLIS", "TIME", 1, 0), ("TIME_MILLIS", "TIME", 1, 2), ("TIME_MILLIS", "TIME", 0, 1),
+            ("TIME_MILLIS", "TIME", 3, 1), ("TIME_MICROS", "TIME", 3, 0), ("TIME_MICROS", "TIME", 1, 1),
+            ("TIMESTAMP_MILLIS", "TIMESTAMP", 2, 1), ("TIMESTAMP_MILLIS", "TIMESTAMP", 1, 0), ("TIMESTAMP_MILLIS", "TIME", 1, 1),
+            ("TIMESTAMP_MICROS", "TIMESTAMP", 2, 0), ("TIMESTAMP_MICROS", "TIMESTAMP", 3, 0), ("UINT_8", "INTEGER", 8, 1),
+            ("INT_8", "INTEGER", 8, 0), ("INT_16", "INTEGER", 32, 1), ("INT_32", "INTEGER", 32, 1), ("INT_32", "INTEGER", 33, 1),
+            ("UINT_16", "INTEGER", 16, 2), ("INT_64", "INTEGER", 64, 1), ("UINT_64", "INTEGER", 64, 1),
+            ("UTF8", "UNKNOWN", 0, 0), ("DECIMAL", "UUID", 0, 0), ("INTERVAL", "UUID", 0, 0), ("INTERVAL", "DECIMAL", 0, 0),
+            ("DECIMAL", "INTEGER", 32, 1)):
+        field_vector("%s beside %s(%d, %d)" % (converted, logical, a, b),
+                     leaf(places_of(logical, a)[0], OPTIONAL, converted, logical, a, b))
     field_vector("LIST beside MAP", lists(layer(leaf()), logical="MAP"))
     field_vector("MAP beside LIST", maps(entry(), converted="MAP", logical="LIST"))
     field_vector("MAP_KEY_VALUE beside MAP", maps(entry(), converted="MAP_KEY_VALUE"))
@@ -661,6 +296,12 @@ def digits():
     field_vector("converted DECIMAL, scale as precision", leaf(converted="DECIMAL", precision=3, scale=3))
 
 
+def shown(name):
+    """A name for a title, cut where it is long."""
+    text = repr(name)[2:-1]
+    return text if len(text) <= 20 else "%s.. of %d" % (text[:4], len(name))
+
+
 def list_rules():
     optional = dict(repetition=OPTIONAL)
     field_vector("rule 1", lists(leaf(repetition=REPEATED)))
@@ -688,7 +329,7 @@ def list_rules():
                       (b"n" * 42, b"n" * 42 + b"_tuple"), (b"n" * 43, b"n" * 43 + b"_tupl"), (b"n" * 48, b"n" * 42 + b"_tuple"),
                       (b"\xff", b"\xff_tuple"), (b"list", b"list_tuple"), (b"element", b"list_tuple")):
         for repetition in (OPTIONAL, REPEATED):
-            field_vector("LIST %s of %s of repetition %d" % (own, name, repetition),
+            field_vector("LIST %s, layer %s, field of repetition %d" % (shown(own), shown(name), repetition),
                          lists(layer(leaf(repetition=repetition), name=name), name=own))
     field_vector("LIST in rule 3 of a LIST", lists(layer(lists(layer(leaf())), name=b"array")))
     field_vector("rule 4 by the name of the list above", lists(layer(lists(layer(leaf(), name=b"outer_tuple"))), name=b"outer"))
@@ -720,11 +361,12 @@ def list_faults():
 
 
 def map_rules():
-    for given in (dict(), dict(converted="MAP"), dict(converted="MAP", logical=None), dict(converted="MAP_KEY_VALUE", logical=None)):
+    for converted, logical in ((None, "MAP"), ("MAP", "MAP"), ("MAP", None), ("MAP_KEY_VALUE", None)):
         for repetition in (REQUIRED, OPTIONAL):
-            word = "MAP by %s, repetition %d" % (sorted(given.items()), repetition)
-            field_vector(word, maps(entry(), repetition=repetition, **given))
-            field_vector(word + ", value", maps(entry(None, leaf(BYTE_ARRAY, OPTIONAL)), repetition=repetition, **given))
+            title = "MAP by converted %s and logical %s, of repetition %d" % (converted, logical, repetition)
+            given = dict(converted=converted, logical=logical, repetition=repetition)
+            field_vector(title, maps(entry(), **given))
+            field_vector(title + ", with a value", maps(entry(None, leaf(BYTE_ARRAY, OPTIONAL)), **given))
     for repetition in (REQUIRED, OPTIONAL):
         field_vector("MAP value of repetition %d" % repetition, maps(entry(None, leaf(repetition=repetition))))
         field_vector("MAP group value of repetition %d" % repetition,
@@ -814,109 +456,12 @@ def two_faults():
     tree_vector("10 at the root, 8 at a leaf", root(leaf(length=1), a=1))
 
 
-# ---- random trees
-
-def random_leaf(rng, repetition):
-    choice = rng.randrange(6)
-    if choice == 0:
-        return leaf(rng.randrange(8), repetition)
-    if choice == 1:
-        return leaf(FIXED, repetition, "INTERVAL", length=12)
-    if choice == 2:
-        logical, a, b = backward(rng.choice([name for name in CONVERTED if name not in ("MAP", "MAP_KEY_VALUE", "LIST", "INTERVAL")]))
-    else:
-        logical, a, b = rng.choice(list(logical_types()))
-    given = dict(logical=logical, a=a, b=b)
-    image = forward(logical, a, b)
-    if image and choice == 2:
-        given = dict(converted=image)
-    elif image and choice == 3:
-        given["converted"] = image
-    if logical == "DECIMAL":
-        given["precision"] = rng.randint(1, 9)
-        given["scale"] = rng.randrange(given["precision"])
-    return leaf(rng.choice(list(places_of(logical, a))), repetition, **given)
-
-
-def random_field(rng, budget, repetition, name=None):
-    """A lawful field of about so many nodes."""
-    name = name or rng.choice([b"a", b"bb", b"list", b"array", b"x_tuple", b"element", b"long name of a field"])
-    if budget <= 1:
-        made = random_leaf(rng, repetition)
-    elif budget >= 3 and repetition != REPEATED and rng.random() < 0.35:
-        made = random_list(rng, budget, repetition, name)
-    elif budget >= 3 and repetition != REPEATED and rng.random() < 0.5:
-        made = random_map(rng, budget, repetition)
-    else:
-        made = group(*random_fields(rng, budget - 1), repetition=repetition)
-    return dict(made, name=name)
-
-
-def random_fields(rng, budget, least=1):
-    fields = []
-    while budget > 0 or len(fields) < least:
-        part = rng.randint(1, max(1, budget))
-        fields.append(random_field(rng, part, rng.choice((REQUIRED, OPTIONAL, REPEATED))))
-        budget -= part
-    return fields
-
-
-def random_list(rng, budget, repetition, name):
-    given = rng.choice((dict(converted="LIST"), dict(converted=None, logical="LIST"), dict(converted="LIST", logical="LIST")))
-    rule = rng.randrange(4)
-    if rule == 0:
-        child = random_leaf(rng, REPEATED)
-    elif rule == 1:
-        child = layer(*random_fields(rng, budget - 2, 2))
-    elif rule == 2:
-        child = layer(random_field(rng, budget - 2, rng.randrange(3)), name=rng.choice((b"array", name + b"_tuple")))
-    else:
-        child = layer(random_field(rng, budget - 2, rng.randrange(2)), name=rng.choice((b"list", b"x_tuple", b"bag")))
-    return lists(child, repetition=repetition, **given)
-
-
-def random_map(rng, budget, repetition):
-    given = rng.choice((dict(), dict(converted="MAP"), dict(converted="MAP", logical=None), dict(converted="MAP_KEY_VALUE", logical=None)))
-    part = rng.randint(1, max(1, budget - 2))
-    fields = [random_field(rng, part, REQUIRED)]
-    if rng.random() < 0.8:
-        fields.append(random_field(rng, budget - 2 - part, rng.randrange(2)))
-    return maps(key_value(*fields, converted=rng.choice((None, "MAP_KEY_VALUE"))), repetition=repetition, **given)
-
-
-def damage(rng, nodes):
-    """Does a random harm to the slots of a sheet."""
-    node = rng.choice(nodes)
-    part = rng.choice(("repetition", "repetition", "converted", "logical", "a", "b", "claim", "length", "scale", "precision", "name",
-                       "physical", "drop", "double", "swap", "swap"))
-    values = dict(repetition=(REQUIRED, OPTIONAL, REPEATED, NONE), converted=list(range(22)) + [NONE], logical=[0] + list(LOGICAL_NAME),
-                  a=(0, 1, 2, 3, 8, 16, 32, 64), b=(0, 1, 2), length=(0, 1, 12, 16, -1), scale=(0, 1, 5, -1),
-                  precision=(0, 1, 9, 10, 19), name=(b"array", b"x_tuple", b"a_tuple", b"list_tuple", b"other"),
-                  physical=list(range(8)) + [GROUP])
-    if part == "claim":
-        node["claim"] = max(0, node["claim"] + rng.choice((-1, 1, 2)))
-    elif part == "drop" and len(nodes) > 1:
-        nodes.remove(node)
-    elif part == "double":
-        nodes.insert(rng.randrange(len(nodes)), dict(node))
-    elif part == "swap":
-        i, j = rng.randrange(len(nodes)), rng.randrange(len(nodes))
-        nodes[i], nodes[j] = nodes[j], nodes[i]
-    elif part in values:
-        node[part] = rng.choice(values[part])
-
-
-def random_nodes(rng, size):
-    nodes = listing(root(*random_fields(rng, size)))[:MOST_NODES]
-    return [dict(node, claim=len(node["fields"])) for node in nodes]
-
-
 def random_trees():
     rng = random.Random(1)
     for n in range(220):
         nodes = random_nodes(rng, rng.choice((2, 4, 6, 10, 15, 30)))
         vector("random tree %d" % n, sheet_of(list(map(slot_of, nodes))))
-    for n in range(380):
+    for n in range(420):
         nodes = random_nodes(rng, rng.choice((2, 4, 6, 6, 10, 15)))
         for _ in range(rng.choice((1, 1, 1, 2, 3))):
             damage(rng, nodes)
