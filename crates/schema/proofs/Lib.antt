@@ -17,3 +17,4 @@ pub mod CountingLaws
 pub mod RolesLaws
 pub mod RowsSteps
 pub mod JudgementLaws
+pub mod Points
