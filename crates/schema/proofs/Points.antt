@@ -13,6 +13,7 @@ use Rattle.sheet.specs.Header.{lengthRight, blocksFor, nodesIn, totalRight, fie
 use Rattle.sheet.specs.First.{firstWrongFrom, firstWrong}
 use Rattle.sheet.specs.Name.{sameBytes}
 use Rattle.sheet.specs.Opening as sheet
+use Rattle.decimal.specs.Precision.{greatestPrecision, greatest}
 use Rattle.annotation.specs.Physical as physical
 use Rattle.annotation.specs.Converted as converted
 use Rattle.annotation.specs.Logical as logical
@@ -112,3 +113,8 @@ pub example-rows : written (outcome exampleSheet (rowWidth * 4)) exampleSheet (r
     ++ (6 ∷ 0 ∷ 1 ∷ 1 ∷ 0 ∷ 0 ∷ 2 ∷ 4 ∷ 2 ∷ [])
 unfolding opened written rows rowsFrom row parentOf parentBy role listRole size listing
 example-rows = refl
+
+-- "FIXED 1 precision 3: 11"
+pub fixed-1-precision-3 : outcome (leafSheet physical.FIXED-LEN-BYTE-ARRAY converted.NONE logical.DECIMAL UNUSED UNUSED 1 0 3) (rowWidth * 2) ≡ Resolved.Refused (refusal 11 1)
+unfolding opened greatestPrecision greatest
+fixed-1-precision-3 = refl
