@@ -21,30 +21,55 @@ isMapParent parent.Map = true
 isMapParent parent.KeyValue = false
 isMapParent parent.KeyValueRest = false
 
--- the role of a LIST's child: 2 for a leaf, 3 for a group that is the element, 1 for one that holds it
+-- "Role: 0 field, 1 list layer, 2 element (a rule 1 leaf too), 3 group layer that is the element, 4 key_value layer, 5 key, 6 value, 7 bare repeated"
+abbrev pub FIELD : ℕ
+FIELD = 0
+
+abbrev pub LIST-LAYER : ℕ
+LIST-LAYER = 1
+
+abbrev pub ELEMENT : ℕ
+ELEMENT = 2
+
+abbrev pub ELEMENT-LAYER : ℕ
+ELEMENT-LAYER = 3
+
+abbrev pub KEY-VALUE-LAYER : ℕ
+KEY-VALUE-LAYER = 4
+
+abbrev pub KEY : ℕ
+KEY = 5
+
+abbrev pub VALUE : ℕ
+VALUE = 6
+
+abbrev pub BARE-REPEATED : ℕ
+BARE-REPEATED = 7
+
+-- the role of a LIST's child: a leaf, a group that is the element, or a group that holds it
 unfoldable pub listRole : Slot → Slot → Fields → ℕ
-listRole list s fs = cond (isGroup (physical s)) (cond (isElementGroup list s fs) 3 1) 2
+listRole list s fs = cond (isGroup (physical s)) (cond (isElementGroup list s fs) ELEMENT-LAYER LIST-LAYER) ELEMENT
 
--- the role of a node to which rules 12 and 13 give none
+-- "any other repeated node has 7, the rest 0"
 abbrev pub ownRole : ℕ → ℕ
-ownRole rep = cond (eqb rep REPEATED) 7 0
+ownRole rep = cond (eqb rep REPEATED) BARE-REPEATED FIELD
 
--- roles: 0 field, 1 list layer, 2 element, 3 group layer that is the element, 4 key_value layer, 5 key, 6 value, 7 bare repeated
+-- the role of a node, by what its parent is to it
 unfoldable pub role : Parent → Slot → Slot → Fields → ℕ
 role parent.Other above s fs = ownRole (repetition s)
 role parent.List above s fs = listRole above s fs
-role parent.ListLayer above s fs = 2
-role parent.Map above s fs = 4
-role parent.KeyValue above s fs = 5
-role parent.KeyValueRest above s fs = 6
+role parent.ListLayer above s fs = ELEMENT
+role parent.Map above s fs = KEY-VALUE-LAYER
+role parent.KeyValue above s fs = KEY
+role parent.KeyValueRest above s fs = VALUE
 
 -- what a node is to its fields: by its resolved kind, or by its own role
 unfoldable pub parentBy : ℕ → ℕ → Parent
 parentBy kind role =
     cond (eqb kind logical.LIST) parent.List
     (cond (eqb kind logical.MAP) parent.Map
-    (cond (eqb role 1) parent.ListLayer
-    (cond (eqb role 4) parent.KeyValue parent.Other)))
+    (cond (eqb role LIST-LAYER) parent.ListLayer
+    (cond (eqb role KEY-VALUE-LAYER) parent.KeyValue parent.Other)))
 
 -- what it is to the fields after the first: "key first; then value"
 abbrev pub afterFirst : Parent → Parent
