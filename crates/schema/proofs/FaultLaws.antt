@@ -24,6 +24,16 @@ firstFault-append k [] ns = rw add-zero
 firstFault-append k (zero ∷ ms) ns = rw (firstFault-append (suc k) ms ns, add-suc, suc-add)
 firstFault-append k (suc m ∷ ms) ns = refl
 
+pub orElse-assoc : (a b c : Verdict) → orElse (orElse a b) c ≡ orElse a (orElse b c)
+unfolding orElse
+orElse-assoc Lawful b c = refl
+orElse-assoc (Refused r) b c = refl
+
+pub orElse-lawful : (a : Verdict) → orElse a Lawful ≡ a
+unfolding orElse
+orElse-lawful Lawful = refl
+orElse-lawful (Refused r) = refl
+
 pub refused-not-lawful : (r : Refusal) → Refused r ≡ Lawful → ⊥
 refused-not-lawful r e = let z : _≡_ {A = ℕ} 0 1 = cc in omega arith
 

@@ -26,7 +26,7 @@ use Rattle.schema.specs.declared.refusal.Verdict.{Verdict}
 use Rattle.schema.specs.declared.judging.TreeJudged.{TreeJudged}
 use Rattle.schema.specs.declared.judgement.Judgement.{Judgement}
 use Rattle.schema.specs.declared.resolving.Resolved.{Resolved}
-use Rattle.schema.proofs.FaultLaws.{none-orElse}
+use Rattle.schema.proofs.FaultLaws.{none-orElse, orElse-assoc}
 use Rattle.schema.proofs.OpenPlacesLaws.{fills-trees}
 use Rattle.schema.proofs.DemandLaws.{accepted-fills, fills-listing}
 use Rattle.schema.proofs.StandingLaws.{treeAt-zero}
@@ -71,11 +71,6 @@ module _ (t : Tree) where
 
 pub root-at : (ss : List Slot) {v : Verdict} → v ≡ orElse (tooDeep (treeAt ss 0)) (unlawful (treeAt ss 0)) → v ≡ orElse (tooDeep (treeOf ss)) (unlawful (treeOf ss))
 root-at ss e = rw treeAt-zero at e
-
-orElse-assoc : (a b c : Verdict) → orElse (orElse a b) c ≡ orElse a (orElse b c)
-unfolding orElse
-orElse-assoc Verdict.Lawful b c = refl
-orElse-assoc (Verdict.Refused r) b c = refl
 
 -- refusals 5 and 6, then 7 to 13
 pub treeRefusal-places : (ss : List Slot) → treeRefusal ss ≡ orElse (orElse (leftOver ss) (missing ss)) (orElse (tooDeep (treeOf ss)) (unlawful (treeOf ss)))

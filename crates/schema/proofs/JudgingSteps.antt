@@ -1,8 +1,9 @@
 -- The steps of judging at the numbers of a sheet: what a tree finds from its run, and what a run finds from its first tree and the shorter run.
 use Prim.Native.Nat.{ℕ, suc, _+_, _*_, _-_, _≤_, _<_}
-use mathlib.Core.Path.{_≡_, sym, ap, _∙_}
+use mathlib.Core.Path.{_≡_, refl, sym, ap, _∙_}
 use mathlib.Core.List.{List}
 use native.Mathlib.Omega.{arith}
+use native.Mathlib.Nat.{le-refl}
 use native.Mathlib.Numerals.{add-one}
 use lib.ListN.{drop}
 use Rattle.sheet.specs.Slot.{slots, slotAt}
@@ -10,14 +11,15 @@ use Rattle.sheet.specs.declared.slots.Slot.{Slot as Numbers}
 use Rattle.schema.specs.Tree.{Tree, node, count, size}
 use Rattle.schema.specs.Rules.{placeBelow, broken}
 use Rattle.schema.specs.Reading.{trees}
-use Rattle.schema.specs.Outcome.{mostDepth}
+use Rattle.schema.specs.Outcome.{mostDepth, orElse}
 use Rattle.schema.specs.Steps.{Claimed, Visited, treeAt, runAt, fieldsAt, innerIn, judgedTree, judgedRun, ownFirst, runAfter}
 use Rattle.schema.specs.declared.place.Place.{Place}
 use Rattle.schema.specs.declared.refusal.Verdict.{Verdict}
 use Rattle.schema.specs.declared.judging.TreeJudged.{TreeJudged}
 use Rattle.schema.specs.declared.judging.RunJudged.{RunJudged}
 use Rattle.schema.proofs.StandingLaws.{runAt-zero}
-use Rattle.schema.proofs.VisitLaws.{treeAt-slot, run-at, from-one, runAt-first}
+use Rattle.schema.proofs.VisitLaws.{treeAt-slot, run-at, from-one, runAt-first, next-after, next-claimed}
+use Rattle.schema.proofs.FaultLaws.{orElse-assoc, orElse-lawful}
 use Rattle.schema.proofs.JudgingLaws.{treeBy, runBy, judgedTree-deep, judgedTree-node, judgedRun-empty, judgedRun-field, judgedRun-inner, judgedTree-next}
 
 module _ (b : List ℕ) (at n l : ℕ) (p : Place) where
@@ -43,6 +45,46 @@ module _ (b : List ℕ) (at n l : ℕ) (p : Place) where
       run-judged =
           run-step ∙ rw e
           (ap (λ (m : ℕ). runAfter next second v (judgedRun next l p (runAt (slots b) m (n - 1)))) (sym next-is))
+
+runAfter-twice : (a b c d : ℕ) (u v : Verdict) (x : RunJudged) → runAfter a b u (runAfter c d v x) ≡ runAfter a b (orElse u v) x
+unfolding runAfter
+runAfter-twice a b c d u v (RunJudged.Deep k) = refl
+runAfter-twice a b c d u v (RunJudged.Judged end third inner w) = ap (RunJudged.Judged end a b) (sym (orElse-assoc u v w))
+
+-- the fields of a run behind the first, judged up to one of them: what is found of them all is what was found so far and what the others find
+pub record Rest (b : List ℕ) (start n l : ℕ) (p : Place) (second inner : ℕ) (first : Verdict) (at left : ℕ) (v : Verdict) : Type 0 where
+  pub reached : start ≤ at
+  pub claimed : left ≤ count (trees (drop at (slots b)))
+  pub found : runAfter second inner first (judgedRun start l p (runAt (slots b) start n)) ≡ runAfter second inner v (judgedRun at l p (runAt (slots b) at left))
+
+pub rest-start : (b : List ℕ) (start n l : ℕ) (p : Place) (second inner : ℕ) (v : Verdict) → n ≤ count (trees (drop start (slots b))) → Rest b start n l p second inner v start n v
+rest-start b start n l p second inner v c = record { reached = le-refl start; claimed = c; found = refl }
+
+module _ (b : List ℕ) (start n l : ℕ) (p : Place) (second inner : ℕ) (first : Verdict) (at left : ℕ) (v : Verdict) (h : Claimed b) (r : Rest b start n l p second inner first at left v) where
+  pub rest-end : left ≡ 0 → RunJudged.Judged at second inner v ≡ runAfter second inner first (judgedRun start l p (runAt (slots b) start n))
+  unfolding runAfter
+  rest-end e =
+      sym
+      (r .found
+      ∙ ap (runAfter second inner v) (sym (run-empty b at left l p e))
+      ∙ ap (RunJudged.Judged at second inner) (orElse-lawful v))
+
+  pub rest-deep : (left ≡ 0 → ⊥) → (k : ℕ) → judgedTree at l p (treeAt (slots b) at) ≡ TreeJudged.Deep k → RunJudged.Deep k ≡ runAfter second inner first (judgedRun start l p (runAt (slots b) start n))
+  unfolding runAfter
+  rest-deep m k e = sym (r .found ∙ ap (runAfter second inner v) (sym (run-deep b at left l p h m (r .claimed) k e)))
+
+  pub rest-next : (left ≡ 0 → ⊥) → (next third : ℕ) (w u : Verdict) → judgedTree at l p (treeAt (slots b) at) ≡ TreeJudged.Judged next third w → u ≡ orElse v w → Rest b start n l p second inner first next (left - 1) u
+  rest-next m next third w u e o =
+      let is = next-is b at left l p h m (r .claimed) next third w e in
+      record
+      { reached = omega (arith, r .reached, next-after b at left h m (r .claimed) next is)
+      ; claimed = next-claimed b at left h m (r .claimed) next is
+      ; found =
+          r .found
+          ∙ ap (runAfter second inner v) (run-judged b at left l p h m (r .claimed) next third w e)
+          ∙ runAfter-twice second inner next third v w (judgedRun next l p (runAt (slots b) next (left - 1)))
+          ∙ ap (λ (x : Verdict). runAfter second inner x (judgedRun next l p (runAt (slots b) next (left - 1)))) (sym o)
+      }
 
 pub tree-deep : (at l : ℕ) (p : Place) (t : Tree) → l ≡ 0 → TreeJudged.Deep at ≡ judgedTree at l p t
 tree-deep at l p t e = sym (rw e (judgedTree-deep at p t))
@@ -77,6 +119,10 @@ tree-falls total at t e = omega arith
 
 pub rest-falls : (total at next t : ℕ) → at < total → at < next → 2 * (total - at) + 1 ≡ t → 2 * (total - next) + 1 < t
 rest-falls total at next t h k e = omega arith
+
+-- a tree of a run that started earlier
+pub later-falls : (total start at t : ℕ) → start ≤ at → 2 * (total - start) + 1 ≡ t → 2 * (total - at) < t
+later-falls total start at t h e = omega arith
 
 pub run-falls : (total at t : ℕ) → at < total → 2 * (total - at) ≡ t → 2 * (total - (at + 1)) + 1 < t
 run-falls total at t h e = omega arith

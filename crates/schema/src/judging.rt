@@ -102,10 +102,52 @@ fn judge_run(sheet: &[u8], at: usize, count: usize, levels: usize, place: Place)
             next,
             second,
             verdict,
-        } => {
-            let rest = judge_run(sheet, next, count - 1, levels, place);
-            run_after(next, second, verdict, rest)
+        } => judge_rest(sheet, next, count - 1, levels, place, next, second, verdict),
+    }
+}
+
+// Judges the fields of a run behind the first, one after the other, where the second stands at second, the second field of the
+// first at inner, and the first was judged so.
+fn judge_rest(
+    sheet: &[u8],
+    start: usize,
+    count: usize,
+    levels: usize,
+    place: Place,
+    second: usize,
+    inner: usize,
+    first: Verdict,
+) -> RunJudged
+    requires { ⌜ Claimed (now sheet) ⌝ }
+    requires { ⌜ count ≤ Tree·count (trees (drop start (slots (now sheet)))) ⌝ }
+    requires { ⌜ levels ≤ suc mostDepth ⌝ }
+    ensures { λ r. ⌜ r ≡ runAfter second inner first (judgedRun start levels place (runAt (slots (now (sheet .entry))) start count)) ⌝ }
+{
+    let mut at = start;
+    let mut left = count;
+    let mut verdict = first;
+    while left > 0 {
+        let tree = judge_tree(sheet, at, levels, place);
+        match tree {
+            TreeJudged::Deep(node) => {
+                return RunJudged::Deep(node);
+            }
+            TreeJudged::Judged {
+                next,
+                second: _,
+                verdict: later,
+            } => {
+                verdict = or_else(verdict, later);
+                at = next;
+                left = left - 1;
+            }
         }
+    }
+    RunJudged::Judged {
+        next: at,
+        second: second,
+        inner: inner,
+        verdict: verdict,
     }
 }
 
@@ -120,24 +162,4 @@ fn own_first(own: u32, at: usize, verdict: Verdict) -> Verdict
         number: own,
         place: at,
     })
-}
-
-// What a run's first tree found, with what the rest of the run did.
-fn run_after(next: usize, second: usize, verdict: Verdict, rest: RunJudged) -> RunJudged
-    ensures { λ r. ⌜ r ≡ runAfter next second verdict rest ⌝ }
-{
-    match rest {
-        RunJudged::Deep(node) => RunJudged::Deep(node),
-        RunJudged::Judged {
-            next: end,
-            second: _,
-            inner: _,
-            verdict: later,
-        } => RunJudged::Judged {
-            next: end,
-            second: next,
-            inner: second,
-            verdict: or_else(verdict, later),
-        },
-    }
 }
