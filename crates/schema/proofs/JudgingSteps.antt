@@ -76,14 +76,14 @@ module _ (b : List ℕ) (start n l : ℕ) (p : Place) (second inner : ℕ) (firs
   pub rest-next : (left ≡ 0 → ⊥) → (next third : ℕ) (w u : Verdict) → judgedTree at l p (treeAt (slots b) at) ≡ TreeJudged.Judged next third w → u ≡ orElse v w → Rest b start n l p second inner first next (left - 1) u
   rest-next m next third w u e o =
       let is = next-is b at left l p h m (r .claimed) next third w e in
-      record
-      { reached = omega (arith, r .reached, next-after b at left h m (r .claimed) next is)
-      ; claimed = next-claimed b at left h m (r .claimed) next is
-      ; found =
-          r .found
-          ∙ ap (runAfter second inner v) (run-judged b at left l p h m (r .claimed) next third w e)
-          ∙ runAfter-twice second inner next third v w (judgedRun next l p (runAt (slots b) next (left - 1)))
-          ∙ ap (λ (x : Verdict). runAfter second inner x (judgedRun next l p (runAt (slots b) next (left - 1)))) (sym o)
+      record {
+        reached = omega (arith, r .reached, next-after b at left h m (r .claimed) next is);
+        claimed = next-claimed b at left h m (r .claimed) next is;
+        found =
+            r .found
+            ∙ ap (runAfter second inner v) (run-judged b at left l p h m (r .claimed) next third w e)
+            ∙ runAfter-twice second inner next third v w (judgedRun next l p (runAt (slots b) next (left - 1)))
+            ∙ ap (λ (x : Verdict). runAfter second inner x (judgedRun next l p (runAt (slots b) next (left - 1)))) (sym o);
       }
 
 pub tree-deep : (at l : ℕ) (p : Place) (t : Tree) → l ≡ 0 → TreeJudged.Deep at ≡ judgedTree at l p t

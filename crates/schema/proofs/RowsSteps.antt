@@ -1,10 +1,10 @@
 -- The steps of writing rows at the numbers of a sheet: a tree's rows are its root's and its run's, a run's those of its first tree and of the shorter run.
 use Prim.Native.Nat.{ℕ, suc, _+_, _*_, _-_, _≤_, _<_}
-use mathlib.Core.Path.{_≡_, sym, ap, _∙_, subst}
+use mathlib.Core.Path.{_≡_, refl, sym, ap, _∙_, subst}
 use mathlib.Core.Bool.{Bool}
 use mathlib.Core.List.{List, [], _∷_, _++_}
 use native.Mathlib.Omega.{arith}
-use native.Mathlib.Nat.{add-zero}
+use native.Mathlib.Nat.{add-zero, le-refl}
 use native.Mathlib.Numerals.{add-one}
 use lib.ListN.{length, drop}
 use Rattle.sheet.specs.Block.{totalOf}
@@ -21,7 +21,7 @@ use Rattle.schema.specs.Rows.{isMapParent, role, parentBy, parentOf, aft
 use Rattle.schema.specs.Steps.{Claimed, Visited, treeAt, runAt, fieldsAt, sizes, placed}
 use Rattle.schema.specs.declared.roles.Parent.{Parent}
 use Rattle.schema.proofs.StandingLaws.{runAt-zero, runAt-end, count-some, sizes-empty, sizes-field, size-node}
-use Rattle.schema.proofs.VisitLaws.{treeAt-slot, run-at, runAt-first}
+use Rattle.schema.proofs.VisitLaws.{treeAt-slot, run-at, runAt-first, run-below, next-after, next-claimed}
 use Rattle.schema.proofs.PlacingLaws.{placed-empty, placed-after, placed-before, length-placed}
 use Rattle.schema.proofs.RowsLaws.{length-row, length-rowsFrom, length-rowssFrom}
 
@@ -75,6 +75,37 @@ module _ (b l : List ℕ) (at n up : ℕ) (p : Parent) (above : Slot) where
           ∙ ap (λ (x : Parent). placed l (rowWidth * at) (first ++ rowssFrom next up x above (runAt (slots b) next (n - 1)))) u
           ∙ ap (λ (i : ℕ). placed l (rowWidth * at) (first ++ rowssFrom i up (afterFirst p) above (runAt (slots b) next (n - 1)))) e
           ∙ ap (λ (fs : Fields). placed l (rowWidth * at) (rowssFrom at up p above fs)) (sym run-is)
+
+-- the rows of a run written up to one of its fields: with those of the others they are the run's
+pub record Behind (b lent : List ℕ) (start n up : ℕ) (p : Parent) (above : Slot) (rows : List ℕ) (at left : ℕ) (q : Parent) : Type 0 where
+  pub reached : start ≤ at
+  pub claimed : left ≤ count (trees (drop at (slots b)))
+  pub long : length rows ≡ length lent
+  pub ended : start + sizes (runAt (slots b) start n) ≡ at + sizes (runAt (slots b) at left)
+  pub found : placed lent (rowWidth * start) (rowssFrom start up p above (runAt (slots b) start n)) ≡ placed rows (rowWidth * at) (rowssFrom at up q above (runAt (slots b) at left))
+
+pub behind-start : (b lent : List ℕ) (start n up : ℕ) (p : Parent) (above : Slot) → n ≤ count (trees (drop start (slots b))) → Behind b lent start n up p above lent start n p
+behind-start b lent start n up p above c =
+    record { reached = le-refl start; claimed = c; long = refl; ended = refl; found = refl }
+
+module _ (b lent : List ℕ) (start n up : ℕ) (p : Parent) (above : Slot) (rows : List ℕ) (at left : ℕ) (q : Parent) (r : Behind b lent start n up p above rows at left q) where
+  pub behind-end : left ≡ 0 → (at ≡ start + sizes (runAt (slots b) start n)) × (rows ≡ placed lent (rowWidth * start) (rowssFrom start up p above (runAt (slots b) start n)))
+  behind-end e = (
+    run-end-empty b rows at left up q above e ∙ sym (r .ended),
+    run-rows-empty b rows at left up q above e ∙ sym (r .found),
+  )
+
+  pub behind-next : Claimed b → rowWidth * totalOf b ≤ length lent → (left ≡ 0 → ⊥) → (next : ℕ) (m : List ℕ) (o : Parent) → next ≡ at + size (treeAt (slots b) at) → m ≡ placed rows (rowWidth * at) (rowsFrom at up q above (treeAt (slots b) at)) → length m ≡ length rows → o ≡ afterFirst q → Behind b lent start n up p above m next (left - 1) o
+  behind-next h f k next m o e w long u =
+      let below = run-below b at left h k (r .claimed) in
+      let room : rowWidth * totalOf b ≤ length rows = omega (arith, r .long) in
+      record {
+        reached = omega (arith, r .reached, next-after b at left h k (r .claimed) next e);
+        claimed = next-claimed b at left h k (r .claimed) next e;
+        long = long ∙ r .long;
+        ended = r .ended ∙ sym (run-end b rows at left up q above h k (r .claimed) next e (next + sizes (runAt (slots b) next (left - 1))) refl);
+        found = r .found ∙ sym (run-rows b rows at left up q above h k (r .claimed) next e room below m w o (placed m (rowWidth * next) (rowssFrom next up o above (runAt (slots b) next (left - 1)))) u refl);
+      }
 
 module _ (b l : List ℕ) (at up : ℕ) (s : Numbers) (p : Parent) (above : Slot) (v : Visited b at s) where
   pub tree-end : (next : ℕ) → next ≡ at + 1 + sizes (runAt (slots b) (at + 1) (s .children)) → next ≡ at + size (treeAt (slots b) at)

@@ -76,27 +76,31 @@ pub(crate) fn write_tree(
     next
 }
 
-// Writes the rows of the run of so many fields at a number, and answers where the next tree stands.
+// Writes the rows of the run of so many fields at a number, one field after the other, and answers where the next tree stands.
 fn write_run(
     sheet: &[u8],
     rows: &mut [u32],
-    at: usize,
+    start: usize,
     count: usize,
     up: usize,
     parent: Parent,
 ) -> usize
     requires { ⌜ Claimed (now sheet) ⌝ }
-    requires { ⌜ count ≤ Tree·count (trees (drop at (slots (now sheet)))) ⌝ }
+    requires { ⌜ count ≤ Tree·count (trees (drop start (slots (now sheet)))) ⌝ }
     requires { ⌜ up < totalOf (now sheet) ⌝ }
     requires { ⌜ rowWidth * totalOf (now sheet) ≤ length (now rows) ⌝ }
-    ensures { λ r. ⌜ r ≡ at + sizes (runAt (slots (now (sheet .entry))) at count) ⌝ }
-    ensures { λ _. ⌜ now (rows .exit) ≡ placed (now (rows .entry)) (rowWidth * at) (rowssFrom at up parent (slotAt (now (sheet .entry)) up) (runAt (slots (now (sheet .entry))) at count)) ⌝ }
+    ensures { λ r. ⌜ r ≡ start + sizes (runAt (slots (now (sheet .entry))) start count) ⌝ }
+    ensures { λ _. ⌜ now (rows .exit) ≡ placed (now (rows .entry)) (rowWidth * start) (rowssFrom start up parent (slotAt (now (sheet .entry)) up) (runAt (slots (now (sheet .entry))) start count)) ⌝ }
 {
-    if count == 0 {
-        return at;
+    let mut at = start;
+    let mut left = count;
+    let mut above = parent;
+    while left > 0 {
+        at = write_tree(sheet, rows, at, up, above);
+        above = after_first(above);
+        left = left - 1;
     }
-    let next = write_tree(sheet, rows, at, up, parent);
-    write_run(sheet, rows, next, count - 1, up, after_first(parent))
+    at
 }
 
 // Writes a row's numbers from base on.

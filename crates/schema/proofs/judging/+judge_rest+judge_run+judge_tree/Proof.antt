@@ -85,7 +85,7 @@ judge-rest-judge-tree-requires : (t : ℕ) → judge-rest-lts.Need-judge-tree-re
   or-else-reads.Asked,
   or-else-reads.Learnt,
 ) (judge-rest-at t) judge-rest.Post judge-rest-Inv-loop judge-rest-μ-loop
-judge-rest-judge-tree-requires t c κs = 
+judge-rest-judge-tree-requires t c κs =
     let start = c .before .before .before in
     let rest = c .before .loop .inv in
     let some : c .before .loop .left ≡ 0 → ⊥ = λ e. omega (arith, c .loop-test .taken) in
@@ -106,7 +106,7 @@ judge-rest-returns : (t : ℕ) → judge-rest-lts.Need-returns (
   or-else-reads.Asked,
   or-else-reads.Learnt,
 ) (judge-rest-at t) judge-rest.Post judge-rest-Inv-loop judge-rest-μ-loop
-judge-rest-returns t c = 
+judge-rest-returns t c =
     let start = c .before .before .before .before .before .before .before in
     let some : c .before .before .before .before .before .loop .left ≡ 0 → ⊥ = λ e. omega (arith, c .before .before .before .before .loop-test .taken) in
     rest-deep _ _ _ _ _ _ _ _ _ _ _ (start .pre .1 .0) (c .before .before .before .before .before .loop .inv) some _ (sym (c .before .before .before .judge-tree .ensures) ∙ c .before .tree .given .1)
@@ -149,7 +149,7 @@ judge-rest-loop-again : (t : ℕ) → judge-rest-lts.Need-loop-again (
   or-else-reads.Asked,
   or-else-reads.Learnt,
 ) (judge-rest-at t) judge-rest.Post judge-rest-Inv-loop judge-rest-μ-loop
-judge-rest-loop-again t c = 
+judge-rest-loop-again t c =
     let start = c .before .before .before .before .before .before .before .before in
     let some : c .before .before .before .before .before .before .loop .left ≡ 0 → ⊥ = λ e. omega (arith, c .before .before .before .before .before .loop-test .taken) in
     rest-next _ _ _ _ _ _ _ _ _ _ _ (start .pre .1 .0) (c .before .before .before .before .before .before .loop .inv) some _ _ _ _ (sym (c .before .before .before .before .judge-tree .ensures) ∙ c .before .before .tree2 .given .1) (c .or-else .ensures)
@@ -176,7 +176,7 @@ judge-run-judge-tree-requires : (t : ℕ) → judge-run-lts.Need-judge-tree-requ
   judge-rest-below t,
   judge-rest.Post,
 ) (judge-run-at t) judge-run.Post
-judge-run-judge-tree-requires t c κs = 
+judge-run-judge-tree-requires t c κs =
     let start = c .before .before in
     let below = run-below (start .args .sheet .now) (start .args .at) (start .args .count) (start .pre .1 .0) (c .if1 .left) (start .pre .1 .1 .0) in
     (tree-falls _ _ _ (start .pre .0), (start .pre .1 .0, (below, start .pre .1 .1 .1)))
@@ -211,7 +211,7 @@ judge-run-judge-rest-requires : (t : ℕ) → judge-run-lts.Need-judge-rest-requ
   judge-rest-below t,
   judge-rest.Post,
 ) (judge-run-at t) judge-run.Post
-judge-run-judge-rest-requires t c κs = 
+judge-run-judge-rest-requires t c κs =
     let start = c .before .before .before .before .before .before in
     let found = sym (c .before .before .before .judge-tree .ensures) ∙ c .before .first2 .given .1 in
     let some = c .before .before .before .before .if1 .left in
@@ -227,7 +227,7 @@ judge-run-returns-2 : (t : ℕ) → judge-run-lts.Need-returns-2 (
   judge-rest-below t,
   judge-rest.Post,
 ) (judge-run-at t) judge-run.Post
-judge-run-returns-2 t c = 
+judge-run-returns-2 t c =
     let start = c .before .before .before .before .before .before in
     run-deep _ _ _ _ _ (start .pre .1 .0) (c .before .before .before .before .if1 .left) (start .pre .1 .1 .0) _ (sym (c .before .before .before .judge-tree .ensures) ∙ c .before .first .given .1)
 
@@ -237,7 +237,7 @@ judge-run-returns-3 : (t : ℕ) → judge-run-lts.Need-returns-3 (
   judge-rest-below t,
   judge-rest.Post,
 ) (judge-run-at t) judge-run.Post
-judge-run-returns-3 t c = 
+judge-run-returns-3 t c =
     let start = c .before .before .before .before .before .before .before in
     let found = sym (c .before .before .before .before .judge-tree .ensures) ∙ c .before .before .first2 .given .1 in
     c .judge-rest .ensures
@@ -441,7 +441,7 @@ judge-tree-judge-run-requires : (t : ℕ) → judge-tree-lts.Need-judge-run-requ
   own-first-reads.Asked,
   own-first-reads.Learnt,
 ) (judge-tree-at t) judge-tree.Post
-judge-tree-judge-run-requires t c κs = 
+judge-tree-judge-run-requires t c κs =
     let start = c .before .before .before .before .before .before .before .before in
     let visited : Visited (start .args .sheet .now) (start .args .at) (c .before .before .before .before .before .slot-at .result) = record { claimed = start .pre .1 .0; below = start .pre .1 .1 .0; numbers = c .before .before .before .before .before .slot-at .ensures } in
     (run-falls _ _ _ (start .pre .1 .1 .0) (start .pre .0), (start .pre .1 .0, (children-claimed _ _ _ (visited .numbers) (visited .claimed) (visited .below), omega (arith, start .pre .1 .1 .1))))
@@ -504,7 +504,7 @@ judge-tree-broken-requires : (t : ℕ) → judge-tree-lts.Need-broken-requires (
   own-first-reads.Asked,
   own-first-reads.Learnt,
 ) (judge-tree-at t) judge-tree.Post
-judge-tree-broken-requires t c κs = 
+judge-tree-broken-requires t c κs =
     let start = c .before .before .before .before .before .before .before .before .before .before .before .before in
     let visited : Visited (start .args .sheet .now) (start .args .at) (c .before .before .before .before .before .before .before .before .before .slot-at .result) = record { claimed = start .pre .1 .0; below = start .pre .1 .1 .0; numbers = c .before .before .before .before .before .before .before .before .before .slot-at .ensures } in
     let below = c .before .before .before .before .place-under .ensures ∙ placeBelow-is _ _ _ (start .args .place) visited _ _ _ (c .before .before .before .before .before .before .before .before .annotated .ensures) (c .before .before .before .before .before .before .before .under-map .ensures) (c .before .before .before .before .before .before .resolved-kind .ensures) in
@@ -548,7 +548,7 @@ judge-tree-returns-2 : (t : ℕ) → judge-tree-lts.Need-returns-2 (
   own-first-reads.Asked,
   own-first-reads.Learnt,
 ) (judge-tree-at t) judge-tree.Post
-judge-tree-returns-2 t c = 
+judge-tree-returns-2 t c =
     let start = c .before .before .before .before .before .before .before .before .before .before .before .before in
     let visited : Visited (start .args .sheet .now) (start .args .at) (c .before .before .before .before .before .before .before .before .before .slot-at .result) = record { claimed = start .pre .1 .0; below = start .pre .1 .1 .0; numbers = c .before .before .before .before .before .before .before .before .before .slot-at .ensures } in
     let below = c .before .before .before .before .place-under .ensures ∙ placeBelow-is _ _ _ (start .args .place) visited _ _ _ (c .before .before .before .before .before .before .before .before .annotated .ensures) (c .before .before .before .before .before .before .before .under-map .ensures) (c .before .before .before .before .before .before .resolved-kind .ensures) in
@@ -572,7 +572,7 @@ judge-tree-returns-3 : (t : ℕ) → judge-tree-lts.Need-returns-3 (
   own-first-reads.Asked,
   own-first-reads.Learnt,
 ) (judge-tree-at t) judge-tree.Post
-judge-tree-returns-3 t c = 
+judge-tree-returns-3 t c =
     let start = c .before .before .before .before .before .before .before .before .before .before .before .before .before .before in
     let visited : Visited (start .args .sheet .now) (start .args .at) (c .before .before .before .before .before .before .before .before .before .before .before .slot-at .result) = record { claimed = start .pre .1 .0; below = start .pre .1 .1 .0; numbers = c .before .before .before .before .before .before .before .before .before .before .before .slot-at .ensures } in
     let below = c .before .before .before .before .before .before .place-under .ensures ∙ placeBelow-is _ _ _ (start .args .place) visited _ _ _ (c .before .before .before .before .before .before .before .before .before .before .annotated .ensures) (c .before .before .before .before .before .before .before .before .before .under-map .ensures) (c .before .before .before .before .before .before .before .before .resolved-kind .ensures) in

@@ -1,14 +1,14 @@
 -- The proof of the cycle of calls {write_run, write_tree}. Nodes fall as they do in judging: with r nodes from k on, a tree's measure is 2r and a
 -- run's 2r + 1.
-use Rattle.schema.proofs.RowsSteps.{run-end-empty, run-rows-empty, run-end, run-rows, tree-end, tree-within, tree-rows, parent-is, row-is, long-enough, row-fits}
-use Rattle.schema.proofs.JudgingSteps.{tree-falls, rest-falls, run-falls}
-use Rattle.schema.proofs.VisitLaws.{run-below, next-after, next-claimed, children-claimed}
+use Rattle.schema.proofs.RowsSteps.{Behind, behind-start, behind-end, behind-next, tree-end, tree-within, tree-rows, parent-is, row-is, long-enough, row-fits}
+use Rattle.schema.proofs.JudgingSteps.{later-falls, run-falls}
+use Rattle.schema.proofs.VisitLaws.{run-below, children-claimed}
 use Rattle.schema.specs.Steps.{Visited, rowNumbers}
 use Rattle.sheet.specs.Slot.{slotAt}
 use Rattle.sheet.specs.Block.{totalOf}
 use borrow.Author.Needs.{needs}
 use native.Mathlib.Omega.{arith}
-use mathlib.Core.Path.{_∙_}
+use mathlib.Core.Path.{_≡_, _∙_}
 use Prim.Native.Nat.{ℕ, _+_, _*_, _-_, _<_}
 use borrow.Fn.Kinds.{In}
 use borrow.Fn.PlainCycle.{Measures, is, falls, and}
@@ -51,95 +51,85 @@ abbrev write-tree-below : ℕ → In 2 write-tree-kinds.ps
 write-tree-below t =
     and 2 write-tree-kinds.ps (falls 2 write-tree-kinds.ps _<_ μ-write-tree t) write-tree.Pre
 
-write-run-returns : (t : ℕ) → write-run-lts.Need-returns (
+abbrev write-run-Inv-loop : write-run-lts.InvT-loop
+write-run-Inv-loop sheet rows₀ start count up at₀ left₀ above₀ rows at left above = Behind sheet rows₀ start count up above₀ (slotAt sheet up) rows at left above
+
+abbrev write-run-μ-loop : write-run-lts.MeasureT-loop
+write-run-μ-loop sheet rows₀ start count up at₀ left₀ above₀ rows at left above = left
+
+write-run-loop-holds : (t : ℕ) → write-run-lts.Need-loop-holds (
   write-tree-below t,
   write-tree.Post,
   after-first-reads.Asked,
   after-first-reads.Learnt,
-  write-run-below t,
-  write-run.Post,
-) (write-run-at t) write-run.Post
-write-run-returns t c =
-    let start = c .before .before .before in
-    (run-end-empty (start .args .sheet .now) (start .args .rows .now) (start .args .at) (start .args .count) (start .args .up) (start .args .parent) (slotAt (start .args .sheet .now) (start .args .up)) (c .if1 .taken), run-rows-empty (start .args .sheet .now) (start .args .rows .now) (start .args .at) (start .args .count) (start .args .up) (start .args .parent) (slotAt (start .args .sheet .now) (start .args .up)) (c .if1 .taken))
+) (write-run-at t) write-run.Post write-run-Inv-loop write-run-μ-loop
+write-run-loop-holds t c = behind-start _ _ _ _ _ _ _ (c .before .before .pre .1 .1 .0)
 
 write-run-write-tree-requires : (t : ℕ) → write-run-lts.Need-write-tree-requires (
   write-tree-below t,
   write-tree.Post,
   after-first-reads.Asked,
   after-first-reads.Learnt,
-  write-run-below t,
-  write-run.Post,
-) (write-run-at t) write-run.Post
+) (write-run-at t) write-run.Post write-run-Inv-loop write-run-μ-loop
 write-run-write-tree-requires t c κs =
-    let start = c .before .before .before .before in
-    let below = run-below (start .args .sheet .now) (start .args .at) (start .args .count) (start .pre .1 .0) (c .before .if1 .left) (start .pre .1 .1 .0) in
-    (tree-falls _ _ _ (start .pre .0), (start .pre .1 .0, (below, (start .pre .1 .1 .1 .0, start .pre .1 .1 .1 .1))))
-
-write-run-sub-write-run : (t : ℕ) → write-run-lts.Need-sub-write-run (
-  write-tree-below t,
-  write-tree.Post,
-  after-first-reads.Asked,
-  after-first-reads.Learnt,
-  write-run-below t,
-  write-run.Post,
-) (write-run-at t) write-run.Post
-write-run-sub-write-run t c = omega (arith, c .before .before .before .before .before .if1 .left)
+    let start = c .before .before .before .before .before in
+    let loop = c .before .before .loop in
+    let some : loop .left ≡ 0 → ⊥ = λ e. omega (arith, c .before .loop-test .taken) in
+    let below = run-below (start .args .sheet .now) (loop .at) (loop .left) (start .pre .1 .0) some (loop .inv .claimed) in
+    (later-falls _ _ _ _ (loop .inv .reached) (start .pre .0), (start .pre .1 .0, (below, (start .pre .1 .1 .1 .0, long-enough _ _ _ (start .pre .1 .1 .1 .1) (loop .inv .long)))))
 
 write-run-after-first-requires : (t : ℕ) → write-run-lts.Need-after-first-requires (
   write-tree-below t,
   write-tree.Post,
   after-first-reads.Asked,
   after-first-reads.Learnt,
-  write-run-below t,
-  write-run.Post,
-) (write-run-at t) write-run.Post
+) (write-run-at t) write-run.Post write-run-Inv-loop write-run-μ-loop
 write-run-after-first-requires t c κs = search needs
 
-write-run-write-run-requires : (t : ℕ) → write-run-lts.Need-write-run-requires (
+write-run-sub-left : (t : ℕ) → write-run-lts.Need-sub-left (
   write-tree-below t,
   write-tree.Post,
   after-first-reads.Asked,
   after-first-reads.Learnt,
-  write-run-below t,
-  write-run.Post,
-) (write-run-at t) write-run.Post
-write-run-write-run-requires t c κs =
+) (write-run-at t) write-run.Post write-run-Inv-loop write-run-μ-loop
+write-run-sub-left t c = omega (arith, c .before .before .before .before .before .loop-test .taken)
+
+write-run-loop-less : (t : ℕ) → write-run-lts.Need-loop-less (
+  write-tree-below t,
+  write-tree.Post,
+  after-first-reads.Asked,
+  after-first-reads.Learnt,
+) (write-run-at t) write-run.Post write-run-Inv-loop write-run-μ-loop
+write-run-loop-less t c = omega (arith, c .before .before .before .before .before .loop-test .taken)
+
+write-run-loop-again : (t : ℕ) → write-run-lts.Need-loop-again (
+  write-tree-below t,
+  write-tree.Post,
+  after-first-reads.Asked,
+  after-first-reads.Learnt,
+) (write-run-at t) write-run.Post write-run-Inv-loop write-run-μ-loop
+write-run-loop-again t c =
     let start = c .before .before .before .before .before .before .before .before .before in
-    let some = c .before .before .before .before .before .before .if1 .left in
-    let tree = c .before .before .before .before .write-tree in
-    let below = run-below (start .args .sheet .now) (start .args .at) (start .args .count) (start .pre .1 .0) some (start .pre .1 .1 .0) in
-    let after = next-after _ _ _ (start .pre .1 .0) some (start .pre .1 .1 .0) _ (tree .ensures .0) in
-    let claimed = next-claimed _ _ _ (start .pre .1 .0) some (start .pre .1 .1 .0) _ (tree .ensures .0) in
-    (rest-falls _ _ _ _ below after (start .pre .0), (start .pre .1 .0, (claimed, (start .pre .1 .1 .1 .0, long-enough _ _ _ (start .pre .1 .1 .1 .1) (tree .kept .1 .0)))))
+    let loop = c .before .before .before .before .before .before .loop in
+    let tree = c .before .before .before .write-tree in
+    let some : loop .left ≡ 0 → ⊥ = λ e. omega (arith, c .before .before .before .before .before .loop-test .taken) in
+    behind-next _ _ _ _ _ _ _ _ _ _ _ (loop .inv) (start .pre .1 .0) (start .pre .1 .1 .1 .1) some _ _ _ (tree .ensures .0) (tree .ensures .1) (tree .kept .1 .0) (c .after-first .ensures)
 
 write-run-same-length : (t : ℕ) → write-run-lts.Need-same-length (
   write-tree-below t,
   write-tree.Post,
   after-first-reads.Asked,
   after-first-reads.Learnt,
-  write-run-below t,
-  write-run.Post,
-) (write-run-at t) write-run.Post
-write-run-same-length t c = c .before .before .write-run .kept .1 .0 ∙ c .before .before .before .before .before .before .before .write-tree .kept .1 .0
+) (write-run-at t) write-run.Post write-run-Inv-loop write-run-μ-loop
+write-run-same-length t c = c .before .loop .inv .long
 
-write-run-returns-2 : (t : ℕ) → write-run-lts.Need-returns-2 (
+write-run-returns : (t : ℕ) → write-run-lts.Need-returns (
   write-tree-below t,
   write-tree.Post,
   after-first-reads.Asked,
   after-first-reads.Learnt,
-  write-run-below t,
-  write-run.Post,
-) (write-run-at t) write-run.Post
-write-run-returns-2 t c =
-    let start = c .before .before .before .before .before .before .before .before .before .before .before .before in
-    let some = c .before .before .before .before .before .before .before .before .before .if1 .left in
-    let tree = c .before .before .before .before .before .before .before .write-tree in
-    let rest = c .before .before .write-run in
-    let below = run-below (start .args .sheet .now) (start .args .at) (start .args .count) (start .pre .1 .0) some (start .pre .1 .1 .0) in (
-      run-end (start .args .sheet .now) (start .args .rows .now) (start .args .at) (start .args .count) (start .args .up) (start .args .parent) (slotAt (start .args .sheet .now) (start .args .up)) (start .pre .1 .0) some (start .pre .1 .1 .0) _ (tree .ensures .0) _ (rest .ensures .0),
-      run-rows (start .args .sheet .now) (start .args .rows .now) (start .args .at) (start .args .count) (start .args .up) (start .args .parent) (slotAt (start .args .sheet .now) (start .args .up)) (start .pre .1 .0) some (start .pre .1 .1 .0) _ (tree .ensures .0) (start .pre .1 .1 .1 .1) below _ (tree .ensures .1) _ _ (c .before .before .before .after-first .ensures) (rest .ensures .1),
-    )
+) (write-run-at t) write-run.Post write-run-Inv-loop write-run-μ-loop
+write-run-returns t c = behind-end _ _ _ _ _ _ _ _ _ _ _ (c .before .loop .inv) (omega (arith, c .loop-test .left))
 
 write-tree-slot-at-requires : (t : ℕ) → write-tree-lts.Need-slot-at-requires (
   slot-at-reads.Asked,
@@ -559,18 +549,19 @@ pub +write-run+write-tree-spec : {M : Type 1} → statement M
   write-tree.Post,
   after-first-reads.Asked,
   after-first-reads.Learnt,
-  write-run-below t,
-  write-run.Post,
 )
     (write-run-at t)
     write-run.Post
-    (write-run-returns t)
+    write-run-Inv-loop
+    write-run-μ-loop
+    (write-run-loop-holds t)
     (write-run-write-tree-requires t)
-    (write-run-sub-write-run t)
     (write-run-after-first-requires t)
-    (write-run-write-run-requires t)
+    (write-run-sub-left t)
+    (write-run-loop-less t)
+    (write-run-loop-again t)
     (write-run-same-length t)
-    (write-run-returns-2 t))
+    (write-run-returns t))
     λ t. write-tree-lts.spec (
       slot-at-reads.Asked,
       slot-at-reads.Learnt,
