@@ -16,5 +16,8 @@ pub mod JudgingSteps
 pub mod CountingLaws
 pub mod RolesLaws
 pub mod RowsSteps
+pub mod RewritingSteps
+pub mod RewrittenLaws
+pub mod RewriteLaws
 pub mod JudgementLaws
 pub mod Points
