@@ -17,6 +17,9 @@ pub mod CountingLaws
 pub mod RolesLaws
 pub mod RowsSteps
 pub mod RewritingSteps
+pub mod RewrittenSlotLaws
+pub mod RewrittenTreeLaws
+pub mod RewrittenRowsLaws
 pub mod RewrittenLaws
 pub mod RewriteLaws
 pub mod JudgementLaws
