@@ -125,7 +125,7 @@ module _ (b : List ℕ) where
   judgement-slot k o = rw o
 
   -- an opened sheet that is lawful
-  lawful-opened : judgement b ≡ Verdict.Lawful → (t : ℕ) × (sheet.openOf b ≡ Opened.Nodes t)
+  pub lawful-opened : judgement b ≡ Verdict.Lawful → (t : ℕ) × (sheet.openOf b ≡ Opened.Nodes t)
   lawful-opened e = on (sheet.openOf b) refl
     where
       no : (r : Refusal) → judgement b ≡ Verdict.Refused r → ⊥

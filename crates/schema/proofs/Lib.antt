@@ -22,5 +22,6 @@ pub mod RewrittenTreeLaws
 pub mod RewrittenRowsLaws
 pub mod RewrittenLaws
 pub mod RewriteLaws
+pub mod RewriteDemandLaws
 pub mod JudgementLaws
 pub mod Points

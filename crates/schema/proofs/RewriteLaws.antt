@@ -1,15 +1,19 @@
 -- What rewriting answers, and what the lent bytes hold afterwards, by what judging answers.
 use Prim.Native.Nat.{ℕ, _+_, _-_, _≤_, _<_}
-use mathlib.Core.Path.{_≡_, sym, ap, _∙_}
+use mathlib.Core.Path.{_≡_, refl, sym, ap, _∙_}
+use mathlib.Core.Bool.{Bool, true, false}
 use mathlib.Core.List.{List, _++_, append-assoc}
 use native.Mathlib.Nat.{le-add-right}
-use borrow.Author.Tests.{le-leb, lt-leb}
+use native.Mathlib.Omega.{arith}
+use borrow.Author.Tests.{le-leb, lt-leb, leb-true}
+use lib.Dec.{leb}
 use borrow.Rule.Slice.PartMut.{putMid, post-is}
 use lib.ListN.{length, take, drop}
-use Rattle.schema.specs.Outcome.{shortOutput}
-use Rattle.schema.specs.Rewriting.{rewritten, rewriteAnswer, rewriteOutcome, stretched, rewriteWritten}
+use Rattle.schema.specs.Outcome.{shortOutput, judgement}
+use Rattle.schema.specs.Rewriting.{rewritten, fits, rewriteAnswer, rewriteOutcome, stretched, rewriteWritten}
 use Rattle.schema.specs.Steps.{judgementOf}
 use Rattle.schema.specs.declared.refusal.Refusal.{Refusal}
+use Rattle.schema.specs.declared.refusal.Verdict.{Verdict}
 use Rattle.schema.specs.declared.judgement.Judgement.{Judgement}
 use Rattle.schema.specs.declared.rewriting.Rewritten.{Rewritten}
 use Rattle.schema.proofs.RewrittenLaws.{length-rewritten}
@@ -44,3 +48,13 @@ module _ (b lent : List ℕ) (start : ℕ) where
         ap (λ (after : List ℕ). take start lent ++ (m ++ after)) (post-is start (start + length b) lent (le-add-right start (length b)))
         ∙ sym (append-assoc (take start lent) m (drop (start + length b) lent))
         ∙ sym (rw (rewrite-bytes h, length-rewritten b, e))
+
+-- bytes are answered only where they fit from the start on
+pub bytes-fit : (b : List ℕ) (lent start n : ℕ) → rewriteOutcome b lent start ≡ Rewritten.Bytes n → start + n ≤ lent
+unfolding rewriteOutcome rewriteAnswer
+bytes-fit b lent start n e = by-verdict (judgement b) (fits b lent start) refl e
+  where
+    by-verdict : (v : Verdict) (enough : Bool) → leb (start + length b) lent ≡ enough → rewriteAnswer v enough (length b) ≡ Rewritten.Bytes n → start + n ≤ lent
+    by-verdict (Verdict.Refused r) enough f q = absurd (let z : _≡_ {A = ℕ} 0 1 = cc in omega arith)
+    by-verdict Verdict.Lawful false f q = absurd (let z : _≡_ {A = ℕ} 0 1 = cc in omega arith)
+    by-verdict Verdict.Lawful true f q = let same : length b ≡ n = cc in omega (arith, leb-true (start + length b) lent f)

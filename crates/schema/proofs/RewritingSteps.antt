@@ -1,5 +1,5 @@
 -- The steps of rewriting at the numbers of a sheet: a tree's annotations are its root's and its run's, a run's those of its first tree and of the shorter run.
-use Prim.Native.Nat.{ℕ, suc, _+_, _-_, _≤_, _<_}
+use Prim.Native.Nat.{ℕ, suc, _+_, _-_, _≤_}
 use mathlib.Core.Path.{_≡_, refl, sym, ap, _∙_}
 use mathlib.Core.Bool.{Bool}
 use mathlib.Core.List.{List, [], _∷_, _++_}
@@ -7,8 +7,7 @@ use native.Mathlib.Omega.{arith}
 use native.Mathlib.Nat.{add-zero, add-suc, suc-add, le-refl}
 use native.Mathlib.Numerals.{add-one}
 use lib.ListN.{length, drop, length-append}
-use Rattle.sheet.specs.Block.{totalOf}
-use Rattle.sheet.specs.Slot.{slots, slotAt, numbersOf}
+use Rattle.sheet.specs.Slot.{slots}
 use Rattle.sheet.specs.declared.slots.Slot.{Slot as Numbers}
 use Rattle.annotation.specs.Kinds.{kindOf}
 use Rattle.annotation.specs.Rewriting.{rewritingOf}
@@ -16,11 +15,11 @@ use Rattle.annotation.specs.declared.slot.Annotated.{Annotated}
 use Rattle.annotation.specs.declared.resolution.Kind.{Kind}
 use Rattle.annotation.specs.declared.rewriting.Rewriting.{Rewriting}
 use Rattle.schema.specs.Annotated.{annotatedBy, annotated, kind}
-use Rattle.schema.specs.Tree.{Tree, Fields, node, empty, field, listing, listings, count, size}
+use Rattle.schema.specs.Tree.{Tree, Fields, node, empty, field, listings, count, size}
 use Rattle.schema.specs.Rules.{underMap, placeUnder, placeBelow}
 use Rattle.schema.specs.Reading.{trees}
 use Rattle.schema.specs.Rewriting.{rewriting, rewritings, runRewritings, withRewriting, withRewritings}
-use Rattle.schema.specs.Steps.{Claimed, Visited, treeAt, runAt, fieldsAt, sizes}
+use Rattle.schema.specs.Steps.{Claimed, Visited, treeAt, runAt, sizes}
 use Rattle.schema.specs.declared.place.Place.{Place}
 use Rattle.schema.proofs.StandingLaws.{runAt-zero, sizes-field, size-node}
 use Rattle.schema.proofs.VisitLaws.{treeAt-slot, run-at, next-after, next-claimed, run-split, run-end, run-end-empty}

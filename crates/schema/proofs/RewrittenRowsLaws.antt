@@ -1,24 +1,23 @@
 -- The rows of a rewritten tree are those of the tree.
 use Prim.Native.Nat.{ℕ, suc, _+_, _≤_}
-use mathlib.Core.Path.{_≡_, refl, sym, ap, ap₂, _∙_, subst}
+use mathlib.Core.Path.{_≡_, refl, sym, ap, ap₂, _∙_}
 use mathlib.Core.Bool.{Bool, true, false, true≢false, cond}
-use mathlib.Core.List.{List, [], _∷_, _++_}
+use mathlib.Core.List.{List, [], _++_}
 use borrow.Author.Tests.{eqb-true}
 use lib.Dec.{eqb}
 use lib.ListN.{length, length-append}
-use Rattle.sheet.specs.Slot.{childCountAt, physical, repetition, typeLength, name}
+use Rattle.sheet.specs.Slot.{childCountAt, name}
 use Rattle.annotation.specs.Logical as logical
-use Rattle.annotation.specs.declared.resolution.Kind.{Kind}
 use Rattle.schema.specs.Annotated.{kind}
 use Rattle.schema.specs.Tree.{Slot, Tree, Fields, node, empty, field, listing, listings, size}
-use Rattle.schema.specs.Rules.{isGroup, underMap, placeUnder, placeBelow, isElementGroup, KeepsAt, Keeps, KeepsAll}
+use Rattle.schema.specs.Rules.{underMap, placeUnder, placeBelow, KeepsAt, Keeps, KeepsAll}
 use Rattle.schema.specs.Rows.{isMapParent, LIST-LAYER, KEY-VALUE-LAYER, listRole, ownRole, role, parentBy, parentOf, afterFirst, row, rowsFrom, rowssFrom, rows}
 use Rattle.schema.specs.declared.place.Place.{Place}
 use Rattle.schema.specs.declared.place.Place.the-variants.{Root, Field, MapField}
 use Rattle.schema.specs.declared.roles.Parent.{Parent}
 use Rattle.schema.specs.declared.roles.Parent.the-variants as parent
 use Rattle.schema.proofs.RewrittenSlotLaws.{rewrittenSlot, slot-copied, kind-rewritten}
-use Rattle.schema.proofs.RewrittenTreeLaws.{rewrittenTree, rewrittenRun, Long, LongAll, resolves, place-rewritten, element-group}
+use Rattle.schema.proofs.RewrittenTreeLaws.{rewrittenTree, rewrittenRun, Long, LongAll, resolves, element-group}
 
 -- a node of some kind is a MAP to its fields' rows exactly where it is one to their rules
 map-parent : (code own : ℕ) → isMapParent (parentBy code own) ≡ underMap (placeUnder code)

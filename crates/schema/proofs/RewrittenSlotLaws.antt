@@ -1,16 +1,15 @@
 -- Laws of one node as it is rewritten: it resolves to what it did, and is rewritten to itself.
-use Prim.Native.Nat.{ℕ, _≤_}
-use mathlib.Core.Path.{_≡_, refl, sym, ap, _∙_}
+use Prim.Native.Nat.{_≤_}
+use mathlib.Core.Path.{_≡_, refl, _∙_}
 use mathlib.Core.Bool.{Bool, true, false}
 use mathlib.Core.List.{List}
-use lib.IntN.{ℤ}
 use lib.ListN.{length}
-use Rattle.sheet.specs.Slot.{childCountAt, physical, repetition, converted, logical, parameterA, parameterB, childCount, typeLength, scale, precision, nameLength, name, numbersOf, annotatedSlot}
+use Rattle.sheet.specs.Slot.{childCountAt, physical, repetition, converted, logical, parameterA, parameterB, childCount, typeLength, scale, precision, name, numbersOf, annotatedSlot}
 use Rattle.sheet.specs.Sound.{listed, convertedListed, logicalListed, slotSound}
 use Rattle.sheet.proofs.AnnotatedSlotLaws.{physical-annotated, repetition-annotated, childCount-annotated, typeLength-annotated, scale-annotated, precision-annotated, name-annotated, length-annotated, converted-annotated, logical-annotated, parameterA-annotated, parameterB-annotated, sound-annotated}
 use Rattle.annotation.specs.Kinds.{kindOf}
 use Rattle.annotation.specs.Outcome.{resolutionOf}
-use Rattle.annotation.specs.Rewriting.{writtenAs, writtenOf, rewritingAs, rewritingOf, rewritten as rewrittenNumbers}
+use Rattle.annotation.specs.Rewriting.{writtenAs, writtenOf, rewritingOf, rewritten as rewrittenNumbers}
 use Rattle.annotation.specs.Meaning.{annotationOf}
 use Rattle.annotation.specs.declared.types.Annotation.{Annotation}
 use Rattle.annotation.specs.declared.types.LogicalType.{LogicalType}
@@ -43,7 +42,23 @@ pub record Copied (copy s : Slot) : Type 0 where
   pub precision-is : precision copy ≡ precision s
   pub name-is : name copy ≡ name s
 
-copied-as : (r : Rewriting) (s : Slot) → Copied (rewrittenAs r s) s
+pub copied-refl : (s : Slot) → Copied s s
+copied-refl s =
+    record { physical-is = refl; repetition-is = refl; childCount-is = refl; typeLength-is = refl; scale-is = refl; precision-is = refl; name-is = refl }
+
+pub copied-trans : (r s u : Slot) → Copied r s → Copied s u → Copied r u
+copied-trans r s u first second =
+    record {
+      physical-is = first .physical-is ∙ second .physical-is;
+      repetition-is = first .repetition-is ∙ second .repetition-is;
+      childCount-is = first .childCount-is ∙ second .childCount-is;
+      typeLength-is = first .typeLength-is ∙ second .typeLength-is;
+      scale-is = first .scale-is ∙ second .scale-is;
+      precision-is = first .precision-is ∙ second .precision-is;
+      name-is = first .name-is ∙ second .name-is;
+    }
+
+pub copied-as : (r : Rewriting) (s : Slot) → Copied (rewrittenAs r s) s
 copied-as (Rewriting.Written w) s =
     record {
       physical-is = physical-annotated s (w .converted) (w .logical) (w .a) (w .b);
@@ -54,8 +69,7 @@ copied-as (Rewriting.Written w) s =
       precision-is = precision-annotated s (w .converted) (w .logical) (w .a) (w .b);
       name-is = name-annotated s (w .converted) (w .logical) (w .a) (w .b);
     }
-copied-as (Rewriting.Refused number) s =
-    record { physical-is = refl; repetition-is = refl; childCount-is = refl; typeLength-is = refl; scale-is = refl; precision-is = refl; name-is = refl }
+copied-as (Rewriting.Refused number) s = copied-refl s
 
 pub slot-copied : (under : Bool) (s : Slot) → Copied (rewrittenSlot under s) s
 unfolding rewrittenSlot

@@ -1,25 +1,24 @@
 -- The tree of a rewritten sheet: it has the nodes, depths, claims, rules and rows of the sheet's own tree, and is rewritten to itself.
-use Prim.Native.Nat.{ℕ, suc, _+_, _≤_}
+use Prim.Native.Nat.{ℕ, suc, _≤_}
 use mathlib.Core.Path.{_≡_, refl, sym, ap, ap₂, _∙_, subst}
-use mathlib.Core.Bool.{Bool, true, false, not, _&&_, _||_, or-true, and-eq-true-iff}
-use mathlib.Core.List.{List, [], _∷_, _++_}
-use borrow.Author.Tests.{eq-eqb, eqb-true}
+use mathlib.Core.Bool.{Bool, true, false, _&&_, _||_, or-true, and-eq-true-iff}
+use mathlib.Core.List.{List, _∷_, _++_}
+use borrow.Author.Tests.{eqb-true}
 use lib.Dec.{eqb}
 use lib.ListN.{length}
-use Rattle.sheet.specs.Slot.{childCountAt, physical as physicalOf, repetition, converted as convertedOf, logical as logicalOf, childCount, scale, precision, name, numbersOf}
-use Rattle.sheet.specs.Name.{sameBytes}
+use Rattle.sheet.specs.Slot.{childCountAt, physical as physicalOf, repetition, converted as convertedOf, logical as logicalOf, scale, precision, name, numbersOf}
 use Rattle.annotation.specs.Converted as converted
 use Rattle.annotation.specs.Logical as logical
-use Rattle.annotation.specs.Rewriting.{writtenOf, rewritten as rewrittenNumbers}
+use Rattle.annotation.specs.Rewriting.{rewritten as rewrittenNumbers}
 use Rattle.annotation.proofs.RewritingLaws.{written-plain, decimal-rewritten}
 use Rattle.annotation.specs.declared.resolution.Kind.{Kind}
 use Rattle.annotation.specs.declared.slot.Annotated.{Annotated}
 use Rattle.annotation.specs.declared.rewriting.Written.{Written}
 use Rattle.annotation.specs.declared.rewriting.Rewriting.{Rewriting}
-use Rattle.schema.specs.Annotated.{annotated, kind, rule9, rule10, rule11}
-use Rattle.schema.specs.Tree.{Slot, Tree, Fields, node, empty, field, listing, listings, count, size, depths, depthss, Claims, ClaimsAll}
-use Rattle.schema.specs.Rules.{isGroup, NO-REPETITION, isRequiredOrOptional, underMap, isList, isMap, placeUnder, placeBelow, rootShape, fieldShape, placeShape, isNought, lengthShape, decimalShape, shape, rule8, arrayName, tupleSuffix, namedElement, isElementGroup, holdsElement, listChild, listRun, listKept, rule12, keyValue, mapRun, mapKept, rule13, KeepsAt, Keeps, KeepsAll}
-use Rattle.schema.specs.Rewriting.{rewriting, rewritings, runRewritings}
+use Rattle.schema.specs.Annotated.{annotated, kind, rule9, rule10}
+use Rattle.schema.specs.Tree.{Slot, Tree, Fields, node, empty, field, count, depths, depthss, Claims, ClaimsAll}
+use Rattle.schema.specs.Rules.{isGroup, NO-REPETITION, isRequiredOrOptional, underMap, isList, isMap, placeUnder, placeBelow, rootShape, placeShape, lengthShape, decimalShape, shape, rule8, namedElement, isElementGroup, holdsElement, listChild, listRun, listKept, rule12, keyValue, mapRun, mapKept, rule13, KeepsAt, Keeps, KeepsAll}
+use Rattle.schema.specs.Rewriting.{rewritings, runRewritings}
 use Rattle.schema.specs.declared.place.Place.{Place}
 use Rattle.schema.specs.declared.place.Place.the-variants.{Root, Field, MapField}
 use Rattle.schema.proofs.RewrittenSlotLaws.{rewrittenSlot, Copied, slot-copied, Resolves, annotated-rewritten, kind-rewritten, resolves-rewritten, rewriting-rewritten}

@@ -15,7 +15,7 @@ use Rattle.annotation.specs.Signed.{natural}
 use Rattle.annotation.specs.declared.slot.Annotated.{Annotated}
 use Rattle.annotation.specs.declared.resolution.Kind.{Kind}
 use Rattle.schema.specs.Annotated.{annotatedBy, annotated, kind}
-use Rattle.schema.specs.Tree.{Slot, Tree, Fields, field, count, size}
+use Rattle.schema.specs.Tree.{Slot, Tree, Fields, count, size}
 use Rattle.schema.specs.Reading.{trees}
 use Rattle.schema.specs.Rows.{isMapParent, role, parentBy, parentOf, afterFirst, row, rowsFrom, rowssFrom, rowWidth}
 use Rattle.schema.specs.Steps.{Claimed, Visited, treeAt, runAt, fieldsAt, sizes, placed}

@@ -9,7 +9,7 @@ use lib.ListN.{length, getD, set, take, drop, length-set}
 use lib.Seq.{getD-set-same, getD-set-other, drop-set-lt}
 use Rattle.sheet.specs.Number.{numberAt, signed32}
 use Rattle.sheet.specs.Slot.{convertedAt, logicalAt, parameterAAt, parameterBAt, childCountAt, typeLengthAt, scaleAt, precisionAt, nameLengthAt, reservedAt, nameAt, physical, repetition, converted, logical, parameterA, parameterB, childCount, typeLength, scale, precision, nameLength, name, annotatedSlot}
-use Rattle.sheet.specs.Sound.{physicalListed, repetitionListed, convertedListed, logicalListed, allZero, reservedZero, tailZero, codesListed, nameRight, slotSound}
+use Rattle.sheet.specs.Sound.{physicalListed, repetitionListed, convertedListed, logicalListed, reservedZero, tailZero, codesListed, nameRight, slotSound}
 
 -- a number of bytes that agree from its place on
 numberAt-same : (size : ℕ) (x y : List ℕ) (at : ℕ) → ((i : ℕ) → at ≤ i → getD x i 0 ≡ getD y i 0) → numberAt x at size ≡ numberAt y at size

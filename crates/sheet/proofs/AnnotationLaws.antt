@@ -3,13 +3,12 @@ use mathlib.Core.Path.{_≡_, refl, sym, ap, _∙_}
 use mathlib.Core.Logic.{_⊎_, inl, inr}
 use mathlib.Core.Bool.{Bool, true, false}
 use mathlib.Core.List.{List}
-use Prim.Native.Nat.{ℕ, suc, _+_, _-_, _*_, _/_, _%_, _≤_, _<_}
-use native.Mathlib.Nat.{add-sub-cancel-left}
+use Prim.Native.Nat.{ℕ, _+_, _-_, _%_, _≤_, _<_}
 use native.Mathlib.Decide.{decLt}
 use native.Mathlib.Omega.{arith}
 use lib.ListN.{length, getD, set, take, drop, length-set}
 use lib.Seq.{getD-set-other, take-set-le, take-set-lt, drop-set-lt, drop-set-add, set-getD}
-use Rattle.sheet.specs.Block.{blockSize, checkAt, firstSlotAt, slotsInBlock, slotSize}
+use Rattle.sheet.specs.Block.{blockSize, firstSlotAt, slotSize}
 use Rattle.sheet.specs.Slot.{convertedAt, logicalAt, parameterAAt, parameterBAt, converted, logical, parameterA, parameterB, slotStart, reaches, slotAt, annotatedSlot, withAnnotation}
 use Rattle.sheet.proofs.SlotLaws.{slotStart-behind, slotAt-there, slotAt-empty, slotAt-byte}
 

@@ -1,15 +1,14 @@
 -- What a sheet and a copy of it that differs in some bytes have in common.
-use mathlib.Core.Path.{_≡_, refl, sym, ap, ap₂, _∙_}
-use mathlib.Core.Bool.{Bool, true, false, cond, _&&_}
+use mathlib.Core.Path.{_≡_, refl, sym, ap₂, _∙_}
+use mathlib.Core.Bool.{Bool, true, false}
 use mathlib.Core.List.{List}
 use Prim.Native.Nat.{ℕ, _+_, _*_, _%_, _<_}
 use native.Mathlib.Omega.{arith}
-use lib.Dec.{eqb}
 use lib.ListN.{length, getD}
 use lib.Seq.{ext-getD}
-use Rattle.sheet.specs.Block.{blockSize, firstSlotAt, slotSize, blockNumberAt, totalAt, blockCount, blockAt, blockNumber, nodesHere, version, total, totalOf}
+use Rattle.sheet.specs.Block.{blockSize, firstSlotAt, slotSize, blockNumberAt, totalAt, blockAt, blockNumber, nodesHere, version, total, totalOf}
 use Rattle.sheet.specs.Check.{renewed}
-use Rattle.sheet.specs.Header.{fieldsRight, totalRight, headerRight}
+use Rattle.sheet.specs.Header.{fieldsRight, headerRight}
 use Rattle.sheet.specs.Slot.{slotStart, reaches, slotAt}
 use Rattle.sheet.proofs.NumberLaws.{numberAt-two}
 use Rattle.sheet.proofs.BlockLaws.{blockAt-byte, blockCount-same}

@@ -1,9 +1,9 @@
--- `schema_vectors::print_rows` is safe and ends: it counts up to the numbers' end.
+-- `schema_vectors::resolving::print_rows` is safe and ends: it counts up to the numbers' end.
 use Prim.Native.Nat.{_≤_, _-_}
 use lib.ListN.{length}
 use borrow.Author.Needs.{needs}
-use Rattle.schema_vectors.proofs.print_rows.Statement.{statement}
-use Rattle.schema_vectors.proofs.print_rows.Tie as tie
+use Rattle.schema_vectors.proofs.resolving.print_rows.Statement.{statement}
+use Rattle.schema_vectors.proofs.resolving.print_rows.Tie as tie
 
 abbrev Inv-loop : tie.InvT-loop
 Inv-loop rows total i₀ t4 i = i ≤ length rows

@@ -1,10 +1,10 @@
--- `schema_vectors::run_next` is safe and ends: what is lent lies within the room.
+-- `schema_vectors::resolving::run_next` is safe and ends: what is lent lies within the room.
 use mathlib.Core.Path.{sym}
 use native.Mathlib.Omega.{arith}
 use lib.Seq.{length-take-le}
 use borrow.Author.Needs.{needs}
-use Rattle.schema_vectors.proofs.run_next.Statement.{statement}
-use Rattle.schema_vectors.proofs.run_next.Tie as tie
+use Rattle.schema_vectors.proofs.resolving.run_next.Statement.{statement}
+use Rattle.schema_vectors.proofs.resolving.run_next.Tie as tie
 
 read-number-requires : tie.Need-read-number-requires
 read-number-requires c κs = search needs

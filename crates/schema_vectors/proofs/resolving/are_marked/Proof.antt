@@ -1,9 +1,9 @@
--- `schema_vectors::are_marked` is safe and ends: it counts up to the numbers' end.
+-- `schema_vectors::resolving::are_marked` is safe and ends: it counts up to the numbers' end.
 use Prim.Native.Nat.{_≤_, _-_}
 use lib.ListN.{length}
 use borrow.Author.Needs.{needs}
-use Rattle.schema_vectors.proofs.are_marked.Statement.{statement}
-use Rattle.schema_vectors.proofs.are_marked.Tie as tie
+use Rattle.schema_vectors.proofs.resolving.are_marked.Statement.{statement}
+use Rattle.schema_vectors.proofs.resolving.are_marked.Tie as tie
 
 abbrev Inv-loop : tie.InvT-loop
 Inv-loop rows total i₀ mark₀ i mark = i ≤ length rows

@@ -1,10 +1,10 @@
--- `schema_vectors::mark` is safe and ends: it counts up to the numbers' end, and they stay as many.
+-- `schema_vectors::resolving::mark` is safe and ends: it counts up to the numbers' end, and they stay as many.
 use mathlib.Core.Path.{_≡_}
 use Prim.Native.Nat.{_≤_, _-_}
 use lib.ListN.{length}
 use borrow.Author.Needs.{needs}
-use Rattle.schema_vectors.proofs.mark.Statement.{statement}
-use Rattle.schema_vectors.proofs.mark.Tie as tie
+use Rattle.schema_vectors.proofs.resolving.mark.Statement.{statement}
+use Rattle.schema_vectors.proofs.resolving.mark.Tie as tie
 
 abbrev Inv-loop : tie.InvT-loop
 Inv-loop rows₀ i₀ mark₀ rows i mark = (i ≤ length rows₀) × (length rows ≡ length rows₀)

@@ -1,16 +1,16 @@
--- `schema_vectors::run` is safe and ends: it counts up, and the room keeps its length.
+-- `schema_vectors::rewriting::run` is safe and ends: it counts up, and the room keeps its length.
 use mathlib.Core.Path.{_≡_}
 use Prim.Native.Nat.{_≤_, _-_}
 use lib.ListN.{length}
 use borrow.Author.Needs.{needs}
-use Rattle.schema_vectors.proofs.run.Statement.{statement}
-use Rattle.schema_vectors.proofs.run.Tie as tie
+use Rattle.schema_vectors.proofs.rewriting.run.Statement.{statement}
+use Rattle.schema_vectors.proofs.rewriting.run.Tie as tie
 
 abbrev Inv-loop : tie.InvT-loop
-Inv-loop title₀ sheet₀ rows₀ count done₀ title sheet rows done = (done ≤ count) × (length title ≡ length title₀) × (length sheet ≡ length sheet₀) × (length rows ≡ length rows₀)
+Inv-loop title₀ sheet₀ expected₀ out₀ count done₀ title sheet expected out done = (done ≤ count) × (length title ≡ length title₀) × (length sheet ≡ length sheet₀) × (length expected ≡ length expected₀) × (length out ≡ length out₀)
 
 abbrev μ-loop : tie.MeasureT-loop
-μ-loop title₀ sheet₀ rows₀ count done₀ title sheet rows done = count - done
+μ-loop title₀ sheet₀ expected₀ out₀ count done₀ title sheet expected out done = count - done
 
 loop-holds : tie.Need-loop-holds Inv-loop μ-loop
 loop-holds c = search needs
@@ -36,6 +36,9 @@ same-length-2 c = search needs
 same-length-3 : tie.Need-same-length-3 Inv-loop μ-loop
 same-length-3 c = search needs
 
+same-length-4 : tie.Need-same-length-4 Inv-loop μ-loop
+same-length-4 c = search needs
+
 returns : tie.Need-returns Inv-loop μ-loop
 returns c = search needs
 
@@ -53,4 +56,5 @@ run-spec =
     same-length
     same-length-2
     same-length-3
+    same-length-4
     returns)
