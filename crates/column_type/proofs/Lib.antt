@@ -1,0 +1,4 @@
+-- What the proofs of several functions use, and the theorem of refusal 20.
+pub mod FitsLaws
+pub mod RefusalLaws
+pub mod SlotLaws
