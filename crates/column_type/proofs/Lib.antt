@@ -2,3 +2,5 @@
 pub mod FitsLaws
 pub mod RefusalLaws
 pub mod SlotLaws
+pub mod AcceptedLaws
+pub mod NodeRowLaws
