@@ -2,5 +2,4 @@
 pub mod FitsLaws
 pub mod RefusalLaws
 pub mod SlotLaws
-pub mod AcceptedLaws
-pub mod NodeRowLaws
+pub mod KeptLaws

@@ -1,0 +1,82 @@
+-- A leaf that keeps the rules has a lawful column type in its row.
+use Prim.Native.Nat.{ℕ, _^_, _≤_, _<_}
+use mathlib.Core.Path.{_≡_, refl, sym, ap, _∙_, subst}
+use mathlib.Core.Bool.{Bool, true, false, true≢false, not, cond, _&&_, _||_, and-eq-true-iff}
+use native.Mathlib.Omega.{arith}
+use lib.Dec.{eqb, ltb}
+use lib.IntN.{ℤ, pos, negsuc}
+use lib.Signed.{mag}
+use borrow.Author.Tests.{eqb-true, ltb-true}
+use Rattle.annotation.specs.Physical as physical
+use Rattle.annotation.specs.Converted as converted
+use Rattle.annotation.specs.Logical as logical
+use Rattle.annotation.specs.Parameters.{validParameters}
+use Rattle.annotation.specs.Spelling.{codeOf, aOf, bOf, namedOf, statedOf}
+use Rattle.annotation.specs.Signed.{natural}
+use Rattle.annotation.specs.Backward.{backwardOf}
+use Rattle.annotation.specs.Meaning.{annotationOf}
+use Rattle.annotation.specs.Rule9.{rule9}
+use Rattle.annotation.specs.Rule10.{annotationOn, rule10}
+use Rattle.annotation.specs.Rule11.{isDecimal, ordered, physicalHolds, decimalHolds, digitsAllowed, rule11}
+use Rattle.annotation.specs.Kinds.{kindAs, kindOf, decimalKind}
+use Rattle.annotation.specs.declared.types.TimeUnit.{TimeUnit}
+use Rattle.annotation.specs.declared.types.BitWidth.{BitWidth}
+use Rattle.annotation.specs.declared.types.LogicalType.{LogicalType}
+use Rattle.annotation.specs.declared.types.Annotation.{Annotation}
+use Rattle.annotation.specs.declared.slot.Annotated.{Annotated}
+use Rattle.annotation.specs.declared.resolution.Kind.{Kind}
+use Rattle.annotation.proofs.SpellingLaws.{stated-spelled}
+use Rattle.schema.specs.Rules.{isGroup, isNought, lengthShape}
+use Rattle.column_type.specs.Lawful.{slotWith, slotOf, byteNumbers, signedNumbers, fits, isLeaf, isLawful}
+use Rattle.column_type.specs.declared.types.ColumnType.{ColumnType}
+use Rattle.column_type.proofs.FitsLaws.{Fits, parts-fits}
+use Rattle.column_type.proofs.SlotLaws.{slotOf-decimal}
+
+-- the column type of a slot with some kind
+unfoldable pub columnWith : Annotated → Kind → ColumnType
+columnWith n k = record { physical = n .physical; «type_length» = natural (n .«type_length»); kind = k .kind; p1 = k .p1; p2 = k .p2 }
+
+-- the signed numbers of a slot are within four bytes, and its physical within one
+pub record InRange (n : Annotated) : Type 0 where
+  pub physical : n .physical < byteNumbers
+  pub «type-length» : mag (n .«type_length») < signedNumbers
+  pub scale : mag (n .scale) < signedNumbers
+  pub precision : mag (n .precision) < signedNumbers
+
+natural-lt : (z : ℤ) → mag z < signedNumbers → natural z < signedNumbers
+unfolding natural
+natural-lt (pos n) h = h
+natural-lt (negsuc n) h = omega arith
+
+-- the slot of a column type says what the slot said that the column type comes from
+says-slot : (says : Annotation) (n : Annotated) (length : ℕ) → isGroup (n .physical) ≡ false → annotationOn says (n .physical) length ≡ true → annotationOf (slotOf (columnWith n (kindAs says n))) false ≡ says
+unfolding annotationOf slotOf columnWith backwardOf statedOf namedOf validParameters
+says-slot Annotation.Plain n length leaf e = rw leaf
+says-slot (Annotation.Logical LogicalType.String) n length leaf e = refl
+says-slot (Annotation.Logical LogicalType.Map) n length leaf e = refl
+says-slot (Annotation.Logical LogicalType.List) n length leaf e = refl
+says-slot (Annotation.Logical LogicalType.Enum) n length leaf e = refl
+says-slot (Annotation.Logical LogicalType.Decimal) n length leaf e = refl
+says-slot (Annotation.Logical LogicalType.Date) n length leaf e = refl
+says-slot (Annotation.Logical (LogicalType.Time unit utc)) n length leaf e = stated-spelled (LogicalType.Time unit utc)
+says-slot (Annotation.Logical (LogicalType.Timestamp unit utc)) n length leaf e = stated-spelled (LogicalType.Timestamp unit utc)
+says-slot (Annotation.Logical (LogicalType.Integer width signed)) n length leaf e = stated-spelled (LogicalType.Integer width signed)
+says-slot (Annotation.Logical LogicalType.Unknown) n length leaf e = refl
+says-slot (Annotation.Logical LogicalType.Json) n length leaf e = refl
+says-slot (Annotation.Logical LogicalType.Bson) n length leaf e = refl
+says-slot (Annotation.Logical LogicalType.Uuid) n length leaf e = refl
+says-slot Annotation.Interval n length leaf e = refl
+says-slot Annotation.Unreadable n length leaf e = absurd (true≢false (sym e))
+
+-- a rule 8 length is not negative
+length-natural : (code : ℕ) (z : ℤ) → lengthShape code z ≡ true → lengthShape code (pos (natural z)) ≡ true
+unfolding natural
+length-natural code (pos n) e = e
+length-natural code (negsuc n) e = ?
+
+-- precision and scale in order are not negative
+ordered-natural : (precision scale : ℤ) → ordered precision scale ≡ true → ordered (pos (natural precision)) (pos (natural scale)) ≡ true
+unfolding ordered natural
+ordered-natural (pos p) (pos s) e = e
+ordered-natural (pos p) (negsuc s) e = ?
+ordered-natural (negsuc p) s e = absurd (true≢false (sym e))
