@@ -3,7 +3,7 @@ use Prim.Native.Nat.{ℕ, _^_, _≤_, _<_}
 use mathlib.Core.Path.{_≡_, refl, sym, ap, _∙_, subst}
 use mathlib.Core.Bool.{Bool, true, false, true≢false, not, cond, _&&_, _||_, and-eq-true-iff}
 use native.Mathlib.Omega.{arith}
-use lib.Dec.{eqb, ltb}
+use lib.Dec.{eqb, leb}
 use lib.IntN.{ℤ, pos, negsuc}
 use lib.Signed.{mag}
 use borrow.Author.Tests.{eqb-true, ltb-true}
@@ -18,7 +18,7 @@ use Rattle.annotation.specs.Meaning.{annotationOf}
 use Rattle.annotation.specs.Rule9.{rule9}
 use Rattle.annotation.specs.Rule10.{annotationOn, rule10}
 use Rattle.annotation.specs.Rule11.{isDecimal, ordered, physicalHolds, decimalHolds, digitsAllowed, rule11}
-use Rattle.annotation.specs.Kinds.{kindAs, kindOf, decimalKind}
+use Rattle.annotation.specs.Kinds.{PLAIN-LEAF, PLAIN-GROUP, bareKind, plainKind, decimalKind, kindAs, kindOf}
 use Rattle.annotation.specs.declared.types.TimeUnit.{TimeUnit}
 use Rattle.annotation.specs.declared.types.BitWidth.{BitWidth}
 use Rattle.annotation.specs.declared.types.LogicalType.{LogicalType}
@@ -26,8 +26,9 @@ use Rattle.annotation.specs.declared.types.Annotation.{Annotation}
 use Rattle.annotation.specs.declared.slot.Annotated.{Annotated}
 use Rattle.annotation.specs.declared.resolution.Kind.{Kind}
 use Rattle.annotation.proofs.SpellingLaws.{stated-spelled}
+use Rattle.annotation.proofs.ReadingLaws.{spelled-bytes}
 use Rattle.schema.specs.Rules.{isGroup, isNought, lengthShape}
-use Rattle.column_type.specs.Lawful.{slotWith, slotOf, byteNumbers, signedNumbers, fits, isLeaf, isLawful}
+use Rattle.column_type.specs.Lawful.{slotWith, slotOf, byteNumbers, signedNumbers, parameterNumbers, fits, isLeaf, isLawful}
 use Rattle.column_type.specs.declared.types.ColumnType.{ColumnType}
 use Rattle.column_type.proofs.FitsLaws.{Fits, parts-fits}
 use Rattle.column_type.proofs.SlotLaws.{slotOf-decimal}
@@ -70,13 +71,90 @@ says-slot Annotation.Unreadable n length leaf e = absurd (true≢false (sym e))
 
 -- a rule 8 length is not negative
 length-natural : (code : ℕ) (z : ℤ) → lengthShape code z ≡ true → lengthShape code (pos (natural z)) ≡ true
-unfolding natural
+unfolding natural lengthShape isNought
 length-natural code (pos n) e = e
-length-natural code (negsuc n) e = ?
+length-natural code (negsuc n) e = absurd (neither (eqb code physical.FIXED-LEN-BYTE-ARRAY) e)
+  where
+    neither : (b : Bool) → cond b false false ≡ true → ⊥
+    neither true q = true≢false (sym q)
+    neither false q = true≢false (sym q)
 
 -- precision and scale in order are not negative
 ordered-natural : (precision scale : ℤ) → ordered precision scale ≡ true → ordered (pos (natural precision)) (pos (natural scale)) ≡ true
 unfolding ordered natural
 ordered-natural (pos p) (pos s) e = e
-ordered-natural (pos p) (negsuc s) e = ?
+ordered-natural (pos p) (negsuc s) e = absurd (middle (leb 1 p) e)
+  where
+    middle : (b : Bool) → b && false && true ≡ true → ⊥
+    middle true q = true≢false (sym q)
+    middle false q = true≢false (sym q)
 ordered-natural (negsuc p) s e = absurd (true≢false (sym e))
+
+-- the kind of a DECIMAL
+kind-decimal : (says : Annotation) (n : Annotated) → isDecimal says ≡ true → kindAs says n ≡ decimalKind n
+kind-decimal Annotation.Plain n e = absurd (true≢false (sym e))
+kind-decimal (Annotation.Logical l) n e = rw e
+kind-decimal Annotation.Interval n e = absurd (true≢false (sym e))
+kind-decimal Annotation.Unreadable n e = absurd (true≢false (sym e))
+
+-- a number of one byte is one that p1 and p2 can be, of whatever kind
+byte-parameter : (kind x : ℕ) → x < byteNumbers → x < parameterNumbers kind
+byte-parameter kind x h = cases (eqb kind logical.DECIMAL)
+  where
+    cases : (b : Bool) → x < cond b signedNumbers byteNumbers
+    cases true = omega arith
+    cases false = h
+
+-- the kinds of other annotations have numbers of one byte
+record Bytes (k : Kind) : Type 0 where
+  kind : k .kind < byteNumbers
+  p1 : k .p1 < byteNumbers
+  p2 : k .p2 < byteNumbers
+
+plain-bytes : (code : ℕ) → Bytes (plainKind code)
+plain-bytes code = cases (eqb code physical.GROUP)
+  where
+    cases : (b : Bool) → Bytes (cond b (bareKind PLAIN-GROUP) (bareKind PLAIN-LEAF))
+    cases true = record { kind = omega arith; p1 = omega arith; p2 = omega arith }
+    cases false = record { kind = omega arith; p1 = omega arith; p2 = omega arith }
+
+kind-bytes : (says : Annotation) (n : Annotated) → isDecimal says ≡ false → Bytes (kindAs says n)
+kind-bytes Annotation.Plain n e = plain-bytes (n .physical)
+kind-bytes (Annotation.Logical l) n e =
+    let b = spelled-bytes l in
+    rw e (record { kind = b .0; p1 = b .1; p2 = b .2 })
+kind-bytes Annotation.Interval n e = record { kind = omega arith; p1 = omega arith; p2 = omega arith }
+kind-bytes Annotation.Unreadable n e = plain-bytes (n .physical)
+
+-- the numbers of a slot's row fit a slot
+fits-kept : (says : Annotation) (n : Annotated) → InRange n → Fits (columnWith n (kindAs says n))
+unfolding columnWith
+fits-kept says n r = cases (isDecimal says) refl
+  where
+    cases : (b : Bool) → isDecimal says ≡ b → Fits (columnWith n (kindAs says n))
+    cases true e = rw (kind-decimal says n e)
+        (record {
+          physical = r .physical;
+          «type-length» = natural-lt (n .«type_length») (r .«type-length»);
+          kind = omega arith;
+          p1 = natural-lt (n .precision) (r .precision);
+          p2 = natural-lt (n .scale) (r .scale);
+        })
+    cases false e =
+        let b = kind-bytes says n e in
+        record {
+          physical = r .physical;
+          «type-length» = natural-lt (n .«type_length») (r .«type-length»);
+          kind = b .kind;
+          p1 = byte-parameter _ _ (b .p1);
+          p2 = byte-parameter _ _ (b .p2);
+        }
+
+-- rule 11 holds of the slot of the column type
+digits-slot : (says : Annotation) (n : Annotated) → digitsAllowed says n ≡ true → digitsAllowed says (slotOf (columnWith n (kindAs says n))) ≡ true
+unfolding columnWith
+digits-slot says n e = cases (isDecimal says) refl
+  where
+    cases : (b : Bool) → isDecimal says ≡ b → digitsAllowed says (slotOf (columnWith n (kindAs says n))) ≡ true
+    cases true q = rw (q, kind-decimal says n q) ?
+    cases false q = rw q
