@@ -6,7 +6,7 @@ use mathlib.Core.Bool.{Bool, true, false, not, _&&_, and-eq-true-iff}
 use native.Mathlib.Decide.{decLe}
 use native.Mathlib.Omega.{arith}
 use lib.Dec.{ltb, leb, eqb}
-use borrow.Author.Tests.{ltb-true, lt-ltb, le-leb, lt-leb, eq-eqb, ne-eqb}
+use borrow.Author.Tests.{ltb-true, lt-ltb, le-leb, lt-leb, eq-eqb, ne-eqb, not-true}
 use Rattle.annotation.specs.Logical as logical
 use Rattle.sheet.specs.Sound.{listed, fixedLenByteArray, group, physicalListed}
 use Rattle.schema.specs.Rules.{isGroup}
@@ -53,6 +53,11 @@ isLeaf-upto code = cases (decLe code fixedLenByteArray)
     cases : Dec (code ≤ fixedLenByteArray) → leb code fixedLenByteArray ≡ isLeaf code
     cases (yes h) = rw (le-leb code fixedLenByteArray h, ne-eqb code group (λ (e : code ≡ group). omega arith))
     cases (no h) = rw (lt-leb code fixedLenByteArray (omega arith)) (beside (eqb code group))
+
+-- a leaf is no group
+pub isLeaf-not-group : (code : ℕ) → isLeaf code ≡ true → isGroup code ≡ false
+unfolding isLeaf
+isLeaf-not-group code e = not-true (isGroup code) (and-eq-true-iff (physicalListed code) (not (isGroup code)) .0 e .1)
 
 -- p1 and p2 of a DECIMAL fit four bytes
 pub fits-decimal : (c : ColumnType) → Fits c → c .kind ≡ logical.DECIMAL → (c .p1 < signedNumbers) × (c .p2 < signedNumbers)

@@ -30,8 +30,8 @@ use Rattle.annotation.proofs.ReadingLaws.{spelled-bytes}
 use Rattle.schema.specs.Rules.{isGroup, isNought, lengthShape}
 use Rattle.column_type.specs.Lawful.{slotWith, slotOf, byteNumbers, signedNumbers, parameterNumbers, fits, isLeaf, isLawful}
 use Rattle.column_type.specs.declared.types.ColumnType.{ColumnType}
-use Rattle.column_type.proofs.FitsLaws.{Fits, parts-fits}
-use Rattle.column_type.proofs.SlotLaws.{slotOf-decimal}
+use Rattle.column_type.proofs.FitsLaws.{Fits, parts-fits, isLeaf-not-group}
+use Rattle.column_type.proofs.SlotLaws.{slotOf-physical, slotOf-length, slotOf-agrees}
 
 -- the column type of a slot with some kind
 unfoldable pub columnWith : Annotated → Kind → ColumnType
@@ -146,15 +146,42 @@ fits-kept says n r = cases (isDecimal says) refl
           physical = r .physical;
           «type-length» = natural-lt (n .«type_length») (r .«type-length»);
           kind = b .kind;
-          p1 = byte-parameter _ _ (b .p1);
-          p2 = byte-parameter _ _ (b .p2);
+          p1 = byte-parameter (kindAs says n .kind) (kindAs says n .p1) (b .p1);
+          p2 = byte-parameter (kindAs says n .kind) (kindAs says n .p2) (b .p2);
         }
 
--- rule 11 holds of the slot of the column type
+-- rule 11 holds of the slot of the column type where it held of the slot that the column type comes from
+decimal-slot : (n : Annotated) → decimalHolds n ≡ true → decimalHolds (slotOf (columnWith n (decimalKind n))) ≡ true
+unfolding decimalHolds slotOf columnWith natural
+decimal-slot n e =
+    let both = and-eq-true-iff (ordered (n .precision) (n .scale)) (physicalHolds (n .physical) (natural (n .«type_length»)) (natural (n .precision))) .0 e in
+    rw (ordered-natural (n .precision) (n .scale) (both .0)) (both .1)
+
 digits-slot : (says : Annotation) (n : Annotated) → digitsAllowed says n ≡ true → digitsAllowed says (slotOf (columnWith n (kindAs says n))) ≡ true
-unfolding columnWith
 digits-slot says n e = cases (isDecimal says) refl
   where
     cases : (b : Bool) → isDecimal says ≡ b → digitsAllowed says (slotOf (columnWith n (kindAs says n))) ≡ true
-    cases true q = rw (q, kind-decimal says n q) ?
+    cases true q = rw (q, kind-decimal says n q) (decimal-slot n (rw q at e))
     cases false q = rw q
+
+-- a leaf that keeps rules 8, 10 and 11, its numbers within a slot's, has a lawful column type
+module _ (n : Annotated) (under : Bool) (range : InRange n) (leaf : isLeaf (n .physical) ≡ true) (shaped : lengthShape (n .physical) (n .«type_length») ≡ true) (ten : rule10 n under ≡ true) (eleven : rule11 n under ≡ true) where
+  column : ColumnType
+  column = columnWith n (kindOf n under)
+
+  says-same : annotationOf (slotOf column) false ≡ annotationOf n under
+  unfolding column kindOf rule10
+  says-same = says-slot (annotationOf n under) n (natural (n .«type_length»)) (isLeaf-not-group (n .physical) leaf) ten
+
+  ten-slot : rule10 (slotOf column) false ≡ true
+  unfolding column columnWith rule10
+  ten-slot = rw (says-same, slotOf-physical column, slotOf-length column) ten
+
+  eleven-slot : rule11 (slotOf column) false ≡ true
+  unfolding column kindOf rule11
+  eleven-slot = rw says-same (digits-slot (annotationOf n under) n eleven)
+
+  pub kept-lawful : isLawful (columnWith n (kindOf n under)) ≡ true
+  unfolding isLawful column columnWith kindOf
+  kept-lawful =
+      rw (parts-fits column (fits-kept (annotationOf n under) n range), leaf, length-natural (n .physical) (n .«type_length») shaped, slotOf-agrees column, ten-slot, eleven-slot)

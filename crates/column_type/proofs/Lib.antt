@@ -3,3 +3,4 @@ pub mod FitsLaws
 pub mod RefusalLaws
 pub mod SlotLaws
 pub mod KeptLaws
+pub mod LeafLaws
