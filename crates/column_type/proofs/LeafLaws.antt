@@ -72,3 +72,50 @@ slot-lawful : (p : Place) (s : Slot) (fs : Fields) → Bytes s → slotSound s �
 unfolding annotated numbersOf kind rule10 rule11
 slot-lawful p s fs bytes sound keeps leaf =
     kept-lawful (annotated s) (underMap p) (slot-range s bytes) (slot-leaf s sound leaf) (shape-length p s fs (keeps .shape)) (keeps .placement) (keeps .decimals)
+
+module _ (c : ColumnType) (sheet lent : List ℕ) (k : ℕ) (h : IsLeafOf c sheet lent k) where
+  sound : Sound sheet
+  sound = accepted-sound sheet (length lent) (h .accepted)
+
+  tree : (t : Tree) × IsTreeOf sheet t
+  tree = accepted-exactly sheet (length lent) sound (accepted-enough sheet (length lent) (h .accepted)) .0 (h .accepted)
+
+  -- node k is listed as the k-th
+  slot-listed : getD (listing (tree .0)) k [] ≡ slotAt sheet k
+  slot-listed = ap (λ (ss : List Slot). getD ss k []) (tree .1 .lists) ∙ slots-at sheet k [] (h .below)
+
+  below-size : k < size (tree .0)
+  unfolding size
+  below-size = omega (arith, ap length (tree .1 .lists), slots-length sheet, h .below)
+
+  -- its row stands at 9k
+  begins : BeginsWith (slotAt sheet k) (drop (rowWidth * k) (written (outcome sheet (length lent)) sheet lent))
+  unfolding rows
+  begins =
+      rw (rows-are sheet lent (tree .0) sound (accepted-enough sheet (length lent) (h .accepted)) (tree .1), ← slot-listed)
+      (row-at (tree .0) Root parent.Other 0 0 [] (drop (rowWidth * totalOf sheet) lent) (tree .1 .keeps) refl k below-size)
+
+  column-is : c ≡ columnWith (annotated (slotAt sheet k)) (kind (underMap (begins .place)) (slotAt sheet k))
+  unfolding columnAt
+  column-is =
+      let b = begins in
+      sym (h .column)
+      ∙ ap columnOf (b .begins)
+      ∙ column-row (b .at) (b .up) (b .«parent») (b .above) (slotAt sheet k) (b .fields) (b .rest)
+      ∙ ap (λ (under : Bool). columnWith (annotated (slotAt sheet k)) (kind under (slotAt sheet k))) (sym (b .alike))
+
+  physical-is : c .physical ≡ physical (slotAt sheet k)
+  unfolding columnWith annotated numbersOf
+  physical-is = ap (λ (d : ColumnType). d .physical) column-is
+
+  -- so it is lawful
+  leaf-lawful : isLawful c ≡ true
+  leaf-lawful =
+      rw column-is
+      (slot-lawful (begins .place) (slotAt sheet k) (begins .fields) (slotAt-bytes sheet k (h .bytes))
+      (openOf-sound sheet (totalOf sheet) (openOf-accepts sheet (sound .blocks) (sound .slots)) k (h .below))
+      (begins .keeps) (rw physical-is at (h .leaf)))
+
+pub has-leaf-lawful : (c : ColumnType) → HasLeaf c → isLawful c ≡ true
+unfolding HasLeaf
+has-leaf-lawful c l = leaf-lawful c (l .0) (l .1) (l .2) (l .3)
