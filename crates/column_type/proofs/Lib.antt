@@ -4,3 +4,4 @@ pub mod RefusalLaws
 pub mod SlotLaws
 pub mod KeptLaws
 pub mod LeafLaws
+pub mod LeafSheet

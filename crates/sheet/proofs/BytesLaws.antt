@@ -9,12 +9,21 @@ use Rattle.sheet.specs.Check.{check, withCheck, withChecks, renewed}
 use Rattle.sheet.proofs.NumberLaws.{Bytes}
 use Rattle.sheet.proofs.BlockLaws.{check-lt}
 
-pub bytes-nil : Bytes []
+bytes-nil : Bytes []
 bytes-nil i = omega arith
 
-pub bytes-cons : (x : ℕ) (xs : List ℕ) → x < 2 ^ 8 → Bytes xs → Bytes (x ∷ xs)
+bytes-cons : (x : ℕ) (xs : List ℕ) → x < 2 ^ 8 → Bytes xs → Bytes (x ∷ xs)
 bytes-cons x xs h b zero = h
 bytes-cons x xs h b (suc i) = b i
+
+-- each element of a list that is written out is a byte
+abbrev pub EachByte : List ℕ → Type 0
+EachByte [] = Unit {0}
+EachByte (x ∷ xs) = (x < 2 ^ 8) × EachByte xs
+
+pub all-bytes : (xs : List ℕ) → EachByte xs → Bytes xs
+all-bytes [] h = bytes-nil
+all-bytes (x ∷ xs) h = bytes-cons x xs (h .0) (all-bytes xs (h .1))
 
 pub bytes-append : (xs ys : List ℕ) → Bytes xs → Bytes ys → Bytes (xs ++ ys)
 bytes-append [] ys a b = b
