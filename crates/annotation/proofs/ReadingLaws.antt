@@ -1,4 +1,4 @@
--- A logical type that is read spells the numbers that it was read from, and its numbers are bytes.
+-- A logical type that is read spells the numbers that it was read from, and these are bytes.
 -- Assumes nothing.
 use Prim.Native.Nat.{ℕ, _^_, _<_}
 use mathlib.Core.Path.{_≡_, refl, sym, subst}
@@ -79,11 +79,11 @@ flag-spelled b e = cases (eqb b (flagCode false)) (eqb b (flagCode true)) refl r
     cases true false x y v = sym (eqb-true b _ x)
     cases false false x y v = absurd (true≢false (sym v))
 
--- an annotation spells a code and parameters: one that is no logical type spells any
+-- an annotation is a logical type that spells a code and parameters, or cannot be read
 abbrev pub Spells : Annotation → ℕ → ℕ → ℕ → Type 0
-Spells Annotation.Plain code a b = Unit {0}
+Spells Annotation.Plain code a b = ⊥
 Spells (Annotation.Logical l) code a b = (codeOf l ≡ code) × (aOf l ≡ a) × (bOf l ≡ b)
-Spells Annotation.Interval code a b = Unit {0}
+Spells Annotation.Interval code a b = ⊥
 Spells Annotation.Unreadable code a b = Unit {0}
 
 unused-spelled : (a b : ℕ) → eqb a UNUSED && eqb b UNUSED ≡ true → (UNUSED ≡ a) × (UNUSED ≡ b)
@@ -138,7 +138,7 @@ named-spelled code a b e =
     (λ v. (refl, bare v .0, bare v .1))
     (λ v. (refl, bare v .0, bare v .1))
 
--- what a code and parameters say spells them
+-- what a code and parameters say is a logical type that spells them, or cannot be read
 pub spelled-stated : (code a b : ℕ) → Spells (statedOf code a b) code a b
 unfolding statedOf
 spelled-stated code a b = cases (validParameters code a b) refl

@@ -5,3 +5,5 @@ pub mod SlotLaws
 pub mod KeptLaws
 pub mod LeafLaws
 pub mod LeafSheet
+pub mod LeafTree
+pub mod SpeltLaws
