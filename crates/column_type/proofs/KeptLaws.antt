@@ -174,7 +174,7 @@ module _ (n : Annotated) (under : Bool) (range : InRange n) (leaf : isLeaf (n .p
   says-same = says-slot (annotationOf n under) n (natural (n .«type_length»)) (isLeaf-not-group (n .physical) leaf) ten
 
   ten-slot : rule10 (slotOf column) false ≡ true
-  unfolding column columnWith rule10
+  unfolding column columnWith rule10 natural
   ten-slot = rw (says-same, slotOf-physical column, slotOf-length column) ten
 
   eleven-slot : rule11 (slotOf column) false ≡ true

@@ -131,11 +131,11 @@ unfolding lengthRight
 leafSheet-sound n l =
     record {
       blocks =
-        record {
-          length-right = rw (leafSheet-length n);
-          checks-right = leafSheet-checks n;
-          headers-right = λ i h. let e : i ≡ 0 = omega (arith, leafSheet-blocks n) in rw e (leafSheet-header n);
-        };
+          record {
+            length-right = rw (leafSheet-length n);
+            checks-right = leafSheet-checks n;
+            headers-right = λ i h. let e : i ≡ 0 = omega (arith, leafSheet-blocks n) in rw e (leafSheet-header n);
+          };
       slots = record { slots-right = λ k h. leafSheet-slot n l k (omega (arith, leafSheet-blocks n)) };
     }
 

@@ -7,3 +7,4 @@ pub mod LeafLaws
 pub mod LeafSheet
 pub mod LeafTree
 pub mod SpeltLaws
+pub mod LawfulLaws

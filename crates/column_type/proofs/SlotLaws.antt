@@ -2,11 +2,11 @@
 use mathlib.Core.Path.{_≡_, refl}
 use mathlib.Core.Bool.{Bool, true, false, cond}
 use lib.Dec.{eqb}
+use lib.IntN.{pos}
 use borrow.Author.Tests.{eq-eqb, ne-eqb}
 use Rattle.annotation.specs.Converted as converted
 use Rattle.annotation.specs.Logical as logical
 use Rattle.annotation.specs.Parameters.{UNUSED}
-use Rattle.annotation.specs.Signed.{natural}
 use Rattle.annotation.specs.Rule9.{rule9}
 use Rattle.annotation.specs.declared.slot.Annotated.{Annotated}
 use Rattle.column_type.specs.Lawful.{slotWith, slotOf}
@@ -38,9 +38,8 @@ module _ (c : ColumnType) where
   pub slotOf-physical : slotOf c .physical ≡ c .physical
   slotOf-physical = slotOf-any (λ n. n .physical ≡ c .physical) refl refl refl
 
-  pub slotOf-length : natural (slotOf c .«type_length») ≡ c .«type_length»
-  unfolding natural
-  slotOf-length = slotOf-any (λ n. natural (n .«type_length») ≡ c .«type_length») refl refl refl
+  pub slotOf-length : slotOf c .«type_length» ≡ pos (c .«type_length»)
+  slotOf-length = slotOf-any (λ n. n .«type_length» ≡ pos (c .«type_length»)) refl refl refl
 
   -- it has one annotation at the most
   pub slotOf-agrees : rule9 (slotOf c) ≡ true
