@@ -25,3 +25,5 @@ pub mod RewriteLaws
 pub mod RewriteDemandLaws
 pub mod JudgementLaws
 pub mod Points
+pub mod AcceptedLaws
+pub mod NodeRowLaws

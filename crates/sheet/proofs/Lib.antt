@@ -16,3 +16,4 @@ pub mod FirstLaws
 pub mod OpeningLaws
 pub mod NameLaws
 pub mod Examples
+pub mod BytesLaws

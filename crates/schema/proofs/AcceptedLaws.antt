@@ -1,0 +1,44 @@
+-- An accepted sheet is sound, and its output is enough.
+use Prim.Native.Nat.{ℕ, _*_, _≤_}
+use mathlib.Core.Path.{_≡_, refl}
+use mathlib.Core.Bool.{Bool, true, false, cond}
+use mathlib.Core.List.{List}
+use borrow.Author.Tests.{ltb-false}
+use lib.Dec.{ltb}
+use Rattle.sheet.specs.Block.{totalOf}
+use Rattle.sheet.specs.Opening as sheet
+use Rattle.sheet.specs.declared.opening.Opened.the-variants.{Nodes}
+use Rattle.sheet.proofs.OpeningLaws.{openOf-blocks, openOf-slots}
+use Rattle.schema.specs.Rows.{rowWidth}
+use Rattle.schema.specs.Outcome.{shortOutput, judgement, answer, outcome}
+use Rattle.schema.specs.Demand.{Sound, EnoughOutput, Accepted}
+use Rattle.schema.specs.declared.refusal.Verdict.{Verdict}
+use Rattle.schema.specs.declared.refusal.Verdict.the-variants.{Lawful, Refused}
+use Rattle.schema.specs.declared.resolving.Resolved.{Resolved}
+use Rattle.schema.proofs.DemandLaws.{accepted-no-refusal}
+use Rattle.schema.proofs.JudgementLaws.{lawful-opened}
+
+-- 14 is not given
+answer-enough : (v : Verdict) (t lent : ℕ) → Accepted (answer v t lent) → rowWidth * t ≤ lent
+unfolding Accepted answer
+answer-enough (Refused r) t lent a = absurd a
+answer-enough Lawful t lent a = enough (ltb lent (rowWidth * t)) refl a
+  where
+    enough : (b : Bool) → ltb lent (rowWidth * t) ≡ b → Accepted (cond b (Resolved.Refused shortOutput) (Resolved.Rows t)) → rowWidth * t ≤ lent
+    enough true e q = absurd q
+    enough false e q = ltb-false lent (rowWidth * t) e
+
+module _ (bytes : List ℕ) (lent : ℕ) (accepted : Accepted (outcome bytes lent)) where
+  -- an accepted sheet opens
+  opens : (t : ℕ) × (sheet.openOf bytes ≡ Nodes t)
+  unfolding outcome
+  opens = lawful-opened bytes (accepted-no-refusal (judgement bytes) (totalOf bytes) lent accepted)
+
+  -- its blocks and slots are sound
+  pub accepted-sound : Sound bytes
+  accepted-sound = record { blocks = openOf-blocks bytes (opens .0) (opens .1); slots = openOf-slots bytes (opens .0) (opens .1) }
+
+  -- and its output is enough
+  pub accepted-enough : EnoughOutput bytes lent
+  unfolding outcome EnoughOutput
+  accepted-enough = answer-enough (judgement bytes) (totalOf bytes) lent accepted
