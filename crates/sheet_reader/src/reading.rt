@@ -39,6 +39,7 @@ pub fn next<'s, 'a>(reader: &'s mut Reader<'a>) -> Step
 pub fn slot_after(sheet: &[u8], steps: usize) -> Step
     ensures { λ r. ⌜ r ≡ stepAfter (sheet .entry) steps ⌝ }
 {
-    let reader = open(sheet);
-    step_at(reader.sheet, steps, reader.opened)
+    let mut reader = open(sheet);
+    reader.next = steps;
+    next(&mut reader)
 }
