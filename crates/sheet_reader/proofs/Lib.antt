@@ -2,3 +2,4 @@
 pub mod StepLaws
 pub mod ReaderLaws
 pub mod Lent
+pub mod ReaderCalls
