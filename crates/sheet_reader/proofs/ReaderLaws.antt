@@ -1,7 +1,7 @@
 -- The promise of the reader: on an accepted sheet it hands out each used slot once, in order, and then ends; on a refused one it ends at once.
 use mathlib.Core.Path.{_≡_, refl, sym, ap, _∙_}
 use mathlib.Core.List.{List, [], _∷_, _++_}
-use Prim.Native.Nat.{ℕ, zero, suc, _+_, _≤_, _<_}
+use Prim.Native.Nat.{ℕ, zero, suc, _+_, _-_, _≤_, _<_}
 use native.Mathlib.Nat.{zero-add, add-zero, le-of-eq}
 use native.Mathlib.Decide.{decLe}
 use native.Mathlib.Omega.{arith}
@@ -42,6 +42,20 @@ pub stepAfter-at : (sheet : RefT (List ℕ)) (n : ℕ) → stepAfter sheet n ≡
 unfolding stepAfter
 stepAfter-at sheet n =
     stepOf-movedBy n (openedOn sheet) ∙ ap (λ (node : ℕ). stepAt (now sheet) node (openOf (now sheet))) (zero-add n)
+
+-- ---- how many are left
+
+-- how many slots a reader has yet to hand out
+abbrev pub left : Reader → ℕ
+left reader = total (reader .opened) - reader .next
+
+-- a step that hands out a slot leaves one fewer
+pub movedOn-left : (reader : Reader) → (stepOf reader ≡ End → ⊥) → left (movedOn reader) < left reader
+movedOn-left reader other = cases (decLe (total (reader .opened)) (reader .next))
+  where
+    cases : Dec (total (reader .opened) ≤ reader .next) → left (movedOn reader) < left reader
+    cases (yes h) = absurd (other (stepAt-end (now (reader .sheet)) (reader .next) (reader .opened) h))
+    cases (no h) = omega (arith, nodeAfter-next (reader .next) (reader .opened) (omega arith))
 
 -- ---- all of them
 
