@@ -3,7 +3,7 @@
 --     comes-open     what `open` leaves, at the machine value u  ⊢ ⇛ (u is the opened reader's) ∧ own (the opened reader) ∗ [κ]_q
 --     goes-next      the reader in its local ∗ [κ]_q  ⊢ ⇛ ∃ a γ. what `next` asks, for a lifetime of the call ∗ what is kept of the loan (`Lent.antt`)
 --     comes-next     what `next` leaves, at the machine value u ∗ what is kept  ⊢ ⇛ ∃ t. t is what the reader's step hands out ∧ the reader moved on in its local ∗ [κ]_q ∗ own t
-use mathlib.Core.Path.{_≡_, refl, sym, ap}
+use mathlib.Core.Path.{_≡_, refl}
 use Prim.Native.Nat.{ℕ}
 use mathlib.Core.List.{List, [], _∷_}
 use lib.ListN.{length}
@@ -23,9 +23,9 @@ use denote.RattleType.{RattleType, owns}
 use denote.Laws.{Is, shows}
 use denote.Memory.{cellAt}
 use denote.Builtin.{u8}
-use denote.Ref.{RefT, NamedLft, MutRef}
+use denote.Ref.{RefT, MutRef}
 use denote.Slice.{sliceVal, ShrSlice, shr-slice-copy}
-use denote.Steps.{only, peeks, heard, nothing}
+use denote.Steps.{peeks, heard, nothing}
 use denote.Struct.Declared.{Declared}
 use denote.Struct.Laws as LL
 use denote.Struct.Steps.{spelt}

@@ -1,7 +1,7 @@
 -- `sheet_slots::print_slots` meets its contract and ends: a walk of its MIR, by hand. The reader stands in a local. In each turn of the loop it is lent to `next` and comes back moved on (`ReaderCalls.antt` of `sheet_reader`), and what `next` returned is passed to `print_step`; a turn that goes on leaves one slot fewer.
 -- All that the proof knows of the three functions that are called is that each meets its contract.
-use mathlib.Core.Path.{_≡_, refl, sym, ap, _∙_}
-use mathlib.Core.Bool.{Bool, true, false, not, true≢false}
+use mathlib.Core.Path.{_≡_, refl, ap, _∙_}
+use mathlib.Core.Bool.{Bool, true, false, true≢false}
 use mathlib.Core.WellFounded.{WellFounded, InvImage·wf}
 use Prim.Native.Nat.{ℕ, zero, suc, _<_}
 use mathlib.Core.List.{List, [], _∷_}
@@ -15,11 +15,11 @@ use base.Logic.{SProp, ent, emp, via, fst∗, snd∗, exE, id⊢}
 use base.Fml.{Lft, Share, Fml, ftrue, flft, fat, froom, fdies}
 use prog.Memory.{Memory}
 use prog.Routine.{Routine}
-use prog.Wp.{Heap, Out, Env, afterSeq, afterBlock, afterTurn, Calls, Loops, Wp, atReturn, WpFn, Tables}
+use prog.Wp.{Heap, Out, Env, afterSeq, afterBlock, afterTurn, Wp, atReturn, WpFn, Tables}
 use ghost.Atoms.{Atoms, sem}
 use contract.Monad.{Fun, fact}
 use contract.Running.{givenOf, tables, tablesOf}
-use types.Kit.{Given, Item, ‵, raw, given, some, later, _⊛_, ⋆, Sq, runs, anyQ, atRet, _$_, _∵_, !, qed, by, move, keep, drop, use1, use2, use3, split, join, pick, learn, rewrite, fsplit, fjoin, suffices, frame, await, done}
+use types.Kit.{Given, Item, ‵, raw, some, later, _⊛_, ⋆, Sq, runs, anyQ, atRet, _$_, _∵_, !, qed, by, move, keep, drop, use1, use2, use3, split, join, pick, learn, rewrite, fsplit, fjoin, suffices, frame, await, done}
 use types.Part.{whole, sub, look-in}
 use types.Run.{look, init, forget, stop, fld, from, load, addr, of-opd, and-then, no-more, assigns, land, first, skips, jumps, blocks, branches, returns, enter, alloc1, alloc0, params1, pass1, pass0, free1, free0, exec, Below, again, loops}
 use sound.WpLaws.{fmOf, WpFn-mono}
@@ -45,7 +45,7 @@ use Rattle.sheet.specs.Opening.{openOf}
 use Rattle.sheet.specs.declared.opening.Opened.{Opened as Answer}
 use Rattle.sheet.proofs.opening.Opened as O
 use Rattle.sheet.proofs.opening.Opened.Laws as O′
-use Rattle.sheet_reader.specs.Reading.{openedOn, stepOf, movedOn}
+use Rattle.sheet_reader.specs.Reading.{openedOn, movedOn}
 use Rattle.sheet_reader.specs.declared.reading.Reader.{Reader}
 use Rattle.sheet_reader.specs.declared.stepping.Step.{Step}
 use Rattle.sheet_reader.specs.declared.stepping.Step.the-variants.{End}

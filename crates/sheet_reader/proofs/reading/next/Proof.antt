@@ -26,15 +26,15 @@ use denote.RattleType.{RattleType, owns}
 use denote.Laws.{Is, shows}
 use denote.Memory.{mem, cellAt}
 use denote.Plain.{uint-makes, uint-lawful}
-use denote.Builtin.{u8, usize}
+use denote.Builtin.{usize}
 use denote.Ref.{RefT, NamedLft, MutRef, ptr-vals, mut-tells, now}
 use denote.Signature.{Slot, plain, namedLft}
-use denote.Slice.{sliceVal, ShrSlice}
+use denote.Slice.{sliceVal}
 use denote.Steps.{only, opens, closes, owned, peeks, facts, heard, nothing}
 use denote.Enum.Laws as EL
 use denote.Struct.Declared.{Declared}
 use denote.Struct.Laws as LL
-use denote.Struct.Rest.{all-own, ownAt, rest, own-open, own-out, own-put}
+use denote.Struct.Rest.{all-own, own-open, own-put}
 use denote.Struct.Steps.{spelt}
 use denote.Struct.Values.{Values}
 use denote.Triple.Statement.{Contract, Triple}
@@ -43,9 +43,7 @@ use denote.Triple.Entry.{onEntry}
 use denote.Triple.Spec.{Meets, tripleOf}
 use denote.Triple.Table.{entered, cited}
 use denote.Triple.Walked.{says, Stays, stay-ref, walkOf, goes-ref, Walks, ends-at, walked, walk-meets}
-use denote.Exit.{yes}
 use denote.Triple.Clauses.{ensured, lasts}
-use Rattle.sheet.specs.declared.opening.Opened.{Opened}
 use Rattle.sheet.proofs.opening.Opened as O
 use Rattle.sheet.proofs.opening.Opened.Laws as O′
 use Rattle.sheet_reader.specs.Step.{stepAt, nodeAfter}

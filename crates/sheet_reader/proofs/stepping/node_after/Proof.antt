@@ -1,6 +1,6 @@
 -- `sheet_reader::stepping::node_after` meets its contract: the test says which case of the definition holds.
 use borrow.Author.Needs.{needs}
-use mathlib.Core.Path.{sym, _∙_}
+use mathlib.Core.Path.{sym}
 use Prim.Native.Nat.{_<_}
 use native.Mathlib.Omega.{arith}
 use Rattle.sheet_reader.specs.Step.{total}
