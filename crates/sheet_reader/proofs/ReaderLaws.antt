@@ -110,6 +110,11 @@ slotSteps-length sheet k (slot ∷ used) = ap suc (slotSteps-length sheet (suc k
 
 -- ---- the promise
 
+-- "It opens under refusals 1 to 4": what a reader opened with is the sheet's outcome
+pub openedOn-outcome : (sheet : RefT (List ℕ)) → outcomeOf (now sheet) (openedOn sheet .opened) ≡ outcome (now sheet)
+unfolding outcome
+openedOn-outcome sheet = refl
+
 -- "hands out each slot once, in order, ending after T steps": n steps over an accepted sheet hand out its used slots, and then ends
 pub steps-accepted : (sheet : RefT (List ℕ)) (t : ℕ) (used : List (List ℕ)) → outcome (now sheet) ≡ accepted t used
     → (n : ℕ) → steps n (openedOn sheet) ≡ take n (slotSteps (now sheet) 0 used ++ replicate n End)
