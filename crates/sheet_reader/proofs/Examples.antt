@@ -4,14 +4,15 @@ use mathlib.Core.List.{List, [], _∷_}
 use Prim.Native.Nat.{ℕ, _^_, _-_}
 use denote.Ref.{RefT}
 use Rattle.sheet.specs.Header.{lengthRight}
+use Rattle.sheet.specs.Name.{stretchOf}
 use Rattle.sheet.specs.Opening.{openOf}
-use Rattle.sheet.specs.Slot.{emptySlot, reaches, slotStart, slotAt}
+use Rattle.sheet.specs.Slot.{numbersOf, emptySlot, reaches, slotStart, slotAt}
 use Rattle.sheet.specs.declared.opening.Opened.{Opened}
 use Rattle.sheet.specs.declared.opening.Opened.the-variants.{Nodes, BadHeader}
-use Rattle.sheet_reader.specs.Step.{total, slotStep, stepAt, nodeAfter}
+use Rattle.sheet_reader.specs.Step.{total, stepAt, nodeAfter}
 use Rattle.sheet_reader.specs.Reading.{openedOn, movedOn, steps}
 use Rattle.sheet_reader.specs.declared.reading.Reader.{Reader}
-use Rattle.sheet_reader.specs.declared.stepping.Step.the-variants.{End}
+use Rattle.sheet_reader.specs.declared.stepping.Step.the-variants.{Slot, End}
 
 -- no bytes, and a reader made by hand over them
 abbrev none : RefT (List ℕ)
@@ -26,7 +27,7 @@ unfolding openOf lengthRight total stepAt nodeAfter steps
 opened-on-none = refl
 
 -- a reader that says two nodes hands out two slots, empty where there are no bytes, and then ends
-two-by-hand : steps 3 (by-hand 0 (Nodes 2)) ≡ slotStep [] 0 emptySlot ∷ slotStep [] 1 emptySlot ∷ End ∷ []
+two-by-hand : steps 3 (by-hand 0 (Nodes 2)) ≡ Slot (numbersOf emptySlot) (stretchOf [] 0) ∷ Slot (numbersOf emptySlot) (stretchOf [] 1) ∷ End ∷ []
 unfolding reaches slotStart slotAt total stepAt nodeAfter steps
 two-by-hand = refl
 

@@ -1,9 +1,10 @@
 -- A reader ("keeps hold of the lent sheet and its next node"): how it opens, steps and moves on, and what its steps hand out.
 use Prim.Native.Nat.{ℕ, zero, suc}
-use mathlib.Core.List.{List, [], _∷_}
+use mathlib.Core.List.{List, [], _∷_, _++_, map}
+use lib.ListN.{take, replicate}
 use denote.Ref.{RefT, now}
-use Rattle.sheet.specs.Opening.{openOf}
-use Rattle.sheet_reader.specs.Step.{slotStep, stepAt, nodeAfter}
+use Rattle.sheet.specs.Opening.{Outcome, accepted, refused, openOf}
+use Rattle.sheet_reader.specs.Step.{stepAt, nodeAfter, Handout, ended, slotHanded}
 use Rattle.sheet_reader.specs.declared.reading.Reader.{Reader}
 use Rattle.sheet_reader.specs.declared.stepping.Step.{Step}
 
@@ -33,7 +34,7 @@ unfoldable pub steps : ℕ → Reader → List Step
 steps zero reader = []
 steps (suc n) reader = stepOf reader ∷ steps n (movedOn reader)
 
--- what slots are handed out as, each once and in order, the first being node k's
-unfoldable pub slotSteps : List ℕ → ℕ → List (List ℕ) → List Step
-slotSteps sheet k [] = []
-slotSteps sheet k (slot ∷ slots) = slotStep sheet k slot ∷ slotSteps sheet (suc k) slots
+-- "hands out each slot once, in order, ending after T steps": what n steps hand out of a sheet with this outcome
+unfoldable pub handouts : Outcome → ℕ → List Handout
+handouts (accepted t used) n = take n (map slotHanded used ++ replicate n ended)
+handouts (refused number place) n = replicate n ended

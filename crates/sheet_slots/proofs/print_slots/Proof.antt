@@ -89,11 +89,8 @@ module _ {M : Type 1} (𝓤 : URA M) (H : Heap 𝓤) (A : Atoms 𝓤) (mem : Mem
 
 -- where the test of a turn holds, its step was not the end
 not-end : (t : Step) (b : Bool) → Holds b → (t ≡ End → b ≡ false) → t ≡ End → ⊥
-not-end t b h e i = no b h (e i)
-  where
-    no : (c : Bool) → Holds c → c ≡ false → ⊥
-    no true h i = true≢false i
-    no false h i = absurd h
+not-end t true h e i = true≢false (e i)
+not-end t false h e i = absurd h
 
 module _ {M : Type 1} (𝓤 : URA M) (H : Heap 𝓤) (A : Atoms 𝓤) (W : Given 𝓤 H A) (mem : Memory → SProp 𝓤) (run : Routine → Fun 𝓤) (κ : Lft) (q : Share) (s : RefT (List ℕ)) where
   -- the machine value and what is owned of the slice, and of a reader

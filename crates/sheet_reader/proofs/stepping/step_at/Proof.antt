@@ -3,7 +3,7 @@ use borrow.Author.Needs.{needs}
 use mathlib.Core.Path.{sym}
 use Prim.Native.Nat.{_<_}
 use native.Mathlib.Omega.{arith}
-use Rattle.sheet_reader.specs.Step.{total, slotStep}
+use Rattle.sheet_reader.specs.Step.{total}
 use Rattle.sheet_reader.proofs.StepLaws.{stepAt-slot, stepAt-end}
 use Rattle.sheet_reader.proofs.stepping.step_at.Statement.{statement}
 use Rattle.sheet_reader.proofs.stepping.step_at.Tie as tie
@@ -21,7 +21,6 @@ name-stretch-requires : tie.Need-name-stretch-requires
 name-stretch-requires c κs = search needs
 
 returns-2 : tie.Need-returns-2
-unfolding slotStep
 returns-2 c =
     let a = c .before .before .before .before .before .args in
     let below : a .node < total (a .opened) = omega (arith, c .before .before .before .total-of .ensures) in
