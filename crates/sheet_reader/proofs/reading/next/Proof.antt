@@ -1,5 +1,5 @@
 -- `sheet_reader::reading::next` meets its contract: a walk of its MIR, by hand. The borrow is opened; `node_after` is called on copies of the number and the answer, and what it returns is stored in the struct's cell; `step_at` is called on the slice, the old number and the answer; and the borrow is closed at the struct with the new number.
--- All that the proof knows of the two functions is that each meets its contract. The struct is Copy: what it owns is had twice, and of one copy what sheet owns goes to `step_at`, beside the token of its lifetime, which comes back.
+-- All that the proof knows of the two functions is that each meets its contract. The struct is Copy: what it owns is had twice, and one copy, taken apart, is what `step_at` asks, beside the token of the sheet's lifetime, which comes back.
 use mathlib.Core.Path.{_≡_, refl, ap}
 use Prim.Native.Nat.{ℕ, _<_, _^_}
 use mathlib.Core.List.{List, [], _∷_}
