@@ -1,0 +1,40 @@
+-- A reader ("keeps hold of the lent sheet and its next node"): how it opens, steps and moves on, and what its steps hand out.
+use Prim.Native.Nat.{ℕ, zero, suc}
+use mathlib.Core.List.{List, [], _∷_, _++_, map}
+use lib.ListN.{take, replicate}
+use denote.Ref.{RefT, now}
+use Rattle.sheet.specs.Opening.{Outcome, accepted, refused, openOf}
+use Rattle.sheet_reader.specs.Step.{stepAt, nodeAfter, Handout, ended, slotHanded}
+use Rattle.sheet_reader.specs.declared.reading.Reader.{Reader}
+use Rattle.sheet_reader.specs.declared.stepping.Step.{Step}
+
+-- "It opens under refusals 1 to 4": at node 0, with what opening answers
+abbrev pub openedOn : RefT (List ℕ) → Reader
+openedOn sheet = record { sheet = sheet; next = 0; opened = openOf (now sheet) }
+
+-- what a step hands out
+abbrev pub stepOf : Reader → Step
+stepOf reader = stepAt (now (reader .sheet)) (reader .next) (reader .opened)
+
+-- the reader after a step: it holds the same sheet
+abbrev pub movedOn : Reader → Reader
+movedOn reader = record { sheet = reader .sheet; next = nodeAfter (reader .next) (reader .opened); opened = reader .opened }
+
+-- the reader after n steps
+unfoldable pub movedBy : ℕ → Reader → Reader
+movedBy zero reader = reader
+movedBy (suc n) reader = movedBy n (movedOn reader)
+
+-- what a reader opened on a sheet hands out after n steps
+unfoldable pub stepAfter : RefT (List ℕ) → ℕ → Step
+stepAfter sheet n = stepOf (movedBy n (openedOn sheet))
+
+-- what n steps hand out
+unfoldable pub steps : ℕ → Reader → List Step
+steps zero reader = []
+steps (suc n) reader = stepOf reader ∷ steps n (movedOn reader)
+
+-- "hands out each slot once, in order, ending after T steps": what n steps hand out of a sheet with this outcome
+unfoldable pub handouts : Outcome → ℕ → List Handout
+handouts (accepted t used) n = take n (map slotHanded used ++ replicate n ended)
+handouts (refused number place) n = replicate n ended
