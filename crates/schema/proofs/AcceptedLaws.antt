@@ -1,8 +1,9 @@
 -- An accepted sheet is sound, and its output is enough.
 use Prim.Native.Nat.{ℕ, _*_, _≤_}
-use mathlib.Core.Path.{_≡_, refl}
+use mathlib.Core.Path.{_≡_, refl, sym, subst}
 use mathlib.Core.Bool.{Bool, true, false, cond}
 use mathlib.Core.List.{List}
+use native.Mathlib.Omega.{arith}
 use borrow.Author.Tests.{ltb-false}
 use lib.Dec.{ltb}
 use Rattle.sheet.specs.Block.{totalOf}
@@ -28,6 +29,16 @@ answer-enough Lawful t lent a = enough (ltb lent (rowWidth * t)) refl a
     enough true e q = absurd q
     enough false e q = ltb-false lent (rowWidth * t) e
 
+-- the rows that are answered are T
+answer-rows : (v : Verdict) (t lent n : ℕ) → answer v t lent ≡ Resolved.Rows n → t ≡ n
+unfolding answer
+answer-rows (Refused r) t lent n e = absurd (let z : _≡_ {A = ℕ} 0 1 = cc in omega arith)
+answer-rows Lawful t lent n e = by-test (ltb lent (rowWidth * t)) e
+  where
+    by-test : (b : Bool) → cond b (Resolved.Refused shortOutput) (Resolved.Rows t) ≡ Resolved.Rows n → t ≡ n
+    by-test true q = absurd (let z : _≡_ {A = ℕ} 0 1 = cc in omega arith)
+    by-test false q = cc
+
 module _ (bytes : List ℕ) (lent : ℕ) (accepted : Accepted (outcome bytes lent)) where
   -- an accepted sheet opens
   opens : (t : ℕ) × (sheet.openOf bytes ≡ Nodes t)
@@ -42,3 +53,10 @@ module _ (bytes : List ℕ) (lent : ℕ) (accepted : Accepted (outcome bytes len
   pub accepted-enough : EnoughOutput bytes lent
   unfolding outcome EnoughOutput
   accepted-enough = answer-enough (judgement bytes) (totalOf bytes) lent accepted
+
+-- as many numbers are lent as the rows that are answered take
+pub rows-fit : (bytes : List ℕ) (lent n : ℕ) → outcome bytes lent ≡ Resolved.Rows n → rowWidth * n ≤ lent
+unfolding outcome Accepted EnoughOutput
+rows-fit bytes lent n e =
+    let enough = accepted-enough bytes lent (subst Accepted (sym e) tt) in
+    omega (arith, answer-rows (judgement bytes) (totalOf bytes) lent n e)

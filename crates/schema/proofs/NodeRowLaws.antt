@@ -1,6 +1,6 @@
 -- The row of each node of a tree that keeps the rules: where it stands, and that its node keeps them.
 use Prim.Native.Nat.{ℕ, zero, suc, _+_, _*_, _-_, _<_}
-use mathlib.Core.Path.{_≡_, refl, sym, ap, _∙_, subst}
+use mathlib.Core.Path.{_≡_, sym, ap, _∙_, subst}
 use mathlib.Core.List.{List, [], _++_, append-assoc}
 use native.Mathlib.Decide.{decLt}
 use native.Mathlib.Omega.{arith}
@@ -11,8 +11,7 @@ use Rattle.schema.specs.Rules.{underMap, placeBelow, KeepsAt, Keeps, Kee
 use Rattle.schema.specs.Rows.{isMapParent, row, parentOf, afterFirst, rowsFrom, rowssFrom, rowWidth}
 use Rattle.schema.specs.declared.place.Place.{Place}
 use Rattle.schema.specs.declared.roles.Parent.{Parent}
-use Rattle.schema.specs.declared.roles.Parent.the-variants as parent
-use Rattle.schema.proofs.RewrittenRowsLaws.{map-below}
+use Rattle.schema.proofs.RewrittenRowsLaws.{map-after, map-below}
 use Rattle.schema.proofs.RowsLaws.{length-row, length-rowsFrom}
 
 -- some numbers begin with the row of a node that keeps the rules; the rules and the row take its parent for a MAP alike
@@ -27,15 +26,6 @@ pub record BeginsWith (s : Slot) (numbers : List ℕ) : Type 0 where
   pub keeps : KeepsAt place s fields
   pub alike : underMap place ≡ isMapParent «parent»
   pub begins : numbers ≡ row at up «parent» above s fields ++ rest
-
--- what a node is to its later fields is a MAP where it is one to the first
-alike-after : (q : Parent) → isMapParent q ≡ isMapParent (afterFirst q)
-alike-after parent.Other = refl
-alike-after parent.List = refl
-alike-after parent.ListLayer = refl
-alike-after parent.Map = refl
-alike-after parent.KeyValue = refl
-alike-after parent.KeyValueRest = refl
 
 -- what follows n rows, and k more
 drop-rows : (n k : ℕ) (xs ys : List ℕ) → length xs ≡ rowWidth * n → drop (rowWidth * (n + k)) (xs ++ ys) ≡ drop (rowWidth * k) ys
@@ -89,4 +79,4 @@ mutual
   row-in (field t fs) p q at up above rest h e k l =
       in-run (listing t) (listings fs) (rowsFrom at up q above t) (rowssFrom (at + size t) up (afterFirst q) above fs) rest k (length-rowsFrom t at up q above) l
       (λ b. row-at t p q at up above (rowssFrom (at + size t) up (afterFirst q) above fs ++ rest) (h .0) e k b)
-      (λ j b. row-in fs p (afterFirst q) (at + size t) up above rest (h .1) (e ∙ alike-after q) j b)
+      (λ j b. row-in fs p (afterFirst q) (at + size t) up above rest (h .1) (e ∙ sym (map-after q)) j b)

@@ -36,7 +36,7 @@ map-parent code own = list (eqb code logical.LIST) (eqb code logical.MAP) refl r
     list false false e f = layers (eqb own LIST-LAYER) (eqb own KEY-VALUE-LAYER)
 
 -- and so for the later fields of a run
-map-after : (q : Parent) → isMapParent (afterFirst q) ≡ isMapParent q
+pub map-after : (q : Parent) → isMapParent (afterFirst q) ≡ isMapParent q
 map-after parent.Other = refl
 map-after parent.List = refl
 map-after parent.ListLayer = refl
