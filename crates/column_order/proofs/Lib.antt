@@ -1,5 +1,7 @@
 -- Laws of the order of single values.
+pub mod Turning
+pub mod WholeLaws
 pub mod ByteLaws
 pub mod FloatLaws
-pub mod WholeLaws
 pub mod KeyLaws
+pub mod OrderLaws

@@ -34,12 +34,13 @@ unfolding orderOf
 no-order c = rw (is-lawful (c .before .before), sym (c .before .has-order .ensures) ∙ not-true _ (c .if2 .taken))
 
 -- past both checks of the column type the values decide
-judged : (c : tie.After-read) → let s = c .before .before .before .before .before .before .before .args in
-    unlessRefused (c .read .result) (unlessRefused (readOf (s .c) (s .b .now)) (keyOrder (keyOf (s .c) (s .a .now)) (keyOf (s .c) (s .b .now)))) ≡ orderOf (s .c) (s .a .now) (s .b .now)
+judged : (c : tie.After-read) (r : Read) → c .read .result ≡ r
+    → let s = c .before .before .before .before .before .before .before .args in
+    unlessRefused r (unlessRefused (readOf (s .c) (s .b .now)) (keyOrder (keyOf (s .c) (s .a .now)) (keyOf (s .c) (s .b .now)))) ≡ orderOf (s .c) (s .a .now) (s .b .now)
 unfolding orderOf
-judged c =
+judged c r e =
     let second = c .before in
-    rw (is-lawful (second .before .before), sym (second .before .has-order .ensures) ∙ not-false _ (second .if2 .left), c .read .ensures .0)
+    rw (is-lawful (second .before .before), sym (second .before .has-order .ensures) ∙ not-false _ (second .if2 .left), sym e ∙ c .read .ensures .0)
 
 is-lawful-requires : tie.Need-is-lawful-requires
 is-lawful-requires c κs = search needs
@@ -79,25 +80,22 @@ returns-3 : tie.Need-returns-3
 returns-3 c =
     let at = c .before .before .before .before in
     let s = at .before .before .before .before .before .before .before in
-    answered (s .args .c) (s .args .a .now) (s .args .b .now) (c .order-after .ensures ∙ ap (λ (r : Read). unlessRefused r (unlessRefused (readOf (s .args .c) (s .args .b .now)) (keyOrder (keyOf (s .args .c) (s .args .a .now)) (keyOf (s .args .c) (s .args .b .now))))) (sym (c .before .before .x .given .1)) ∙ judged at)
+    answered (s .args .c) (s .args .a .now) (s .args .b .now) (c .order-after .ensures ∙ judged at (Read.Value _) (c .before .before .x .given .1))
 
 returns-4 : tie.Need-returns-4
 returns-4 c =
-    let at = c .before .before in
-    let s = at .before .before .before .before .before .before .before in
-    answered (s .args .c) (s .args .a .now) (s .args .b .now) (ap (λ (r : Read). unlessRefused r (unlessRefused (readOf (s .args .c) (s .args .b .now)) (keyOrder (keyOf (s .args .c) (s .args .a .now)) (keyOf (s .args .c) (s .args .b .now))))) (sym (c .enum-told .given .1)) ∙ judged at)
+    let s = c .before .before .before .before .before .before .before .before .before in
+    answered (s .args .c) (s .args .a .now) (s .args .b .now) (judged (c .before .before) Read.Unlawful (c .enum-told .given .1))
 
 returns-5 : tie.Need-returns-5
 returns-5 c =
-    let at = c .before .before in
-    let s = at .before .before .before .before .before .before .before in
-    answered (s .args .c) (s .args .a .now) (s .args .b .now) (ap (λ (r : Read). unlessRefused r (unlessRefused (readOf (s .args .c) (s .args .b .now)) (keyOrder (keyOf (s .args .c) (s .args .a .now)) (keyOf (s .args .c) (s .args .b .now))))) (sym (c .enum-told2 .given .1)) ∙ judged at)
+    let s = c .before .before .before .before .before .before .before .before .before in
+    answered (s .args .c) (s .args .a .now) (s .args .b .now) (judged (c .before .before) Read.WrongLength (c .enum-told2 .given .1))
 
 returns-6 : tie.Need-returns-6
 returns-6 c =
-    let at = c .before .before in
-    let s = at .before .before .before .before .before .before .before in
-    answered (s .args .c) (s .args .a .now) (s .args .b .now) (ap (λ (r : Read). unlessRefused r (unlessRefused (readOf (s .args .c) (s .args .b .now)) (keyOrder (keyOf (s .args .c) (s .args .a .now)) (keyOf (s .args .c) (s .args .b .now))))) (sym (c .enum-told3 .given .1)) ∙ judged at)
+    let s = c .before .before .before .before .before .before .before .before .before in
+    answered (s .args .c) (s .args .a .now) (s .args .b .now) (judged (c .before .before) Read.BreaksAnnotation (c .enum-told3 .given .1))
 
 pub order-spec : {M : Type 1} → statement M
 order-spec =
