@@ -6,3 +6,4 @@ pub mod RewritingLaws
 mod SignedLaws
 pub mod SpellingLaws
 mod TableLaws
+pub mod ReadingLaws

@@ -18,3 +18,5 @@ pub mod RolesLaws
 pub mod RowsSteps
 pub mod JudgementLaws
 pub mod Points
+pub mod AcceptedLaws
+pub mod NodeRowLaws

@@ -2,15 +2,15 @@
 use mathlib.Core.Path.{_≡_, refl, sym, ap, _∙_}
 use mathlib.Core.Bool.{Bool, true, false, and-eq-true-iff}
 use mathlib.Core.List.{List, _∷_}
-use Prim.Native.Nat.{ℕ, zero, suc, _+_, _-_, _*_, _≤_, _<_}
-use native.Mathlib.Nat.{add-zero, zero-add, add-suc, suc-add}
+use Prim.Native.Nat.{ℕ, zero, suc, _+_, _-_, _*_, _/_, _%_, _≤_, _<_}
+use native.Mathlib.Nat.{add-zero, zero-add, add-suc, suc-add, mod-eq-of-lt, mul-add-mod-self-left}
 use native.Mathlib.Decide.{decLt}
 use native.Mathlib.Omega.{arith}
 use lib.Dec.{leb, ltb}
 use lib.ListN.{length, getD, take, drop, getD-replicate, List·getD-eq-default}
 use lib.Seq.{getD-take, getD-drop, drop-cons}
 use borrow.Author.Tests.{lt-ltb, le-ltb, le-leb, lt-leb, leb-true}
-use Rattle.sheet.specs.Block.{mostBytes, mostNodes, slotsInBlock, slotSize, blockCount, totalOf}
+use Rattle.sheet.specs.Block.{blockSize, firstSlotAt, checkAt, mostBytes, mostNodes, slotsInBlock, slotSize, blockCount, totalOf}
 use Rattle.sheet.specs.Slot.{slotStart, reaches, emptySlot, slotAt, slotsFrom, slots}
 use Rattle.sheet.proofs.NumberLaws.{Bytes}
 use Rattle.sheet.proofs.PartLaws.{take-to, length-part}
@@ -19,6 +19,25 @@ use Rattle.sheet.proofs.PartLaws.{take-to, length-part}
 pub slotStart-most : (k : ℕ) → k < mostNodes → slotStart k + slotSize ≤ mostBytes
 unfolding slotStart
 slotStart-most k h = omega arith
+
+-- where a slot's byte stands in its block
+slotStart-offset : (k i : ℕ) → i < slotSize → (slotStart k + i) % blockSize ≡ firstSlotAt + slotSize * (k % slotsInBlock) + i
+unfolding slotStart
+slotStart-offset k i h =
+    ap (λ (n : ℕ). n % blockSize) regrouped
+    ∙ mul-add-mod-self-left blockSize (k / slotsInBlock) (firstSlotAt + slotSize * (k % slotsInBlock) + i)
+    ∙ mod-eq-of-lt (omega arith)
+  where
+    regrouped : blockSize * (k / slotsInBlock) + firstSlotAt + slotSize * (k % slotsInBlock) + i ≡ blockSize * (k / slotsInBlock) + (firstSlotAt + slotSize * (k % slotsInBlock) + i)
+    regrouped = omega arith
+
+-- behind the header
+pub slotStart-behind : (k i : ℕ) → i < slotSize → firstSlotAt ≤ (slotStart k + i) % blockSize
+slotStart-behind k i h = omega (arith, slotStart-offset k i h)
+
+-- and before the check
+pub slotStart-before : (k i : ℕ) → i < slotSize → (slotStart k + i) % blockSize < checkAt
+slotStart-before k i h = omega (arith, slotStart-offset k i h)
 
 -- the slots of the whole blocks lie within the bytes
 pub slotStart-within : (sheet : List ℕ) (k : ℕ) → k < slotsInBlock * blockCount sheet → slotStart k + slotSize ≤ length sheet

@@ -3,8 +3,9 @@ use Prim.Native.Nat.{ℕ, zero, suc, _+_, _*_, _%_}
 use mathlib.Core.Bool.{Bool}
 use mathlib.Core.List.{List}
 use lib.Dec.{eqb}
-use lib.ListN.{getD}
-use Rattle.sheet.specs.Block.{checkAt, storedCheck, blockAt}
+use lib.ListN.{getD, set}
+use Rattle.sheet.specs.Number.{lowByte, highByte}
+use Rattle.sheet.specs.Block.{blockSize, checkAt, storedCheck, blockCount, blockAt}
 
 -- "modulo 65,521"
 abbrev pub checkModulus : ℕ
@@ -26,3 +27,18 @@ check block = sumBelow (weighted block) checkAt % checkModulus
 -- block i's stored check is its check; the stored number is not reduced
 unfoldable pub checkRight : List ℕ → ℕ → Bool
 checkRight sheet i = eqb (storedCheck (blockAt sheet i)) (check (blockAt sheet i))
+
+-- a sheet that stores the check of its block i, all other bytes as they are
+unfoldable pub withCheck : List ℕ → ℕ → List ℕ
+withCheck sheet i =
+    let c = check (blockAt sheet i) in
+    set (set sheet (blockSize * i + checkAt) (lowByte c)) (blockSize * i + checkAt + 1) (highByte c)
+
+-- the same for its first n blocks
+unfoldable pub withChecks : List ℕ → ℕ → List ℕ
+withChecks sheet zero = sheet
+withChecks sheet (suc n) = withCheck (withChecks sheet n) n
+
+-- a sheet that stores the check of every block
+unfoldable pub renewed : List ℕ → List ℕ
+renewed sheet = withChecks sheet (blockCount sheet)

@@ -1,5 +1,5 @@
 -- Numbers in a list of bytes ("All numbers are little-endian").
-use Prim.Native.Nat.{ℕ, zero, suc, _+_, _*_, _^_}
+use Prim.Native.Nat.{ℕ, zero, suc, _+_, _*_, _/_, _%_, _^_}
 use mathlib.Core.Bool.{cond}
 use mathlib.Core.List.{List}
 use lib.Dec.{ltb}
@@ -21,3 +21,10 @@ number32 bytes at = numberAt bytes at 4
 -- the signed number that 32 bits stand for in two's complement
 unfoldable pub signed32 : ℕ → ℤ
 signed32 n = cond (ltb n (2 ^ 31)) (pos n) (pos n -ℤ pos (2 ^ 32))
+
+-- the two bytes of a number of 16 bits
+abbrev pub lowByte : ℕ → ℕ
+lowByte n = n % 256
+
+abbrev pub highByte : ℕ → ℕ
+highByte n = n / 256

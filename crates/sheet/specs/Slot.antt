@@ -4,7 +4,7 @@ use mathlib.Core.Bool.{Bool, cond, _&&_}
 use mathlib.Core.List.{List, [], _∷_}
 use lib.Dec.{leb, ltb}
 use lib.IntN.{ℤ}
-use lib.ListN.{length, getD, take, drop, replicate}
+use lib.ListN.{length, getD, set, take, drop, replicate}
 use Rattle.sheet.specs.Number.{number16, number32, signed32}
 use Rattle.sheet.specs.Block.{blockSize, firstSlotAt, slotsInBlock, slotSize, mostNodes, totalOf}
 use Rattle.sheet.specs.declared.slots.Slot.{Slot}
@@ -129,3 +129,14 @@ slotsFrom sheet k (suc n) = slotAt sheet k ∷ slotsFrom sheet (suc k) n
 -- the used slots, in block order
 unfoldable pub slots : List ℕ → List (List ℕ)
 slots sheet = slotsFrom sheet 0 (totalOf sheet)
+
+-- a slot with other annotations: converted, logical, parameters a and b
+unfoldable pub annotatedSlot : List ℕ → ℕ → ℕ → ℕ → ℕ → List ℕ
+annotatedSlot slot conv log a b = set (set (set (set slot convertedAt conv) logicalAt log) parameterAAt a) parameterBAt b
+
+-- a sheet with other annotations in the slot of node k, all other bytes as they are; nothing changes where the bytes do not reach it
+unfoldable pub withAnnotation : List ℕ → ℕ → ℕ → ℕ → ℕ → ℕ → List ℕ
+withAnnotation sheet k conv log a b =
+    cond (reaches sheet k)
+    (set (set (set (set sheet (slotStart k + convertedAt) conv) (slotStart k + logicalAt) log) (slotStart k + parameterAAt) a) (slotStart k + parameterBAt) b)
+    sheet

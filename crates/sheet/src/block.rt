@@ -3,7 +3,7 @@ ghost use mathlib.Core.Path.{_≡_};
 ghost use Prim.Native.Nat.{_+_, _*_, _^_, _≤_, _<_};
 ghost use lib.ListN.{length};
 ghost use Rattle.sheet.specs.Block.{blockSize, slotsInBlock, blockCount, checkAt, blockAt, totalOf};
-ghost use Rattle.sheet.specs.Check.{sumBelow, weighted, checkRight};
+ghost use Rattle.sheet.specs.Check.{sumBelow, weighted, check, checkRight};
 ghost use Rattle.sheet.specs.Header.{nodesIn, totalRight, fieldsRight, headerRight};
 use crate::layout;
 use crate::number::number16;
@@ -18,8 +18,15 @@ pub(crate) fn check_right(sheet: &[u8], i: usize) -> bool
     requires { ⌜ blockSize * (i + 1) ≤ length (now sheet) ⌝ }
     ensures { λ r. ⌜ r ≡ checkRight (now (sheet .entry)) i ⌝ }
 {
-    let block = block_at(sheet, i);
-    number16(block, layout::CHECK) == weighted_sum(block) % CHECK_MODULUS
+    number16(block_at(sheet, i), layout::CHECK) == check_of(sheet, i)
+}
+
+// The check that block i should have: the sum is below 2^27, so it is reduced once.
+pub(crate) fn check_of(sheet: &[u8], i: usize) -> u32
+    requires { ⌜ blockSize * (i + 1) ≤ length (now sheet) ⌝ }
+    ensures { λ r. ⌜ r ≡ check (blockAt (now (sheet .entry)) i) ⌝ }
+{
+    weighted_sum(block_at(sheet, i)) % CHECK_MODULUS
 }
 
 // Whether the header of block i is right, where block 0 says total and there are so many blocks.
@@ -55,7 +62,7 @@ fn block_at(sheet: &[u8], i: usize) -> &[u8]
     &sheet[start..start + layout::BLOCK_SIZE]
 }
 
-// The sum of (i + 1) times byte i over the bytes before the check: below 2^27, so it is reduced once, by the caller.
+// The sum of (i + 1) times byte i over the bytes before the check.
 fn weighted_sum(block: &[u8]) -> u32
     requires { ⌜ length (now block) ≡ blockSize ⌝ }
     ensures { λ r. ⌜ r ≡ sumBelow (weighted (now (block .entry))) checkAt ⌝ }

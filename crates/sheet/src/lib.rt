@@ -6,6 +6,7 @@ mod slots; // slots.rt: a node's slot and its numbers
 mod soundness; // soundness.rt: which slots are sound
 mod names; // names.rt: a node's name, and names compared
 mod opening; // opening.rt: a sheet's nodes, or the refusal
+mod writing; // writing.rt: other annotations in a slot, and the checks
 
 pub use names::Stretch;
 pub use names::name_is;
@@ -15,3 +16,5 @@ pub use opening::Opened;
 pub use opening::open;
 pub use slots::Slot;
 pub use slots::slot_at;
+pub use writing::renew_checks;
+pub use writing::write_annotation;

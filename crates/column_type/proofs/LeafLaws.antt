@@ -1,0 +1,121 @@
+-- A leaf of an accepted sheet has a lawful column type in its row.
+use Prim.Native.Nat.{ℕ, _*_, _^_, _≤_, _<_}
+use mathlib.Core.Path.{_≡_, refl, sym, ap, _∙_, subst}
+use mathlib.Core.Logic.{_⊎_, inl, inr}
+use mathlib.Core.Bool.{Bool, true, false, true≢false, _&&_, and-eq-true-iff}
+use mathlib.Core.List.{List, [], _++_}
+use native.Mathlib.Omega.{arith}
+use borrow.Author.Tests.{eq-eqb, le-leb}
+use lib.ListN.{length, getD, drop}
+use Rattle.sheet.specs.Block.{totalOf}
+use Rattle.sheet.specs.Slot.{physical, typeLength, scale, precision, numbersOf, slotAt, slots}
+use Rattle.sheet.specs.Sound.{fixedLenByteArray, group, slotSound}
+use Rattle.sheet.proofs.NumberLaws.{Bytes}
+use Rattle.sheet.proofs.FieldLaws.{physical-lt, typeLength-mag, scale-mag, precision-mag}
+use Rattle.sheet.proofs.SlotLaws.{slots-length, slots-at, slotAt-bytes}
+use Rattle.sheet.proofs.SoundLaws.{sound-physical}
+use Rattle.sheet.proofs.OpeningLaws.{openOf-accepts, openOf-sound}
+use Rattle.schema.specs.Annotated.{annotated, kind, rule10, rule11}
+use Rattle.schema.specs.Tree.{Slot, Tree, Fields, listing, count, size}
+use Rattle.schema.specs.Rules.{isGroup, underMap, shape, placeShape, lengthShape, decimalShape, rule8, KeepsAt}
+use Rattle.schema.specs.Rows.{isMapParent, row, rowWidth, rows}
+use Rattle.schema.specs.Outcome.{outcome, written}
+use Rattle.schema.specs.Demand.{IsTreeOf, Sound, Accepted}
+use Rattle.schema.specs.declared.place.Place.{Place}
+use Rattle.schema.specs.declared.place.Place.the-variants.{Root}
+use Rattle.schema.specs.declared.roles.Parent.{Parent}
+use Rattle.schema.specs.declared.roles.Parent.the-variants as parent
+use Rattle.schema.proofs.AcceptedLaws.{accepted-sound, accepted-enough}
+use Rattle.schema.proofs.NodeRowLaws.{BeginsWith, row-at}
+use Rattle.schema.proofs.DemandLaws.{accepted-exactly, rows-are}
+use Rattle.column_type.specs.Lawful.{isLeaf, isLawful}
+use Rattle.column_type.specs.Leaf.{columnOf, columnAt, IsLeafOf, HasLeaf}
+use Rattle.column_type.specs.declared.types.ColumnType.{ColumnType}
+use Rattle.column_type.proofs.FitsLaws.{isLeaf-upto}
+use Rattle.column_type.proofs.KeptLaws.{columnWith, InRange, kept-lawful}
+
+-- the column type in a row
+column-row : (at up : ℕ) (q : Parent) (above s : Slot) (fs : Fields) (rest : List ℕ) → columnOf (row at up q above s fs ++ rest) ≡ columnWith (annotated s) (kind (isMapParent q) s)
+unfolding columnOf row columnWith annotated numbersOf
+column-row at up q above s fs rest = refl
+
+-- the numbers of a slot of bytes
+slot-range : (s : Slot) → Bytes s → InRange (annotated s)
+unfolding annotated numbersOf
+slot-range s bytes =
+    record {
+      physical = physical-lt s bytes;
+      «type-length» = typeLength-mag s bytes;
+      scale = scale-mag s bytes;
+      precision = precision-mag s bytes;
+    }
+
+-- a sound slot that is no group's is a leaf's
+slot-leaf : (s : Slot) → slotSound s ≡ true → isGroup (physical s) ≡ false → isLeaf (physical s) ≡ true
+slot-leaf s sound leaf = cases (sound-physical s sound)
+  where
+    cases : (physical s ≤ fixedLenByteArray) ⊎ (physical s ≡ group) → isLeaf (physical s) ≡ true
+    cases (inl h) = sym (isLeaf-upto (physical s)) ∙ le-leb (physical s) fixedLenByteArray h
+    cases (inr e) = absurd (true≢false (sym (eq-eqb (physical s) group e) ∙ leaf))
+
+-- a node that keeps rule 8 has its type length
+shape-length : (p : Place) (s : Slot) (fs : Fields) → rule8 p s fs ≡ true → lengthShape (physical s) (typeLength s) ≡ true
+unfolding rule8 shape numbersOf
+shape-length p s fs e =
+    let n = numbersOf s in
+    and-eq-true-iff (placeShape p n (count fs)) (lengthShape (physical s) (typeLength s)) .0
+    (and-eq-true-iff (placeShape p n (count fs) && lengthShape (physical s) (typeLength s)) (decimalShape (n .converted) (n .logical) (n .scale) (n .precision)) .0 e .0)
+    .1
+
+-- a leaf that keeps the rules has a lawful column type
+slot-lawful : (p : Place) (s : Slot) (fs : Fields) → Bytes s → slotSound s ≡ true → KeepsAt p s fs → isGroup (physical s) ≡ false → isLawful (columnWith (annotated s) (kind (underMap p) s)) ≡ true
+unfolding annotated numbersOf kind rule10 rule11
+slot-lawful p s fs bytes sound keeps leaf =
+    kept-lawful (annotated s) (underMap p) (slot-range s bytes) (slot-leaf s sound leaf) (shape-length p s fs (keeps .shape)) (keeps .placement) (keeps .decimals)
+
+module _ (c : ColumnType) (sheet lent : List ℕ) (k : ℕ) (h : IsLeafOf c sheet lent k) where
+  sound : Sound sheet
+  sound = accepted-sound sheet (length lent) (h .accepted)
+
+  tree : (t : Tree) × IsTreeOf sheet t
+  tree = accepted-exactly sheet (length lent) sound (accepted-enough sheet (length lent) (h .accepted)) .0 (h .accepted)
+
+  -- node k is listed as the k-th
+  slot-listed : getD (listing (tree .0)) k [] ≡ slotAt sheet k
+  slot-listed = ap (λ (ss : List Slot). getD ss k []) (tree .1 .lists) ∙ slots-at sheet k [] (h .below)
+
+  below-size : k < size (tree .0)
+  unfolding size
+  below-size = omega (arith, ap length (tree .1 .lists), slots-length sheet, h .below)
+
+  -- its row stands at 9k
+  begins : BeginsWith (slotAt sheet k) (drop (rowWidth * k) (written (outcome sheet (length lent)) sheet lent))
+  unfolding rows
+  begins =
+      rw (rows-are sheet lent (tree .0) sound (accepted-enough sheet (length lent) (h .accepted)) (tree .1), ← slot-listed)
+      (row-at (tree .0) Root parent.Other 0 0 [] (drop (rowWidth * totalOf sheet) lent) (tree .1 .keeps) refl k below-size)
+
+  column-is : c ≡ columnWith (annotated (slotAt sheet k)) (kind (underMap (begins .place)) (slotAt sheet k))
+  unfolding columnAt
+  column-is =
+      let b = begins in
+      sym (h .column)
+      ∙ ap columnOf (b .begins)
+      ∙ column-row (b .at) (b .up) (b .«parent») (b .above) (slotAt sheet k) (b .fields) (b .rest)
+      ∙ ap (λ (under : Bool). columnWith (annotated (slotAt sheet k)) (kind under (slotAt sheet k))) (sym (b .alike))
+
+  physical-is : c .physical ≡ physical (slotAt sheet k)
+  unfolding columnWith annotated numbersOf
+  physical-is = ap (λ (d : ColumnType). d .physical) column-is
+
+  -- so it is lawful
+  leaf-lawful : isLawful c ≡ true
+  leaf-lawful =
+      rw column-is
+      (slot-lawful (begins .place) (slotAt sheet k) (begins .fields) (slotAt-bytes sheet k (h .bytes))
+      (openOf-sound sheet (totalOf sheet) (openOf-accepts sheet (sound .blocks) (sound .slots)) k (h .below))
+      (begins .keeps) (rw physical-is at (h .leaf)))
+
+pub has-leaf-lawful : (c : ColumnType) → HasLeaf c → isLawful c ≡ true
+unfolding HasLeaf
+has-leaf-lawful c l = leaf-lawful c (l .0) (l .1) (l .2) (l .3)

@@ -1,0 +1,109 @@
+-- The tree of a sheet of a root and one leaf: it keeps every rule where the leaf's slot does.
+use Prim.Native.Nat.{ℕ, zero, suc, _≤_}
+use mathlib.Core.Path.{_≡_, refl, sym, ap, _∙_, subst}
+use mathlib.Core.Bool.{Bool, true, false, not, true≢false, cond, _&&_, _||_}
+use mathlib.Core.List.{List, [], _∷_}
+use native.Mathlib.Omega.{arith}
+use lib.Dec.{eqb}
+use lib.ListN.{getD}
+use Rattle.annotation.specs.Logical as logical
+use Rattle.annotation.specs.Parameters.{validParameters}
+use Rattle.annotation.specs.Signed.{natural}
+use Rattle.annotation.specs.Backward.{backwardOf}
+use Rattle.annotation.specs.Meaning.{annotationOf}
+use Rattle.annotation.specs.Rule9 as nine
+use Rattle.annotation.specs.Rule10 as ten
+use Rattle.annotation.specs.Rule11 as eleven
+use Rattle.annotation.specs.Kinds.{PLAIN-GROUP, kindOf}
+use Rattle.annotation.specs.declared.slot.Annotated.{Annotated}
+use Rattle.annotation.proofs.PlacementLaws.{leaf-kind}
+use Rattle.sheet.specs.Number.{numberAt, signed32}
+use Rattle.sheet.specs.Slot as slot
+use Rattle.sheet.specs.Slot.{numbersOf}
+use Rattle.schema.specs.Annotated.{annotated, kind, rule9, rule10, rule11}
+use Rattle.schema.specs.Tree.{Slot, Tree, Fields, node, empty, field, listing, count, depths, AtMostDeep, Claims}
+use Rattle.schema.specs.Rules.{isGroup, isNought, lengthShape, decimalShape, placeBelow, shape, rule8, isList, isMap, rule12, rule13, KeepsAt, Keeps}
+use Rattle.schema.specs.Outcome.{mostDepth}
+use Rattle.schema.specs.Demand.{IsTreeOf}
+use Rattle.schema.specs.declared.place.Place.the-variants.{Root, Field}
+use Rattle.column_type.proofs.LeafSheet.{rootSlot, leafSlot, leafSheet, leafSheet-slots, Holds, leafSlot-annotated}
+
+-- a root and one leaf
+unfoldable pub leafTree : Annotated → Tree
+leafTree n = node rootSlot (field (node (leafSlot n) empty) empty)
+
+tree-deep : (n : Annotated) → AtMostDeep mostDepth (leafTree n)
+unfolding leafTree AtMostDeep depths
+tree-deep n k = by k
+  where
+    by : (k : ℕ) → getD (0 ∷ 1 ∷ []) k 0 ≤ mostDepth
+    by zero = omega arith
+    by (suc zero) = omega arith
+    by (suc (suc k)) = omega arith
+
+tree-claims : (n : Annotated) → Claims (leafTree n)
+unfolding leafTree Claims count rootSlot leafSlot slot.childCount numberAt
+tree-claims n = (refl, ((refl, tt), tt))
+
+tree-lists : (n : Annotated) → listing (leafTree n) ≡ slot.slots (leafSheet n)
+unfolding leafTree listing
+tree-lists n = sym (leafSheet-slots n)
+
+root-keeps : (fs : Fields) → KeepsAt Root rootSlot fs
+unfolding rule8 shape lengthShape decimalShape isNought rule9 rule10 rule11 rule12 rule13 isList isMap kind kindOf annotated annotationOf backwardOf validParameters natural nine.rule9 ten.rule10 eleven.rule11 numbersOf slot.physical slot.repetition slot.converted slot.logical slot.parameterA slot.parameterB slot.typeLength slot.scale slot.precision numberAt signed32 rootSlot
+root-keeps fs = record { shape = refl; agreement = refl; placement = refl; decimals = refl; lists = refl; maps = refl }
+
+root-place : placeBelow Root rootSlot ≡ Field
+unfolding placeBelow kind kindOf annotated annotationOf backwardOf validParameters numbersOf slot.physical slot.converted slot.logical slot.parameterA slot.parameterB rootSlot
+root-place = refl
+
+-- the slot of a leaf keeps rules 8 to 11
+pub record LeafKept (n : Annotated) : Type 0 where
+  pub holds : Holds n
+  pub leaf : isGroup (n .physical) ≡ false
+  pub length : lengthShape (n .physical) (n .«type_length») ≡ true
+  pub digits : decimalShape (n .converted) (n .logical) (n .scale) (n .precision) ≡ true
+  pub nine : nine.rule9 n ≡ true
+  pub ten : ten.rule10 n false ≡ true
+  pub eleven : eleven.rule11 n false ≡ true
+
+module _ (n : Annotated) (k : LeafKept n) where
+  -- a fact of the leaf's numbers is one of its slot's
+  at-slot : (P : Annotated → Type 0) → P n → P (annotated (leafSlot n))
+  at-slot P h = subst P (sym (leafSlot-annotated n (k .holds))) h
+
+  leaf-shape : rule8 Field (leafSlot n) empty ≡ true
+  unfolding rule8 shape annotated numbersOf count slot.physical slot.repetition leafSlot
+  leaf-shape =
+      rw (k .leaf, at-slot (λ m. lengthShape (m .physical) (m .«type_length») ≡ true) (k .length), at-slot (λ m. decimalShape (m .converted) (m .logical) (m .scale) (m .precision) ≡ true) (k .digits))
+
+  leaf-is : (eqb (kind false (leafSlot n) .kind) logical.LIST ≡ false) × (eqb (kind false (leafSlot n) .kind) logical.MAP ≡ false)
+  unfolding kind
+  leaf-is =
+      at-slot (λ m. (eqb (kindOf m false .kind) logical.LIST ≡ false) × (eqb (kindOf m false .kind) logical.MAP ≡ false))
+      (none-of (eqb (kindOf n false .kind) PLAIN-GROUP) _ _ (leaf-kind n false (k .ten) (k .leaf)))
+    where
+      none-of : (a b c : Bool) → a || b || c ≡ false → (b ≡ false) × (c ≡ false)
+      none-of false false false e = (refl, refl)
+      none-of false false true e = absurd (true≢false e)
+      none-of false true c e = absurd (true≢false e)
+      none-of true b c e = absurd (true≢false e)
+
+  leaf-keeps : KeepsAt Field (leafSlot n) empty
+  unfolding rule9 rule10 rule11 rule12 rule13 isList isMap
+  leaf-keeps =
+      record {
+        shape = leaf-shape;
+        agreement = at-slot (λ m. nine.rule9 m ≡ true) (k .nine);
+        placement = at-slot (λ m. ten.rule10 m false ≡ true) (k .ten);
+        decimals = at-slot (λ m. eleven.rule11 m false ≡ true) (k .eleven);
+        lists = rw (leaf-is .0);
+        maps = rw (leaf-is .1);
+      }
+
+  tree-keeps : Keeps Root (leafTree n)
+  unfolding Keeps leafTree
+  tree-keeps = (root-keeps (field (node (leafSlot n) empty) empty), rw root-place ((leaf-keeps, tt), tt))
+
+  pub leafTree-of : IsTreeOf (leafSheet n) (leafTree n)
+  leafTree-of = record { deep = tree-deep n; keeps = tree-keeps; claims = tree-claims n; lists = tree-lists n }

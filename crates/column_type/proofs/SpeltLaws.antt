@@ -1,0 +1,178 @@
+-- The slot of a lawful column type: its numbers fit, its codes are listed, and its row has the kind, p1 and p2 that it was made of.
+use Prim.Native.Nat.{ℕ, _<_}
+use mathlib.Core.Path.{_≡_, refl, sym, ap, _∙_, subst}
+use mathlib.Core.Bool.{Bool, true, false, true≢false, cond, not, _&&_, _||_, and-eq-true-iff, or-true}
+use native.Mathlib.Decide.{ℕ-discrete}
+use native.Mathlib.Omega.{arith}
+use lib.Dec.{eqb}
+use lib.IntN.{pos}
+use borrow.Author.Tests.{eqb-true, eq-eqb, ne-eqb}
+use Rattle.annotation.specs.Converted as converted
+use Rattle.annotation.specs.Logical as logical
+use Rattle.annotation.specs.Parameters.{UNUSED, validParameters}
+use Rattle.annotation.specs.Spelling.{codeOf, aOf, bOf, namedOf, statedOf}
+use Rattle.annotation.specs.Signed.{natural}
+use Rattle.annotation.specs.Backward.{backwardOf}
+use Rattle.annotation.specs.Meaning.{annotationOf}
+use Rattle.annotation.specs.Rule9.{rule9}
+use Rattle.annotation.specs.Rule10.{annotationOn, rule10}
+use Rattle.annotation.specs.Rule11.{rule11}
+use Rattle.annotation.specs.Kinds.{kindAs, kindOf}
+use Rattle.annotation.specs.declared.types.LogicalType.{LogicalType}
+use Rattle.annotation.specs.declared.types.Annotation.{Annotation}
+use Rattle.annotation.specs.declared.slot.Annotated.{Annotated}
+use Rattle.annotation.specs.declared.resolution.Kind.{Kind}
+use Rattle.annotation.proofs.ReadingLaws.{Spells, spelled-stated}
+use Rattle.sheet.specs.Sound.{listed, physicalListed, convertedListed, logicalListed}
+use Rattle.schema.specs.Rules.{isGroup, isNought, lengthShape, decimalShape}
+use Rattle.column_type.specs.Lawful.{slotWith, slotOf, byteNumbers, signedNumbers, fits, isLeaf, annotationRight, isLawful}
+use Rattle.column_type.specs.declared.types.ColumnType.{ColumnType}
+use Rattle.column_type.proofs.FitsLaws.{Fits, fits-parts, fits-decimal, fits-other, isLeaf-not-group}
+use Rattle.column_type.proofs.SlotLaws.{slotOf-decimal, slotOf-interval, slotOf-logical}
+use Rattle.column_type.proofs.LeafSheet.{Holds, Listed}
+
+-- the kind, p1 and p2 of a column type
+abbrev pub kindIn : ColumnType → Kind
+kindIn c = record { kind = c .kind; p1 = c .p1; p2 = c .p2 }
+
+-- a slot has the numbers of a column type
+pub record Spelt (c : ColumnType) (n : Annotated) : Type 0 where
+  pub holds : Holds n
+  pub converted : convertedListed (n .converted) ≡ true
+  pub logical : logicalListed (n .logical) ≡ true
+  pub digits : decimalShape (n .converted) (n .logical) (n .scale) (n .precision) ≡ true
+  pub kind : kindOf n false ≡ kindIn c
+
+-- a code that says something where it takes its parameters, and rule 10 lets it stand
+readable : (valid : Bool) (says : Annotation) (code length : ℕ) → annotationOn (cond valid says Annotation.Unreadable) code length ≡ true → valid ≡ true
+readable true says code length e = refl
+readable false says code length e = e
+
+-- the codes of the logical types are listed
+code-listed : (l : LogicalType) → logicalListed (codeOf l) ≡ true
+unfolding logicalListed
+code-listed LogicalType.String = refl
+code-listed LogicalType.Map = refl
+code-listed LogicalType.List = refl
+code-listed LogicalType.Enum = refl
+code-listed LogicalType.Decimal = refl
+code-listed LogicalType.Date = refl
+code-listed (LogicalType.Time unit utc) = refl
+code-listed (LogicalType.Timestamp unit utc) = refl
+code-listed (LogicalType.Integer width signed) = refl
+code-listed LogicalType.Unknown = refl
+code-listed LogicalType.Json = refl
+code-listed LogicalType.Bson = refl
+code-listed LogicalType.Uuid = refl
+
+-- and so is none
+none-listed : (code : ℕ) → code ≡ logical.NONE → logicalListed code ≡ true
+unfolding logicalListed
+none-listed code e = rw e
+
+-- the numbers of a slot that a column type is spelled by
+holds-with : (c : ColumnType) (conv log a b precision scale : ℕ) → Fits c → conv < byteNumbers → log < byteNumbers → a < byteNumbers → b < byteNumbers → precision < signedNumbers → scale < signedNumbers → Holds (slotWith c conv log a b precision scale)
+unfolding natural
+holds-with c conv log a b precision scale f h i j k m o =
+    record {
+      physical = f .physical;
+      converted = h;
+      logical = i;
+      a = j;
+      b = k;
+      «type-length» = f .«type-length»;
+      scale = o;
+      precision = m;
+      length-natural = refl;
+      scale-natural = refl;
+      precision-natural = refl;
+    }
+
+module _ (c : ColumnType) (f : Fits c) (leaf : isGroup (c .physical) ≡ false) where
+  -- a DECIMAL
+  spelt-decimal : c .kind ≡ logical.DECIMAL → Spelt c (slotWith c converted.NONE logical.DECIMAL UNUSED UNUSED (c .p1) (c .p2))
+  unfolding convertedListed logicalListed listed decimalShape kindOf annotationOf statedOf namedOf validParameters natural
+  spelt-decimal e =
+      let p = fits-decimal c f e in
+      record {
+        holds = holds-with c converted.NONE logical.DECIMAL UNUSED UNUSED (c .p1) (c .p2) f (omega arith) (omega arith) (omega arith) (omega arith) (p .0) (p .1);
+        converted = refl;
+        logical = refl;
+        digits = refl;
+        kind = rw e;
+      }
+
+  module _ (other : c .kind ≡ logical.DECIMAL → ⊥) where
+    -- p1 and p2 that stand without a logical type are 0
+    none-stated : (says : Annotation) (length : ℕ) → annotationOn (cond (validParameters logical.NONE (c .p1) (c .p2)) says Annotation.Unreadable) (c .physical) length ≡ true → (c .p1 ≡ 0) × (c .p2 ≡ 0)
+    unfolding validParameters
+    none-stated says length e =
+        let both = and-eq-true-iff (eqb (c .p1) UNUSED) (eqb (c .p2) UNUSED) .0 (readable (validParameters logical.NONE (c .p1) (c .p2)) says (c .physical) length e) in
+        (eqb-true (c .p1) UNUSED (both .0), eqb-true (c .p2) UNUSED (both .1))
+
+    -- INTERVAL
+    spelt-interval : c .kind ≡ converted.INTERVAL → rule10 (slotWith c converted.INTERVAL logical.NONE (c .p1) (c .p2) 0 0) false ≡ true → Spelt c (slotWith c converted.INTERVAL logical.NONE (c .p1) (c .p2) 0 0)
+    unfolding convertedListed logicalListed listed decimalShape isNought kindOf rule10 annotationOf backwardOf validParameters natural
+    spelt-interval e ten =
+        let p = fits-other c f other in
+        let zero = none-stated Annotation.Interval (c .«type_length») ten in
+        record {
+          holds = holds-with c converted.INTERVAL logical.NONE (c .p1) (c .p2) 0 0 f (omega arith) (omega arith) (p .0) (p .1) (omega arith) (omega arith);
+          converted = refl;
+          logical = refl;
+          digits = refl;
+          kind = rw (e, zero .0, zero .1);
+        }
+
+    module _ (converted-not : c .kind ≡ converted.INTERVAL → ⊥) where
+      -- no annotation
+      kind-plain : c .kind ≡ logical.NONE → rule10 (slotWith c converted.NONE (c .kind) (c .p1) (c .p2) 0 0) false ≡ true → kindOf (slotWith c converted.NONE (c .kind) (c .p1) (c .p2) 0 0) false ≡ kindIn c
+      unfolding kindOf rule10 annotationOf backwardOf validParameters natural
+      kind-plain e ten =
+          let zero = none-stated Annotation.Plain (c .«type_length») (rw e at ten) in
+          rw (e, zero .0, zero .1, leaf)
+
+      -- a logical type that its code and parameters say
+      stated-kind : (says : Annotation) (n : Annotated) (length : ℕ) → Spells says (c .kind) (c .p1) (c .p2) → annotationOn says (c .physical) length ≡ true → (logicalListed (c .kind) ≡ true) × (kindAs says n ≡ kindIn c)
+      stated-kind Annotation.Plain n length s e = absurd s
+      stated-kind (Annotation.Logical l) n length s e =
+          let apart = ne-eqb (codeOf l) logical.DECIMAL (λ (q : codeOf l ≡ logical.DECIMAL). other (sym (s .0) ∙ q)) in
+          (rw (← s .0) (code-listed l), rw (apart, s .0, s .1, s .2))
+      stated-kind Annotation.Interval n length s e = absurd s
+      stated-kind Annotation.Unreadable n length s e = absurd (true≢false (sym e))
+
+      kind-logical : (c .kind ≡ logical.NONE → ⊥) → rule10 (slotWith c converted.NONE (c .kind) (c .p1) (c .p2) 0 0) false ≡ true → (logicalListed (c .kind) ≡ true) × (kindOf (slotWith c converted.NONE (c .kind) (c .p1) (c .p2) 0 0) false ≡ kindIn c)
+      unfolding kindOf rule10 annotationOf natural
+      kind-logical n ten =
+          let stands = ne-eqb (c .kind) logical.NONE n in
+          rw stands (stated-kind (statedOf (c .kind) (c .p1) (c .p2)) _ (c .«type_length») (spelled-stated (c .kind) (c .p1) (c .p2)) (rw stands at ten))
+
+      -- a plain leaf or a logical type
+      spelt-logical : rule10 (slotWith c converted.NONE (c .kind) (c .p1) (c .p2) 0 0) false ≡ true → Spelt c (slotWith c converted.NONE (c .kind) (c .p1) (c .p2) 0 0)
+      unfolding convertedListed listed decimalShape isNought
+      spelt-logical ten =
+          let p = fits-other c f other in
+          let by : (logicalListed (c .kind) ≡ true) × (kindOf (slotWith c converted.NONE (c .kind) (c .p1) (c .p2) 0 0) false ≡ kindIn c) = cases (ℕ-discrete (c .kind) logical.NONE) in
+          record {
+            holds = holds-with c converted.NONE (c .kind) (c .p1) (c .p2) 0 0 f (omega arith) (f .kind) (p .0) (p .1) (omega arith) (omega arith);
+            converted = refl;
+            logical = by .0;
+            digits = or-true (eqb (c .kind) logical.DECIMAL);
+            kind = by .1;
+          }
+        where
+          cases : Dec (c .kind ≡ logical.NONE) → (logicalListed (c .kind) ≡ true) × (kindOf (slotWith c converted.NONE (c .kind) (c .p1) (c .p2) 0 0) false ≡ kindIn c)
+          cases (yes e) = (none-listed (c .kind) e, kind-plain e ten)
+          cases (no n) = kind-logical n ten
+
+-- the slot of a column type that keeps rule 10 has its numbers
+pub slotOf-spelt : (c : ColumnType) → Fits c → isGroup (c .physical) ≡ false → rule10 (slotOf c) false ≡ true → Spelt c (slotOf c)
+slotOf-spelt c f leaf ten = decimal (ℕ-discrete (c .kind) logical.DECIMAL)
+  where
+    interval : (c .kind ≡ logical.DECIMAL → ⊥) → Dec (c .kind ≡ converted.INTERVAL) → Spelt c (slotOf c)
+    interval n (yes e) = let is = slotOf-interval c n e in rw is (spelt-interval c f leaf n e (rw is at ten))
+    interval n (no m) = let is = slotOf-logical c n m in rw is (spelt-logical c f leaf n m (rw is at ten))
+
+    decimal : Dec (c .kind ≡ logical.DECIMAL) → Spelt c (slotOf c)
+    decimal (yes e) = rw (slotOf-decimal c e) (spelt-decimal c f leaf e)
+    decimal (no n) = interval n (ℕ-discrete (c .kind) converted.INTERVAL)

@@ -1,0 +1,118 @@
+-- The row of each node of a tree that keeps the rules: where it stands, and that its node keeps them.
+use Prim.Native.Nat.{ℕ, zero, suc, _+_, _*_, _-_, _<_}
+use mathlib.Core.Path.{_≡_, refl, sym, ap, _∙_, subst}
+use mathlib.Core.Bool.{Bool, true, false, cond}
+use mathlib.Core.List.{List, [], _∷_, _++_, append-assoc}
+use native.Mathlib.Decide.{decLt}
+use native.Mathlib.Omega.{arith}
+use borrow.Author.Tests.{eqb-true}
+use lib.Dec.{eqb}
+use lib.ListN.{length, getD, drop, length-append, List·getD-append}
+use lib.Seq.{drop-append-add, getD-append-add}
+use Rattle.annotation.specs.Logical as logical
+use Rattle.schema.specs.Annotated.{kind}
+use Rattle.schema.specs.Tree.{Slot, Tree, Fields, node, empty, field, listing, listings, size}
+use Rattle.schema.specs.Rules.{underMap, placeUnder, placeBelow, KeepsAt, Keeps, KeepsAll}
+use Rattle.schema.specs.Rows.{isMapParent, role, row, parentBy, parentOf, afterFirst, rowsFrom, rowssFrom, rowWidth, LIST-LAYER, KEY-VALUE-LAYER}
+use Rattle.schema.specs.declared.place.Place.{Place}
+use Rattle.schema.specs.declared.place.Place.the-variants.{Field, MapField}
+use Rattle.schema.specs.declared.roles.Parent.{Parent}
+use Rattle.schema.specs.declared.roles.Parent.the-variants as parent
+use Rattle.schema.proofs.RowsLaws.{length-row, length-rowsFrom}
+
+-- some numbers begin with the row of a node that keeps the rules; the rules and the row take its parent for a MAP alike
+pub record BeginsWith (s : Slot) (numbers : List ℕ) : Type 0 where
+  pub place : Place
+  pub «parent» : Parent
+  pub at : ℕ
+  pub up : ℕ
+  pub above : Slot
+  pub fields : Fields
+  pub rest : List ℕ
+  pub keeps : KeepsAt place s fields
+  pub alike : underMap place ≡ isMapParent «parent»
+  pub begins : numbers ≡ row at up «parent» above s fields ++ rest
+
+-- what a node is to its fields is a MAP for the rules exactly where it is one for the rows
+alike-by : (code r : ℕ) → underMap (placeUnder code) ≡ isMapParent (parentBy code r)
+unfolding parentBy
+alike-by code r = cases (eqb code logical.LIST) refl
+  where
+    role-alike : (a b : Bool) → false ≡ isMapParent (cond a parent.ListLayer (cond b parent.KeyValue parent.Other))
+    role-alike true b = refl
+    role-alike false true = refl
+    role-alike false false = refl
+
+    map-alike : (b : Bool) (q : Parent) → false ≡ isMapParent q → underMap (cond b MapField Field) ≡ isMapParent (cond b parent.Map q)
+    map-alike true q e = refl
+    map-alike false q e = e
+
+    cases : (b : Bool) → eqb code logical.LIST ≡ b → underMap (placeUnder code) ≡ isMapParent (parentBy code r)
+    cases true e = rw (eqb-true code logical.LIST e)
+    cases false e = rw e (map-alike (eqb code logical.MAP) _ (role-alike (eqb r LIST-LAYER) (eqb r KEY-VALUE-LAYER)))
+
+alike-below : (p : Place) (q : Parent) (above s : Slot) (fs : Fields) → underMap p ≡ isMapParent q → underMap (placeBelow p s) ≡ isMapParent (parentOf q above s fs)
+unfolding placeBelow parentOf
+alike-below p q above s fs e = rw e (alike-by (kind (isMapParent q) s .kind) (role q above s fs))
+
+alike-after : (q : Parent) → isMapParent q ≡ isMapParent (afterFirst q)
+alike-after parent.Other = refl
+alike-after parent.List = refl
+alike-after parent.ListLayer = refl
+alike-after parent.Map = refl
+alike-after parent.KeyValue = refl
+alike-after parent.KeyValueRest = refl
+
+-- what follows n rows, and k more
+drop-rows : (n k : ℕ) (xs ys : List ℕ) → length xs ≡ rowWidth * n → drop (rowWidth * (n + k)) (xs ++ ys) ≡ drop (rowWidth * k) ys
+drop-rows n k xs ys e =
+    let sum : rowWidth * (n + k) ≡ length xs + rowWidth * k = omega arith in
+    rw sum (drop-append-add xs ys (rowWidth * k))
+
+-- a node of a run is one of its first field's, or one of the shorter run's
+in-run : (first others : List Slot) (xs ys rest : List ℕ) (k : ℕ) → length xs ≡ rowWidth * length first → k < length (first ++ others)
+    → (k < length first → BeginsWith (getD first k []) (drop (rowWidth * k) (xs ++ (ys ++ rest))))
+    → ((j : ℕ) → j < length others → BeginsWith (getD others j []) (drop (rowWidth * j) (ys ++ rest)))
+    → BeginsWith (getD (first ++ others) k []) (drop (rowWidth * k) ((xs ++ ys) ++ rest))
+in-run first others xs ys rest k e l f g = cases (decLt k (length first))
+  where
+    cases : Dec (k < length first) → BeginsWith (getD (first ++ others) k []) (drop (rowWidth * k) ((xs ++ ys) ++ rest))
+    cases (yes b) = rw (append-assoc xs ys rest, List·getD-append first others [] k b) (f b)
+    cases (no b) =
+        let j = k - length first in
+        let at : k ≡ length first + j = omega arith in
+        rw (append-assoc xs ys rest, at, getD-append-add first others j [], drop-rows (length first) j xs (ys ++ rest) e)
+        (g j (omega (arith, length-append first others)))
+
+mutual
+  unfolding Keeps rowsFrom listing size
+
+  -- the row of node k stands at 9k
+  pub row-at : (t : Tree) (p : Place) (q : Parent) (at up : ℕ) (above : Slot) (rest : List ℕ) → Keeps p t → underMap p ≡ isMapParent q → (k : ℕ) → k < size t → BeginsWith (getD (listing t) k []) (drop (rowWidth * k) (rowsFrom at up q above t ++ rest))
+  row-at (node s fs) p q at up above rest h e zero l =
+      record {
+        place = p;
+        «parent» = q;
+        at = at;
+        up = up;
+        above = above;
+        fields = fs;
+        rest = rowssFrom (suc at) at (parentOf q above s fs) s fs ++ rest;
+        keeps = h .0;
+        alike = e;
+        begins = append-assoc (row at up q above s fs) (rowssFrom (suc at) at (parentOf q above s fs) s fs) rest;
+      }
+  row-at (node s fs) p q at up above rest h e (suc k) l =
+      let own = row at up q above s fs in
+      let run = rowssFrom (suc at) at (parentOf q above s fs) s fs in
+      let next : suc k ≡ 1 + k = omega arith in
+      subst (BeginsWith (getD (listings fs) k []))
+      (sym (ap (drop (rowWidth * suc k)) (append-assoc own run rest) ∙ rw next (drop-rows 1 k own (run ++ rest) (length-row at up q above s fs))))
+      (row-in fs (placeBelow p s) (parentOf q above s fs) (suc at) at s rest (h .1) (alike-below p q above s fs e) k (omega arith))
+
+  pub row-in : (fs : Fields) (p : Place) (q : Parent) (at up : ℕ) (above : Slot) (rest : List ℕ) → KeepsAll p fs → underMap p ≡ isMapParent q → (k : ℕ) → k < length (listings fs) → BeginsWith (getD (listings fs) k []) (drop (rowWidth * k) (rowssFrom at up q above fs ++ rest))
+  row-in empty p q at up above rest h e k l = absurd (omega arith)
+  row-in (field t fs) p q at up above rest h e k l =
+      in-run (listing t) (listings fs) (rowsFrom at up q above t) (rowssFrom (at + size t) up (afterFirst q) above fs) rest k (length-rowsFrom t at up q above) l
+      (λ b. row-at t p q at up above (rowssFrom (at + size t) up (afterFirst q) above fs ++ rest) (h .0) e k b)
+      (λ j b. row-in fs p (afterFirst q) (at + size t) up above rest (h .1) (e ∙ alike-after q) j b)

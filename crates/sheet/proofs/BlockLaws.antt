@@ -1,0 +1,40 @@
+-- Laws of a sheet's blocks.
+use mathlib.Core.Path.{_≡_, refl, ap, ap₂, _∙_}
+use mathlib.Core.List.{List}
+use Prim.Native.Nat.{ℕ, zero, suc, _+_, _*_, _%_, _≤_, _<_}
+use native.Mathlib.Omega.{arith}
+use lib.ListN.{length, getD, drop}
+use lib.Seq.{getD-take, getD-drop}
+use Rattle.sheet.specs.Block.{blockSize, checkAt, blockCount, blockAt}
+use Rattle.sheet.specs.Check.{checkModulus, sumBelow, weighted, check}
+
+-- a byte of a block is a byte of the sheet
+pub blockAt-byte : (sheet : List ℕ) (i j : ℕ) → j < blockSize → getD (blockAt sheet i) j 0 ≡ getD sheet (blockSize * i + j) 0
+unfolding blockAt
+blockAt-byte sheet i j h = getD-take blockSize (drop (blockSize * i) sheet) j 0 h ∙ getD-drop (blockSize * i) sheet j 0
+
+-- sheets of one length have as many blocks
+pub blockCount-same : (sheet other : List ℕ) → length sheet ≡ length other → blockCount sheet ≡ blockCount other
+unfolding blockCount
+blockCount-same sheet other e = rw e
+
+-- the whole blocks lie within the bytes
+pub blocks-within : (sheet : List ℕ) → blockSize * blockCount sheet ≤ length sheet
+unfolding blockCount
+blocks-within sheet = omega arith
+
+sumBelow-same : (f g : ℕ → ℕ) (n : ℕ) → ((i : ℕ) → i < n → f i ≡ g i) → sumBelow f n ≡ sumBelow g n
+unfolding sumBelow
+sumBelow-same f g zero same = refl
+sumBelow-same f g (suc n) same = ap₂ _+_ (sumBelow-same f g n (λ i h. same i (omega arith))) (same n (omega arith))
+
+-- blocks that agree before their stored checks have one check
+pub check-same : (block other : List ℕ) → ((i : ℕ) → i < checkAt → getD block i 0 ≡ getD other i 0) → check block ≡ check other
+unfolding check weighted
+check-same block other same =
+    ap (λ (n : ℕ). n % checkModulus) (sumBelow-same (weighted block) (weighted other) checkAt (λ i h. ap (λ (byte : ℕ). (i + 1) * byte) (same i h)))
+
+-- a check is a number of 16 bits
+pub check-lt : (block : List ℕ) → check block < checkModulus
+unfolding check
+check-lt block = omega arith
