@@ -16,15 +16,32 @@ pub data Outcome (A : Type 0) : Type 0 where
 abbrev pub annotationPlace : ColumnType → List ℕ → ℕ
 annotationPlace c bs = 0
 
--- each refusal of a value
+-- the number of each refusal
+abbrev pub UNLAWFUL : ℕ
+UNLAWFUL = 20
+
+abbrev pub WRONG-LENGTH : ℕ
+WRONG-LENGTH = 15
+
+abbrev pub BREAKS-ANNOTATION : ℕ
+BREAKS-ANNOTATION = 16
+
+-- the number of a refusal, and 0 for a value that was read
+abbrev pub refusalOf : Read → ℕ
+refusalOf (read.Value v) = 0
+refusalOf read.Unlawful = UNLAWFUL
+refusalOf read.WrongLength = WRONG-LENGTH
+refusalOf read.BreaksAnnotation = BREAKS-ANNOTATION
+
+-- each refusal with its place
 abbrev pub unlawful : {A : Type 0} → Outcome A
-unlawful = refused 20 0
+unlawful = refused UNLAWFUL 0
 
 abbrev pub wrongLength : {A : Type 0} → Outcome A
-wrongLength = refused 15 0
+wrongLength = refused WRONG-LENGTH 0
 
 abbrev pub breaksAnnotation : {A : Type 0} → ColumnType → List ℕ → Outcome A
-breaksAnnotation c bs = refused 16 (annotationPlace c bs)
+breaksAnnotation c bs = refused BREAKS-ANNOTATION (annotationPlace c bs)
 
 -- what each answer of reading stands for
 abbrev pub outcomeOf : ColumnType → List ℕ → Read → Outcome Value

@@ -11,3 +11,4 @@ pub use lengths::is_byte_decimal;
 pub use reading::read;
 pub use value::Read;
 pub use value::Value;
+pub use value::refusal;

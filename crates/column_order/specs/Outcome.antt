@@ -2,7 +2,7 @@
 use Prim.Native.Nat.{ℕ}
 use mathlib.Core.List.{List}
 use Rattle.column_type.specs.declared.types.ColumnType.{ColumnType}
-use Rattle.column.specs.Outcome.{Outcome, refused, given, unlawful, wrongLength, breaksAnnotation}
+use Rattle.column.specs.Outcome.{Outcome, refused, given, UNLAWFUL, WRONG-LENGTH, BREAKS-ANNOTATION, unlawful, wrongLength, breaksAnnotation}
 use Rattle.column.specs.Reading.{readOf}
 use Rattle.column.specs.declared.value.Read.{Read}
 use Rattle.column.specs.declared.value.Read.the-variants as read
@@ -15,8 +15,22 @@ pub data Relation : Type 0 where
   less equal greater unordered : Relation
 
 -- "this column has no order"
+abbrev pub NO-ORDER : ℕ
+NO-ORDER = 17
+
 abbrev pub noOrder : Outcome Relation
-noOrder = refused 17 0
+noOrder = refused NO-ORDER 0
+
+-- the number of a refusal, and 0 for an order
+abbrev pub refusalOf : Order → ℕ
+refusalOf order.Less = 0
+refusalOf order.Equal = 0
+refusalOf order.Greater = 0
+refusalOf order.Unordered = 0
+refusalOf order.Unlawful = UNLAWFUL
+refusalOf order.NoOrder = NO-ORDER
+refusalOf order.WrongLength = WRONG-LENGTH
+refusalOf order.BreaksAnnotation = BREAKS-ANNOTATION
 
 -- the value whose refusal is given: the second where the first is read
 abbrev pub atFault : Read → List ℕ → List ℕ → List ℕ

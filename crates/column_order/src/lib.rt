@@ -7,4 +7,5 @@ mod values;
 mod wholes;
 
 pub use answer::Order;
+pub use answer::refusal;
 pub use ordering::order;
