@@ -1,5 +1,6 @@
 // The order of two single values of a column, by refusals 20 and 17 and those of the values.
 pub mod answer;
+mod doubles;
 mod floats;
 pub mod ordering;
 mod stretches;

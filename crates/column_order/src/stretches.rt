@@ -53,8 +53,8 @@ fn order_bytes(a: &[u8], b: &[u8]) -> Order
         }
         at += 1;
     }
-    if at < b.len() {
-        return Order::Less;
+    if at >= b.len() {
+        return Order::Equal;
     }
-    Order::Equal
+    Order::Less
 }

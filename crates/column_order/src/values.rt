@@ -2,7 +2,7 @@
 ghost use mathlib.Core.Path.{_≡_};
 ghost use Rattle.column_order.specs.Values.{flag, truthOrder, signedOrder, unsignedOrder, singleOrder, doubleOrder};
 use crate::answer::Order;
-use crate::floats::order_doubles;
+use crate::doubles::order_doubles;
 use crate::floats::order_floats;
 use crate::wholes::order_numbers;
 use crate::wholes::order_signed;

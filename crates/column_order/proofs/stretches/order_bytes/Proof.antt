@@ -64,10 +64,10 @@ loop-again c =
     )
 
 returns-4 : tie.Need-returns-4 Inv-loop μ-loop
-returns-4 c = sym (byteOrder-shorter _ _ _ (c .before .loop-test .left) (c .if4 .taken)) ∙ c .before .before .loop .inv .2
+returns-4 c = sym (byteOrder-ended _ _ _ (c .before .loop-test .left) (c .if4 .taken)) ∙ c .before .before .loop .inv .2
 
 returns-5 : tie.Need-returns-5 Inv-loop μ-loop
-returns-5 c = sym (byteOrder-ended _ _ _ (c .before .loop-test .left) (c .if4 .left)) ∙ c .before .before .loop .inv .2
+returns-5 c = sym (byteOrder-shorter _ _ _ (c .before .loop-test .left) (c .if4 .left)) ∙ c .before .before .loop .inv .2
 
 pub order-bytes-spec : {M : Type 1} → statement M
 order-bytes-spec =

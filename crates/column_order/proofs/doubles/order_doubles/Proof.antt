@@ -1,8 +1,8 @@
--- `column_order::floats::order_doubles` meets its contract.
+-- `column_order::doubles::order_doubles` meets its contract.
 -- Assumes nothing.
 use Rattle.column_order.specs.Values.{floatOrder}
-use Rattle.column_order.proofs.floats.order_doubles.Statement.{statement}
-use Rattle.column_order.proofs.floats.order_doubles.Tie as tie
+use Rattle.column_order.proofs.doubles.order_doubles.Statement.{statement}
+use Rattle.column_order.proofs.doubles.order_doubles.Tie as tie
 
 returns : tie.Need-returns
 unfolding floatOrder
