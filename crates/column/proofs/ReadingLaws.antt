@@ -11,7 +11,6 @@ use Rattle.column.specs.Lengths.{lengthRight}
 use Rattle.column.specs.Annotations.{keeps}
 use Rattle.column.specs.Reading.{valueOf, checked, readOf}
 use Rattle.column.specs.declared.value.Value.{Value}
-use Rattle.column.specs.declared.value.Read.{Read}
 use Rattle.column.specs.declared.value.Read.the-variants as read
 
 -- the column type is lawful, the length right, the annotation kept, and the value the one of the bytes

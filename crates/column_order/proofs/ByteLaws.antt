@@ -1,5 +1,5 @@
 -- The order of bytes: from a place on, and as a total order. Assumes nothing.
-use mathlib.Core.Path.{_≡_, refl, ap, ap₂, _∙_}
+use mathlib.Core.Path.{_≡_, refl, ap₂, _∙_}
 use mathlib.Core.Bool.{Bool, true, false, cond, _||_}
 use mathlib.Core.Logic.{_⊎_, inl, inr}
 use mathlib.Core.List.{List, [], _∷_}
@@ -11,7 +11,6 @@ use lib.Dec.{ltb}
 use lib.ListN.{length, getD, drop, drop-of-length-le}
 use lib.Seq.{drop-cons}
 use Rattle.column_order.specs.Keys.{byteOrder}
-use Rattle.column_order.specs.declared.answer.Order.{Order}
 use Rattle.column_order.specs.declared.answer.Order.the-variants.{Less, Equal, Greater}
 use Rattle.column_order.proofs.Turning.{turned, atMost}
 
@@ -51,19 +50,6 @@ pub byte-refl : (a : List ℕ) → byteOrder a a ≡ Equal
 unfolding byteOrder
 byte-refl [] = refl
 byte-refl (x ∷ xs) = rw (le-ltb x x (le-refl x)) (byte-refl xs)
-
--- bytes are equal only to themselves
-pub byte-equal : (a b : List ℕ) → byteOrder a b ≡ Equal → a ≡ b
-unfolding byteOrder
-byte-equal [] [] e = refl
-byte-equal [] (y ∷ ys) e = cc
-byte-equal (x ∷ xs) [] e = cc
-byte-equal (x ∷ xs) (y ∷ ys) e = go (ltb x y) refl (ltb y x) refl (byte-equal xs ys) e
-  where
-    go : (t : Bool) → ltb x y ≡ t → (u : Bool) → ltb y x ≡ u → (byteOrder xs ys ≡ Equal → xs ≡ ys) → cond t Less (cond u Greater (byteOrder xs ys)) ≡ Equal → x ∷ xs ≡ y ∷ ys
-    go true p u q rest r = cc
-    go false p true q rest r = cc
-    go false p false q rest r = ap₂ (λ (n : ℕ) (ns : List ℕ). n ∷ ns) (le-antisymm (ltb-false y x q) (ltb-false x y p)) (rest r)
 
 pub byte-turned : (a b : List ℕ) → byteOrder b a ≡ turned (byteOrder a b)
 unfolding byteOrder

@@ -7,23 +7,22 @@ use mathlib.Core.Path.{_≡_, refl, sym, ap, ap₂, subst, _∙_}
 use mathlib.Core.Bool.{Bool, true, false, not, cond, _&&_, _||_, Bool·beq}
 use mathlib.Core.Logic.{_⊎_, inl, inr, ⊎-elim}
 use Prim.Native.Nat.{ℕ, zero, suc, _+_, _-_, _*_, _/_, _%_, _^_, _≤_, _<_}
-use native.Mathlib.Nat.{le-refl, le-of-lt, le-of-eq, le-antisymm, lt-irrefl, lt-of-lt-of-le, lt-of-le-of-lt, lt-of-mul-lt-mul-right, mul-lt-mul-of-pos-right, mul-le-mul, mul-le-mul-right, mul-pos, mul-one, zero-mul, zero-add, add-zero, mod-lt, mul-comm, mul-assoc, mul-left-comm, add-mul, mul-add, mul-right-comm, suc-mul, two-pow-succ, eq-or-lt-of-le}
+use native.Mathlib.Nat.{le-refl, le-of-lt, lt-irrefl, lt-of-lt-of-le, lt-of-mul-lt-mul-right, mul-lt-mul-of-pos-right, mul-le-mul, mul-le-mul-right, mul-pos, mul-one, zero-mul, zero-add, add-zero, mod-lt, mul-comm, mul-assoc, add-mul, mul-add, mul-right-comm, suc-mul, two-pow-succ, eq-or-lt-of-le}
 use native.Mathlib.Omega.{arith}
 use borrow.Author.Tests.{not-false, lt-ltb, le-ltb, ltb-true, ltb-false, eq-eqb, ne-eqb, eqb-true, eqb-false}
 use lib.Dec.{leb, ltb, eqb, leb·suc-suc}
 use lib.Ieee.{Float, nan, inf, fin, Format, binary32, binary64, up, down, low, hid, ones, top, below, level, lt, eq, ofFields, ofBits, nanBits, prec, odd}
 use lib.Ieee.Bits.{nanBits-above}
 use lib.Ieee.Exact.{HasValue, odd-sign}
-use lib.Ieee.Fits.{up-pos, down-pos}
+use lib.Ieee.Fits.{down-pos}
 use lib.Pow.{pow-pos, pow-mono}
-use lib.IntN.{ℤ, pos, negsuc, negℤ}
+use lib.IntN.{ℤ, pos, negℤ}
 use lib.Signed.{ltZ}
 use Rattle.decimal.proofs.NumberLaws.{lt-or-ge}
 use Rattle.column.proofs.NumberLaws.{ltb-same}
 use Rattle.column.proofs.FloatLaws.{nan-above}
-use Rattle.column_order.specs.Keys.{Key, whole, none, floatKey, wholeOrder, keyOrder}
+use Rattle.column_order.specs.Keys.{whole, none, floatKey, wholeOrder, keyOrder}
 use Rattle.column_order.specs.Values.{floatOrder}
-use Rattle.column_order.specs.declared.answer.Order.{Order}
 use Rattle.column_order.specs.declared.answer.Order.the-variants.{Less, Equal, Greater, Unordered}
 
 -- ---- the weight of bits
@@ -107,9 +106,6 @@ level-alike s t a b c d p =
     ap₂ (λ (x y : Bool). x && (Bool·beq s t || y))
     (same-test a b ∙ ap₂ (λ (x y : Bool). not x && not y) (p .less) (p .more) ∙ sym (same-test c d))
     (zero-test a ∙ ap not (p .left) ∙ sym (zero-test c))
-
-turned : {a b c d : ℕ} → Alike a b c d → Alike b a d c
-turned p = record { less = p .more; more = p .less; left = p .right; right = p .left }
 
 -- ---- floats compare as their weights
 

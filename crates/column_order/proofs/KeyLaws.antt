@@ -5,7 +5,7 @@ use mathlib.Core.List.{List}
 use Prim.Native.Nat.{ℕ}
 use native.Mathlib.Omega.{arith}
 use borrow.Author.Tests.{leb-true, eqb-true, eqb-false}
-use lib.Dec.{leb, eqb}
+use lib.Dec.{eqb}
 use lib.Ieee.{binary32, binary64, ofBits}
 use lib.IntN.{pos}
 use lib.ListN.{length}
@@ -22,9 +22,9 @@ use Rattle.column.specs.declared.value.Value.the-variants.{Truth, Signed, Unsig
 use Rattle.column.specs.declared.value.Read.{Read}
 use Rattle.column.proofs.BoolLaws.{and-left, and-right}
 use Rattle.column.proofs.LengthLaws.{decimal-right}
-use Rattle.column.proofs.ReadingLaws.{Reads, reads}
+use Rattle.column.proofs.ReadingLaws.{reads}
 use Rattle.column_order.specs.Keys.{Key, whole, bytes, numberOf, floatKey, keyOf, wholeOrder, byteOrder, keyOrder}
-use Rattle.column_order.specs.Values.{flag, floatOrder, truthOrder, signedOrder, unsignedOrder, singleOrder, doubleOrder, stretchOrder}
+use Rattle.column_order.specs.Values.{flag, truthOrder, signedOrder, unsignedOrder, singleOrder, doubleOrder, stretchOrder}
 use Rattle.column_order.specs.declared.answer.Order.{Order}
 use Rattle.column_order.proofs.FloatLaws.{floatOrder-bits}
 

@@ -10,7 +10,6 @@ use lib.Ieee.{Format, binary32, binary64, nanBits}
 use lib.IntN.{ℤ, pos}
 use lib.Signed.{_<ℤ_}
 use Rattle.column_type.specs.declared.types.ColumnType.{ColumnType}
-use Rattle.column_type.specs.Lawful.{isLawful}
 use Rattle.column.specs.Codes.{BOOLEAN, INT32, INT64, FLOAT, DOUBLE, BYTE-ARRAY, FIXED-LEN-BYTE-ARRAY, DECIMAL}
 use Rattle.column.specs.Numbers.{little}
 use Rattle.column.specs.Lengths.{isByteDecimal}
@@ -20,8 +19,7 @@ use Rattle.column.specs.declared.value.Value.{Value}
 use Rattle.column.specs.declared.value.Read.{Read}
 use Rattle.column.proofs.ReadingLaws.{reads}
 use Rattle.column_order.specs.Keys.{Key, whole, bytes, none, numberOf, floatKey, keyOf, wholeOrder, keyOrder}
-use Rattle.column_order.specs.Order.{hasOrder, unlessRefused, orderOf}
-use Rattle.column_order.specs.declared.answer.Order.{Order}
+use Rattle.column_order.specs.Order.{hasOrder, orderOf}
 use Rattle.column_order.specs.declared.answer.Order.the-variants.{Less, Equal, Greater, Unordered}
 use Rattle.column_order.proofs.Turning.{turned, atMost, at-most-both}
 use Rattle.column_order.proofs.WholeLaws.{whole-less, whole-equal, whole-greater, whole-turned, whole-trans, whole-total}

@@ -1,7 +1,6 @@
 -- The starred points of document 01 that single values have, by computation from the definitions.
 use Prim.Native.Nat.{ℕ}
 use mathlib.Core.Path.{_≡_, refl}
-use mathlib.Core.Bool.{true}
 use mathlib.Core.List.{List, [], _∷_}
 use Rattle.annotation.specs.Backward.{backwardOf}
 use Rattle.annotation.specs.Meaning.{annotationOf}
@@ -15,7 +14,7 @@ use Rattle.column.specs.Annotations.{inSignedBits, wholeKeeps, bytesKeep, keeps
 use Rattle.column.specs.Codes.{INT32, BYTE-ARRAY, DECIMAL, INTEGER, UNSIGNED}
 use Rattle.column.specs.Lengths.{lengthRight}
 use Rattle.column.specs.Numbers.{little, twosComplement}
-use Rattle.column.specs.Outcome.{Outcome, refused, given, BREAKS-ANNOTATION}
+use Rattle.column.specs.Outcome.{Outcome, refused, given}
 use Rattle.column.specs.Outcome as reading
 use Rattle.column.specs.Reading.{valueOf, readOf}
 use Rattle.column.specs.declared.value.Value.{Value}

@@ -1,6 +1,6 @@
 -- What a value is ordered by (document 01, "Order"), over its bytes alone.
 use Prim.Native.Nat.{ℕ, _%_}
-use mathlib.Core.Bool.{Bool, cond}
+use mathlib.Core.Bool.{cond}
 use mathlib.Core.List.{List, [], _∷_}
 use lib.Dec.{leb, ltb, eqb}
 use lib.Ieee.{Format, binary32, binary64, top, nanBits}

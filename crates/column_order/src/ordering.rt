@@ -1,6 +1,6 @@
 // Ordering two values of a column.
 ghost use mathlib.Core.Path.{_≡_};
-ghost use Rattle.column.specs.Reading.{valueOf, readOf};
+ghost use Rattle.column.specs.Reading.{readOf};
 ghost use Rattle.column.specs.declared.value.Read as declared;
 ghost use Rattle.column_order.specs.Keys.{keyOf, keyOrder};
 ghost use Rattle.column_order.specs.Order.{hasOrder, unlessRefused, orderOf};

@@ -1,9 +1,6 @@
 -- `column::annotations::bytes_keep` meets its contract, by the kind.
 -- Assumes nothing.
-use mathlib.Core.Path.{sym, ap, _∙_}
-use Prim.Native.Nat.{ℕ}
-use lib.Dec.{eqb}
-use lib.ListN.{length}
+use mathlib.Core.Path.{sym, _∙_}
 use borrow.Author.Tests.{eq-eqb, ne-eqb}
 use Rattle.column.specs.Annotations.{bytesKeep}
 use borrow.Author.Needs.{needs}

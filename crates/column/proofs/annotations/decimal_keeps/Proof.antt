@@ -5,7 +5,6 @@ use Rattle.decimal.specs.declared.fit.Fit.{Fit}
 use Rattle.column.proofs.DecimalLaws.{isWithin, fits-within}
 use Rattle.column.specs.Annotations.{inDigits}
 use Rattle.decimal.specs.Number.{number}
-use mathlib.Core.Bool.{Bool}
 use borrow.Author.Needs.{needs}
 use Rattle.column.proofs.annotations.decimal_keeps.Statement.{statement}
 use Rattle.column.proofs.annotations.decimal_keeps.Tie as tie

@@ -1,8 +1,5 @@
 -- `column::annotations::whole_keeps` meets its contract, by the kind.
 -- Assumes nothing.
-use mathlib.Core.Path.{sym, ap, _∙_}
-use Prim.Native.Nat.{ℕ, _^_}
-use lib.Dec.{ltb}
 use borrow.Author.Tests.{eq-eqb, ne-eqb}
 use Rattle.column.specs.Annotations.{wholeKeeps}
 use borrow.Author.Needs.{needs}

@@ -1,7 +1,6 @@
 -- `column::floats::float_of` meets its contract: the patterns above that of infinity, but for the sign, are those of the NaN.
 -- Assumes nothing.
-use mathlib.Core.Path.{sym, subst, _∙_}
-use lib.Dec.{T}
+use mathlib.Core.Path.{sym}
 use lib.Ieee.{binary32, ofBits, div}
 use Rattle.column.proofs.FloatLaws.{nan-above, not-nan-below}
 use borrow.Author.Needs.{needs}

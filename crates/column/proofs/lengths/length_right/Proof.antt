@@ -1,7 +1,6 @@
 -- `column::lengths::length_right` meets its contract: the limit, the width, and the lengths of a decimal.
 -- Assumes nothing.
-use mathlib.Core.Path.{_≡_, sym, _∙_}
-use mathlib.Core.Bool.{true, false}
+use mathlib.Core.Path.{sym, _∙_}
 use borrow.Author.Tests.{le-leb, lt-leb, not-true, not-false}
 use Rattle.column.specs.Lengths.{lengthRight}
 use borrow.Author.Needs.{needs}

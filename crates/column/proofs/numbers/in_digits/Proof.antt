@@ -1,7 +1,7 @@
 -- `column::numbers::in_digits` meets its contract. The invariant: what is left is the number without as many digits as are gone.
 -- Assumes nothing.
-use mathlib.Core.Path.{_≡_, sym, ap, _∙_}
-use Prim.Native.Nat.{ℕ, _-_, _/_, _^_, _≤_}
+use mathlib.Core.Path.{_≡_, sym}
+use Prim.Native.Nat.{_-_, _/_, _^_, _≤_}
 use native.Mathlib.Nat.{div-one, le-antisymm}
 use native.Mathlib.Omega.{arith}
 use Rattle.column.proofs.NumberLaws.{digits-none, digits-next, digits-all}

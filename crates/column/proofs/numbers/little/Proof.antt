@@ -1,6 +1,5 @@
 -- `column::numbers::little` meets its contract. The invariant: `n` is the number of the bytes from `at` on, and below 256 for each of them.
 -- Assumes nothing.
-use borrow.Author.Needs.{needs}
 use Rattle.decimal.proofs.UnsignedLaws.{pow-pos256}
 use mathlib.Core.Path.{_≡_, sym, ap, subst}
 use Prim.Native.Nat.{ℕ, _-_, _^_, _≤_, _<_}

@@ -1,17 +1,13 @@
 -- `column::reading::read_present` meets its contract: each arm knows the physical type, and so the length.
 -- Assumes nothing.
-use mathlib.Core.Path.{_≡_, sym, ap, ap₂, subst, _∙_}
-use mathlib.Core.Option.{some}
-use mathlib.Core.List.{List}
-use Prim.Native.Nat.{ℕ, _≤_, _<_, _^_, _*_}
+use mathlib.Core.Path.{_≡_, subst}
+use Prim.Native.Nat.{ℕ, _<_, _^_}
 use native.Mathlib.Omega.{arith}
 use lib.ListN.{length}
 use borrow.Author.Tests.{ne-eqb}
-use Rattle.column.specs.declared.value.Read.{Read}
-use Rattle.column.specs.declared.value.Value.{Value}
-use Rattle.column.specs.Numbers.{little, twosComplement}
+use Rattle.column.specs.Numbers.{little}
 use Rattle.column.specs.Annotations.{wholeKeeps, bytesKeep, keeps}
-use Rattle.column.specs.Reading.{checked, wholeValue, valueOf}
+use Rattle.column.specs.Reading.{valueOf}
 use Rattle.column.proofs.LengthLaws.{width-right, decimal-right}
 use borrow.Author.Needs.{needs}
 use Rattle.column.proofs.reading.read_present.Statement.{statement}

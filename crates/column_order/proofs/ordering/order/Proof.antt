@@ -10,7 +10,7 @@ use Rattle.column_type.specs.Lawful.{isLawful}
 use Rattle.column.specs.Reading.{readOf}
 use Rattle.column.specs.declared.value.Read.{Read}
 use Rattle.column_order.specs.Keys.{keyOf, keyOrder}
-use Rattle.column_order.specs.Order.{hasOrder, unlessRefused, orderOf}
+use Rattle.column_order.specs.Order.{unlessRefused, orderOf}
 use Rattle.column_order.specs.Outcome.{outcomeOf, outcome}
 use Rattle.column_order.specs.declared.answer.Order.{Order}
 use borrow.Author.Needs.{needs}

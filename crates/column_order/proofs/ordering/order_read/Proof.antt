@@ -1,16 +1,11 @@
 -- `column_order::ordering::order_read` meets its contract: each arm knows the case of the first value, and the order of values is that of their keys.
 -- Assumes nothing.
-use mathlib.Core.Path.{_≡_, sym, ap, _∙_}
-use mathlib.Core.List.{List}
-use Prim.Native.Nat.{ℕ}
+use mathlib.Core.Path.{sym, ap, _∙_}
 use lib.IntN.{ℤ}
 use mir.Syntax.{w64}
 use mir.ValLaws.{toZ-ofZ}
-use Rattle.column_type.specs.declared.types.ColumnType.{ColumnType}
 use Rattle.column.specs.declared.value.Value.{Value}
 use Rattle.column_order.specs.Values.{signedOrder, stretchOrder}
-use Rattle.column_order.specs.Keys.{keyOf, keyOrder}
-use Rattle.column_order.specs.declared.answer.Order.{Order}
 use Rattle.column_order.proofs.KeyLaws.{valueOrder, read-order, read-lengths}
 use borrow.Author.Needs.{needs}
 use Rattle.column_order.proofs.ordering.order_read.Statement.{statement}
