@@ -1,15 +1,24 @@
 -- What document 01's order promises: without a NaN it is total, transitive and, up to equal, antisymmetric; exchanged values are answered the
 -- other way round; and decimals compare as their numbers. Assumes nothing.
 use mathlib.Core.Path.{_≡_, refl, sym, ap, ap₂, _∙_}
-use mathlib.Core.Bool.{Bool, true, false, cond, _||_}
+use mathlib.Core.Bool.{Bool, true, false, cond, _||_, _&&_}
 use mathlib.Core.List.{List}
-use mathlib.Core.Logic.{_↔_, _⊎_, inl, inr}
+use mathlib.Core.Logic.{_↔_, _⊎_, inl, inr, ⊎-elim}
 use Prim.Native.Nat.{ℕ}
+use borrow.Author.Tests.{eqb-true}
 use lib.Dec.{eqb}
 use lib.Ieee.{Format, binary32, binary64, nanBits}
 use lib.IntN.{ℤ, pos}
 use lib.Signed.{_<ℤ_}
+use Rattle.annotation.specs.Meaning.{annotationOf}
+use Rattle.annotation.specs.Parameters.{validParameters}
+use Rattle.annotation.specs.Rule9.{rule9}
+use Rattle.annotation.specs.Rule10.{decimalOn, rule10}
+use Rattle.annotation.specs.Rule11.{rule11}
+use Rattle.annotation.specs.Spelling.{namedOf, statedOf}
+use Rattle.schema.specs.Rules.{lengthShape}
 use Rattle.column_type.specs.declared.types.ColumnType.{ColumnType}
+use Rattle.column_type.specs.Lawful.{slotOf, fits, isLeaf, annotationRight, isLawful}
 use Rattle.column.specs.Codes.{BOOLEAN, INT32, INT64, FLOAT, DOUBLE, BYTE-ARRAY, FIXED-LEN-BYTE-ARRAY, DECIMAL}
 use Rattle.column.specs.Numbers.{little}
 use Rattle.column.specs.Lengths.{isByteDecimal}
@@ -17,6 +26,7 @@ use Rattle.column.specs.Annotations.{isWhole, isUnsigned}
 use Rattle.column.specs.Reading.{readOf}
 use Rattle.column.specs.declared.value.Value.{Value}
 use Rattle.column.specs.declared.value.Read.{Read}
+use Rattle.column.proofs.BoolLaws.{and-left, and-right}
 use Rattle.column.proofs.ReadingLaws.{reads}
 use Rattle.column_order.specs.Keys.{Key, whole, bytes, none, numberOf, floatKey, keyOf, wholeOrder, keyOrder}
 use Rattle.column_order.specs.Order.{hasOrder, orderOf}
@@ -157,8 +167,32 @@ module _ (c : ColumnType) (ordered : hasOrder c ≡ true) where
 -- ---- decimals
 
 -- the physical types that a DECIMAL can have: "DECIMAL: INT32, INT64, FIXED, BYTE_ARRAY" (rule 10)
-abbrev pub TakesDecimal : ColumnType → Type 0
+abbrev TakesDecimal : ColumnType → Type 0
 TakesDecimal c = (c .physical ≡ INT32) ⊎ ((c .physical ≡ INT64) ⊎ ((c .physical ≡ FIXED-LEN-BYTE-ARRAY) ⊎ (c .physical ≡ BYTE-ARRAY)))
+
+or-cases : (a b : Bool) → (a || b) ≡ true → (a ≡ true) ⊎ (b ≡ true)
+or-cases true b e = inl refl
+or-cases false b e = inr e
+
+-- rule 10 of a lawful DECIMAL
+lawful-on : (c : ColumnType) → isLawful c ≡ true → c .kind ≡ DECIMAL → decimalOn (c .physical) ≡ true
+unfolding isLawful slotOf rule10 annotationOf statedOf namedOf validParameters
+lawful-on c l k =
+    let slot = and-right (fits c && isLeaf (c .physical) && lengthShape (c .physical) (pos (c .«type_length»))) (annotationRight (slotOf c)) l in
+    rw k at (and-right (rule9 (slotOf c)) (rule10 (slotOf c) false) (and-left (rule9 (slotOf c) && rule10 (slotOf c) false) (rule11 (slotOf c) false) slot))
+
+takes-decimal : (c : ColumnType) → isLawful c ≡ true → c .kind ≡ DECIMAL → TakesDecimal c
+takes-decimal c l k =
+    ⊎-elim
+    (λ three. ⊎-elim
+    (λ two. ⊎-elim (λ e. inl (eqb-true p INT32 e)) (λ e. inr (inl (eqb-true p INT64 e))) (or-cases (eqb p INT32) (eqb p INT64) two))
+    (λ e. inr (inr (inl (eqb-true p FIXED-LEN-BYTE-ARRAY e))))
+    (or-cases (eqb p INT32 || eqb p INT64) (eqb p FIXED-LEN-BYTE-ARRAY) three))
+    (λ e. inr (inr (inr (eqb-true p BYTE-ARRAY e))))
+    (or-cases (eqb p INT32 || eqb p INT64 || eqb p FIXED-LEN-BYTE-ARRAY) (eqb p BYTE-ARRAY) (lawful-on c l k))
+  where
+    p : ℕ
+    p = c .physical
 
 decimal-ordered : (c : ColumnType) → c .kind ≡ DECIMAL → TakesDecimal c → hasOrder c ≡ true
 decimal-ordered c k (inl e) = rw (k, e)
@@ -174,7 +208,10 @@ decimal-key c bs k (inr (inr (inl e))) = rw (k, e)
 decimal-key c bs k (inr (inr (inr e))) = rw (k, e)
 
 -- decimals of one column compare as the signed numbers that their bytes stand for, whatever their lengths and physical type
-module _ (c : ColumnType) (a b : List ℕ) (p : Valid c a) (q : Valid c b) (kind : c .kind ≡ DECIMAL) (physical : TakesDecimal c) where
+module _ (c : ColumnType) (a b : List ℕ) (p : Valid c a) (q : Valid c b) (kind : c .kind ≡ DECIMAL) where
+  physical : TakesDecimal c
+  physical = takes-decimal c (reads c a (p .0) (p .1) .lawful) kind
+
   pub decimal-order : orderOf c a b ≡ wholeOrder (numberOf c a) (numberOf c b)
   unfolding keyOrder
   decimal-order = order-keys c (decimal-ordered c kind physical) a b p q ∙ ap₂ keyOrder (decimal-key c a kind physical) (decimal-key c b kind physical)
