@@ -1,12 +1,12 @@
 -- A slot is resolved exactly where rules 9, 10 and 11 hold, to its kind; else the first that fails is answered.
 -- Assumes nothing.
-use mathlib.Core.Path.{_≡_, refl}
+use mathlib.Core.Path.{_≡_, refl, ap}
 use mathlib.Core.Bool.{Bool, true, false, cond}
 use Rattle.annotation.specs.Rule9.{rule9}
 use Rattle.annotation.specs.Rule10.{rule10}
 use Rattle.annotation.specs.Rule11.{rule11}
 use Rattle.annotation.specs.Kinds.{kindOf}
-use Rattle.annotation.specs.Outcome.{resolutionOf}
+use Rattle.annotation.specs.Outcome.{resolutionOf, outcomeOf, outcome}
 use Rattle.annotation.specs.declared.slot.Annotated.{Annotated}
 use Rattle.annotation.specs.declared.resolution.Kind.{Kind}
 use Rattle.annotation.specs.declared.resolution.Resolution.{Resolution}
@@ -43,6 +43,11 @@ keeps-of-resolved n underMap k e =
 pub kind-of-resolved : (n : Annotated) (underMap : Bool) (k : Kind) → resolutionOf n underMap ≡ Resolution.Resolved k → kindOf n underMap ≡ k
 unfolding resolutionOf InOrder
 kind-of-resolved n underMap k e = all-held (rule9 n) (rule10 n underMap) (rule11 n underMap) (kindOf n underMap) k e .3
+
+-- an answer that resolving gives has the slot's outcome
+pub with-outcome : (n : Annotated) (underMap : Bool) (r : Resolution) → r ≡ resolutionOf n underMap → (r ≡ resolutionOf n underMap) × (outcomeOf r ≡ outcome n underMap)
+unfolding outcome
+with-outcome n underMap r e = (e, ap outcomeOf e)
 
 -- the refusals, each where its rule is the first to fail
 pub refused-nine : (n : Annotated) (underMap : Bool) → rule9 n ≡ false → resolutionOf n underMap ≡ Resolution.Disagreement

@@ -8,7 +8,6 @@ use native.Mathlib.Omega.{arith}
 use lib.Dec.{eqb}
 use borrow.Author.Tests.{eqb-true}
 use Rattle.annotation.specs.Table.{lookup}
-use Rattle.annotation.specs.Logical as logical
 use Rattle.annotation.specs.Parameters.{UNUSED, unitCode, bitWidthCode, flagCode, validUnit, validBitWidth, validFlag, unitOf, bitWidthOf, flagOf, validParameters}
 use Rattle.annotation.specs.Spelling.{codeOf, aOf, bOf, logicalTable, namedOf, statedOf}
 use Rattle.annotation.specs.declared.types.TimeUnit.{TimeUnit}

@@ -6,6 +6,7 @@ use Rattle.annotation.specs.Rule10.{rule10}
 use Rattle.annotation.specs.Rule11.{rule11}
 use Rattle.annotation.specs.Kinds.{kindOf}
 use Rattle.annotation.specs.declared.slot.Annotated.{Annotated}
+use Rattle.annotation.specs.declared.resolution.Kind.{Kind}
 use Rattle.annotation.specs.declared.resolution.Resolution.{Resolution}
 
 -- "at one node in number order" (01, "Numbered refusals")
@@ -23,3 +24,19 @@ refusalOf (Resolution.Resolved k) = 0
 refusalOf Resolution.Disagreement = 9
 refusalOf Resolution.Misplaced = 10
 refusalOf Resolution.BadDecimal = 11
+
+-- the paper's outcome: what is asked for, or a refusal's number; its place is the node, which its slot does not know
+pub data Outcome (A : Type 0) : Type 0 where
+  given : A → Outcome A
+  refused : ℕ → Outcome A
+
+-- each answer's number and values
+abbrev pub outcomeOf : Resolution → Outcome Kind
+outcomeOf (Resolution.Resolved k) = given k
+outcomeOf Resolution.Disagreement = refused (refusalOf Resolution.Disagreement)
+outcomeOf Resolution.Misplaced = refused (refusalOf Resolution.Misplaced)
+outcomeOf Resolution.BadDecimal = refused (refusalOf Resolution.BadDecimal)
+
+-- the outcome of any slot
+unfoldable pub outcome : Annotated → Bool → Outcome Kind
+outcome n underMap = outcomeOf (resolutionOf n underMap)

@@ -10,7 +10,10 @@ use Rattle.annotation.specs.Meaning.{annotationOf}
 use Rattle.annotation.specs.declared.types.LogicalType.{LogicalType}
 use Rattle.annotation.specs.declared.types.Annotation.{Annotation}
 use Rattle.annotation.specs.declared.slot.Annotated.{Annotated}
+use Rattle.annotation.specs.Outcome.{Outcome, given, refused, refusalOf, resolutionOf}
+use Rattle.annotation.specs.declared.resolution.Resolution.{Resolution}
 use Rattle.annotation.specs.declared.rewriting.Written.{Written}
+use Rattle.annotation.specs.declared.rewriting.Rewriting.{Rewriting}
 
 -- a converted type alone, or none
 abbrev pub convertedWritten : ℕ → Written
@@ -31,6 +34,21 @@ writtenAs Annotation.Unreadable = convertedWritten converted.NONE
 -- what is written for a slot; "a key_value layer has none", since MAP_KEY_VALUE counts as no annotation there
 unfoldable pub writtenOf : Annotated → Bool → Written
 writtenOf n underMap = writtenAs (annotationOf n underMap)
+
+-- what rewriting answers for a slot: the number of the refusal where it does not resolve
+abbrev pub rewritingAs : Resolution → Written → Rewriting
+rewritingAs (Resolution.Resolved k) w = Rewriting.Written w
+rewritingAs Resolution.Disagreement w = Rewriting.Refused (refusalOf Resolution.Disagreement)
+rewritingAs Resolution.Misplaced w = Rewriting.Refused (refusalOf Resolution.Misplaced)
+rewritingAs Resolution.BadDecimal w = Rewriting.Refused (refusalOf Resolution.BadDecimal)
+
+unfoldable pub rewritingOf : Annotated → Bool → Rewriting
+rewritingOf n underMap = rewritingAs (resolutionOf n underMap) (writtenOf n underMap)
+
+-- each answer's number and values
+abbrev pub outcomeOf : Rewriting → Outcome Written
+outcomeOf (Rewriting.Written w) = given w
+outcomeOf (Rewriting.Refused number) = refused number
 
 -- a slot's numbers with others for its annotations: "All else .. is copied"
 abbrev pub withWritten : Annotated → Written → Annotated

@@ -19,6 +19,7 @@ pub use resolution::Resolution;
 pub use resolution::refusal;
 pub use resolution::resolve;
 pub use resolution::resolved_kind;
+pub use rewriting::Rewriting;
 pub use rewriting::Written;
 pub use rewriting::rewrite;
 pub use slot::Annotated;

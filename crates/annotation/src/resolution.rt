@@ -1,7 +1,7 @@
 // The outcome of a slot: its kind as rows have it, or the first of the rules 9, 10 and 11 that it breaks.
 ghost use mathlib.Core.Path.{_≡_};
 ghost use Rattle.annotation.specs.Kinds.{kindOf, kindAs, bareKind, plainKind, decimalKind, logicalKind};
-ghost use Rattle.annotation.specs.Outcome.{resolutionOf, refusalOf};
+ghost use Rattle.annotation.specs.Outcome.{resolutionOf, refusalOf, outcomeOf, outcome};
 use crate::agreement::agree;
 use crate::converted;
 use crate::decimals::digits_allowed;
@@ -55,6 +55,7 @@ const PLAIN_GROUP: u32 = 30;
 // refused like parameters that a type does not take: beside the other annotation by 9, alone by 10.
 pub fn resolve(n: Annotated, under_map: bool) -> Resolution
     ensures { λ r. ⌜ r ≡ resolutionOf n «under_map» ⌝ }
+    ensures { λ r. ⌜ outcomeOf r ≡ outcome n «under_map» ⌝ }
 {
     if !agree(n) {
         return Resolution::Disagreement;

@@ -1,9 +1,12 @@
 // What the rewritten sheet says of a node.
 ghost use mathlib.Core.Path.{_≡_};
-ghost use Rattle.annotation.specs.Rewriting.{writtenOf, writtenAs, convertedWritten, logicalWritten};
+ghost use Rattle.annotation.specs.Rewriting.{rewritingOf, writtenOf, writtenAs, convertedWritten, logicalWritten};
 use crate::conversion::forward;
 use crate::converted;
 use crate::logical;
+use crate::resolution::Resolution;
+use crate::resolution::refusal;
+use crate::resolution::resolve;
 use crate::slot::Annotated;
 use crate::slot::annotation;
 use crate::spelling::a_of;
@@ -20,9 +23,28 @@ pub struct Written {
     pub b: u8,
 }
 
-// Every logical annotation with its parameters and its forward image, INTERVAL as converted alone, else none: what the slot
-// says once it is rewritten. under_map is as for resolve.
-pub fn rewrite(n: Annotated, under_map: bool) -> Written
+// What rewriting answers for a slot: its annotation numbers, or the number of the refusal, 9, 10 or 11.
+pub enum Rewriting {
+    Written(Written),
+    Refused(u32),
+}
+
+// Every logical annotation with its parameters and its forward image, INTERVAL as converted alone, else none: what a slot
+// that resolves says once it is rewritten. under_map is as for resolve.
+pub fn rewrite(n: Annotated, under_map: bool) -> Rewriting
+    ensures { λ r. ⌜ r ≡ rewritingOf n «under_map» ⌝ }
+{
+    let resolution = resolve(n, under_map);
+    match resolution {
+        Resolution::Resolved(_) => Rewriting::Written(written_for(n, under_map)),
+        Resolution::Disagreement => Rewriting::Refused(refusal(resolution)),
+        Resolution::Misplaced => Rewriting::Refused(refusal(resolution)),
+        Resolution::BadDecimal => Rewriting::Refused(refusal(resolution)),
+    }
+}
+
+// What is written for a slot's annotation.
+fn written_for(n: Annotated, under_map: bool) -> Written
     ensures { λ r. ⌜ r ≡ writtenOf n «under_map» ⌝ }
 {
     written_as(annotation(n, under_map))

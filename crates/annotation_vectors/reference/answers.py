@@ -132,10 +132,13 @@ def resolve(physical, length, converted, logical, a, b, scale, precision, under_
     return (21 if name == "INTERVAL" else LOGICAL[name], a, b)
 
 
-def rewrite(converted, logical, a, b, under_map):
-    """The converted, logical, a and b of a slot that is accepted on some physical type."""
+def rewrite(physical, length, converted, logical, a, b, scale, precision, under_map):
+    """A refusal number, or the converted, logical, a and b of the rewritten slot."""
+    resolved = resolve(physical, length, converted, logical, a, b, scale, precision, under_map)
+    if isinstance(resolved, int):
+        return resolved
     means = meaning(converted, logical, a, b, under_map)
-    if means is None or isinstance(means, int):
+    if means is None:
         return 255, 0, 0, 0
     name, a, b = means
     if name == "INTERVAL":
@@ -145,7 +148,7 @@ def rewrite(converted, logical, a, b, under_map):
 
 
 def shown(answer):
-    return "!%d" % answer if isinstance(answer, int) else "%d/%d/%d" % answer
+    return "!%d" % answer if isinstance(answer, int) else "/".join("%d" % n for n in answer)
 
 
 # Every converted code and one outside the list, beside every logical code and two outside it.
@@ -154,7 +157,7 @@ LOGICALS = range(16)
 PARAMETERS = [(0, 0), (1, 0), (0, 1), (1, 1), (2, 0), (2, 1), (3, 1), (4, 1), (1, 2), (8, 0), (8, 1), (16, 1), (32, 0), (64, 1), (65, 0)]
 COLUMNS = [(0, 0), (1, 0), (2, 0), (3, 0), (4, 0), (5, 0), (6, 0), (7, 12), (7, 16), (8, 0), (255, 0)]
 
-print("under_map converted logical a b, rewritten converted logical a b, answer on each physical type; the rest is all 9")
+print("under_map converted logical a b, answer on each physical type with what is rewritten there, converted logical a b; the rest is all 9")
 refused = 0
 for under_map in (0, 1):
     for converted in CODES:
@@ -164,8 +167,9 @@ for under_map in (0, 1):
                 if all(answer == 9 for answer in answers):
                     refused += 1
                     continue
-                numbers = (under_map, converted, logical, a, b) + rewrite(converted, logical, a, b, under_map)
-                print(" ".join([str(n) for n in numbers] + [shown(answer) for answer in answers]))
+                written = [rewrite(p, n, converted, logical, a, b, 2, 5, under_map) for p, n in COLUMNS]
+                numbers = [str(n) for n in (under_map, converted, logical, a, b)]
+                print(" ".join(numbers + [shown(answer) + ">" + shown(w) for answer, w in zip(answers, written)]))
 print("all 9: %d" % refused)
 
 print("length of FIXED, answer for UUID, INTERVAL, DECIMAL of precision 2")

@@ -2,6 +2,7 @@
 use crate::text;
 use annotation::Annotated;
 use annotation::Resolution;
+use annotation::Rewriting;
 
 // The annotation numbers of a slot, and where it stands.
 struct Codes {
@@ -54,8 +55,10 @@ const PHYSICAL: [u8; 11] = [0, 1, 2, 3, 4, 5, 6, 7, 7, 8, 255];
 const LENGTH: [i32; 11] = [0, 0, 0, 0, 0, 0, 0, 12, 16, 0, 0];
 
 pub fn run() {
-    text::put(b"under_map converted logical a b, rewritten converted logical a b, ");
-    text::put(b"answer on each physical type; the rest is all 9\n");
+    text::put(
+        b"under_map converted logical a b, answer on each physical type with what is rewritten ",
+    );
+    text::put(b"there, converted logical a b; the rest is all 9\n");
     let refused = std::num::wrapping_add_u32(converted_codes(false), converted_codes(true));
     text::put(b"all 9: ");
     text::number(refused);
@@ -109,7 +112,6 @@ fn line(codes: Codes) -> u32 {
         return 1;
     }
     slot_numbers(codes);
-    rewritten_numbers(codes);
     answers(codes);
     text::newline();
     0
@@ -137,6 +139,7 @@ fn answers(codes: Codes) {
     while i < 11 {
         text::space();
         text::answer(resolved(codes, PHYSICAL[i], LENGTH[i]));
+        text::rewriting(rewritten(codes, PHYSICAL[i], LENGTH[i]));
         i += 1;
     }
 }
@@ -153,14 +156,6 @@ fn slot_numbers(codes: Codes) {
     next(codes.b);
 }
 
-fn rewritten_numbers(codes: Codes) {
-    let written = annotation::rewrite(slot(codes, 0, 0), codes.under_map);
-    next(written.converted);
-    next(written.logical);
-    next(written.a);
-    next(written.b);
-}
-
 fn next(n: u8) {
     text::space();
     text::number(n as u32);
@@ -168,6 +163,10 @@ fn next(n: u8) {
 
 fn resolved(codes: Codes, physical: u8, length: i32) -> Resolution {
     annotation::resolve(slot(codes, physical, length), codes.under_map)
+}
+
+fn rewritten(codes: Codes, physical: u8, length: i32) -> Rewriting {
+    annotation::rewrite(slot(codes, physical, length), codes.under_map)
 }
 
 // The codes on a physical type, with scale 2 and precision 5.

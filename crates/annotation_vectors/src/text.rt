@@ -1,6 +1,8 @@
 // Answers as text, on standard output.
 use annotation::Kind;
 use annotation::Resolution;
+use annotation::Rewriting;
+use annotation::Written;
 use libc::STDOUT_FILENO;
 
 pub fn put(bytes: &[u8]) {
@@ -25,6 +27,25 @@ pub fn answer(r: Resolution) {
         Resolution::Resolved(k) => kind(k),
         _ => refused(annotation::refusal(r)),
     }
+}
+
+// What is rewritten, or a refusal behind a mark.
+pub fn rewriting(r: Rewriting) {
+    put(b">");
+    match r {
+        Rewriting::Written(w) => written(w),
+        Rewriting::Refused(n) => refused(n),
+    }
+}
+
+fn written(w: Written) {
+    number(w.converted as u32);
+    put(b"/");
+    number(w.logical as u32);
+    put(b"/");
+    number(w.a as u32);
+    put(b"/");
+    number(w.b as u32);
 }
 
 fn kind(k: Kind) {

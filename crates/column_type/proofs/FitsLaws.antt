@@ -1,7 +1,6 @@
 -- A column type whose numbers fit a slot, taken apart, and the physical codes of leaves.
 use Prim.Native.Nat.{ℕ, _≤_, _<_}
-use mathlib.Core.Path.{_≡_, refl, sym, _∙_}
-use mathlib.Core.Logic.{_⊎_, inl, inr}
+use mathlib.Core.Path.{_≡_, refl}
 use mathlib.Core.Bool.{Bool, true, false, not, _&&_, and-eq-true-iff}
 use native.Mathlib.Decide.{decLe}
 use native.Mathlib.Omega.{arith}

@@ -1,26 +1,21 @@
 -- A leaf that keeps the rules has a lawful column type in its row.
-use Prim.Native.Nat.{ℕ, _^_, _≤_, _<_}
-use mathlib.Core.Path.{_≡_, refl, sym, ap, _∙_, subst}
-use mathlib.Core.Bool.{Bool, true, false, true≢false, not, cond, _&&_, _||_, and-eq-true-iff}
+use Prim.Native.Nat.{ℕ, _<_}
+use mathlib.Core.Path.{_≡_, refl, sym}
+use mathlib.Core.Bool.{Bool, true, false, true≢false, cond, _&&_, and-eq-true-iff}
 use native.Mathlib.Omega.{arith}
 use lib.Dec.{eqb, leb}
 use lib.IntN.{ℤ, pos, negsuc}
 use lib.Signed.{mag}
-use borrow.Author.Tests.{eqb-true, ltb-true}
 use Rattle.annotation.specs.Physical as physical
-use Rattle.annotation.specs.Converted as converted
 use Rattle.annotation.specs.Logical as logical
 use Rattle.annotation.specs.Parameters.{validParameters}
-use Rattle.annotation.specs.Spelling.{codeOf, aOf, bOf, namedOf, statedOf}
+use Rattle.annotation.specs.Spelling.{namedOf, statedOf}
 use Rattle.annotation.specs.Signed.{natural}
 use Rattle.annotation.specs.Backward.{backwardOf}
 use Rattle.annotation.specs.Meaning.{annotationOf}
-use Rattle.annotation.specs.Rule9.{rule9}
 use Rattle.annotation.specs.Rule10.{annotationOn, rule10}
 use Rattle.annotation.specs.Rule11.{isDecimal, ordered, physicalHolds, decimalHolds, digitsAllowed, rule11}
 use Rattle.annotation.specs.Kinds.{PLAIN-LEAF, PLAIN-GROUP, bareKind, plainKind, decimalKind, kindAs, kindOf}
-use Rattle.annotation.specs.declared.types.TimeUnit.{TimeUnit}
-use Rattle.annotation.specs.declared.types.BitWidth.{BitWidth}
 use Rattle.annotation.specs.declared.types.LogicalType.{LogicalType}
 use Rattle.annotation.specs.declared.types.Annotation.{Annotation}
 use Rattle.annotation.specs.declared.slot.Annotated.{Annotated}
@@ -28,7 +23,7 @@ use Rattle.annotation.specs.declared.resolution.Kind.{Kind}
 use Rattle.annotation.proofs.SpellingLaws.{stated-spelled}
 use Rattle.annotation.proofs.ReadingLaws.{spelled-bytes}
 use Rattle.schema.specs.Rules.{isGroup, isNought, lengthShape}
-use Rattle.column_type.specs.Lawful.{slotWith, slotOf, byteNumbers, signedNumbers, parameterNumbers, fits, isLeaf, isLawful}
+use Rattle.column_type.specs.Lawful.{slotOf, byteNumbers, signedNumbers, parameterNumbers, isLeaf, isLawful}
 use Rattle.column_type.specs.declared.types.ColumnType.{ColumnType}
 use Rattle.column_type.proofs.FitsLaws.{Fits, parts-fits, isLeaf-not-group}
 use Rattle.column_type.proofs.SlotLaws.{slotOf-physical, slotOf-length, slotOf-agrees}
@@ -106,19 +101,19 @@ byte-parameter kind x h = cases (eqb kind logical.DECIMAL)
     cases false = h
 
 -- the kinds of other annotations have numbers of one byte
-record Bytes (k : Kind) : Type 0 where
+record ByteKind (k : Kind) : Type 0 where
   kind : k .kind < byteNumbers
   p1 : k .p1 < byteNumbers
   p2 : k .p2 < byteNumbers
 
-plain-bytes : (code : ℕ) → Bytes (plainKind code)
+plain-bytes : (code : ℕ) → ByteKind (plainKind code)
 plain-bytes code = cases (eqb code physical.GROUP)
   where
-    cases : (b : Bool) → Bytes (cond b (bareKind PLAIN-GROUP) (bareKind PLAIN-LEAF))
+    cases : (b : Bool) → ByteKind (cond b (bareKind PLAIN-GROUP) (bareKind PLAIN-LEAF))
     cases true = record { kind = omega arith; p1 = omega arith; p2 = omega arith }
     cases false = record { kind = omega arith; p1 = omega arith; p2 = omega arith }
 
-kind-bytes : (says : Annotation) (n : Annotated) → isDecimal says ≡ false → Bytes (kindAs says n)
+kind-bytes : (says : Annotation) (n : Annotated) → isDecimal says ≡ false → ByteKind (kindAs says n)
 kind-bytes Annotation.Plain n e = plain-bytes (n .physical)
 kind-bytes (Annotation.Logical l) n e =
     let b = spelled-bytes l in

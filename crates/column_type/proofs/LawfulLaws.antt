@@ -1,6 +1,6 @@
 -- Refusal 20: a column type is lawful exactly where some accepted sheet has a leaf of it.
-use Prim.Native.Nat.{ℕ, _*_, _≤_, _<_}
-use mathlib.Core.Path.{_≡_, refl, sym, ap, ap₂, _∙_}
+use Prim.Native.Nat.{ℕ, _*_}
+use mathlib.Core.Path.{_≡_, refl, sym, ap, _∙_}
 use mathlib.Core.Logic.{_↔_}
 use mathlib.Core.Bool.{Bool, true, false, true≢false, not, _&&_, and-eq-true-iff}
 use mathlib.Core.List.{List, _++_}
@@ -16,7 +16,6 @@ use Rattle.annotation.specs.Rule10.{rule10}
 use Rattle.annotation.specs.Rule11.{rule11}
 use Rattle.annotation.specs.Kinds.{kindOf}
 use Rattle.annotation.specs.declared.slot.Annotated.{Annotated}
-use Rattle.annotation.specs.declared.resolution.Kind.{Kind}
 use Rattle.sheet.specs.Block.{totalOf}
 use Rattle.sheet.specs.Slot as slot
 use Rattle.sheet.specs.Sound.{physicalListed}
@@ -29,13 +28,13 @@ use Rattle.schema.proofs.DemandLaws.{accepted-exactly, rows-are}
 use Rattle.column_type.specs.Lawful.{slotOf, fits, isLeaf, annotationRight, isLawful}
 use Rattle.column_type.specs.Leaf.{columnOf, columnAt, IsLeafOf, HasLeaf}
 use Rattle.column_type.specs.declared.types.ColumnType.{ColumnType}
-use Rattle.column_type.proofs.FitsLaws.{Fits, fits-parts, isLeaf-not-group}
+use Rattle.column_type.proofs.FitsLaws.{fits-parts, isLeaf-not-group}
 use Rattle.column_type.proofs.SlotLaws.{slotOf-physical, slotOf-length}
 use Rattle.column_type.proofs.KeptLaws.{columnWith}
 use Rattle.column_type.proofs.LeafLaws.{has-leaf-lawful}
 use Rattle.column_type.proofs.LeafSheet.{rootSlot, leafSlot, leafSheet, leafSheet-total, leafSheet-sound, leafSheet-bytes, leafSlot-annotated}
 use Rattle.column_type.proofs.LeafTree.{leafTree, LeafKept, leafTree-of}
-use Rattle.column_type.proofs.SpeltLaws.{kindIn, Spelt, slotOf-spelt}
+use Rattle.column_type.proofs.SpeltLaws.{Spelt, slotOf-spelt}
 
 -- the column type in the leaf's row
 leaf-column : (n : Annotated) (rest : List ℕ) → columnOf (drop (rowWidth * 1) (rows (leafTree n) ++ rest)) ≡ columnWith (annotated (leafSlot n)) (kind false (leafSlot n))

@@ -1,6 +1,6 @@
 -- A leaf of an accepted sheet has a lawful column type in its row.
-use Prim.Native.Nat.{ℕ, _*_, _^_, _≤_, _<_}
-use mathlib.Core.Path.{_≡_, refl, sym, ap, _∙_, subst}
+use Prim.Native.Nat.{ℕ, _*_, _≤_, _<_}
+use mathlib.Core.Path.{_≡_, refl, sym, ap, _∙_}
 use mathlib.Core.Logic.{_⊎_, inl, inr}
 use mathlib.Core.Bool.{Bool, true, false, true≢false, _&&_, and-eq-true-iff}
 use mathlib.Core.List.{List, [], _++_}
@@ -20,7 +20,7 @@ use Rattle.schema.specs.Tree.{Slot, Tree, Fields, listing, count, size}
 use Rattle.schema.specs.Rules.{isGroup, underMap, shape, placeShape, lengthShape, decimalShape, rule8, KeepsAt}
 use Rattle.schema.specs.Rows.{isMapParent, row, rowWidth, rows}
 use Rattle.schema.specs.Outcome.{outcome, written}
-use Rattle.schema.specs.Demand.{IsTreeOf, Sound, Accepted}
+use Rattle.schema.specs.Demand.{IsTreeOf, Sound}
 use Rattle.schema.specs.declared.place.Place.{Place}
 use Rattle.schema.specs.declared.place.Place.the-variants.{Root}
 use Rattle.schema.specs.declared.roles.Parent.{Parent}

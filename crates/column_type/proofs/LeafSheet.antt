@@ -1,11 +1,11 @@
 -- A sheet of one block with a root `r` and one required leaf `x`, whose slot has given numbers; that it is sound, of bytes, and lists these two nodes.
-use Prim.Native.Nat.{ℕ, zero, suc, _+_, _-_, _*_, _/_, _%_, _^_, _≤_, _<_}
-use mathlib.Core.Path.{_≡_, refl, sym, ap, _∙_, subst}
-use mathlib.Core.Bool.{Bool, true, false, _&&_}
+use Prim.Native.Nat.{ℕ, zero, suc, _+_, _-_, _*_, _/_, _%_, _^_, _<_}
+use mathlib.Core.Path.{_≡_, refl}
+use mathlib.Core.Bool.{true}
 use mathlib.Core.List.{List, [], _∷_, _++_}
 use native.Mathlib.Omega.{arith}
-use lib.IntN.{ℤ, pos}
-use lib.ListN.{length, getD, set, take, drop, replicate}
+use lib.IntN.{pos}
+use lib.ListN.{length, replicate}
 use Rattle.annotation.specs.Physical as physical
 use Rattle.annotation.specs.Converted as converted
 use Rattle.annotation.specs.Logical as logical
@@ -19,7 +19,6 @@ use Rattle.sheet.specs.Slot.{nameAt, numbersOf, slotStart, reaches, slotAt, slo
 use Rattle.sheet.specs.Slot as slot
 use Rattle.sheet.specs.Sound.{listed, physicalListed, repetitionListed, convertedListed, logicalListed, nameLengthRight, allZero, reservedZero, tailZero, codesListed, nameRight, slotSound, slotRight}
 use Rattle.sheet.specs.Header.{lengthRight, blocksFor, nodesIn, totalRight, fieldsRight, headerRight}
-use Rattle.sheet.specs.Opening.{BlocksSound, SlotsSound}
 use Rattle.sheet.proofs.NumberLaws.{Bytes, signed32-low}
 use Rattle.sheet.proofs.BytesLaws.{all-bytes, bytes-append, bytes-replicate, bytes-renewed}
 use Rattle.sheet.proofs.BlockLaws.{blockCount-same}
@@ -45,7 +44,14 @@ slotFront repetition children name n =
 abbrev slotBytes : ℕ → ℕ → ℕ → Annotated → List ℕ
 slotBytes repetition children name n = slotFront repetition children name n ++ replicate (slotSize - nameAt - 1) 0
 
--- the root `r` of one child: a group without annotation
+-- the names `r` and `x`
+abbrev rootName : ℕ
+rootName = 114
+
+abbrev leafName : ℕ
+leafName = 120
+
+-- the root of one child: a group without annotation
 abbrev rootNumbers : Annotated
 rootNumbers =
     record {
@@ -60,11 +66,11 @@ rootNumbers =
     }
 
 unfoldable pub rootSlot : List ℕ
-rootSlot = slotBytes NO-REPETITION 1 114 rootNumbers
+rootSlot = slotBytes NO-REPETITION 1 rootName rootNumbers
 
--- the required leaf `x`
+-- the required leaf
 unfoldable pub leafSlot : Annotated → List ℕ
-leafSlot n = slotBytes REQUIRED 0 120 n
+leafSlot n = slotBytes REQUIRED 0 leafName n
 
 -- block 0, with two nodes here and two in all
 abbrev header : List ℕ
@@ -80,7 +86,7 @@ blockBytes n = header ++ rootSlot ++ leafSlot n ++ unused
 pub leafSheet : Annotated → List ℕ
 leafSheet n = renewed (blockBytes n)
 
-pub leafSheet-length : (n : Annotated) → length (leafSheet n) ≡ blockSize
+leafSheet-length : (n : Annotated) → length (leafSheet n) ≡ blockSize
 unfolding leafSheet blockBytes rootSlot leafSlot
 leafSheet-length n = length-renewed (blockBytes n)
 
@@ -193,5 +199,5 @@ unfolding leafSheet blockBytes rootSlot leafSlot
 leafSheet-bytes n h =
     bytes-renewed (blockBytes n)
     (bytes-append header (rootSlot ++ leafSlot n ++ unused) (all-bytes header (omega arith))
-    (bytes-append rootSlot (leafSlot n ++ unused) (slot-bytes NO-REPETITION 1 114 rootNumbers (omega arith) (omega arith) (omega arith) root-holds)
-    (bytes-append (leafSlot n) unused (slot-bytes REQUIRED 0 120 n (omega arith) (omega arith) (omega arith) h) (bytes-replicate (blockSize - firstSlotAt - 2 * slotSize) 0 (omega arith)))))
+    (bytes-append rootSlot (leafSlot n ++ unused) (slot-bytes NO-REPETITION 1 rootName rootNumbers (omega arith) (omega arith) (omega arith) root-holds)
+    (bytes-append (leafSlot n) unused (slot-bytes REQUIRED 0 leafName n (omega arith) (omega arith) (omega arith) h) (bytes-replicate (blockSize - firstSlotAt - 2 * slotSize) 0 (omega arith)))))

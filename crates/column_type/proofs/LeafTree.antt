@@ -1,8 +1,8 @@
 -- The tree of a sheet of a root and one leaf: it keeps every rule where the leaf's slot does.
 use Prim.Native.Nat.{ℕ, zero, suc, _≤_}
-use mathlib.Core.Path.{_≡_, refl, sym, ap, _∙_, subst}
-use mathlib.Core.Bool.{Bool, true, false, not, true≢false, cond, _&&_, _||_}
-use mathlib.Core.List.{List, [], _∷_}
+use mathlib.Core.Path.{_≡_, refl, sym, subst}
+use mathlib.Core.Bool.{Bool, true, false, true≢false, _||_}
+use mathlib.Core.List.{[], _∷_}
 use native.Mathlib.Omega.{arith}
 use lib.Dec.{eqb}
 use lib.ListN.{getD}
@@ -21,7 +21,7 @@ use Rattle.sheet.specs.Number.{numberAt, signed32}
 use Rattle.sheet.specs.Slot as slot
 use Rattle.sheet.specs.Slot.{numbersOf}
 use Rattle.schema.specs.Annotated.{annotated, kind, rule9, rule10, rule11}
-use Rattle.schema.specs.Tree.{Slot, Tree, Fields, node, empty, field, listing, count, depths, AtMostDeep, Claims}
+use Rattle.schema.specs.Tree.{Tree, Fields, node, empty, field, listing, count, depths, AtMostDeep, Claims}
 use Rattle.schema.specs.Rules.{isGroup, isNought, lengthShape, decimalShape, placeBelow, shape, rule8, isList, isMap, rule12, rule13, KeepsAt, Keeps}
 use Rattle.schema.specs.Outcome.{mostDepth}
 use Rattle.schema.specs.Demand.{IsTreeOf}

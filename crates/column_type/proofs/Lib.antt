@@ -8,3 +8,4 @@ pub mod LeafSheet
 pub mod LeafTree
 pub mod SpeltLaws
 pub mod LawfulLaws
+pub mod Points

@@ -1,35 +1,32 @@
 -- The slot of a lawful column type: its numbers fit, its codes are listed, and its row has the kind, p1 and p2 that it was made of.
 use Prim.Native.Nat.{ℕ, _<_}
-use mathlib.Core.Path.{_≡_, refl, sym, ap, _∙_, subst}
-use mathlib.Core.Bool.{Bool, true, false, true≢false, cond, not, _&&_, _||_, and-eq-true-iff, or-true}
+use mathlib.Core.Path.{_≡_, refl, sym, _∙_}
+use mathlib.Core.Bool.{Bool, true, false, true≢false, cond, and-eq-true-iff, or-true}
 use native.Mathlib.Decide.{ℕ-discrete}
 use native.Mathlib.Omega.{arith}
 use lib.Dec.{eqb}
-use lib.IntN.{pos}
-use borrow.Author.Tests.{eqb-true, eq-eqb, ne-eqb}
+use borrow.Author.Tests.{eqb-true, ne-eqb}
 use Rattle.annotation.specs.Converted as converted
 use Rattle.annotation.specs.Logical as logical
 use Rattle.annotation.specs.Parameters.{UNUSED, validParameters}
-use Rattle.annotation.specs.Spelling.{codeOf, aOf, bOf, namedOf, statedOf}
+use Rattle.annotation.specs.Spelling.{codeOf, namedOf, statedOf}
 use Rattle.annotation.specs.Signed.{natural}
 use Rattle.annotation.specs.Backward.{backwardOf}
 use Rattle.annotation.specs.Meaning.{annotationOf}
-use Rattle.annotation.specs.Rule9.{rule9}
 use Rattle.annotation.specs.Rule10.{annotationOn, rule10}
-use Rattle.annotation.specs.Rule11.{rule11}
 use Rattle.annotation.specs.Kinds.{kindAs, kindOf}
 use Rattle.annotation.specs.declared.types.LogicalType.{LogicalType}
 use Rattle.annotation.specs.declared.types.Annotation.{Annotation}
 use Rattle.annotation.specs.declared.slot.Annotated.{Annotated}
 use Rattle.annotation.specs.declared.resolution.Kind.{Kind}
 use Rattle.annotation.proofs.ReadingLaws.{Spells, spelled-stated}
-use Rattle.sheet.specs.Sound.{listed, physicalListed, convertedListed, logicalListed}
-use Rattle.schema.specs.Rules.{isGroup, isNought, lengthShape, decimalShape}
-use Rattle.column_type.specs.Lawful.{slotWith, slotOf, byteNumbers, signedNumbers, fits, isLeaf, annotationRight, isLawful}
+use Rattle.sheet.specs.Sound.{listed, convertedListed, logicalListed}
+use Rattle.schema.specs.Rules.{isGroup, isNought, decimalShape}
+use Rattle.column_type.specs.Lawful.{slotWith, slotOf, byteNumbers, signedNumbers}
 use Rattle.column_type.specs.declared.types.ColumnType.{ColumnType}
-use Rattle.column_type.proofs.FitsLaws.{Fits, fits-parts, fits-decimal, fits-other, isLeaf-not-group}
+use Rattle.column_type.proofs.FitsLaws.{Fits, fits-decimal, fits-other}
 use Rattle.column_type.proofs.SlotLaws.{slotOf-decimal, slotOf-interval, slotOf-logical}
-use Rattle.column_type.proofs.LeafSheet.{Holds, Listed}
+use Rattle.column_type.proofs.LeafSheet.{Holds}
 
 -- the kind, p1 and p2 of a column type
 abbrev pub kindIn : ColumnType → Kind

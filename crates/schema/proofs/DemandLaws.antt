@@ -46,7 +46,7 @@ unfolding treeOf Claims
 fills-claims ss f = subst ClaimsAll (one-of (trees ss) (fills-trees f .0)) (fills-trees f .1) .0
 
 -- no refusal of 5 to 13 holds where the slots are listed by a tree that is not too deep, keeps every rule and claims rightly
-tree-accepted : (bytes : List ℕ) (t : Tree) → IsTreeOf bytes t → treeRefusal (slots bytes) ≡ Lawful
+pub tree-accepted : (bytes : List ℕ) (t : Tree) → IsTreeOf bytes t → treeRefusal (slots bytes) ≡ Lawful
 unfolding treeRefusal
 tree-accepted bytes t h =
     let f : Fills 1 (slots bytes) = subst (Fills 1) (h .lists) (tree-fills t (h .claims)) in
@@ -64,7 +64,7 @@ accepted-fills ss p q = on (one-of-three 1 ss)
     on (inr (inl l)) = absurd (refused-not-lawful _ (sym (lacks-missing ss l) ∙ q))
     on (inr (inr o)) = absurd (refused-not-lawful _ (sym (full-leftOver ss (o .0) (o .1)) ∙ p))
 
-accepted-tree : (bytes : List ℕ) → treeRefusal (slots bytes) ≡ Lawful → IsTreeOf bytes (treeOf (slots bytes))
+pub accepted-tree : (bytes : List ℕ) → treeRefusal (slots bytes) ≡ Lawful → IsTreeOf bytes (treeOf (slots bytes))
 unfolding treeRefusal
 accepted-tree bytes e =
     let a = none-orElse _ _ e in
@@ -78,16 +78,16 @@ accepted-tree bytes e =
       lists = fills-listing (slots bytes) f;
     }
 
-sound-judgement : (bytes : List ℕ) → Sound bytes → judgement bytes ≡ treeRefusal (slots bytes)
+pub sound-judgement : (bytes : List ℕ) → Sound bytes → judgement bytes ≡ treeRefusal (slots bytes)
 unfolding judgement judgedAs sheet.outcome sheet.outcomeOf
 sound-judgement bytes s = rw (openOf-accepts bytes (s .blocks) (s .slots))
 
-accepted-no-refusal : (r : Verdict) (t lent : ℕ) → Accepted (answer r t lent) → r ≡ Lawful
+pub accepted-no-refusal : (r : Verdict) (t lent : ℕ) → Accepted (answer r t lent) → r ≡ Lawful
 unfolding Accepted answer
 accepted-no-refusal Lawful t lent a = refl
 accepted-no-refusal (Refused r) t lent a = absurd a
 
-no-refusal-rows : (r : Verdict) (t lent : ℕ) → r ≡ Lawful → rowWidth * t ≤ lent → answer r t lent ≡ Resolved.Rows t
+pub no-refusal-rows : (r : Verdict) (t lent : ℕ) → r ≡ Lawful → rowWidth * t ≤ lent → answer r t lent ≡ Resolved.Rows t
 unfolding answer
 no-refusal-rows r t lent e h = rw (e, le-ltb lent (rowWidth * t) h)
 

@@ -125,7 +125,7 @@ module _ (b : List ℕ) where
   judgement-slot k o = rw o
 
   -- an opened sheet that is lawful
-  lawful-opened : judgement b ≡ Verdict.Lawful → (t : ℕ) × (sheet.openOf b ≡ Opened.Nodes t)
+  pub lawful-opened : judgement b ≡ Verdict.Lawful → (t : ℕ) × (sheet.openOf b ≡ Opened.Nodes t)
   lawful-opened e = on (sheet.openOf b) refl
     where
       no : (r : Refusal) → judgement b ≡ Verdict.Refused r → ⊥
@@ -149,48 +149,52 @@ module _ (b : List ℕ) where
   judgedNodes-refused (Verdict.Refused s) t r e = cc
 
   -- a refused sheet
+  pub judged-refused : (r : Refusal) → judgementOf b ≡ Judgement.Refused r → judgement b ≡ Verdict.Refused r
+  unfolding judgementOf
+  judged-refused r e = judgedNodes-refused (judgement b) (totalOf b) r e
+
   pub resolve-refused : (r : Refusal) (lent : List ℕ) → judgementOf b ≡ Judgement.Refused r → outcome b (length lent) ≡ Resolved.Refused r
-  unfolding judgementOf outcome answer
-  resolve-refused r lent e = rw (judgedNodes-refused (judgement b) (totalOf b) r e)
+  unfolding outcome answer
+  resolve-refused r lent e = rw (judged-refused r e)
 
   pub written-refused : (r : Refusal) (lent : List ℕ) → outcome b (length lent) ≡ Resolved.Refused r → lent ≡ written (outcome b (length lent)) b lent
   unfolding written
   written-refused r lent e = rw e
 
   module _ (n : ℕ) (e : judgementOf b ≡ Judgement.Nodes n) where
-    lawful : (judgement b ≡ Verdict.Lawful) × (n ≡ totalOf b)
+    pub judged-lawful : (judgement b ≡ Verdict.Lawful) × (n ≡ totalOf b)
     unfolding judgementOf
-    lawful = judgedNodes-lawful (judgement b) (totalOf b) n e
+    judged-lawful = judgedNodes-lawful (judgement b) (totalOf b) n e
 
     opened : (t : ℕ) × (sheet.openOf b ≡ Opened.Nodes t)
-    opened = lawful-opened (lawful .0)
+    opened = lawful-opened (judged-lawful .0)
 
-    pub resolve-total : n ≡ totalOf b
-    resolve-total = lawful .1
+    pub judged-total : n ≡ totalOf b
+    judged-total = judged-lawful .1
 
-    pub resolve-some : 0 < totalOf b
-    resolve-some = nodes-some b (opened .0) (opened .1)
+    pub judged-some : 0 < totalOf b
+    judged-some = nodes-some b (opened .0) (opened .1)
 
     no-places : orElse (leftOver (slots b)) (missing (slots b)) ≡ Verdict.Lawful
     no-places =
-        none-orElse _ _ (sym (treeRefusal-places (slots b)) ∙ sym (judgement-nodes b (opened .0) (opened .1)) ∙ lawful .0) .0
+        none-orElse _ _ (sym (treeRefusal-places (slots b)) ∙ sym (judgement-nodes b (opened .0) (opened .1)) ∙ judged-lawful .0) .0
 
-    pub resolve-claimed : Claimed b
-    resolve-claimed = places-claimed b (opened .0) (opened .1) no-places
+    pub judged-claimed : Claimed b
+    judged-claimed = places-claimed b (opened .0) (opened .1) no-places
 
     pub resolve-short : (lent : List ℕ) → length lent < rowWidth * n → outcome b (length lent) ≡ Resolved.Refused (refusal 14 0)
     unfolding outcome answer
-    resolve-short lent h = rw (lawful .0, lt-ltb (length lent) (rowWidth * totalOf b) (omega (arith, resolve-total)))
+    resolve-short lent h = rw (judged-lawful .0, lt-ltb (length lent) (rowWidth * totalOf b) (omega (arith, judged-total)))
 
     pub resolve-rows : (lent : List ℕ) → rowWidth * n ≤ length lent → outcome b (length lent) ≡ Resolved.Rows n
     unfolding outcome answer
-    resolve-rows lent h = rw (lawful .0, le-ltb (length lent) (rowWidth * totalOf b) (omega (arith, resolve-total))) (ap Resolved.Rows (sym resolve-total))
+    resolve-rows lent h = rw (judged-lawful .0, le-ltb (length lent) (rowWidth * totalOf b) (omega (arith, judged-total))) (ap Resolved.Rows (sym judged-total))
 
     tree-size : size (treeOf (slots b)) ≡ n
     unfolding size
     tree-size =
         let q = none-orElse _ _ no-places in
-        ap length (fills-listing (slots b) (accepted-fills (slots b) (q .0) (q .1))) ∙ slots-length b ∙ sym resolve-total
+        ap length (fills-listing (slots b) (accepted-fills (slots b) (q .0) (q .1))) ∙ slots-length b ∙ sym judged-total
 
     pub written-rows : (lent r : List ℕ) → rowWidth * n ≤ length lent → r ≡ placed lent (rowWidth * 0) (rowsFrom 0 0 Parent.Other (slotAt b 0) (treeAt (slots b) 0)) → r ≡ written (outcome b (length lent)) b lent
     unfolding written placed rows

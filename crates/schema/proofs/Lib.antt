@@ -16,6 +16,13 @@ pub mod JudgingSteps
 pub mod CountingLaws
 pub mod RolesLaws
 pub mod RowsSteps
+pub mod RewritingSteps
+pub mod RewrittenSlotLaws
+pub mod RewrittenTreeLaws
+pub mod RewrittenRowsLaws
+pub mod RewrittenLaws
+pub mod RewriteLaws
+pub mod RewriteDemandLaws
 pub mod JudgementLaws
 pub mod Points
 pub mod AcceptedLaws

@@ -1,23 +1,18 @@
 -- The row of each node of a tree that keeps the rules: where it stands, and that its node keeps them.
 use Prim.Native.Nat.{ℕ, zero, suc, _+_, _*_, _-_, _<_}
 use mathlib.Core.Path.{_≡_, refl, sym, ap, _∙_, subst}
-use mathlib.Core.Bool.{Bool, true, false, cond}
-use mathlib.Core.List.{List, [], _∷_, _++_, append-assoc}
+use mathlib.Core.List.{List, [], _++_, append-assoc}
 use native.Mathlib.Decide.{decLt}
 use native.Mathlib.Omega.{arith}
-use borrow.Author.Tests.{eqb-true}
-use lib.Dec.{eqb}
 use lib.ListN.{length, getD, drop, length-append, List·getD-append}
 use lib.Seq.{drop-append-add, getD-append-add}
-use Rattle.annotation.specs.Logical as logical
-use Rattle.schema.specs.Annotated.{kind}
 use Rattle.schema.specs.Tree.{Slot, Tree, Fields, node, empty, field, listing, listings, size}
-use Rattle.schema.specs.Rules.{underMap, placeUnder, placeBelow, KeepsAt, Keeps, KeepsAll}
-use Rattle.schema.specs.Rows.{isMapParent, role, row, parentBy, parentOf, afterFirst, rowsFrom, rowssFrom, rowWidth, LIST-LAYER, KEY-VALUE-LAYER}
+use Rattle.schema.specs.Rules.{underMap, placeBelow, KeepsAt, Keeps, KeepsAll}
+use Rattle.schema.specs.Rows.{isMapParent, row, parentOf, afterFirst, rowsFrom, rowssFrom, rowWidth}
 use Rattle.schema.specs.declared.place.Place.{Place}
-use Rattle.schema.specs.declared.place.Place.the-variants.{Field, MapField}
 use Rattle.schema.specs.declared.roles.Parent.{Parent}
 use Rattle.schema.specs.declared.roles.Parent.the-variants as parent
+use Rattle.schema.proofs.RewrittenRowsLaws.{map-below}
 use Rattle.schema.proofs.RowsLaws.{length-row, length-rowsFrom}
 
 -- some numbers begin with the row of a node that keeps the rules; the rules and the row take its parent for a MAP alike
@@ -33,28 +28,7 @@ pub record BeginsWith (s : Slot) (numbers : List ℕ) : Type 0 where
   pub alike : underMap place ≡ isMapParent «parent»
   pub begins : numbers ≡ row at up «parent» above s fields ++ rest
 
--- what a node is to its fields is a MAP for the rules exactly where it is one for the rows
-alike-by : (code r : ℕ) → underMap (placeUnder code) ≡ isMapParent (parentBy code r)
-unfolding parentBy
-alike-by code r = cases (eqb code logical.LIST) refl
-  where
-    role-alike : (a b : Bool) → false ≡ isMapParent (cond a parent.ListLayer (cond b parent.KeyValue parent.Other))
-    role-alike true b = refl
-    role-alike false true = refl
-    role-alike false false = refl
-
-    map-alike : (b : Bool) (q : Parent) → false ≡ isMapParent q → underMap (cond b MapField Field) ≡ isMapParent (cond b parent.Map q)
-    map-alike true q e = refl
-    map-alike false q e = e
-
-    cases : (b : Bool) → eqb code logical.LIST ≡ b → underMap (placeUnder code) ≡ isMapParent (parentBy code r)
-    cases true e = rw (eqb-true code logical.LIST e)
-    cases false e = rw e (map-alike (eqb code logical.MAP) _ (role-alike (eqb r LIST-LAYER) (eqb r KEY-VALUE-LAYER)))
-
-alike-below : (p : Place) (q : Parent) (above s : Slot) (fs : Fields) → underMap p ≡ isMapParent q → underMap (placeBelow p s) ≡ isMapParent (parentOf q above s fs)
-unfolding placeBelow parentOf
-alike-below p q above s fs e = rw e (alike-by (kind (isMapParent q) s .kind) (role q above s fs))
-
+-- what a node is to its later fields is a MAP where it is one to the first
 alike-after : (q : Parent) → isMapParent q ≡ isMapParent (afterFirst q)
 alike-after parent.Other = refl
 alike-after parent.List = refl
@@ -108,9 +82,9 @@ mutual
       let next : suc k ≡ 1 + k = omega arith in
       subst (BeginsWith (getD (listings fs) k []))
       (sym (ap (drop (rowWidth * suc k)) (append-assoc own run rest) ∙ rw next (drop-rows 1 k own (run ++ rest) (length-row at up q above s fs))))
-      (row-in fs (placeBelow p s) (parentOf q above s fs) (suc at) at s rest (h .1) (alike-below p q above s fs e) k (omega arith))
+      (row-in fs (placeBelow p s) (parentOf q above s fs) (suc at) at s rest (h .1) (map-below p q above s fs e) k (omega arith))
 
-  pub row-in : (fs : Fields) (p : Place) (q : Parent) (at up : ℕ) (above : Slot) (rest : List ℕ) → KeepsAll p fs → underMap p ≡ isMapParent q → (k : ℕ) → k < length (listings fs) → BeginsWith (getD (listings fs) k []) (drop (rowWidth * k) (rowssFrom at up q above fs ++ rest))
+  row-in : (fs : Fields) (p : Place) (q : Parent) (at up : ℕ) (above : Slot) (rest : List ℕ) → KeepsAll p fs → underMap p ≡ isMapParent q → (k : ℕ) → k < length (listings fs) → BeginsWith (getD (listings fs) k []) (drop (rowWidth * k) (rowssFrom at up q above fs ++ rest))
   row-in empty p q at up above rest h e k l = absurd (omega arith)
   row-in (field t fs) p q at up above rest h e k l =
       in-run (listing t) (listings fs) (rowsFrom at up q above t) (rowssFrom (at + size t) up (afterFirst q) above fs) rest k (length-rowsFrom t at up q above) l

@@ -5,7 +5,7 @@ use mathlib.Core.List.{List, [], _∷_, _++_, append-assoc, append-nil}
 use native.Mathlib.Omega.{arith}
 use native.Mathlib.Nat.{add-assoc, add-zero}
 use native.Mathlib.Numerals.{add-one, add-two, add-three, add-four, add-five, add-six, add-seven, add-eight}
-use lib.ListN.{length, take, drop, set, length-append, length-drop, take-append-drop}
+use lib.ListN.{length, take, drop, set, length-append, take-append-drop}
 use lib.Seq.{length-take-le, take-append-le, take-at, drop-at, drop-drop, take-take, sets, sets-eq}
 use Rattle.schema.specs.Steps.{placed}
 
@@ -13,15 +13,6 @@ use Rattle.schema.specs.Steps.{placed}
 pub sets-placed : (vs l : List ℕ) (i : ℕ) → i + length vs ≤ length l → sets l i vs ≡ placed l i vs
 unfolding placed
 sets-placed vs l i h = sets-eq vs l i h
-
-pub length-placed : (l : List ℕ) (i : ℕ) (vs : List ℕ) → i + length vs ≤ length l → length (placed l i vs) ≡ length l
-unfolding placed
-length-placed l i vs h =
-    let a = length-append (take i l ++ vs) (drop (i + length vs) l) in
-    let b = length-append (take i l) vs in
-    let c = length-take-le i l (omega arith) in
-    let d = length-drop (i + length vs) l in
-    omega arith
 
 pub placed-empty : (l : List ℕ) (i : ℕ) → placed l i [] ≡ l
 unfolding placed

@@ -1,10 +1,10 @@
 -- The steps of writing rows at the numbers of a sheet: a tree's rows are its root's and its run's, a run's those of its first tree and of the shorter run.
 use Prim.Native.Nat.{ℕ, suc, _+_, _*_, _-_, _≤_, _<_}
-use mathlib.Core.Path.{_≡_, refl, sym, ap, _∙_, subst}
+use mathlib.Core.Path.{_≡_, refl, sym, ap, _∙_}
 use mathlib.Core.Bool.{Bool}
 use mathlib.Core.List.{List, [], _∷_, _++_}
 use native.Mathlib.Omega.{arith}
-use native.Mathlib.Nat.{add-zero, le-refl}
+use native.Mathlib.Nat.{le-refl}
 use native.Mathlib.Numerals.{add-one}
 use lib.ListN.{length, drop}
 use Rattle.sheet.specs.Block.{totalOf}
@@ -15,39 +15,22 @@ use Rattle.annotation.specs.Signed.{natural}
 use Rattle.annotation.specs.declared.slot.Annotated.{Annotated}
 use Rattle.annotation.specs.declared.resolution.Kind.{Kind}
 use Rattle.schema.specs.Annotated.{annotatedBy, annotated, kind}
-use Rattle.schema.specs.Tree.{Slot, Tree, Fields, field, count, size}
+use Rattle.schema.specs.Tree.{Slot, Tree, Fields, count, size}
 use Rattle.schema.specs.Reading.{trees}
 use Rattle.schema.specs.Rows.{isMapParent, role, parentBy, parentOf, afterFirst, row, rowsFrom, rowssFrom, rowWidth}
 use Rattle.schema.specs.Steps.{Claimed, Visited, treeAt, runAt, fieldsAt, sizes, placed}
 use Rattle.schema.specs.declared.roles.Parent.{Parent}
-use Rattle.schema.proofs.StandingLaws.{runAt-zero, runAt-end, count-some, sizes-empty, sizes-field, size-node}
-use Rattle.schema.proofs.VisitLaws.{treeAt-slot, run-at, runAt-first, run-below, next-after, next-claimed}
-use Rattle.schema.proofs.PlacingLaws.{placed-empty, placed-after, placed-before, length-placed}
+use Rattle.schema.proofs.StandingLaws.{runAt-zero, size-node}
+use Rattle.schema.proofs.VisitLaws.{treeAt-slot, run-at, run-below, next-after, next-claimed, run-split, run-end, run-end-empty, tree-within}
+use Rattle.schema.proofs.PlacingLaws.{placed-empty, placed-after, placed-before}
 use Rattle.schema.proofs.RowsLaws.{length-row, length-rowsFrom, length-rowssFrom}
 
--- the tree at a number ends within the sheet
-pub tree-within : (b : List ℕ) (at : ℕ) → Claimed b → at < totalOf b → at + size (treeAt (slots b) at) ≤ totalOf b
-tree-within b at h l =
-    subst (λ (n : ℕ). at + size (treeAt (slots b) at) ≤ n) (h .total)
-    (runAt-end (slots b) at 0 (h .claims) (count-some (slots b) at (omega (arith, h .total))))
-
 module _ (b l : List ℕ) (at n up : ℕ) (p : Parent) (above : Slot) where
-  pub run-end-empty : n ≡ 0 → at ≡ at + sizes (runAt (slots b) at n)
-  run-end-empty e = sym (rw (e, runAt-zero, sizes-empty) (add-zero at))
-
   pub run-rows-empty : n ≡ 0 → l ≡ placed l (rowWidth * at) (rowssFrom at up p above (runAt (slots b) at n))
   unfolding rowssFrom
   run-rows-empty e = sym (rw (e, runAt-zero) (placed-empty l (rowWidth * at)))
 
   module _ (h : Claimed b) (k : n ≡ 0 → ⊥) (c : n ≤ count (trees (drop at (slots b)))) (next : ℕ) (e : next ≡ at + size (treeAt (slots b) at)) where
-    run-is : runAt (slots b) at n ≡ field (treeAt (slots b) at) (runAt (slots b) next (n - 1))
-    run-is =
-        runAt-first b at n h k c
-        ∙ ap (λ (i : ℕ). field (treeAt (slots b) at) (runAt (slots b) i (n - 1))) (sym e)
-
-    pub run-end : (end : ℕ) → end ≡ next + sizes (runAt (slots b) next (n - 1)) → end ≡ at + sizes (runAt (slots b) at n)
-    run-end end q = rw run-is (omega (arith, q, e, sizes-field (treeAt (slots b) at) (runAt (slots b) next (n - 1))))
-
     module _ (f : rowWidth * totalOf b ≤ length l) (below : at < totalOf b) (m : List ℕ) (w : m ≡ placed l (rowWidth * at) (rowsFrom at up p above (treeAt (slots b) at))) where
       first : List ℕ
       first = rowsFrom at up p above (treeAt (slots b) at)
@@ -55,11 +38,6 @@ module _ (b l : List ℕ) (at n up : ℕ) (p : Parent) (above : Slot) where
       first-fits : rowWidth * at + length first ≤ length l
       unfolding first
       first-fits = omega (arith, length-rowsFrom (treeAt (slots b) at) at up p above, tree-within b at h below)
-
-      -- the rows of the first tree keep the length
-      pub run-length : length m ≡ length l
-      unfolding first
-      run-length = ap length w ∙ length-placed l (rowWidth * at) first first-fits
 
       next-base : rowWidth * next ≡ rowWidth * at + length first
       unfolding first
@@ -74,7 +52,7 @@ module _ (b l : List ℕ) (at n up : ℕ) (p : Parent) (above : Slot) where
           ∙ placed-after l (rowWidth * at) first (rowssFrom next up q above (runAt (slots b) next (n - 1))) first-fits
           ∙ ap (λ (x : Parent). placed l (rowWidth * at) (first ++ rowssFrom next up x above (runAt (slots b) next (n - 1)))) u
           ∙ ap (λ (i : ℕ). placed l (rowWidth * at) (first ++ rowssFrom i up (afterFirst p) above (runAt (slots b) next (n - 1)))) e
-          ∙ ap (λ (fs : Fields). placed l (rowWidth * at) (rowssFrom at up p above fs)) (sym run-is)
+          ∙ ap (λ (fs : Fields). placed l (rowWidth * at) (rowssFrom at up p above fs)) (sym (run-split b at n h k c next e))
 
 -- the rows of a run written up to one of its fields: with those of the others they are the run's
 pub record Behind (b lent : List ℕ) (start n up : ℕ) (p : Parent) (above : Slot) (rows : List ℕ) (at left : ℕ) (q : Parent) : Type 0 where
@@ -91,7 +69,7 @@ behind-start b lent start n up p above c =
 module _ (b lent : List ℕ) (start n up : ℕ) (p : Parent) (above : Slot) (rows : List ℕ) (at left : ℕ) (q : Parent) (r : Behind b lent start n up p above rows at left q) where
   pub behind-end : left ≡ 0 → (at ≡ start + sizes (runAt (slots b) start n)) × (rows ≡ placed lent (rowWidth * start) (rowssFrom start up p above (runAt (slots b) start n)))
   behind-end e = (
-    run-end-empty b rows at left up q above e ∙ sym (r .ended),
+    run-end-empty b at left e ∙ sym (r .ended),
     run-rows-empty b rows at left up q above e ∙ sym (r .found),
   )
 
@@ -103,15 +81,11 @@ module _ (b lent : List ℕ) (start n up : ℕ) (p : Parent) (above : Slot) (row
         reached = omega (arith, r .reached, next-after b at left h k (r .claimed) next e);
         claimed = next-claimed b at left h k (r .claimed) next e;
         long = long ∙ r .long;
-        ended = r .ended ∙ sym (run-end b rows at left up q above h k (r .claimed) next e (next + sizes (runAt (slots b) next (left - 1))) refl);
+        ended = r .ended ∙ run-end b at left h k (r .claimed) next e;
         found = r .found ∙ sym (run-rows b rows at left up q above h k (r .claimed) next e room below m w o (placed m (rowWidth * next) (rowssFrom next up o above (runAt (slots b) next (left - 1)))) u refl);
       }
 
 module _ (b l : List ℕ) (at up : ℕ) (s : Numbers) (p : Parent) (above : Slot) (v : Visited b at s) where
-  pub tree-end : (next : ℕ) → next ≡ at + 1 + sizes (runAt (slots b) (at + 1) (s .children)) → next ≡ at + size (treeAt (slots b) at)
-  tree-end next e =
-      rw (treeAt-slot b at (v .claimed) (v .below), size-node) (omega (arith, e, ap sizes (run-at b at s (v .numbers))))
-
   -- what a node is to its fields
   pub parent-is : (n : Annotated) (u : Bool) (k : Kind) (own : ℕ) (q : Parent) → n ≡ annotatedBy s → u ≡ isMapParent p → k ≡ kindOf n u → own ≡ role p above (slotAt b at) (fieldsAt b at) → q ≡ parentBy (k .kind) own → q ≡ parentOf p above (slotAt b at) (fieldsAt b at)
   unfolding parentOf kind annotated
@@ -139,10 +113,6 @@ module _ (b l : List ℕ) (at up : ℕ) (s : Numbers) (p : Parent) (above : Slot
     rest-fits : rowWidth * (at + 1) + length rest ≤ length l
     unfolding rest sizes
     rest-fits = omega (arith, length-rowssFrom (fieldsAt b at) (suc at) at (parentOf p above (slotAt b at) (fieldsAt b at)) (slotAt b at), end-within)
-
-    -- the rows of the run keep the length
-    pub tree-length : length m ≡ length l
-    tree-length = ap length rest-is ∙ length-placed l (rowWidth * (at + 1)) rest rest-fits
 
     pub tree-rows : (r ns : List ℕ) → ns ≡ row at up p above (slotAt b at) (fieldsAt b at) → r ≡ placed m (rowWidth * at) ns → r ≡ placed l (rowWidth * at) (rowsFrom at up p above (treeAt (slots b) at))
     unfolding rowsFrom rest

@@ -1,8 +1,9 @@
 -- Visiting the nodes of a sheet whose slots claim rightly.
 use Prim.Native.Nat.{ℕ, suc, _+_, _-_, _≤_, _<_}
-use mathlib.Core.Path.{_≡_, ap, _∙_, subst}
+use mathlib.Core.Path.{_≡_, sym, ap, _∙_, subst}
 use mathlib.Core.List.{List, []}
 use native.Mathlib.Omega.{arith}
+use native.Mathlib.Nat.{add-zero}
 use native.Mathlib.Numerals.{add-one}
 use lib.ListN.{length, drop}
 use Rattle.sheet.specs.Block.{totalOf}
@@ -11,8 +12,8 @@ use Rattle.sheet.proofs.SlotLaws.{slots-at}
 use Rattle.sheet.specs.declared.slots.Slot.{Slot as Numbers}
 use Rattle.schema.specs.Tree.{Slot, node, field, count, size}
 use Rattle.schema.specs.Reading.{trees}
-use Rattle.schema.specs.Steps.{treeAt, runAt, fieldsAt, Claimed}
-use Rattle.schema.proofs.StandingLaws.{treeAt-node, runAt-suc, runAt-end, claimed-at, count-runAt, count-behind, size-positive}
+use Rattle.schema.specs.Steps.{treeAt, runAt, fieldsAt, sizes, Claimed, Visited}
+use Rattle.schema.proofs.StandingLaws.{treeAt-node, runAt-zero, runAt-suc, runAt-end, claimed-at, count-runAt, count-behind, count-some, size-positive, sizes-empty, sizes-field, size-node}
 
 module _ (b : List ℕ) (k : ℕ) (h : Claimed b) (l : k < totalOf b) where
   within : k < length (slots b)
@@ -103,3 +104,27 @@ module _ (b : List ℕ) (at n : ℕ) (h : Claimed b) (k : n ≡ 0 → ⊥) (c : 
 
     pub next-claimed : n - 1 ≤ count (trees (drop next (slots b)))
     next-claimed = rw e (count-behind (slots b) at (n - 1) (h .claims) some-tree)
+
+    -- the run behind the first tree, by where that tree ends
+    pub run-split : runAt (slots b) at n ≡ field (treeAt (slots b) at) (runAt (slots b) next (n - 1))
+    run-split =
+        runAt-first ∙ ap (λ (i : ℕ). field (treeAt (slots b) at) (runAt (slots b) i (n - 1))) (sym e)
+
+    -- both runs end at one number
+    pub run-end : at + sizes (runAt (slots b) at n) ≡ next + sizes (runAt (slots b) next (n - 1))
+    run-end = rw run-split (omega (arith, e, sizes-field (treeAt (slots b) at) (runAt (slots b) next (n - 1))))
+
+-- an empty run ends where it starts
+pub run-end-empty : (b : List ℕ) (at n : ℕ) → n ≡ 0 → at ≡ at + sizes (runAt (slots b) at n)
+run-end-empty b at n e = sym (rw (e, runAt-zero, sizes-empty) (add-zero at))
+
+-- the tree at a number ends within the sheet
+pub tree-within : (b : List ℕ) (at : ℕ) → Claimed b → at < totalOf b → at + size (treeAt (slots b) at) ≤ totalOf b
+tree-within b at h l =
+    subst (λ (n : ℕ). at + size (treeAt (slots b) at) ≤ n) (h .total)
+    (runAt-end (slots b) at 0 (h .claims) (count-some (slots b) at (omega (arith, h .total))))
+
+-- and where its root's run ends
+pub tree-end : (b : List ℕ) (at : ℕ) (s : Numbers) → Visited b at s → (next : ℕ) → next ≡ at + 1 + sizes (runAt (slots b) (at + 1) (s .children)) → next ≡ at + size (treeAt (slots b) at)
+tree-end b at s v next e =
+    rw (treeAt-slot b at (v .claimed) (v .below), size-node) (omega (arith, e, ap sizes (run-at b at s (v .numbers))))

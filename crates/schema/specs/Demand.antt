@@ -1,7 +1,8 @@
--- What demand 3 speaks of.
-use Prim.Native.Nat.{ℕ, _*_, _≤_}
+-- What demand 3 speaks of, and what rewriting promises beside it.
+use Prim.Native.Nat.{ℕ, _+_, _*_, _≤_}
 use mathlib.Core.Path.{_≡_}
 use mathlib.Core.List.{List}
+use lib.ListN.{length}
 use Rattle.sheet.specs.Block.{totalOf}
 use Rattle.sheet.specs.Opening.{BlocksSound, SlotsSound}
 use Rattle.sheet.specs.Slot.{slots}
@@ -11,6 +12,7 @@ use Rattle.schema.specs.Rows.{rowWidth}
 use Rattle.schema.specs.Outcome.{mostDepth}
 use Rattle.schema.specs.declared.place.Place.the-variants.{Root}
 use Rattle.schema.specs.declared.resolving.Resolved.{Resolved}
+use Rattle.schema.specs.declared.rewriting.Rewritten.{Rewritten}
 
 -- a tree of a sheet: at most 32 deep, it keeps every rule, claims its children rightly and lists the sheet's nodes
 pub record IsTreeOf (bytes : List ℕ) (t : Tree) : Type 0 where
@@ -32,3 +34,11 @@ EnoughOutput bytes lent = rowWidth * totalOf bytes ≤ lent
 unfoldable pub Accepted : Resolved → Type 0
 Accepted (Resolved.Rows t) = Unit {0}
 Accepted (Resolved.Refused r) = ⊥
+
+-- "rewriting accepts the same sheets where its own output is enough"
+unfoldable pub EnoughRoom : List ℕ → ℕ → ℕ → Type 0
+EnoughRoom bytes lent start = start + length bytes ≤ lent
+
+unfoldable pub AcceptedRewriting : Rewritten → Type 0
+AcceptedRewriting (Rewritten.Bytes n) = Unit {0}
+AcceptedRewriting (Rewritten.Refused r) = ⊥

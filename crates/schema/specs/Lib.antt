@@ -6,5 +6,6 @@ pub mod Rows
 pub mod Reading
 pub mod OpenPlaces
 pub mod Outcome
+pub mod Rewriting
 pub mod Demand
 pub mod Steps

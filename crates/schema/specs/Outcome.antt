@@ -70,10 +70,14 @@ judgedAs (sheet.accepted t ss) = treeRefusal ss
 unfoldable pub judgement : List ℕ → Verdict
 judgement bytes = judgedAs (sheet.outcome bytes)
 
+-- 14, at place 0
+abbrev pub shortOutput : Refusal
+shortOutput = refusal 14 0
+
 -- "14 last": T rows where as many numbers are lent as they need
 unfoldable pub answer : Verdict → ℕ → ℕ → Resolved
 answer (Verdict.Refused r) t lent = Resolved.Refused r
-answer Verdict.Lawful t lent = cond (ltb lent (rowWidth * t)) (Resolved.Refused (refusal 14 0)) (Resolved.Rows t)
+answer Verdict.Lawful t lent = cond (ltb lent (rowWidth * t)) (Resolved.Refused shortOutput) (Resolved.Rows t)
 
 -- what resolving answers for any bytes and any number of lent places
 unfoldable pub outcome : List ℕ → ℕ → Resolved

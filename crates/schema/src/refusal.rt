@@ -1,6 +1,6 @@
 // Numbered refusals and their places.
 ghost use mathlib.Core.Path.{_≡_};
-ghost use Rattle.schema.specs.Outcome.{orElse};
+ghost use Rattle.schema.specs.Outcome.{orElse, shortOutput};
 
 // A refusal: its number, and the block or node that it names.
 pub struct Refusal {
@@ -12,6 +12,18 @@ pub struct Refusal {
 pub enum Verdict {
     Lawful,
     Refused(Refusal),
+}
+
+const SHORT_OUTPUT: u32 = 14;
+
+// The refusal of an output that is not enough.
+pub(crate) fn short_output() -> Refusal
+    ensures { λ r. ⌜ r ≡ shortOutput ⌝ }
+{
+    Refusal {
+        number: SHORT_OUTPUT,
+        place: 0,
+    }
 }
 
 // The first refusal of two.

@@ -6,6 +6,7 @@ ghost use Rattle.schema.specs.Outcome.{outcome, written};
 use crate::judgement::Judgement;
 use crate::judgement::judge;
 use crate::refusal::Refusal;
+use crate::refusal::short_output;
 use crate::roles::Parent;
 use crate::rows::ROW_WIDTH;
 use crate::rows::write_tree;
@@ -15,8 +16,6 @@ pub enum Resolved {
     Rows(usize),
     Refused(Refusal),
 }
-
-const SHORT_OUTPUT: u32 = 14;
 
 // Judges a sheet and writes its rows, nine numbers for each node in listing order. Where the sheet is refused or fewer numbers
 // are lent than its rows need, nothing is written.
@@ -29,10 +28,7 @@ pub fn resolve(sheet: &[u8], rows: &mut [u32]) -> Resolved
         Judgement::Refused(r) => Resolved::Refused(r),
         Judgement::Nodes(total) => {
             if rows.len() < ROW_WIDTH * total {
-                return Resolved::Refused(Refusal {
-                    number: SHORT_OUTPUT,
-                    place: 0,
-                });
+                return Resolved::Refused(short_output());
             }
             write_tree(sheet, rows, 0, 0, Parent::Other);
             Resolved::Rows(total)

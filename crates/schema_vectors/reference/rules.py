@@ -1,4 +1,4 @@
-"""A sheet judged and resolved into rows as document 01 has it: a tree of objects, and each rule asked of them."""
+"""A sheet judged, resolved into rows and rewritten as document 01 has it: a tree of objects, and each rule asked of them."""
 import struct
 
 BLOCK, SLOT, SLOTS, MOST_NODES, MOST_DEPTH = 512, 72, 7, 896, 32
@@ -23,8 +23,8 @@ class Refused(Exception):
     """A numbered refusal at its place."""
 
 
-def resolved(sheet, lent):
-    """The rows of a sheet, a list of nine numbers for each node, or Refused."""
+def judged(sheet):
+    """The nodes of a sheet that keeps every rule, or Refused."""
     nodes = opened(sheet)
     root = tree(nodes)
     for node in nodes:
@@ -34,13 +34,50 @@ def resolved(sheet, lent):
         for number, keeps in ((8, keeps_8), (9, keeps_9), (10, keeps_10), (11, keeps_11), (12, keeps_12), (13, keeps_13)):
             if not keeps(node, root):
                 raise Refused(number, node.number)
+    return nodes
+
+
+def resolved(sheet, lent):
+    """The rows of a sheet, a list of nine numbers for each node, or Refused."""
+    nodes = judged(sheet)
     if lent < 9 * len(nodes):
         raise Refused(14, 0)
     return [row(node) for node in nodes]
 
 
+def rewritten(sheet, lent, start):
+    """The sheet with both annotations at every node, for an output of so many bytes that it begins at such a place of, or Refused."""
+    nodes = judged(sheet)
+    if start > lent or lent - start < len(sheet):
+        raise Refused(14, 0)
+    made = bytearray(sheet)
+    for node in nodes:
+        at = BLOCK * (node.number // SLOTS) + 6 + SLOT * (node.number % SLOTS)
+        made[at + 2:at + 6] = bytes(annotations(node))
+    return sealed(made)
+
+
+def annotations(node):
+    """The converted type, logical type and parameters that a node is rewritten with."""
+    if meaning(node) is None:
+        return NONE, 0, 0, 0
+    name, a, b = meaning(node)
+    if name == "INTERVAL":
+        return CONVERTED[name], 0, 0, 0
+    image = forward(name, a, b)
+    return NONE if image is None else CONVERTED[image], LOGICAL[name], a, b
+
+
 def weighted(block):
     return sum((i + 1) * byte for i, byte in enumerate(block[:510])) % 65521
+
+
+def sealed(sheet):
+    """The sheet with the check of each whole block made right."""
+    sheet = bytearray(sheet)
+    for at in range(0, len(sheet) - BLOCK + 1, BLOCK):
+        sheet[at + 510:at + 512] = struct.pack("<H", weighted(sheet[at:at + BLOCK]))
+    return bytes(sheet)
 
 
 def opened(sheet):

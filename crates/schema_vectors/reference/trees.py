@@ -1,8 +1,8 @@
 """Trees written down as Python's calls, and the sheets that list them."""
 import struct
 
-from rules import (BLOCK, BYTE_ARRAY, CONVERTED, FIXED, GROUP, INT32, INT64, LOGICAL, NONE, REPEATED, REQUIRED, SLOT, SLOTS,
-                   allowed, weighted)
+from rules import (BYTE_ARRAY, CONVERTED, FIXED, GROUP, INT32, INT64, LOGICAL, NONE, REPEATED, REQUIRED, SLOT, SLOTS, allowed,
+                   sealed)
 
 
 def leaf(physical=INT32, repetition=REQUIRED, converted=None, logical=None, a=0, b=0, length=None, scale=0, precision=0,
@@ -61,14 +61,6 @@ def sheet_of(slots):
         made += struct.pack("<HBBH", i // SLOTS, len(here), 1, len(slots))
         made += b"".join(here).ljust(SLOT * SLOTS, b"\0") + bytes(2)
     return sealed(made)
-
-
-def sealed(sheet):
-    """The sheet with the check of each whole block made right."""
-    sheet = bytearray(sheet)
-    for at in range(0, len(sheet) - BLOCK + 1, BLOCK):
-        sheet[at + 510:at + 512] = struct.pack("<H", weighted(sheet[at:at + BLOCK]))
-    return bytes(sheet)
 
 
 def changed(sheet, at, *values):

@@ -1,5 +1,6 @@
 #!/usr/bin/env python3
-"""Makes the sheets of ../stdin and the answers of ../stdout, and the sheet of ../../schema_rows/stdin, from document 01 alone.
+"""Makes the sheets of ../stdin and the answers of ../stdout, the sheets of ../../schema_rows and ../../schema_rewrite, and what the
+latter writes, from document 01 alone.
 
 Run it in any folder: python3 vectors.py. It uses nothing but Python's standard library, and nothing of the Rattle code.
 """
@@ -12,7 +13,7 @@ sys.dont_write_bytecode = True
 
 from random_trees import damage, random_nodes
 from rules import (BLOCK, BOOLEAN, BYTE_ARRAY, CONVERTED, DOUBLE, FIXED, INT32, INT64, MOST_NODES, NONE, OPTIONAL, REPEATED,
-                   REQUIRED, SLOT, answer, backward)
+                   REQUIRED, SLOT, Refused, answer, backward, rewritten)
 from trees import (changed, entry, group, key_value, layer, leaf, listing, lists, logical_types, maps, places_of, root,
                    sheet_of, slot_of)
 
@@ -468,6 +469,42 @@ def random_trees():
         vector("damaged tree %d" % n, sheet_of(list(map(slot_of, nodes))))
 
 
+# What the lent bytes hold before: their places modulo this number.
+MARKS = 251
+
+
+def rewrites():
+    """Sheets to rewrite, each with a title, the number of lent bytes and the start."""
+    example = sheet_of(list(map(slot_of, listing(EXAMPLE))))
+    for lent, start in ((512, 0), (513, 1), (1023, 511), (1100, 0), (1100, 1), (1100, 511), (1100, 588), (1100, 589), (511, 0), (512, 1),
+                        (1024, 513), (512, 512), (512, 513), (600, 601), (0, 0), (0, 1), (1100, 4294967295)):
+        yield "example, %d lent from %d" % (lent, start), example, lent, start
+    yield "fault before too little", sheet_of(list(map(slot_of, listing(root(leaf(length=1)))))), 0, 1
+    yield "check before too little", example[:-1] + b"\xff", 10, 11
+    named = set()
+    for title, sheet, _ in VECTORS:
+        if title not in named and title.startswith(REWRITTEN):
+            named.add(title)
+            start = len(named) % 3
+            yield title, sheet, len(sheet) + 2, start
+
+
+# The sheets that are rewritten too, by how their titles begin.
+REWRITTEN = ("every annotation", "MAP", "rule ", "DECIMAL(9", "UINT_8 beside", "TIME_MI", "UUID on", "INTERVAL on FIXED", "root alone",
+             "random tree 1", "damaged tree 1", "896 nodes in maps")
+
+
+def rewritten_answer(sheet, lent, start):
+    """The first line's text, and what the lent bytes hold afterwards."""
+    held = bytes(i % MARKS for i in range(lent))
+    try:
+        made = rewritten(sheet, lent, start)
+    except Refused as refusal:
+        return "refused %d at %d" % refusal.args, held
+    assert rewritten(made, len(made), 0) == made
+    return "bytes %d again the same" % len(made), held[:start] + made + held[start + len(made):]
+
+
 def main():
     for part in (outputs, sheets, places, depths, shapes, annotated, disagreements, misplaced, digits, list_rules, list_faults,
                  map_rules, map_faults, key_values, two_faults, random_trees):
@@ -475,17 +512,27 @@ def main():
     folder = os.path.join(os.path.dirname(os.path.abspath(__file__)), "..")
     example = sheet_of(list(map(slot_of, listing(EXAMPLE))))
     assert "\n".join(answer(example, 36) + [""]) == EXAMPLE_ANSWER
-    with open(os.path.join(folder, "..", "schema_rows", "stdin"), "wb") as stdin:
-        stdin.write(example)
+    for program in ("schema_rows", "schema_rewrite"):
+        with open(os.path.join(folder, "..", program, "stdin"), "wb") as stdin:
+            stdin.write(example)
+    with open(os.path.join(folder, "..", "schema_rewrite", "stdout"), "wb") as stdout:
+        stdout.write(rewritten(example, len(example), 0))
+    to_rewrite = [(title, sheet, lent, start) + rewritten_answer(sheet, lent, start) for title, sheet, lent, start in rewrites()]
     with open(os.path.join(folder, "stdin"), "wb") as stdin:
         stdin.write(struct.pack("<I", len(VECTORS)))
         for title, sheet, lent in VECTORS:
             title = title.encode()
             stdin.write(struct.pack("<III", len(title), len(sheet), lent) + title + sheet)
+        stdin.write(struct.pack("<I", len(to_rewrite)))
+        for title, sheet, lent, start, _, held in to_rewrite:
+            title = title.encode()
+            stdin.write(struct.pack("<IIII", len(title), len(sheet), lent, start) + title + sheet + held)
     with open(os.path.join(folder, "stdout"), "w") as stdout:
         for title, sheet, lent in VECTORS:
             first, *rows = answer(sheet, lent)
             stdout.write("\n".join(["%s: %s kept" % (title, first)] + rows + [""]))
+        for title, _, _, _, first, _ in to_rewrite:
+            stdout.write("%s: %s as expected\n" % (title, first))
 
 
 if __name__ == "__main__":

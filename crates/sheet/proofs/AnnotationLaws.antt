@@ -3,15 +3,14 @@ use mathlib.Core.Path.{_≡_, refl, sym, ap, _∙_}
 use mathlib.Core.Logic.{_⊎_, inl, inr}
 use mathlib.Core.Bool.{Bool, true, false}
 use mathlib.Core.List.{List}
-use Prim.Native.Nat.{ℕ, suc, _+_, _-_, _*_, _/_, _%_, _≤_, _<_}
-use native.Mathlib.Nat.{add-sub-cancel-left}
+use Prim.Native.Nat.{ℕ, _+_, _-_, _%_, _≤_, _<_}
 use native.Mathlib.Decide.{decLt}
 use native.Mathlib.Omega.{arith}
 use lib.ListN.{length, getD, set, take, drop, length-set}
-use lib.Seq.{getD-set-other, take-set-le, take-set-lt, drop-set-lt, drop-set-add}
-use Rattle.sheet.specs.Block.{blockSize, checkAt, firstSlotAt, slotsInBlock, slotSize}
-use Rattle.sheet.specs.Slot.{convertedAt, logicalAt, parameterAAt, parameterBAt, slotStart, reaches, slotAt, annotatedSlot, withAnnotation}
-use Rattle.sheet.proofs.SlotLaws.{slotStart-behind, slotAt-there, slotAt-empty}
+use lib.Seq.{getD-set-other, take-set-le, take-set-lt, drop-set-lt, drop-set-add, set-getD}
+use Rattle.sheet.specs.Block.{blockSize, firstSlotAt, slotSize}
+use Rattle.sheet.specs.Slot.{convertedAt, logicalAt, parameterAAt, parameterBAt, converted, logical, parameterA, parameterB, slotStart, reaches, slotAt, annotatedSlot, withAnnotation}
+use Rattle.sheet.proofs.SlotLaws.{slotStart-behind, slotAt-there, slotAt-empty, slotAt-byte}
 
 -- a part of a list that a store misses
 part-set-other : (l : List ℕ) (n s p v : ℕ) → (p < s) ⊎ (s + n ≤ p) → take n (drop s (set l p v)) ≡ take n (drop s l)
@@ -116,3 +115,18 @@ module _ (sheet : List ℕ) (k conv log a b : ℕ) where
       cases : (t : Bool) → reaches sheet k ≡ t → getD (withAnnotation sheet k conv log a b) p 0 ≡ getD sheet p 0
       cases true r = ap (λ (l : List ℕ). getD l p 0) (annotated-there r) ∙ stored-header k conv log a b sheet p h
       cases false r = ap (λ (l : List ℕ). getD l p 0) (annotated-nowhere r)
+
+  -- where the slot has the annotations already, nothing changes
+  pub withAnnotation-same : converted (slotAt sheet k) ≡ conv → logical (slotAt sheet k) ≡ log → parameterA (slotAt sheet k) ≡ a → parameterB (slotAt sheet k) ≡ b → withAnnotation sheet k conv log a b ≡ sheet
+  unfolding converted logical parameterA parameterB
+  withAnnotation-same ec el ea eb = cases (reaches sheet k) refl
+    where
+      byte : reaches sheet k ≡ true → (i v : ℕ) → i < slotSize → getD (slotAt sheet k) i 0 ≡ v → set sheet (slotStart k + i) v ≡ sheet
+      byte r i v h e =
+          ap (set sheet (slotStart k + i)) (sym e ∙ slotAt-byte sheet k i r h) ∙ set-getD sheet (slotStart k + i) 0
+
+      cases : (t : Bool) → reaches sheet k ≡ t → withAnnotation sheet k conv log a b ≡ sheet
+      cases true r =
+          annotated-there r
+          ∙ rw (byte r convertedAt conv (omega arith) ec, byte r logicalAt log (omega arith) el, byte r parameterAAt a (omega arith) ea) (byte r parameterBAt b (omega arith) eb)
+      cases false r = annotated-nowhere r

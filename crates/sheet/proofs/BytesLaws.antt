@@ -2,7 +2,7 @@
 use Prim.Native.Nat.{ℕ, zero, suc, _+_, _*_, _^_, _<_}
 use mathlib.Core.List.{List, [], _∷_, _++_}
 use native.Mathlib.Omega.{arith}
-use lib.ListN.{getD, set, replicate}
+use lib.ListN.{set, replicate}
 use Rattle.sheet.specs.Number.{lowByte, highByte}
 use Rattle.sheet.specs.Block.{blockSize, checkAt, blockCount, blockAt}
 use Rattle.sheet.specs.Check.{check, withCheck, withChecks, renewed}
@@ -33,7 +33,7 @@ pub bytes-replicate : (n x : ℕ) → x < 2 ^ 8 → Bytes (replicate n x)
 bytes-replicate zero x h = bytes-nil
 bytes-replicate (suc n) x h = bytes-cons x (replicate n x) h (bytes-replicate n x h)
 
-pub bytes-set : (xs : List ℕ) (i x : ℕ) → x < 2 ^ 8 → Bytes xs → Bytes (set xs i x)
+bytes-set : (xs : List ℕ) (i x : ℕ) → x < 2 ^ 8 → Bytes xs → Bytes (set xs i x)
 bytes-set [] i x h b = b
 bytes-set (y ∷ xs) zero x h b = bytes-cons x xs h (λ i. b (suc i))
 bytes-set (y ∷ xs) (suc i) x h b = bytes-cons y (set xs i x) (b 0) (bytes-set xs i x h (λ j. b (suc j)))

@@ -1,18 +1,19 @@
 -- What a sheet and a copy of it that differs in some bytes have in common.
-use mathlib.Core.Path.{_≡_, refl, sym, ap, ap₂, _∙_}
-use mathlib.Core.Bool.{Bool, true, false, cond, _&&_}
+use mathlib.Core.Path.{_≡_, refl, sym, ap₂, _∙_}
+use mathlib.Core.Bool.{Bool, true, false}
 use mathlib.Core.List.{List}
 use Prim.Native.Nat.{ℕ, _+_, _*_, _%_, _<_}
 use native.Mathlib.Omega.{arith}
-use lib.Dec.{eqb}
 use lib.ListN.{length, getD}
 use lib.Seq.{ext-getD}
-use Rattle.sheet.specs.Block.{blockSize, firstSlotAt, slotSize, blockNumberAt, totalAt, blockCount, blockAt, blockNumber, nodesHere, version, total, totalOf}
-use Rattle.sheet.specs.Header.{fieldsRight, totalRight, headerRight}
+use Rattle.sheet.specs.Block.{blockSize, firstSlotAt, slotSize, blockNumberAt, totalAt, blockAt, blockNumber, nodesHere, version, total, totalOf}
+use Rattle.sheet.specs.Check.{renewed}
+use Rattle.sheet.specs.Header.{fieldsRight, headerRight}
 use Rattle.sheet.specs.Slot.{slotStart, reaches, slotAt}
 use Rattle.sheet.proofs.NumberLaws.{numberAt-two}
 use Rattle.sheet.proofs.BlockLaws.{blockAt-byte, blockCount-same}
-use Rattle.sheet.proofs.SlotLaws.{slotAt-empty, slotAt-byte, slotAt-length}
+use Rattle.sheet.proofs.RenewalLaws.{length-renewed, renewed-other}
+use Rattle.sheet.proofs.SlotLaws.{slotStart-before, slotAt-empty, slotAt-byte, slotAt-length}
 
 -- as long as a sheet, with its blocks' headers
 pub record SameHeaders (copy sheet : List ℕ) : Type 0 where
@@ -62,3 +63,17 @@ module _ (copy sheet : List ℕ) (same : SameHeaders copy sheet) where
           ext-getD 0 (slotAt copy k) (slotAt sheet k) (slotAt-length copy k ∙ sym (slotAt-length sheet k))
           (λ i h. let l : i < slotSize = omega (arith, slotAt-length copy k) in slotAt-byte copy k i (reaches-same k ∙ r) l ∙ bytes i l ∙ sym (slotAt-byte sheet k i r l))
       cases false r = slotAt-empty copy k (reaches-same k ∙ r) ∙ sym (slotAt-empty sheet k r)
+
+-- copies that have a sheet's headers one after the other
+pub headers-trans : (copy between sheet : List ℕ) → SameHeaders copy between → SameHeaders between sheet → SameHeaders copy sheet
+headers-trans copy between sheet first second =
+    record { long = first .long ∙ second .long; headers = λ p h. first .headers p h ∙ second .headers p h }
+
+-- the checks are no part of a header
+pub renewed-headers : (sheet : List ℕ) → SameHeaders (renewed sheet) sheet
+renewed-headers sheet = record { long = length-renewed sheet; headers = λ p h. renewed-other sheet p (omega arith) }
+
+-- nor of a slot
+pub slotAt-renewed : (sheet : List ℕ) (k : ℕ) → slotAt (renewed sheet) k ≡ slotAt sheet k
+slotAt-renewed sheet k =
+    slotAt-same (renewed sheet) sheet (renewed-headers sheet) k (λ i h. renewed-other sheet (slotStart k + i) (slotStart-before k i h))

@@ -7,6 +7,7 @@ pub mod BlockLaws
 pub mod RenewalLaws
 pub mod SlotLaws
 pub mod AnnotationLaws
+pub mod AnnotatedSlotLaws
 pub mod CopyLaws
 pub mod FieldLaws
 pub mod SoundLaws

@@ -6,6 +6,7 @@ use Rattle.annotation.specs.Rule10.{rule10}
 use Rattle.annotation.specs.Rule11.{rule11}
 use Rattle.annotation.specs.Kinds.{kindOf}
 use Rattle.annotation.specs.Outcome.{resolutionOf}
+use Rattle.annotation.proofs.OutcomeLaws.{with-outcome}
 use Rattle.annotation.proofs.resolution.resolve.Statement.{statement}
 use Rattle.annotation.proofs.resolution.resolve.Tie as tie
 
@@ -26,14 +27,14 @@ kind c = rw (c .kind-as .ensures, c .before .before .before .before .before .bef
 -- rule 9 fails
 returns : tie.Need-returns
 unfolding resolutionOf
-returns c = rw (sym (c .before .agree .ensures) ∙ not-true _ (c .if1 .taken))
+returns c = with-outcome _ _ _ (rw (sym (c .before .agree .ensures) ∙ not-true _ (c .if1 .taken)))
 
 -- 9 holds and 10 fails
 returns-2 : tie.Need-returns-2
 unfolding resolutionOf
 returns-2 c =
     let at = c .before .before .before .before in
-    rw (sym (at .before .agree .ensures) ∙ not-false _ (at .if1 .left), sym (placed (c .before)) ∙ not-true _ (c .if2 .taken))
+    with-outcome _ _ _ (rw (sym (at .before .agree .ensures) ∙ not-false _ (at .if1 .left), sym (placed (c .before)) ∙ not-true _ (c .if2 .taken)))
 
 -- 9 and 10 hold and 11 fails
 returns-3 : tie.Need-returns-3
@@ -41,11 +42,11 @@ unfolding resolutionOf
 returns-3 c =
     let second = c .before .before in
     let first = second .before .before .before .before in
-    rw (
+    with-outcome _ _ _ (rw (
       sym (first .before .agree .ensures) ∙ not-false _ (first .if1 .left),
       sym (placed (second .before)) ∙ not-false _ (second .if2 .left),
       sym (digits (c .before)) ∙ not-true _ (c .if3 .taken),
-    )
+    ))
 
 -- all three hold
 returns-4 : tie.Need-returns-4
@@ -54,12 +55,12 @@ returns-4 c =
     let third = c .before in
     let second = third .before .before in
     let first = second .before .before .before .before in
-    rw (
+    with-outcome _ _ _ (rw (
       sym (first .before .agree .ensures) ∙ not-false _ (first .if1 .left),
       sym (placed (second .before)) ∙ not-false _ (second .if2 .left),
       sym (digits (third .before)) ∙ not-false _ (third .if3 .left),
       kind c,
-    )
+    ))
 
 pub resolve-spec : {M : Type 1} → statement M
 resolve-spec =

@@ -48,19 +48,19 @@ refusal-requires-3 c κs = search needs
 
 returns-2 : tie.Need-returns-2
 unfolding brokenBy
-returns-2 c = c .structure-broken .ensures ∙ sym (broken-resolved _ _ _ _ (c .before .before .before .before .before .before .before .before .before .before .pre .0) _ _ _ (sym (c .before .before .before .before .before .before .before .before .shape-kept .ensures) ∙ not-false _ (c .before .before .before .before .before .before .before .if1 .left)) (c .before .before .before .before .before .before .annotated .ensures) (c .before .before .before .before .before .under-map .ensures) (c .before .before .before .before .resolve .ensures) ∙ rw (c .before .before .resolution .given .1))
+returns-2 c = c .structure-broken .ensures ∙ sym (broken-resolved _ _ _ _ (c .before .before .before .before .before .before .before .before .before .before .pre .0) _ _ _ (sym (c .before .before .before .before .before .before .before .before .shape-kept .ensures) ∙ not-false _ (c .before .before .before .before .before .before .before .if1 .left)) (c .before .before .before .before .before .before .annotated .ensures) (c .before .before .before .before .before .under-map .ensures) (c .before .before .before .before .resolve .ensures .0) ∙ rw (c .before .before .resolution .given .1))
 
 returns-3 : tie.Need-returns-3
 unfolding brokenBy
-returns-3 c = c .refusal .ensures ∙ ap refusalOf (c .before .enum-told .given .1) ∙ sym (broken-resolved _ _ _ _ (c .before .before .before .before .before .before .before .before .before .pre .0) _ _ _ (sym (c .before .before .before .before .before .before .before .shape-kept .ensures) ∙ not-false _ (c .before .before .before .before .before .before .if1 .left)) (c .before .before .before .before .before .annotated .ensures) (c .before .before .before .before .under-map .ensures) (c .before .before .before .resolve .ensures) ∙ rw (c .before .enum-told .given .1))
+returns-3 c = c .refusal .ensures ∙ ap refusalOf (c .before .enum-told .given .1) ∙ sym (broken-resolved _ _ _ _ (c .before .before .before .before .before .before .before .before .before .pre .0) _ _ _ (sym (c .before .before .before .before .before .before .before .shape-kept .ensures) ∙ not-false _ (c .before .before .before .before .before .before .if1 .left)) (c .before .before .before .before .before .annotated .ensures) (c .before .before .before .before .under-map .ensures) (c .before .before .before .resolve .ensures .0) ∙ rw (c .before .enum-told .given .1))
 
 returns-4 : tie.Need-returns-4
 unfolding brokenBy
-returns-4 c = c .refusal2 .ensures ∙ ap refusalOf (c .before .enum-told2 .given .1) ∙ sym (broken-resolved _ _ _ _ (c .before .before .before .before .before .before .before .before .before .pre .0) _ _ _ (sym (c .before .before .before .before .before .before .before .shape-kept .ensures) ∙ not-false _ (c .before .before .before .before .before .before .if1 .left)) (c .before .before .before .before .before .annotated .ensures) (c .before .before .before .before .under-map .ensures) (c .before .before .before .resolve .ensures) ∙ rw (c .before .enum-told2 .given .1))
+returns-4 c = c .refusal2 .ensures ∙ ap refusalOf (c .before .enum-told2 .given .1) ∙ sym (broken-resolved _ _ _ _ (c .before .before .before .before .before .before .before .before .before .pre .0) _ _ _ (sym (c .before .before .before .before .before .before .before .shape-kept .ensures) ∙ not-false _ (c .before .before .before .before .before .before .if1 .left)) (c .before .before .before .before .before .annotated .ensures) (c .before .before .before .before .under-map .ensures) (c .before .before .before .resolve .ensures .0) ∙ rw (c .before .enum-told2 .given .1))
 
 returns-5 : tie.Need-returns-5
 unfolding brokenBy
-returns-5 c = c .refusal3 .ensures ∙ ap refusalOf (c .before .enum-told3 .given .1) ∙ sym (broken-resolved _ _ _ _ (c .before .before .before .before .before .before .before .before .before .pre .0) _ _ _ (sym (c .before .before .before .before .before .before .before .shape-kept .ensures) ∙ not-false _ (c .before .before .before .before .before .before .if1 .left)) (c .before .before .before .before .before .annotated .ensures) (c .before .before .before .before .under-map .ensures) (c .before .before .before .resolve .ensures) ∙ rw (c .before .enum-told3 .given .1))
+returns-5 c = c .refusal3 .ensures ∙ ap refusalOf (c .before .enum-told3 .given .1) ∙ sym (broken-resolved _ _ _ _ (c .before .before .before .before .before .before .before .before .before .pre .0) _ _ _ (sym (c .before .before .before .before .before .before .before .shape-kept .ensures) ∙ not-false _ (c .before .before .before .before .before .before .if1 .left)) (c .before .before .before .before .before .annotated .ensures) (c .before .before .before .before .under-map .ensures) (c .before .before .before .resolve .ensures .0) ∙ rw (c .before .enum-told3 .given .1))
 
 pub broken-spec : {M : Type 1} → statement M
 broken-spec =

@@ -1,8 +1,9 @@
 -- `schema::resolving::resolve` meets its contract: refused before anything is written, or the rows of its tree.
-use Rattle.schema.proofs.JudgementLaws.{resolve-total, resolve-some, resolve-claimed, resolve-short, resolve-refused, resolve-rows, written-refused, written-rows}
+use Rattle.schema.proofs.JudgementLaws.{judged-total, judged-some, judged-claimed, resolve-short, resolve-refused, resolve-rows, written-refused, written-rows}
 use native.Mathlib.Omega.{arith}
-use mathlib.Core.Path.{sym, _∙_}
+use mathlib.Core.Path.{sym, ap, _∙_}
 use borrow.Author.Needs.{needs}
+use Rattle.schema.specs.declared.resolving.Resolved.{Resolved}
 use Rattle.schema.proofs.resolving.resolve.Statement.{statement}
 use Rattle.schema.proofs.resolving.resolve.Tie as tie
 
@@ -16,18 +17,21 @@ enum-known-judgement-2 : tie.Need-enum-known-judgement-2
 enum-known-judgement-2 c = search needs
 
 mul-if1 : tie.Need-mul-if1
-mul-if1 c = omega (arith, resolve-total _ _ (sym (c .before .before .before .judge .ensures) ∙ c .before .judgement2 .given .1), resolve-claimed _ _ (sym (c .before .before .before .judge .ensures) ∙ c .before .judgement2 .given .1) .most)
+mul-if1 c = omega (arith, judged-total _ _ (sym (c .before .before .before .judge .ensures) ∙ c .before .judgement2 .given .1), judged-claimed _ _ (sym (c .before .before .before .judge .ensures) ∙ c .before .judgement2 .given .1) .most)
+
+short-output-requires : tie.Need-short-output-requires
+short-output-requires c κs = search needs
 
 returns : tie.Need-returns
 returns c =
-    let short = resolve-short _ _ (sym (c .before .before .before .before .judge .ensures) ∙ c .before .before .judgement2 .given .1) (c .before .before .before .before .before .before .before .args .rows .now) (c .if1 .taken) in
-    (sym short, written-refused _ _ _ short)
+    let short = resolve-short _ _ (sym (c .before .before .before .before .before .judge .ensures) ∙ c .before .before .before .judgement2 .given .1) (c .before .before .before .before .before .before .before .before .args .rows .now) (c .before .if1 .taken) in
+    (ap Resolved.Refused (c .short-output .ensures) ∙ sym short, written-refused _ _ _ short)
 
 write-tree-requires : tie.Need-write-tree-requires
 write-tree-requires c κs =
     let nodes = sym (c .before .before .before .before .before .judge .ensures) ∙ c .before .before .before .judgement2 .given .1 in
-    let some = resolve-some _ _ nodes in
-    (resolve-claimed _ _ nodes, (some, (some, omega (arith, resolve-total _ _ nodes, c .before .if1 .left))))
+    let some = judged-some _ _ nodes in
+    (judged-claimed _ _ nodes, (some, (some, omega (arith, judged-total _ _ nodes, c .before .if1 .left))))
 
 returns-2 : tie.Need-returns-2
 returns-2 c =
@@ -51,6 +55,7 @@ resolve-spec =
     enum-known-judgement
     enum-known-judgement-2
     mul-if1
+    short-output-requires
     returns
     write-tree-requires
     returns-2

@@ -1,8 +1,8 @@
 -- The proof of the cycle of calls {write_run, write_tree}. Nodes fall as they do in judging: with r nodes from k on, a tree's measure is 2r and a
 -- run's 2r + 1.
-use Rattle.schema.proofs.RowsSteps.{Behind, behind-start, behind-end, behind-next, tree-end, tree-within, tree-rows, parent-is, row-is, long-enough, row-fits}
+use Rattle.schema.proofs.RowsSteps.{Behind, behind-start, behind-end, behind-next, tree-rows, parent-is, row-is, long-enough, row-fits}
 use Rattle.schema.proofs.JudgingSteps.{later-falls, run-falls}
-use Rattle.schema.proofs.VisitLaws.{run-below, children-claimed}
+use Rattle.schema.proofs.VisitLaws.{run-below, children-claimed, tree-end, tree-within}
 use Rattle.schema.specs.Steps.{Visited, rowNumbers}
 use Rattle.sheet.specs.Slot.{slotAt}
 use Rattle.sheet.specs.Block.{totalOf}
@@ -465,7 +465,7 @@ write-tree-cast-t24 : (t : ℕ) → write-tree-lts.Need-cast-t24 (
 write-tree-cast-t24 t c =
     let start = c .before .before .before .before .before .before .before .before .before .before .before .before .before .before .before .before .before in
     let visited : Visited (start .args .sheet .now) (start .args .at) (c .before .before .before .before .before .before .before .before .before .before .before .before .before .before .slot-at .result) = record { claimed = start .pre .1 .0; below = start .pre .1 .1 .0; numbers = c .before .before .before .before .before .before .before .before .before .before .before .before .before .before .slot-at .ensures } in
-    let end = tree-end (start .args .sheet .now) (start .args .rows .now) (start .args .at) (start .args .up) _ (start .args .parent) (slotAt (start .args .sheet .now) (start .args .up)) visited _ (c .before .before .before .before .before .before .write-run .ensures .0) in
+    let end = tree-end (start .args .sheet .now) (start .args .at) _ visited _ (c .before .before .before .before .before .before .write-run .ensures .0) in
     omega (arith, tree-within (start .args .sheet .now) (start .args .at) (start .pre .1 .0) (start .pre .1 .1 .0), start .pre .1 .0 .most, end)
 
 write-tree-write-row-requires : (t : ℕ) → write-tree-lts.Need-write-row-requires (
@@ -537,7 +537,7 @@ write-tree-returns t c =
     let start = c .before .before .before .before .before .before .before .before .before .before .before .before .before .before .before .before .before .before .before .before in
     let visited : Visited (start .args .sheet .now) (start .args .at) (c .before .before .before .before .before .before .before .before .before .before .before .before .before .before .before .before .before .slot-at .result) = record { claimed = start .pre .1 .0; below = start .pre .1 .1 .0; numbers = c .before .before .before .before .before .before .before .before .before .before .before .before .before .before .before .before .before .slot-at .ensures } in
     let run = c .before .before .before .before .before .before .before .before .before .write-run in
-    let end = tree-end (start .args .sheet .now) (start .args .rows .now) (start .args .at) (start .args .up) _ (start .args .parent) (slotAt (start .args .sheet .now) (start .args .up)) visited _ (run .ensures .0) in
+    let end = tree-end (start .args .sheet .now) (start .args .at) _ visited _ (run .ensures .0) in
     let own = c .before .before .before .before .before .before .before .before .before .before .before .before .before .role .ensures in
     let above = parent-is (start .args .sheet .now) (start .args .rows .now) (start .args .at) (start .args .up) _ (start .args .parent) (slotAt (start .args .sheet .now) (start .args .up)) visited _ _ _ _ _ (c .before .before .before .before .before .before .before .before .before .before .before .before .before .before .before .before .annotated .ensures) (c .before .before .before .before .before .before .before .before .before .before .before .before .before .before .before .is-map-parent .ensures) (c .before .before .before .before .before .before .before .before .before .before .before .before .before .before .resolved-kind .ensures) own (c .before .before .before .before .before .before .before .before .before .before .parent-by .ensures) in
     let numbers = row-is (start .args .sheet .now) (start .args .rows .now) (start .args .at) (start .args .up) _ (start .args .parent) (slotAt (start .args .sheet .now) (start .args .up)) visited _ _ _ _ _ _ (c .before .before .before .before .before .before .before .before .before .before .before .before .before .before .before .before .annotated .ensures) (c .before .before .before .before .before .before .before .before .before .before .before .before .before .before .before .is-map-parent .ensures) (c .before .before .before .before .before .before .before .before .before .before .before .before .before .before .resolved-kind .ensures) own end (c .before .before .before .before .length .ensures) in

@@ -1,7 +1,6 @@
 -- `sheet::block::check_of` meets its contract: the sum over the block is reduced.
 use borrow.Author.Needs.{needs}
 use mathlib.Core.Path.{ap, _∙_}
-use mathlib.Core.List.{List}
 use Prim.Native.Nat.{ℕ, _%_}
 use Rattle.sheet.specs.Check.{checkModulus, check}
 use Rattle.sheet.proofs.block.check_of.Statement.{statement}

@@ -1,7 +1,6 @@
 -- `sheet::block::check_right` meets its contract: what is stored is compared with the check.
 use borrow.Author.Needs.{needs}
 use mathlib.Core.Path.{ap, ap₂, _∙_}
-use mathlib.Core.List.{List}
 use lib.Dec.{eqb}
 use Rattle.sheet.specs.Block.{storedCheck}
 use Rattle.sheet.specs.Check.{checkRight}

@@ -1,5 +1,5 @@
 -- `sheet::writing::write_annotation` meets its contract: the tests on the way say whether the bytes reach the slot.
-use mathlib.Core.Path.{_≡_, sym, _∙_}
+use mathlib.Core.Path.{sym, _∙_}
 use native.Mathlib.Omega.{arith}
 use lib.ListN.{length-set}
 use Rattle.sheet.proofs.SlotLaws.{slotStart-most, reaches-true, reaches-past, reaches-short}

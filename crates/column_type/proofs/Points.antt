@@ -1,0 +1,102 @@
+-- Column types that the definition calls lawful or not: the ends of each rule.
+use Prim.Native.Nat.{ℕ, _+_, _-_, _^_}
+use mathlib.Core.Path.{_≡_, refl}
+use mathlib.Core.Bool.{Bool, true, false}
+use mathlib.Core.List.{List, [], _∷_, map}
+use Rattle.decimal.specs.Precision.{greatestPrecision, greatest}
+use Rattle.annotation.specs.Physical.{INT32, INT64, BYTE-ARRAY, FIXED-LEN-BYTE-ARRAY, GROUP}
+use Rattle.annotation.specs.Converted as converted
+use Rattle.annotation.specs.Logical as logical
+use Rattle.annotation.specs.Parameters.{bitWidthCode, unitCode, flagCode, unitOf, bitWidthOf, validParameters}
+use Rattle.annotation.specs.Spelling.{namedOf, statedOf}
+use Rattle.annotation.specs.Signed.{natural}
+use Rattle.annotation.specs.Backward.{backwardOf}
+use Rattle.annotation.specs.Meaning.{annotationOf}
+use Rattle.annotation.specs.Rule9.{rule9}
+use Rattle.annotation.specs.Rule10.{rule10, INTERVAL-LENGTH, UUID-LENGTH}
+use Rattle.annotation.specs.Rule11.{ordered, physicalHolds, decimalHolds, rule11}
+use Rattle.annotation.specs.Kinds.{PLAIN-LEAF, PLAIN-GROUP}
+use Rattle.annotation.specs.declared.types.TimeUnit.{TimeUnit}
+use Rattle.annotation.specs.declared.types.BitWidth.{BitWidth}
+use Rattle.sheet.specs.Sound.{listed, physicalListed}
+use Rattle.schema.specs.Rules.{isNought, lengthShape}
+use Rattle.column_type.specs.Lawful.{slotOf, fits, isLeaf, isLawful}
+use Rattle.column_type.specs.declared.types.ColumnType.{ColumnType}
+
+-- "INT96 3"
+abbrev INT96 : ℕ
+INT96 = 3
+
+-- physical, type length, kind, p1, p2
+abbrev column : ℕ → ℕ → ℕ → ℕ → ℕ → ColumnType
+column ph length kind p1 p2 = record { physical = ph; «type_length» = length; kind = kind; p1 = p1; p2 = p2 }
+
+abbrev lawfulPoints : List ColumnType
+lawfulPoints =
+    -- "INT32 without annotation stays kind 0"
+    column INT32 0 PLAIN-LEAF 0 0
+    -- FIXED of the greatest type length that a slot holds
+    ∷ column FIXED-LEN-BYTE-ARRAY (2 ^ 31 - 1) PLAIN-LEAF 0 0
+    -- INT(8, false), and INT(64, true) on INT64
+    ∷ column INT32 0 logical.INTEGER (bitWidthCode BitWidth.Bits8) (flagCode false)
+    ∷ column INT64 0 logical.INTEGER (bitWidthCode BitWidth.Bits64) (flagCode true)
+    -- "precision 10 on INT32" is an error, 9 is not
+    ∷ column INT32 0 logical.DECIMAL 9 2
+    ∷ column FIXED-LEN-BYTE-ARRAY 1 logical.DECIMAL 2 0
+    -- "BYTE_ARRAY: no limit" but that of a signed number
+    ∷ column BYTE-ARRAY 0 logical.DECIMAL (2 ^ 31 - 1) (2 ^ 31 - 2)
+    ∷ column INT32 0 logical.TIME (unitCode TimeUnit.Millis) (flagCode true)
+    ∷ column FIXED-LEN-BYTE-ARRAY INTERVAL-LENGTH converted.INTERVAL 0 0
+    ∷ column FIXED-LEN-BYTE-ARRAY UUID-LENGTH logical.UUID 0 0
+    -- "UNKNOWN: any leaf"
+    ∷ column INT96 0 logical.UNKNOWN 0 0
+    ∷ column FIXED-LEN-BYTE-ARRAY 17 logical.UNKNOWN 0 0
+    ∷ []
+
+abbrev unlawfulPoints : List ColumnType
+unlawfulPoints =
+    -- no physical code, a group's, and one past a byte
+    column 8 0 PLAIN-LEAF 0 0
+    ∷ column GROUP 0 PLAIN-LEAF 0 0
+    ∷ column (2 ^ 8) 0 PLAIN-LEAF 0 0
+    -- "Type length is at least 1 for FIXED, 0 otherwise"
+    ∷ column FIXED-LEN-BYTE-ARRAY 0 PLAIN-LEAF 0 0
+    ∷ column INT32 4 PLAIN-LEAF 0 0
+    ∷ column FIXED-LEN-BYTE-ARRAY (2 ^ 31) PLAIN-LEAF 0 0
+    -- a plain leaf has no parameters
+    ∷ column INT32 0 PLAIN-LEAF 1 0
+    -- INT(64, false) on INT32
+    ∷ column INT32 0 logical.INTEGER (bitWidthCode BitWidth.Bits64) (flagCode false)
+    ∷ column INT32 0 logical.INTEGER (2 ^ 8 + bitWidthCode BitWidth.Bits8) (flagCode false)
+    ∷ column INT32 0 logical.DECIMAL 10 2
+    -- "Scale = precision: 11", "FIXED 1 precision 3: 11"
+    ∷ column INT32 0 logical.DECIMAL 3 3
+    ∷ column FIXED-LEN-BYTE-ARRAY 1 logical.DECIMAL 3 0
+    -- "n to 256"
+    ∷ column FIXED-LEN-BYTE-ARRAY 257 logical.DECIMAL 1 0
+    ∷ column BYTE-ARRAY 0 logical.DECIMAL (2 ^ 31) 0
+    ∷ column INT64 0 logical.TIME (unitCode TimeUnit.Millis) (flagCode true)
+    ∷ column FIXED-LEN-BYTE-ARRAY 11 converted.INTERVAL 0 0
+    ∷ column FIXED-LEN-BYTE-ARRAY INTERVAL-LENGTH converted.INTERVAL 0 1
+    ∷ column FIXED-LEN-BYTE-ARRAY 15 logical.UUID 0 0
+    -- a plain group, LIST and MAP are no leaves; 9 and 22 are no codes
+    ∷ column INT32 0 PLAIN-GROUP 0 0
+    ∷ column BYTE-ARRAY 0 logical.LIST 0 0
+    ∷ column BYTE-ARRAY 0 logical.MAP 0 0
+    ∷ column INT32 0 9 0 0
+    ∷ column INT32 0 22 0 0
+    ∷ column INT32 0 (2 ^ 8 + logical.DATE) 0 0
+    ∷ []
+
+-- `isLawful`, with all that it is made of open
+opened : ColumnType → Bool
+unfolding isLawful fits isLeaf physicalListed listed lengthShape isNought slotOf rule9 rule10 rule11 decimalHolds ordered physicalHolds greatestPrecision greatest annotationOf backwardOf statedOf namedOf validParameters unitOf bitWidthOf natural
+opened = isLawful
+
+pub points-lawful : map isLawful lawfulPoints ≡ map (λ c. true) lawfulPoints
+unfolding opened
+points-lawful = refl
+
+pub points-unlawful : map isLawful unlawfulPoints ≡ map (λ c. false) unlawfulPoints
+unfolding opened
+points-unlawful = refl

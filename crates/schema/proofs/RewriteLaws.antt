@@ -1,0 +1,60 @@
+-- What rewriting answers, and what the lent bytes hold afterwards, by what judging answers.
+use Prim.Native.Nat.{ℕ, _+_, _-_, _≤_, _<_}
+use mathlib.Core.Path.{_≡_, refl, sym, ap, _∙_}
+use mathlib.Core.Bool.{Bool, true, false}
+use mathlib.Core.List.{List, _++_, append-assoc}
+use native.Mathlib.Nat.{le-add-right}
+use native.Mathlib.Omega.{arith}
+use borrow.Author.Tests.{le-leb, lt-leb, leb-true}
+use lib.Dec.{leb}
+use borrow.Rule.Slice.PartMut.{putMid, post-is}
+use lib.ListN.{length, take, drop}
+use Rattle.schema.specs.Outcome.{shortOutput, judgement}
+use Rattle.schema.specs.Rewriting.{rewritten, fits, rewriteAnswer, rewriteOutcome, stretched, rewriteWritten}
+use Rattle.schema.specs.Steps.{judgementOf}
+use Rattle.schema.specs.declared.refusal.Refusal.{Refusal}
+use Rattle.schema.specs.declared.refusal.Verdict.{Verdict}
+use Rattle.schema.specs.declared.judgement.Judgement.{Judgement}
+use Rattle.schema.specs.declared.rewriting.Rewritten.{Rewritten}
+use Rattle.schema.proofs.RewrittenLaws.{length-rewritten}
+use Rattle.schema.proofs.JudgementLaws.{judged-refused, judged-lawful}
+
+module _ (b lent : List ℕ) (start : ℕ) where
+  -- a refused sheet
+  pub rewrite-refused : (r : Refusal) → judgementOf b ≡ Judgement.Refused r → rewriteOutcome b (length lent) start ≡ Rewritten.Refused r
+  unfolding rewriteOutcome rewriteAnswer
+  rewrite-refused r e = rw (judged-refused b r e)
+
+  -- a refusal changes nothing
+  pub rewrite-kept : (r : Refusal) → rewriteOutcome b (length lent) start ≡ Rewritten.Refused r → rewriteWritten (rewriteOutcome b (length lent) start) b lent start ≡ lent
+  unfolding rewriteWritten
+  rewrite-kept r e = rw e
+
+  module _ (n : ℕ) (e : judgementOf b ≡ Judgement.Nodes n) where
+    -- an output that is not enough
+    pub rewrite-short : length lent < start + length b → rewriteOutcome b (length lent) start ≡ Rewritten.Refused shortOutput
+    unfolding rewriteOutcome rewriteAnswer
+    rewrite-short h = rw (judged-lawful b n e .0, lt-leb (start + length b) (length lent) h)
+
+    -- and one that is
+    pub rewrite-bytes : start + length b ≤ length lent → rewriteOutcome b (length lent) start ≡ Rewritten.Bytes (length b)
+    unfolding rewriteOutcome rewriteAnswer
+    rewrite-bytes h = rw (judged-lawful b n e .0, le-leb (start + length b) (length lent) h)
+
+    -- the part from the start on holds the rewritten sheet
+    pub rewrite-written : start + length b ≤ length lent → (m : List ℕ) → m ≡ rewritten b → putMid start (start + length b - start) lent m ≡ rewriteWritten (rewriteOutcome b (length lent) start) b lent start
+    unfolding rewriteWritten stretched
+    rewrite-written h m e =
+        ap (λ (after : List ℕ). take start lent ++ (m ++ after)) (post-is start (start + length b) lent (le-add-right start (length b)))
+        ∙ sym (append-assoc (take start lent) m (drop (start + length b) lent))
+        ∙ sym (rw (rewrite-bytes h, length-rewritten b, e))
+
+-- bytes are answered only where they fit from the start on
+pub bytes-fit : (b : List ℕ) (lent start n : ℕ) → rewriteOutcome b lent start ≡ Rewritten.Bytes n → start + n ≤ lent
+unfolding rewriteOutcome rewriteAnswer
+bytes-fit b lent start n e = by-verdict (judgement b) (fits b lent start) refl e
+  where
+    by-verdict : (v : Verdict) (enough : Bool) → leb (start + length b) lent ≡ enough → rewriteAnswer v enough (length b) ≡ Rewritten.Bytes n → start + n ≤ lent
+    by-verdict (Verdict.Refused r) enough f q = absurd (let z : _≡_ {A = ℕ} 0 1 = cc in omega arith)
+    by-verdict Verdict.Lawful false f q = absurd (let z : _≡_ {A = ℕ} 0 1 = cc in omega arith)
+    by-verdict Verdict.Lawful true f q = let same : length b ≡ n = cc in omega (arith, leb-true (start + length b) lent f)

@@ -1,0 +1,120 @@
+-- The rows of a rewritten tree are those of the tree.
+use Prim.Native.Nat.{ℕ, suc, _+_, _≤_}
+use mathlib.Core.Path.{_≡_, refl, sym, ap, ap₂, _∙_}
+use mathlib.Core.Bool.{Bool, true, false, true≢false, cond}
+use mathlib.Core.List.{List, [], _++_}
+use borrow.Author.Tests.{eqb-true}
+use lib.Dec.{eqb}
+use lib.ListN.{length, length-append}
+use Rattle.sheet.specs.Slot.{childCountAt, name}
+use Rattle.annotation.specs.Logical as logical
+use Rattle.schema.specs.Annotated.{kind}
+use Rattle.schema.specs.Tree.{Slot, Tree, Fields, node, empty, field, listing, listings, size}
+use Rattle.schema.specs.Rules.{underMap, placeUnder, placeBelow, KeepsAt, Keeps, KeepsAll}
+use Rattle.schema.specs.Rows.{isMapParent, LIST-LAYER, KEY-VALUE-LAYER, listRole, ownRole, role, parentBy, parentOf, afterFirst, row, rowsFrom, rowssFrom, rows}
+use Rattle.schema.specs.declared.place.Place.{Place}
+use Rattle.schema.specs.declared.place.Place.the-variants.{Root, Field, MapField}
+use Rattle.schema.specs.declared.roles.Parent.{Parent}
+use Rattle.schema.specs.declared.roles.Parent.the-variants as parent
+use Rattle.schema.proofs.RewrittenSlotLaws.{rewrittenSlot, slot-copied, kind-rewritten}
+use Rattle.schema.proofs.RewrittenTreeLaws.{rewrittenTree, rewrittenRun, Long, LongAll, resolves, element-group}
+
+-- a node of some kind is a MAP to its fields' rows exactly where it is one to their rules
+map-parent : (code own : ℕ) → isMapParent (parentBy code own) ≡ underMap (placeUnder code)
+unfolding parentBy
+map-parent code own = list (eqb code logical.LIST) (eqb code logical.MAP) refl refl
+  where
+    layers : (x y : Bool) → isMapParent (cond x parent.ListLayer (cond y parent.KeyValue parent.Other)) ≡ false
+    layers true y = refl
+    layers false true = refl
+    layers false false = refl
+
+    list : (x y : Bool) → eqb code logical.LIST ≡ x → eqb code logical.MAP ≡ y → isMapParent (cond x parent.List (cond y parent.Map (cond (eqb own LIST-LAYER) parent.ListLayer (cond (eqb own KEY-VALUE-LAYER) parent.KeyValue parent.Other)))) ≡ underMap (cond y MapField Field)
+    list true true e f = absurd (true≢false (sym f ∙ ap (λ (n : ℕ). eqb n logical.MAP) (eqb-true code logical.LIST e)))
+    list true false e f = refl
+    list false true e f = refl
+    list false false e f = layers (eqb own LIST-LAYER) (eqb own KEY-VALUE-LAYER)
+
+-- and so for the later fields of a run
+map-after : (q : Parent) → isMapParent (afterFirst q) ≡ isMapParent q
+map-after parent.Other = refl
+map-after parent.List = refl
+map-after parent.ListLayer = refl
+map-after parent.Map = refl
+map-after parent.KeyValue = refl
+map-after parent.KeyValueRest = refl
+
+-- where a node's rows and its rules agree on its parent, they agree on it as a parent
+pub map-below : (p : Place) (q : Parent) (above s : Slot) (fs : Fields) → underMap p ≡ isMapParent q → underMap (placeBelow p s) ≡ isMapParent (parentOf q above s fs)
+unfolding placeBelow parentOf
+map-below p q above s fs e =
+    rw e (sym (map-parent (kind (isMapParent q) s .kind) (role q above s fs)))
+
+mutual
+  unfolding rewrittenTree listing
+
+  length-listing : (t : Tree) (p : Place) → length (listing (rewrittenTree p t)) ≡ length (listing t)
+  length-listing (node s fs) p = ap suc (length-listings fs (placeBelow p s))
+
+  length-listings : (fs : Fields) (p : Place) → length (listings (rewrittenRun p fs)) ≡ length (listings fs)
+  length-listings empty p = refl
+  length-listings (field t fs) p =
+      length-append (listing (rewrittenTree p t)) (listings (rewrittenRun p fs))
+      ∙ ap₂ _+_ (length-listing t p) (length-listings fs p)
+      ∙ sym (length-append (listing t) (listings fs))
+
+-- a tree has as many nodes
+pub size-rewritten : (t : Tree) (p : Place) → size (rewrittenTree p t) ≡ size t
+unfolding size
+size-rewritten t p = length-listing t p
+
+-- a node has the same role
+role-rewritten : (q : Parent) (above copy s : Slot) (fs : Fields) (p : Place) → name copy ≡ name above → role q copy (rewrittenSlot (underMap p) s) (rewrittenRun (placeBelow p s) fs) ≡ role q above s fs
+unfolding role listRole
+role-rewritten parent.Other above copy s fs p e = ap ownRole (slot-copied (underMap p) s .repetition-is)
+role-rewritten parent.List above copy s fs p e =
+    let same = slot-copied (underMap p) s in
+    rw (same .physical-is, element-group above copy s (rewrittenSlot (underMap p) s) fs (placeBelow p s) e (same .name-is))
+role-rewritten parent.ListLayer above copy s fs p e = refl
+role-rewritten parent.Map above copy s fs p e = refl
+role-rewritten parent.KeyValue above copy s fs p e = refl
+role-rewritten parent.KeyValueRest above copy s fs p e = refl
+
+module _ (p : Place) (q : Parent) (above copy s : Slot) (fs : Fields) (long : childCountAt ≤ length s) (h : KeepsAt p s fs) (agree : underMap p ≡ isMapParent q) (e : name copy ≡ name above) where
+  kind-row : kind (isMapParent q) (rewrittenSlot (underMap p) s) ≡ kind (isMapParent q) s
+  kind-row = rw (← agree) (kind-rewritten (underMap p) s (resolves p s fs long h))
+
+  -- the same row
+  row-rewritten : (at up : ℕ) → row at up q copy (rewrittenSlot (underMap p) s) (rewrittenRun (placeBelow p s) fs) ≡ row at up q above s fs
+  unfolding row rewrittenTree
+  row-rewritten at up =
+      let same = slot-copied (underMap p) s in
+      rw (same .physical-is, same .typeLength-is, same .repetition-is, kind-row, size-rewritten (node s fs) p, role-rewritten q above copy s fs p e)
+
+  -- and is the same to its fields
+  parent-rewritten : parentOf q copy (rewrittenSlot (underMap p) s) (rewrittenRun (placeBelow p s) fs) ≡ parentOf q above s fs
+  unfolding parentOf
+  parent-rewritten = rw (kind-row, role-rewritten q above copy s fs p e)
+
+mutual
+  unfolding rewrittenTree rowsFrom Keeps Long
+
+  rowsFrom-rewritten : (t : Tree) (p : Place) (q : Parent) (at up : ℕ) (above copy : Slot) → Long t → Keeps p t → underMap p ≡ isMapParent q → name copy ≡ name above → rowsFrom at up q copy (rewrittenTree p t) ≡ rowsFrom at up q above t
+  rowsFrom-rewritten (node s fs) p q at up above copy long h agree e =
+      ap₂ _++_
+      (row-rewritten p q above copy s fs (long .0) (h .0) agree e at up)
+      (ap (λ (o : Parent). rowssFrom (suc at) at o (rewrittenSlot (underMap p) s) (rewrittenRun (placeBelow p s) fs)) (parent-rewritten p q above copy s fs (long .0) (h .0) agree e)
+      ∙ rowssFrom-rewritten fs (placeBelow p s) (parentOf q above s fs) (suc at) at s (rewrittenSlot (underMap p) s) (long .1) (h .1) (map-below p q above s fs agree) (slot-copied (underMap p) s .name-is))
+
+  rowssFrom-rewritten : (fs : Fields) (p : Place) (q : Parent) (at up : ℕ) (above copy : Slot) → LongAll fs → KeepsAll p fs → underMap p ≡ isMapParent q → name copy ≡ name above → rowssFrom at up q copy (rewrittenRun p fs) ≡ rowssFrom at up q above fs
+  rowssFrom-rewritten empty p q at up above copy long h agree e = refl
+  rowssFrom-rewritten (field t fs) p q at up above copy long h agree e =
+      ap₂ _++_
+      (rowsFrom-rewritten t p q at up above copy (long .0) (h .0) agree e)
+      (ap (λ (n : ℕ). rowssFrom (at + n) up (afterFirst q) copy (rewrittenRun p fs)) (size-rewritten t p)
+      ∙ rowssFrom-rewritten fs p (afterFirst q) (at + size t) up above copy (long .1) (h .1) (agree ∙ sym (map-after q)) e)
+
+-- a tree that keeps every rule has the same rows once it is rewritten
+pub rows-rewritten : (t : Tree) → Long t → Keeps Root t → rows (rewrittenTree Root t) ≡ rows t
+unfolding rows
+rows-rewritten t long h = rowsFrom-rewritten t Root parent.Other 0 0 [] [] long h refl refl

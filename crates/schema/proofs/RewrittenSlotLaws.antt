@@ -1,0 +1,194 @@
+-- Laws of one node as it is rewritten: it resolves to what it did, and is rewritten to itself.
+use Prim.Native.Nat.{_≤_}
+use mathlib.Core.Path.{_≡_, refl, _∙_}
+use mathlib.Core.Bool.{Bool, true, false}
+use mathlib.Core.List.{List}
+use lib.ListN.{length}
+use Rattle.sheet.specs.Slot.{childCountAt, physical, repetition, converted, logical, parameterA, parameterB, childCount, typeLength, scale, precision, name, numbersOf, annotatedSlot}
+use Rattle.sheet.specs.Sound.{listed, convertedListed, logicalListed, slotSound}
+use Rattle.sheet.proofs.AnnotatedSlotLaws.{physical-annotated, repetition-annotated, childCount-annotated, typeLength-annotated, scale-annotated, precision-annotated, name-annotated, length-annotated, converted-annotated, logical-annotated, parameterA-annotated, parameterB-annotated, sound-annotated}
+use Rattle.annotation.specs.Kinds.{kindOf}
+use Rattle.annotation.specs.Outcome.{resolutionOf}
+use Rattle.annotation.specs.Rewriting.{writtenAs, writtenOf, rewritingOf, rewritten as rewrittenNumbers}
+use Rattle.annotation.specs.Meaning.{annotationOf}
+use Rattle.annotation.specs.declared.types.Annotation.{Annotation}
+use Rattle.annotation.specs.declared.types.LogicalType.{LogicalType}
+use Rattle.annotation.specs.declared.types.TimeUnit.{TimeUnit}
+use Rattle.annotation.specs.declared.types.BitWidth.{BitWidth}
+use Rattle.annotation.specs.declared.resolution.Resolution.{Resolution}
+use Rattle.annotation.specs.declared.rewriting.Written.{Written}
+use Rattle.annotation.specs.declared.rewriting.Rewriting.{Rewriting}
+use Rattle.annotation.proofs.OutcomeLaws.{Keeps, resolved-of-keeps, keeps-of-resolved, kind-of-resolved}
+use Rattle.annotation.proofs.RewritingLaws.{resolved-rewritten, written-rewritten}
+use Rattle.schema.specs.Annotated.{annotated, kind, rule9, rule10, rule11}
+use Rattle.schema.specs.Tree.{Slot}
+use Rattle.schema.specs.Rewriting.{rewriting}
+
+-- a slot with what is rewritten of it
+abbrev pub rewrittenAs : Rewriting → Slot → Slot
+rewrittenAs (Rewriting.Written w) s = annotatedSlot s (w .converted) (w .logical) (w .a) (w .b)
+rewrittenAs (Rewriting.Refused number) s = s
+
+unfoldable pub rewrittenSlot : Bool → Slot → Slot
+rewrittenSlot under s = rewrittenAs (rewriting under s) s
+
+-- a slot has every field of another but its annotations: "All else .. is copied"
+pub record Copied (copy s : Slot) : Type 0 where
+  pub physical-is : physical copy ≡ physical s
+  pub repetition-is : repetition copy ≡ repetition s
+  pub childCount-is : childCount copy ≡ childCount s
+  pub typeLength-is : typeLength copy ≡ typeLength s
+  pub scale-is : scale copy ≡ scale s
+  pub precision-is : precision copy ≡ precision s
+  pub name-is : name copy ≡ name s
+
+pub copied-refl : (s : Slot) → Copied s s
+copied-refl s =
+    record { physical-is = refl; repetition-is = refl; childCount-is = refl; typeLength-is = refl; scale-is = refl; precision-is = refl; name-is = refl }
+
+pub copied-trans : (r s u : Slot) → Copied r s → Copied s u → Copied r u
+copied-trans r s u first second =
+    record {
+      physical-is = first .physical-is ∙ second .physical-is;
+      repetition-is = first .repetition-is ∙ second .repetition-is;
+      childCount-is = first .childCount-is ∙ second .childCount-is;
+      typeLength-is = first .typeLength-is ∙ second .typeLength-is;
+      scale-is = first .scale-is ∙ second .scale-is;
+      precision-is = first .precision-is ∙ second .precision-is;
+      name-is = first .name-is ∙ second .name-is;
+    }
+
+pub copied-as : (r : Rewriting) (s : Slot) → Copied (rewrittenAs r s) s
+copied-as (Rewriting.Written w) s =
+    record {
+      physical-is = physical-annotated s (w .converted) (w .logical) (w .a) (w .b);
+      repetition-is = repetition-annotated s (w .converted) (w .logical) (w .a) (w .b);
+      childCount-is = childCount-annotated s (w .converted) (w .logical) (w .a) (w .b);
+      typeLength-is = typeLength-annotated s (w .converted) (w .logical) (w .a) (w .b);
+      scale-is = scale-annotated s (w .converted) (w .logical) (w .a) (w .b);
+      precision-is = precision-annotated s (w .converted) (w .logical) (w .a) (w .b);
+      name-is = name-annotated s (w .converted) (w .logical) (w .a) (w .b);
+    }
+copied-as (Rewriting.Refused number) s = copied-refl s
+
+pub slot-copied : (under : Bool) (s : Slot) → Copied (rewrittenSlot under s) s
+unfolding rewrittenSlot
+slot-copied under s = copied-as (rewriting under s) s
+
+-- a slot has what is rewritten
+abbrev pub Holds : Rewriting → Slot → Type 0
+Holds (Rewriting.Written w) s =
+    (converted s ≡ w .converted) × (logical s ≡ w .logical) × (parameterA s ≡ w .a) × (parameterB s ≡ w .b)
+Holds (Rewriting.Refused number) s = Unit {0}
+
+logical-listed : (l : LogicalType) → (convertedListed (writtenAs (Annotation.Logical l) .converted) ≡ true) × (logicalListed (writtenAs (Annotation.Logical l) .logical) ≡ true)
+unfolding convertedListed logicalListed listed
+logical-listed LogicalType.String = (refl, refl)
+logical-listed LogicalType.Map = (refl, refl)
+logical-listed LogicalType.List = (refl, refl)
+logical-listed LogicalType.Enum = (refl, refl)
+logical-listed LogicalType.Decimal = (refl, refl)
+logical-listed LogicalType.Date = (refl, refl)
+logical-listed (LogicalType.Time TimeUnit.Millis utc) = (refl, refl)
+logical-listed (LogicalType.Time TimeUnit.Micros utc) = (refl, refl)
+logical-listed (LogicalType.Time TimeUnit.Nanos utc) = (refl, refl)
+logical-listed (LogicalType.Timestamp TimeUnit.Millis utc) = (refl, refl)
+logical-listed (LogicalType.Timestamp TimeUnit.Micros utc) = (refl, refl)
+logical-listed (LogicalType.Timestamp TimeUnit.Nanos utc) = (refl, refl)
+logical-listed (LogicalType.Integer BitWidth.Bits8 true) = (refl, refl)
+logical-listed (LogicalType.Integer BitWidth.Bits8 false) = (refl, refl)
+logical-listed (LogicalType.Integer BitWidth.Bits16 true) = (refl, refl)
+logical-listed (LogicalType.Integer BitWidth.Bits16 false) = (refl, refl)
+logical-listed (LogicalType.Integer BitWidth.Bits32 true) = (refl, refl)
+logical-listed (LogicalType.Integer BitWidth.Bits32 false) = (refl, refl)
+logical-listed (LogicalType.Integer BitWidth.Bits64 true) = (refl, refl)
+logical-listed (LogicalType.Integer BitWidth.Bits64 false) = (refl, refl)
+logical-listed LogicalType.Unknown = (refl, refl)
+logical-listed LogicalType.Json = (refl, refl)
+logical-listed LogicalType.Bson = (refl, refl)
+logical-listed LogicalType.Uuid = (refl, refl)
+
+-- every code that is written stands in the lists
+written-listed : (says : Annotation) → (convertedListed (writtenAs says .converted) ≡ true) × (logicalListed (writtenAs says .logical) ≡ true)
+unfolding convertedListed logicalListed listed
+written-listed Annotation.Plain = (refl, refl)
+written-listed (Annotation.Logical l) = logical-listed l
+written-listed Annotation.Interval = (refl, refl)
+written-listed Annotation.Unreadable = (refl, refl)
+
+-- a slot that is long enough to have annotations, and keeps rules 9, 10 and 11
+pub record Resolves (under : Bool) (s : Slot) : Type 0 where
+  pub long : childCountAt ≤ length s
+  pub nine : rule9 s ≡ true
+  pub ten : rule10 under s ≡ true
+  pub eleven : rule11 under s ≡ true
+
+module _ (under : Bool) (s : Slot) (h : Resolves under s) where
+  keeps : Keeps (annotated s) under
+  unfolding rule9 rule10 rule11
+  keeps = record { nine = h .nine; ten = h .ten; eleven = h .eleven }
+
+  resolved : resolutionOf (annotated s) under ≡ Resolution.Resolved (kindOf (annotated s) under)
+  resolved = resolved-of-keeps (annotated s) under keeps
+
+  -- it is rewritten to what is written for its annotation
+  pub rewriting-written : rewriting under s ≡ Rewriting.Written (writtenOf (annotated s) under)
+  unfolding rewriting rewritingOf
+  rewriting-written = rw resolved
+
+  w : Written
+  w = writtenOf (annotated s) under
+
+  slot-is : rewrittenSlot under s ≡ annotatedSlot s (w .converted) (w .logical) (w .a) (w .b)
+  unfolding rewrittenSlot w
+  slot-is = rw rewriting-written
+
+  -- its numbers are those that the annotations' own rewriting gives
+  pub annotated-rewritten : annotated (rewrittenSlot under s) ≡ rewrittenNumbers (annotated s) under
+  unfolding annotated numbersOf rewrittenNumbers w
+  annotated-rewritten =
+      rw (slot-is, physical-annotated s (w .converted) (w .logical) (w .a) (w .b), typeLength-annotated s (w .converted) (w .logical) (w .a) (w .b), converted-annotated s (w .converted) (w .logical) (w .a) (w .b) (h .long), logical-annotated s (w .converted) (w .logical) (w .a) (w .b) (h .long), parameterA-annotated s (w .converted) (w .logical) (w .a) (w .b) (h .long), parameterB-annotated s (w .converted) (w .logical) (w .a) (w .b) (h .long), scale-annotated s (w .converted) (w .logical) (w .a) (w .b), precision-annotated s (w .converted) (w .logical) (w .a) (w .b))
+
+  again : resolutionOf (annotated (rewrittenSlot under s)) under ≡ Resolution.Resolved (kindOf (annotated s) under)
+  again = rw annotated-rewritten (resolved-rewritten (annotated s) under (kindOf (annotated s) under) resolved)
+
+  -- it resolves to the kind that it did
+  pub kind-rewritten : kind under (rewrittenSlot under s) ≡ kind under s
+  unfolding kind
+  kind-rewritten = kind-of-resolved (annotated (rewrittenSlot under s)) under (kindOf (annotated s) under) again
+
+  -- it keeps rules 9, 10 and 11
+  pub resolves-rewritten : Resolves under (rewrittenSlot under s)
+  unfolding rule9 rule10 rule11
+  resolves-rewritten =
+      let k = keeps-of-resolved (annotated (rewrittenSlot under s)) under (kindOf (annotated s) under) again in
+      record {
+        long = rw (slot-is, length-annotated s (w .converted) (w .logical) (w .a) (w .b)) (h .long);
+        nine = k .nine;
+        ten = k .ten;
+        eleven = k .eleven;
+      }
+
+  -- and is rewritten to itself
+  pub rewriting-rewritten : rewriting under (rewrittenSlot under s) ≡ rewriting under s
+  unfolding rewriting rewritingOf
+  rewriting-rewritten =
+      rw (again, resolved, annotated-rewritten, written-rewritten (annotated s) under)
+
+  -- it is sound where it was
+  pub sound-rewritten : slotSound s ≡ true → slotSound (rewrittenSlot under s) ≡ true
+  unfolding w writtenOf
+  sound-rewritten e =
+      let listed = written-listed (annotationOf (annotated s) under) in
+      rw slot-is (sound-annotated s (w .converted) (w .logical) (w .a) (w .b) (h .long) (listed .0) (listed .1) e)
+
+  -- and has what is rewritten
+  pub holds-rewritten : Holds (rewriting under s) (rewrittenSlot under s)
+  unfolding w
+  holds-rewritten =
+      rw (slot-is, rewriting-written) (
+        converted-annotated s (w .converted) (w .logical) (w .a) (w .b) (h .long),
+        logical-annotated s (w .converted) (w .logical) (w .a) (w .b) (h .long),
+        parameterA-annotated s (w .converted) (w .logical) (w .a) (w .b) (h .long),
+        parameterB-annotated s (w .converted) (w .logical) (w .a) (w .b) (h .long),
+      )

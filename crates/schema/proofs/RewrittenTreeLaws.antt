@@ -1,0 +1,245 @@
+-- The tree of a rewritten sheet: it has the nodes, depths, claims, rules and rows of the sheet's own tree, and is rewritten to itself.
+use Prim.Native.Nat.{ℕ, suc, _≤_}
+use mathlib.Core.Path.{_≡_, refl, sym, ap, ap₂, _∙_, subst}
+use mathlib.Core.Bool.{Bool, true, false, _&&_, _||_, or-true, and-eq-true-iff}
+use mathlib.Core.List.{List, _∷_, _++_}
+use borrow.Author.Tests.{eqb-true}
+use lib.Dec.{eqb}
+use lib.ListN.{length}
+use Rattle.sheet.specs.Slot.{childCountAt, physical as physicalOf, repetition, converted as convertedOf, logical as logicalOf, scale, precision, name, numbersOf}
+use Rattle.annotation.specs.Converted as converted
+use Rattle.annotation.specs.Logical as logical
+use Rattle.annotation.specs.Rewriting.{rewritten as rewrittenNumbers}
+use Rattle.annotation.proofs.RewritingLaws.{written-plain, decimal-rewritten}
+use Rattle.annotation.specs.declared.resolution.Kind.{Kind}
+use Rattle.annotation.specs.declared.slot.Annotated.{Annotated}
+use Rattle.annotation.specs.declared.rewriting.Written.{Written}
+use Rattle.annotation.specs.declared.rewriting.Rewriting.{Rewriting}
+use Rattle.schema.specs.Annotated.{annotated, kind, rule9, rule10}
+use Rattle.schema.specs.Tree.{Slot, Tree, Fields, node, empty, field, count, depths, depthss, Claims, ClaimsAll}
+use Rattle.schema.specs.Rules.{isGroup, NO-REPETITION, isRequiredOrOptional, underMap, isList, isMap, placeUnder, placeBelow, rootShape, placeShape, lengthShape, decimalShape, shape, rule8, namedElement, isElementGroup, holdsElement, listChild, listRun, listKept, rule12, keyValue, mapRun, mapKept, rule13, KeepsAt, Keeps, KeepsAll}
+use Rattle.schema.specs.Rewriting.{rewritings, runRewritings}
+use Rattle.schema.specs.declared.place.Place.{Place}
+use Rattle.schema.specs.declared.place.Place.the-variants.{Root, Field, MapField}
+use Rattle.schema.proofs.RewrittenSlotLaws.{rewrittenSlot, Copied, slot-copied, Resolves, annotated-rewritten, kind-rewritten, resolves-rewritten, rewriting-rewritten}
+
+unfoldable mutual
+  -- the tree of what is rewritten at each node
+  pub rewrittenTree : Place → Tree → Tree
+  rewrittenTree p (node s fs) = node (rewrittenSlot (underMap p) s) (rewrittenRun (placeBelow p s) fs)
+
+  pub rewrittenRun : Place → Fields → Fields
+  rewrittenRun p empty = empty
+  rewrittenRun p (field t fs) = field (rewrittenTree p t) (rewrittenRun p fs)
+
+-- as many fields
+count-rewritten : (fs : Fields) (p : Place) → count (rewrittenRun p fs) ≡ count fs
+unfolding rewrittenRun count
+count-rewritten empty p = refl
+count-rewritten (field t fs) p = ap suc (count-rewritten fs p)
+
+mutual
+  unfolding rewrittenTree depths
+
+  -- at the same depths
+  pub depths-rewritten : (t : Tree) (p : Place) (d : ℕ) → depths d (rewrittenTree p t) ≡ depths d t
+  depths-rewritten (node s fs) p d = ap (λ (ds : List ℕ). d ∷ ds) (depthss-rewritten fs (placeBelow p s) (suc d))
+
+  depthss-rewritten : (fs : Fields) (p : Place) (d : ℕ) → depthss d (rewrittenRun p fs) ≡ depthss d fs
+  depthss-rewritten empty p d = refl
+  depthss-rewritten (field t fs) p d = ap₂ _++_ (depths-rewritten t p d) (depthss-rewritten fs p d)
+
+mutual
+  unfolding rewrittenTree Claims
+
+  -- that claim rightly
+  pub claims-rewritten : (t : Tree) (p : Place) → Claims t → Claims (rewrittenTree p t)
+  claims-rewritten (node s fs) p c = (
+    slot-copied (underMap p) s .childCount-is ∙ c .0 ∙ sym (count-rewritten fs (placeBelow p s)),
+    claimsAll-rewritten fs (placeBelow p s) (c .1),
+  )
+
+  claimsAll-rewritten : (fs : Fields) (p : Place) → ClaimsAll fs → ClaimsAll (rewrittenRun p fs)
+  claimsAll-rewritten empty p c = tt
+  claimsAll-rewritten (field t fs) p c = (claims-rewritten t p (c .0), claimsAll-rewritten fs p (c .1))
+
+-- rules 12 and 13 look at what is copied -------------------------------------------------------------------------------
+
+pub element-group : (list copy layer other : Slot) (fs : Fields) (p : Place) → name copy ≡ name list → name other ≡ name layer → isElementGroup copy other (rewrittenRun p fs) ≡ isElementGroup list layer fs
+unfolding rewrittenRun isElementGroup namedElement
+element-group list copy layer other empty p e q = refl
+element-group list copy layer other (field t empty) p e q = rw (e, q)
+element-group list copy layer other (field t (field u fs)) p e q = refl
+
+holds-element : (fs : Fields) (p : Place) → holdsElement (rewrittenRun p fs) ≡ holdsElement fs
+unfolding rewrittenTree holdsElement
+holds-element empty p = refl
+holds-element (field (node s gs) empty) p = ap isRequiredOrOptional (slot-copied (underMap p) s .repetition-is)
+holds-element (field (node s gs) (field u fs)) p = refl
+
+list-child : (list copy : Slot) (t : Tree) (p : Place) → name copy ≡ name list → listChild copy (rewrittenTree p t) ≡ listChild list t
+unfolding rewrittenTree listChild
+list-child list copy (node s fs) p e =
+    let same = slot-copied (underMap p) s in
+    rw (same .repetition-is, same .physical-is, element-group list copy s (rewrittenSlot (underMap p) s) fs (placeBelow p s) e (same .name-is), holds-element fs (placeBelow p s))
+
+list-run : (list copy : Slot) (fs : Fields) (p : Place) → name copy ≡ name list → listRun copy (rewrittenRun p fs) ≡ listRun list fs
+unfolding rewrittenRun listRun
+list-run list copy empty p e = refl
+list-run list copy (field t empty) p e = list-child list copy t p e
+list-run list copy (field t (field u fs)) p e = refl
+
+key-value : (fs : Fields) (p : Place) → keyValue (rewrittenRun p fs) ≡ keyValue fs
+unfolding rewrittenTree keyValue
+key-value empty p = refl
+key-value (field (node k ks) empty) p = rw (slot-copied (underMap p) k .repetition-is)
+key-value (field (node k ks) (field (node v vs) empty)) p =
+    rw (slot-copied (underMap p) k .repetition-is, slot-copied (underMap p) v .repetition-is)
+key-value (field (node k ks) (field (node v vs) (field u fs))) p = refl
+
+map-run : (fs : Fields) (p : Place) → mapRun (rewrittenRun p fs) ≡ mapRun fs
+unfolding rewrittenTree mapRun
+map-run empty p = refl
+map-run (field (node s fs) empty) p =
+    rw (slot-copied (underMap p) s .repetition-is, slot-copied (underMap p) s .physical-is, key-value fs (placeBelow p s))
+map-run (field (node s fs) (field u gs)) p = refl
+
+-- every rule is kept ---------------------------------------------------------------------------------------------------
+
+-- a slot that keeps rules 9 to 11 and is long enough to have annotations
+pub resolves : (p : Place) (s : Slot) (fs : Fields) → childCountAt ≤ length s → KeepsAt p s fs → Resolves (underMap p) s
+resolves p s fs long h = record { long = long; nine = h .agreement; ten = h .placement; eleven = h .decimals }
+
+module _ (p : Place) (s : Slot) (fs : Fields) (long : childCountAt ≤ length s) (h : KeepsAt p s fs) where
+  kept : Resolves (underMap p) s
+  kept = resolves p s fs long h
+
+  copy : Slot
+  copy = rewrittenSlot (underMap p) s
+
+  same : Copied copy s
+  unfolding copy
+  same = slot-copied (underMap p) s
+
+  -- the place of the fields is the same
+  pub place-rewritten : placeBelow p (rewrittenSlot (underMap p) s) ≡ placeBelow p s
+  unfolding placeBelow
+  place-rewritten = ap (λ (k : Kind). placeUnder (k .kind)) (kind-rewritten (underMap p) s kept)
+
+  converted-is : convertedOf copy ≡ rewrittenNumbers (annotated s) (underMap p) .converted
+  unfolding copy annotated numbersOf
+  converted-is = ap (λ (n : Annotated). n .converted) (annotated-rewritten (underMap p) s kept)
+
+  logical-is : logicalOf copy ≡ rewrittenNumbers (annotated s) (underMap p) .logical
+  unfolding copy annotated numbersOf
+  logical-is = ap (λ (n : Annotated). n .logical) (annotated-rewritten (underMap p) s kept)
+
+  shape-parts : (placeShape p (numbersOf s) (count fs) ≡ true) × (lengthShape (numbersOf s .physical) (numbersOf s .«type_length») ≡ true) × (decimalShape (numbersOf s .converted) (numbersOf s .logical) (numbersOf s .scale) (numbersOf s .precision) ≡ true)
+  unfolding rule8 shape
+  shape-parts =
+      let whole = and-eq-true-iff _ _ .0 (h .shape) in
+      let front = and-eq-true-iff _ _ .0 (whole .0) in
+      (front .0, front .1, whole .1)
+
+  -- DECIMAL stays in the logical type, and elsewhere scale and precision stay 0
+  decimal-kept : (either : Bool) → (eqb (convertedOf s) converted.DECIMAL || eqb (logicalOf s) logical.DECIMAL) ≡ either → decimalShape (convertedOf copy) (logicalOf copy) (scale copy) (precision copy) ≡ true
+  unfolding decimalShape numbersOf annotated rule9 rule10
+  decimal-kept true e =
+      rw (logical-is, decimal-rewritten (annotated s) (underMap p) (h .agreement) (h .placement) e, or-true (eqb (convertedOf copy) converted.DECIMAL))
+  decimal-kept false e =
+      rw (same .scale-is, same .precision-is, rw e at (shape-parts .2), or-true (eqb (convertedOf copy) converted.DECIMAL || eqb (logicalOf copy) logical.DECIMAL))
+
+-- a root without annotation stays without one
+root-parts : (ph rep conv log : ℕ) → rootShape ph rep conv log ≡ true → ((isGroup ph && eqb rep NO-REPETITION) ≡ true) × (conv ≡ converted.NONE) × (log ≡ logical.NONE)
+root-parts ph rep conv log e =
+    let whole = and-eq-true-iff _ _ .0 e in
+    let front = and-eq-true-iff _ _ .0 (whole .0) in
+    (front .0, eqb-true conv converted.NONE (front .1), eqb-true log logical.NONE (whole .1))
+
+root-written : (s : Slot) → convertedOf s ≡ converted.NONE → logicalOf s ≡ logical.NONE → (rewrittenNumbers (annotated s) false .converted ≡ converted.NONE) × (rewrittenNumbers (annotated s) false .logical ≡ logical.NONE)
+unfolding rewrittenNumbers annotated numbersOf
+root-written s c l =
+    let plain = written-plain (annotated s) false c l in
+    (ap (λ (w : Written). w .converted) plain, ap (λ (w : Written). w .logical) plain)
+
+place-kept : (p : Place) (s : Slot) (fs : Fields) (long : childCountAt ≤ length s) (h : KeepsAt p s fs) → placeShape p (numbersOf (rewrittenSlot (underMap p) s)) (count fs) ≡ true
+unfolding numbersOf copy
+place-kept Root s fs long h =
+    let same = slot-copied false s in
+    let parts = root-parts (physicalOf s) (repetition s) (convertedOf s) (logicalOf s) (shape-parts Root s fs long h .0) in
+    let none = root-written s (parts .1) (parts .2) in
+    rw (same .physical-is, same .repetition-is, converted-is Root s fs long h ∙ none .0, logical-is Root s fs long h ∙ none .1, parts .0)
+place-kept Field s fs long h =
+    let same = slot-copied false s in
+    rw (same .physical-is, same .repetition-is) (shape-parts Field s fs long h .0)
+place-kept MapField s fs long h =
+    let same = slot-copied true s in
+    rw (same .physical-is, same .repetition-is) (shape-parts MapField s fs long h .0)
+
+module _ (p : Place) (s : Slot) (fs : Fields) (long : childCountAt ≤ length s) (h : KeepsAt p s fs) where
+  rule8-kept : rule8 p (rewrittenSlot (underMap p) s) (rewrittenRun (placeBelow p s) fs) ≡ true
+  unfolding rule8 shape numbersOf copy
+  rule8-kept =
+      let same = slot-copied (underMap p) s in
+      rw (count-rewritten fs (placeBelow p s), place-kept p s fs long h, decimal-kept p s fs long h (eqb (convertedOf s) converted.DECIMAL || eqb (logicalOf s) logical.DECIMAL) refl, same .physical-is, same .typeLength-is, shape-parts p s fs long h .1)
+
+  rule12-kept : rule12 p (rewrittenSlot (underMap p) s) (rewrittenRun (placeBelow p s) fs) ≡ true
+  unfolding rule12 isList listKept
+  rule12-kept =
+      let same = slot-copied (underMap p) s in
+      rw (kind-rewritten (underMap p) s (resolves p s fs long h), same .repetition-is, list-run s (rewrittenSlot (underMap p) s) fs (placeBelow p s) (same .name-is)) (h .lists)
+
+  rule13-kept : rule13 p (rewrittenSlot (underMap p) s) (rewrittenRun (placeBelow p s) fs) ≡ true
+  unfolding rule13 isMap mapKept
+  rule13-kept =
+      rw (kind-rewritten (underMap p) s (resolves p s fs long h), slot-copied (underMap p) s .repetition-is, map-run fs (placeBelow p s)) (h .maps)
+
+  -- a rewritten node keeps every rule
+  keepsAt-rewritten : KeepsAt p (rewrittenSlot (underMap p) s) (rewrittenRun (placeBelow p s) fs)
+  keepsAt-rewritten =
+      let again = resolves-rewritten (underMap p) s (resolves p s fs long h) in
+      record {
+        shape = rule8-kept;
+        agreement = again .nine;
+        placement = again .ten;
+        decimals = again .eleven;
+        lists = rule12-kept;
+        maps = rule13-kept;
+      }
+
+unfoldable mutual
+  -- every slot of a tree is long enough to have annotations
+  pub Long : Tree → Type 0
+  Long (node s fs) = (childCountAt ≤ length s) × LongAll fs
+
+  pub LongAll : Fields → Type 0
+  LongAll empty = Unit {0}
+  LongAll (field t fs) = Long t × LongAll fs
+
+mutual
+  unfolding rewrittenTree Keeps Long
+
+  -- and so does the rewritten tree
+  pub keeps-rewritten : (t : Tree) (p : Place) → Long t → Keeps p t → Keeps p (rewrittenTree p t)
+  keeps-rewritten (node s fs) p long h = (
+    keepsAt-rewritten p s fs (long .0) (h .0),
+    subst (λ (q : Place). KeepsAll q (rewrittenRun (placeBelow p s) fs)) (sym (place-rewritten p s fs (long .0) (h .0))) (keepsAll-rewritten fs (placeBelow p s) (long .1) (h .1)),
+  )
+
+  keepsAll-rewritten : (fs : Fields) (p : Place) → LongAll fs → KeepsAll p fs → KeepsAll p (rewrittenRun p fs)
+  keepsAll-rewritten empty p long h = tt
+  keepsAll-rewritten (field t fs) p long h = (keeps-rewritten t p (long .0) (h .0), keepsAll-rewritten fs p (long .1) (h .1))
+
+mutual
+  unfolding rewrittenTree rewritings Keeps Long
+
+  -- it is rewritten to itself
+  pub rewritings-rewritten : (t : Tree) (p : Place) → Long t → Keeps p t → rewritings p (rewrittenTree p t) ≡ rewritings p t
+  rewritings-rewritten (node s fs) p long h =
+      ap₂ (λ (r : Rewriting) (rs : List Rewriting). r ∷ rs)
+      (rewriting-rewritten (underMap p) s (resolves p s fs (long .0) (h .0)))
+      (ap (λ (q : Place). runRewritings q (rewrittenRun (placeBelow p s) fs)) (place-rewritten p s fs (long .0) (h .0)) ∙ runRewritings-rewritten fs (placeBelow p s) (long .1) (h .1))
+
+  runRewritings-rewritten : (fs : Fields) (p : Place) → LongAll fs → KeepsAll p fs → runRewritings p (rewrittenRun p fs) ≡ runRewritings p fs
+  runRewritings-rewritten empty p long h = refl
+  runRewritings-rewritten (field t fs) p long h = ap₂ _++_ (rewritings-rewritten t p (long .0) (h .0)) (runRewritings-rewritten fs p (long .1) (h .1))

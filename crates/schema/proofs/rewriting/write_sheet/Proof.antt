@@ -1,0 +1,46 @@
+-- `schema::rewriting::write_sheet` meets its contract: a copy of the sheet, its annotations, and its checks.
+use Prim.Native.Nat.{ℕ}
+use mathlib.Core.Path.{_≡_, ap, ap₂, _∙_}
+use mathlib.Core.List.{List, _++_, append-nil}
+use native.Mathlib.Nat.{le-of-eq}
+use lib.ListN.{length, take, drop, drop-of-length-le}
+use lib.Seq.{take-length}
+use Rattle.sheet.specs.Check.{renewed}
+use Rattle.sheet.specs.Slot.{slots}
+use Rattle.schema.specs.Tree.{Tree}
+use Rattle.schema.specs.Rewriting.{rewritings, withRewritings, rewritten}
+use Rattle.schema.specs.declared.place.Place.the-variants.{Root}
+use Rattle.schema.proofs.StandingLaws.{treeAt-zero}
+use borrow.Author.Needs.{needs}
+use Rattle.schema.proofs.rewriting.write_sheet.Statement.{statement}
+use Rattle.schema.proofs.rewriting.write_sheet.Tie as tie
+
+copy-requires : tie.Need-copy-requires
+copy-requires c κs = search needs
+
+write-tree-requires : tie.Need-write-tree-requires
+write-tree-requires c κs = search needs
+
+renew-checks-requires : tie.Need-renew-checks-requires
+renew-checks-requires c κs = search needs
+
+same-length : tie.Need-same-length
+same-length c = search needs
+
+-- a copy into as many bytes is the whole
+whole-copy : (source room copy : List ℕ) → length room ≡ length source → copy ≡ take (length source) source ++ drop (length source) room → copy ≡ source
+whole-copy source room copy e q =
+    q ∙ rw (take-length source, drop-of-length-le room {i = length source} (le-of-eq e)) (append-nil source)
+
+returns : tie.Need-returns
+unfolding rewritten
+returns c =
+    let a = c .before .before .before .before .before .before .before .before .before .before .before .before .before .before .args in
+    let copied = whole-copy (a .sheet .now) (a .out .now) _ (c .before .before .before .before .before .before .before .before .before .before .before .before .before .before .pre .1 .1) (c .before .before .before .before .before .before .before .before .before .before .copy .ensures .1) in
+    c .before .before .renew-checks .ensures
+    ∙ ap renewed (c .before .before .before .before .before .before .write-tree .ensures .1 ∙ ap₂ (λ (l : List ℕ) (t : Tree). withRewritings l 0 (rewritings Root t)) copied (treeAt-zero (slots (a .sheet .now))))
+
+pub write-sheet-spec : {M : Type 1} → statement M
+write-sheet-spec =
+    tie.close
+    (tie.spec copy-requires write-tree-requires renew-checks-requires same-length returns)

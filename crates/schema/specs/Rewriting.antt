@@ -1,0 +1,69 @@
+-- The rewritten sheet, and what rewriting answers.
+use Prim.Native.Nat.{ℕ, suc, _+_}
+use mathlib.Core.Bool.{Bool, cond}
+use mathlib.Core.List.{List, [], _∷_, _++_}
+use lib.Dec.{leb}
+use lib.ListN.{length, take, drop}
+use Rattle.sheet.specs.Check.{renewed}
+use Rattle.sheet.specs.Slot.{slots, withAnnotation}
+use Rattle.annotation.specs.Rewriting.{rewritingOf}
+use Rattle.annotation.specs.declared.rewriting.Rewriting.{Rewriting}
+use Rattle.schema.specs.Annotated.{annotated}
+use Rattle.schema.specs.Tree.{Slot, Tree, Fields, node, empty, field}
+use Rattle.schema.specs.Rules.{underMap, placeBelow}
+use Rattle.schema.specs.Reading.{treeOf}
+use Rattle.schema.specs.Outcome.{shortOutput, judgement}
+use Rattle.schema.specs.declared.place.Place.{Place}
+use Rattle.schema.specs.declared.place.Place.the-variants.{Root}
+use Rattle.schema.specs.declared.refusal.Verdict.{Verdict}
+use Rattle.schema.specs.declared.rewriting.Rewritten.{Rewritten}
+
+-- what is rewritten of a node, its parent a resolved MAP or not: "every resolved logical annotation with its parameters and its forward image;
+-- INTERVAL keeps converted alone; a key_value layer has none"
+unfoldable pub rewriting : Bool → Slot → Rewriting
+rewriting under s = rewritingOf (annotated s) under
+
+-- of each node of a tree, in listing order
+unfoldable mutual
+  pub rewritings : Place → Tree → List Rewriting
+  rewritings p (node s fs) = rewriting (underMap p) s ∷ runRewritings (placeBelow p s) fs
+
+  pub runRewritings : Place → Fields → List Rewriting
+  runRewritings p empty = []
+  runRewritings p (field t fs) = rewritings p t ++ runRewritings p fs
+
+-- a sheet with that in the slot of node k; no node of an accepted sheet is refused
+abbrev pub withRewriting : List ℕ → ℕ → Rewriting → List ℕ
+withRewriting sheet k (Rewriting.Written w) = withAnnotation sheet k (w .converted) (w .logical) (w .a) (w .b)
+withRewriting sheet k (Rewriting.Refused number) = sheet
+
+-- and in the slots from node k on
+unfoldable pub withRewritings : List ℕ → ℕ → List Rewriting → List ℕ
+withRewritings sheet k [] = sheet
+withRewritings sheet k (r ∷ rs) = withRewritings (withRewriting sheet k r) (suc k) rs
+
+-- the rewritten sheet: "All else but the checks is copied"
+unfoldable pub rewritten : List ℕ → List ℕ
+rewritten bytes = renewed (withRewritings bytes 0 (rewritings Root (treeOf (slots bytes))))
+
+-- 14 does not hold: the start does not lie beyond the output's end, and the sheet's bytes fit from it on
+abbrev pub fits : List ℕ → ℕ → ℕ → Bool
+fits bytes lent start = leb (start + length bytes) lent
+
+-- "14 last": the number of bytes written, where the output is enough
+unfoldable pub rewriteAnswer : Verdict → Bool → ℕ → Rewritten
+rewriteAnswer (Verdict.Refused r) enough n = Rewritten.Refused r
+rewriteAnswer Verdict.Lawful enough n = cond enough (Rewritten.Bytes n) (Rewritten.Refused shortOutput)
+
+-- what rewriting answers for any bytes, any number of lent bytes and any start: refusals 1 to 13 as for resolving
+unfoldable pub rewriteOutcome : List ℕ → ℕ → ℕ → Rewritten
+rewriteOutcome bytes lent start = rewriteAnswer (judgement bytes) (fits bytes lent start) (length bytes)
+
+-- a list of bytes with others from a start on: "bytes before and after stay"
+unfoldable pub stretched : List ℕ → ℕ → List ℕ → List ℕ
+stretched lent start bytes = take start lent ++ bytes ++ drop (start + length bytes) lent
+
+-- what the lent bytes hold afterwards
+unfoldable pub rewriteWritten : Rewritten → List ℕ → List ℕ → ℕ → List ℕ
+rewriteWritten (Rewritten.Refused r) bytes lent start = lent
+rewriteWritten (Rewritten.Bytes n) bytes lent start = stretched lent start (rewritten bytes)
