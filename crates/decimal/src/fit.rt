@@ -11,6 +11,7 @@ ghost use lib.ListN.{length};
 ghost use Rattle.decimal.specs.Precision.{greatestLength, isLength, greatestPrecision};
 ghost use Rattle.decimal.specs.Number.{significant};
 ghost use Rattle.decimal.specs.Fit.{fitOf};
+ghost use Rattle.decimal.specs.Outcome.{fitted, fitting};
 
 // |number| < 10^precision, or not. A length outside 1 to 256 is wrong.
 pub enum Fit {
@@ -22,6 +23,7 @@ pub enum Fit {
 // Whether |number| < 10^precision, for a number that may be longer than it needs to be.
 pub fn fits_precision(number: &[u8], precision: u32) -> Fit
     ensures { λ r. ⌜ r ≡ fitOf (now (number .entry)) precision ⌝ }
+    ensures { λ r. ⌜ fitted r ≡ fitting (now (number .entry)) precision ⌝ }
 {
     if !precision::is_length(number.len()) {
         return Fit::WrongLength;

@@ -7,6 +7,7 @@ ghost use Prim.Native.Nat.{_+_, _<_, max};
 ghost use lib.ListN.{length, getD, replicate};
 ghost use Rattle.decimal.specs.Number.{number, signByte};
 ghost use Rattle.decimal.specs.Order.{order, orderOf};
+ghost use Rattle.decimal.specs.Outcome.{compared, comparing};
 
 // The first number against the second. A length outside 1 to 256 is wrong, in either.
 pub enum Order {
@@ -19,6 +20,7 @@ pub enum Order {
 // Compares two numbers of any two lengths.
 pub fn compare(a: &[u8], b: &[u8]) -> Order
     ensures { λ r. ⌜ r ≡ orderOf (now (a .entry)) (now (b .entry)) ⌝ }
+    ensures { λ r. ⌜ compared r ≡ comparing (now (a .entry)) (now (b .entry)) ⌝ }
 {
     if !precision::is_length(a.len()) {
         return Order::WrongLength;

@@ -10,7 +10,9 @@ use Rattle.timestamp.specs.declared.decoding.Decoded
 use Rattle.timestamp.specs.declared.decoding.Decoded.{Decoded}
 use Rattle.timestamp.specs.declared.encoding.Encoded
 use Rattle.timestamp.specs.declared.encoding.Encoded.{Encoded}
-use Rattle.timestamp.specs.Units.{TimeUnit, ticksPerSecond}
+use Rattle.timestamp.specs.declared.units.DayTicks
+use Rattle.timestamp.specs.declared.units.DayTicks.{DayTicks}
+use Rattle.timestamp.specs.Units.{TimeUnit, ticksPerSecond, ticksPerDay}
 use Rattle.timestamp.specs.Count.{isDateTime, countOf, FieldsOf}
 
 -- a refusal, by its number and place, or what was asked for
@@ -41,6 +43,16 @@ encoded (Encoded.Count z) = given z
 encoded Encoded.NoDateTime = noDateTime
 encoded Encoded.NotRepresentable = notRepresentable
 encoded Encoded.UnknownUnit = unknownUnit
+
+-- what each answer of ticks_per_day stands for
+abbrev pub dayTicks : DayTicks → Outcome ℕ
+dayTicks (DayTicks.Ticks n) = given n
+dayTicks DayTicks.UnknownUnit = unknownUnit
+
+-- the ticks of a day: 20 where no unit is named, else those of that unit
+abbrev pub ticksInDay : Option TimeUnit → Outcome ℕ
+ticksInDay none = unknownUnit
+ticksInDay (some unit) = given (ticksPerDay (ticksPerSecond unit))
 
 -- the greatest signed 64-bit number
 abbrev pub greatest : ℕ

@@ -15,6 +15,8 @@ pub use division::Division;
 pub use encoding::Encoded;
 pub use encoding::encode;
 pub use fields::Fields;
+pub use units::DayTicks;
 pub use units::Micros;
 pub use units::Millis;
 pub use units::Nanos;
+pub use units::ticks_per_day;

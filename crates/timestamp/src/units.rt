@@ -1,7 +1,9 @@
 // The three time units, each a type that knows its ticks in a second and in a day and divides a count into days.
 
-ghost use Rattle.timestamp.specs.Units.{millis, micros, nanos, ticksPerSecond, ticksPerDay};
+ghost use mathlib.Core.Path.{_≡_};
+ghost use Rattle.timestamp.specs.Units.{millis, micros, nanos, ticksPerSecond, ticksPerDay, unitOf};
 ghost use Rattle.timestamp.specs.FloorDivision.{FloorDivision};
+ghost use Rattle.timestamp.specs.Outcomes.{dayTicks, ticksInDay};
 use crate::division::Division;
 use crate::division::floor_divide;
 
@@ -63,4 +65,27 @@ impl Nanos {
     {
         floor_divide(count, Self::TICKS_PER_DAY)
     }
+}
+
+// What the ticks of a day are.
+pub enum DayTicks {
+    Ticks(u64),
+    // The unit is not 1 to 3.
+    UnknownUnit,
+}
+
+// The ticks of a day in the unit of that number.
+pub fn ticks_per_day(unit: u32) -> DayTicks
+    ensures { λ r. ⌜ dayTicks r ≡ ticksInDay (unitOf unit) ⌝ }
+{
+    if unit == Millis::NUMBER {
+        return DayTicks::Ticks(Millis::TICKS_PER_DAY);
+    }
+    if unit == Micros::NUMBER {
+        return DayTicks::Ticks(Micros::TICKS_PER_DAY);
+    }
+    if unit == Nanos::NUMBER {
+        return DayTicks::Ticks(Nanos::TICKS_PER_DAY);
+    }
+    DayTicks::UnknownUnit
 }

@@ -63,7 +63,7 @@ module _ (c : tie.After-compare) where
   bound = power (c .before .before .before)
 
   compared : c .compare .result ≡ orderOf bs bound
-  compared = c .compare .ensures ∙ ap (orderOf bs) (take-at bound (left (c .before .before .before)) (length bs) (length-power (c .before .before .before)))
+  compared = c .compare .ensures .0 ∙ ap (orderOf bs) (take-at bound (left (c .before .before .before)) (length bs) (length-power (c .before .before .before)))
 
   value : number bound ≡ cond (isNegative bs) (negℤ (pos (10 ^ precision))) (pos (10 ^ precision))
   value =

@@ -7,7 +7,9 @@ use lib.ListN.{length}
 use borrow.Author.Tests.{not-true, not-false}
 use Rattle.decimal.specs.Precision.{isLength}
 use Rattle.decimal.specs.Number.{significant}
+use Rattle.decimal.specs.declared.fit.Fit.{Fit}
 use Rattle.decimal.specs.Fit.{fitOf}
+use Rattle.decimal.specs.Outcome.{fitted}
 use Rattle.decimal.proofs.FitLaws.{fitOf-significant, fitOf-wrong, isLength-significant}
 use Rattle.decimal.proofs.NumberLaws.{significant-idem}
 use borrow.Author.Needs.{needs}
@@ -17,11 +19,15 @@ use Rattle.decimal.proofs.fit.fits_precision.Tie as tie
 is-length : (c : tie.Else1) → isLength (length (c .before .before .before .args .number .now)) ≡ true
 is-length c = sym (c .before .is-length .ensures) ∙ not-false _ (c .if1 .left)
 
+-- an answer, and what it stands for
+answered : {f g : Fit} → f ≡ g → (f ≡ g) × (fitted f ≡ fitted g)
+answered e = (e, ap fitted e)
+
 is-length-requires : tie.Need-is-length-requires
 is-length-requires c κs = search needs
 
 returns : tie.Need-returns
-returns c = sym (fitOf-wrong _ _ (sym (c .before .is-length .ensures) ∙ not-true _ (c .if1 .taken)))
+returns c = answered (sym (fitOf-wrong _ _ (sym (c .before .is-length .ensures) ∙ not-true _ (c .if1 .taken))))
 
 significant-requires : tie.Need-significant-requires
 significant-requires c κs = search needs
@@ -35,8 +41,9 @@ fits-by-length-requires c κs = (
 returns-2 : tie.Need-returns-2
 returns-2 c =
     let s = c .before .before .before .before .before in
-    c .fits-by-length .ensures ∙ ap (λ (bs : List ℕ). fitOf bs (s .args .precision)) (c .before .significant .ensures)
-    ∙ fitOf-significant (s .args .number .now) (s .args .precision) (is-length (c .before .before)) (isLength-significant _ (is-length (c .before .before)))
+    answered
+    (c .fits-by-length .ensures ∙ ap (λ (bs : List ℕ). fitOf bs (s .args .precision)) (c .before .significant .ensures)
+    ∙ fitOf-significant (s .args .number .now) (s .args .precision) (is-length (c .before .before)) (isLength-significant _ (is-length (c .before .before))))
 
 pub fits-precision-spec : {M : Type 1} → statement M
 fits-precision-spec =

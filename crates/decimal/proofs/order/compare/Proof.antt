@@ -1,6 +1,6 @@
 -- `decimal::order::compare` meets its contract: wrong lengths first, then the signs, then the bytes of numbers of one sign.
 -- Assumes nothing.
-use mathlib.Core.Path.{_≡_, sym, subst₂, _∙_}
+use mathlib.Core.Path.{_≡_, sym, ap, subst₂, _∙_}
 use mathlib.Core.Bool.{true}
 use mathlib.Core.List.{List}
 use Prim.Native.Nat.{ℕ, _<_}
@@ -12,6 +12,7 @@ use Rattle.decimal.specs.declared.order.Order.{Order}
 use Rattle.decimal.specs.Precision.{isLength}
 use Rattle.decimal.specs.Number.{number, signByte}
 use Rattle.decimal.specs.Order.{order, orderOf}
+use Rattle.decimal.specs.Outcome.{compared}
 use Rattle.decimal.proofs.UnsignedLaws.{Bytes, Bytes-getD}
 use Rattle.decimal.proofs.OrderLaws.{order-<, order->, number-signs, orderOf-order, orderOf-wrong-left, orderOf-wrong-right}
 use Rattle.decimal.proofs.order.compare.Statement.{statement}
@@ -54,17 +55,21 @@ module _ (c : tie.After-sign-byte2) where
   second-negative h =
       in-order ∙ order-> (number a) (number b) (number-signs b a bytes-b (subst₂ (λ (x y : ℕ). x < y) sign-a sign-b h))
 
+-- an answer, and what it stands for
+answered : {o p : Order} → o ≡ p → (o ≡ p) × (compared o ≡ compared p)
+answered e = (e, ap compared e)
+
 is-length-requires : tie.Need-is-length-requires
 is-length-requires c κs = search needs
 
 returns : tie.Need-returns
-returns c = sym (orderOf-wrong-left _ _ (sym (c .before .is-length .ensures) ∙ not-true _ (c .if1 .taken)))
+returns c = answered (sym (orderOf-wrong-left _ _ (sym (c .before .is-length .ensures) ∙ not-true _ (c .if1 .taken))))
 
 is-length-requires-2 : tie.Need-is-length-requires-2
 is-length-requires-2 c κs = search needs
 
 returns-2 : tie.Need-returns-2
-returns-2 c = sym (orderOf-wrong-right _ _ (sym (c .before .is-length2 .ensures) ∙ not-true _ (c .if2 .taken)))
+returns-2 c = answered (sym (orderOf-wrong-right _ _ (sym (c .before .is-length2 .ensures) ∙ not-true _ (c .if2 .taken))))
 
 sign-byte-requires : tie.Need-sign-byte-requires
 sign-byte-requires c κs = search needs
@@ -73,10 +78,10 @@ sign-byte-requires-2 : tie.Need-sign-byte-requires-2
 sign-byte-requires-2 c κs = search needs
 
 returns-3 : tie.Need-returns-3
-returns-3 c = sym (first-negative (c .before) (c .if3 .taken))
+returns-3 c = answered (sym (first-negative (c .before) (c .if3 .taken)))
 
 returns-4 : tie.Need-returns-4
-returns-4 c = sym (second-negative (c .before .before) (c .if4 .taken))
+returns-4 c = answered (sym (second-negative (c .before .before) (c .if4 .taken)))
 
 compare-alike-requires : tie.Need-compare-alike-requires
 compare-alike-requires c κs =
@@ -84,7 +89,7 @@ compare-alike-requires c κs =
     (sign-a k, le-antisymm (c .before .if3 .left) (c .if4 .left) ∙ sign-b k)
 
 returns-5 : tie.Need-returns-5
-returns-5 c = c .compare-alike .ensures ∙ sym (in-order (c .before .before .before))
+returns-5 c = answered (c .compare-alike .ensures ∙ sym (in-order (c .before .before .before)))
 
 pub compare-spec : {M : Type 1} → statement M
 compare-spec =

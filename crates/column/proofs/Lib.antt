@@ -1,0 +1,8 @@
+-- Laws of reading single values.
+pub mod BoolLaws
+pub mod NumberLaws
+pub mod FloatLaws
+pub mod DayLaws
+pub mod DecimalLaws
+pub mod LengthLaws
+pub mod ReadingLaws

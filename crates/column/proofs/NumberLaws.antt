@@ -1,0 +1,115 @@
+-- Laws of the numbers that bytes stand for, and of the ranges that they are held to. Assumes nothing.
+use mathlib.Core.Path.{_≡_, refl, sym, ap, subst, _∙_}
+use mathlib.Core.Bool.{Bool, true, false, _&&_}
+use mathlib.Core.List.{List}
+use mathlib.Core.Logic.{⊎-elim}
+use Prim.Native.Nat.{ℕ, zero, suc, _+_, _-_, _*_, _/_, _^_, _<_, _≤_}
+use native.Mathlib.Nat.{lt-of-lt-of-le, one-mul, div-eq-of-lt, div-lt-iff-lt-mul, div-div-eq-div-mul, pow-suc, one-le-pow, pow-le-pow-right, two-pow-succ}
+use native.Mathlib.Numerals.{add-one}
+use native.Mathlib.Omega.{arith}
+use borrow.Author.Tests.{lt-ltb, le-ltb, ltb-true, ltb-false, eq-eqb, ne-eqb}
+use lib.Dec.{leb, ltb, eqb, leb·suc-suc}
+use lib.IntN.{ℤ, pos, negsuc, negℤ}
+use lib.ListN.{length, getD, drop}
+use lib.Pow.{suc-ones}
+use lib.Seq.{drop-cons}
+use lib.Signed.{mag, leZ, ltZ}
+use Rattle.decimal.proofs.NumberLaws.{lt-or-ge, subℕ-<, subℕ-≥}
+use Rattle.column.specs.Numbers.{little, twosComplement}
+use Rattle.column.specs.Annotations.{inSignedBits}
+
+pub little-drop : (bs : List ℕ) (at : ℕ) → at < length bs → little (drop at bs) ≡ getD bs at 0 + 256 * little (drop (suc at) bs)
+unfolding little
+little-drop bs at h = ap little (drop-cons bs at 0 h)
+
+-- a byte in front of those that were read
+pub little-back : (bs : List ℕ) (at n b : ℕ) → 0 < at → at ≤ length bs → n ≡ little (drop at bs) → b ≡ getD bs (at - 1) 0
+    → n * 256 + b ≡ little (drop (at - 1) bs)
+little-back bs zero n b h l e f = absurd (omega arith)
+little-back bs (suc k) n b h l e f =
+    let p : suc k - 1 ≡ k = omega arith in
+    rw p (let g : b ≡ getD bs k 0 = rw p at f in omega (arith, little-drop bs k l, e, g))
+
+pub power-back : (len at n b : ℕ) → 0 < at → at ≤ len → n < 256 ^ (len - at) → b < 256 → n * 256 + b < 256 ^ (len - (at - 1))
+power-back len at n b h l p q =
+    let e : len - (at - 1) ≡ suc (len - at) = omega arith in
+    rw e (omega (arith, pow-suc 256 (len - at), p, q))
+
+-- all bytes are read
+pub little-start : (bs : List ℕ) (at n : ℕ) → at ≡ 0 → n ≡ little (drop at bs) → n < 256 ^ (length bs - at)
+    → (n ≡ little bs) × (n < 256 ^ length bs)
+little-start bs at n z p q = let e : length bs - at ≡ length bs = omega arith in (rw z at p, rw e at q)
+
+-- ---- two's complement
+
+pub twos-below : (weight n : ℕ) → n < weight → twosComplement weight n ≡ pos n
+unfolding twosComplement
+twos-below weight n h = rw (lt-ltb n weight h) (subℕ-≥ n 0 (omega arith) ∙ ap pos (omega arith))
+
+pub twos-above : (weight n : ℕ) → weight ≤ n → n < 2 * weight → twosComplement weight n ≡ negsuc (weight - 1 - (n - weight))
+unfolding twosComplement
+twos-above weight n h k = rw (le-ltb n weight h) (subℕ-< n (2 * weight) k ∙ ap negsuc (omega arith))
+
+pub twos-mag-< : (weight n : ℕ) → n < 2 * weight → mag (twosComplement weight n) < weight
+twos-mag-< weight n h = ⊎-elim below above (lt-or-ge n weight)
+  where
+    below : n < weight → mag (twosComplement weight n) < weight
+    below k = rw (twos-below weight n k) k
+
+    above : weight ≤ n → mag (twosComplement weight n) < weight
+    above k = rw (twos-above weight n k h) (omega arith)
+
+-- ---- ranges
+
+-- two tests that hold of the same numbers are the same
+pub ltb-same : (a b c d : ℕ) → (a < b → c < d) → (c < d → a < b) → ltb a b ≡ ltb c d
+ltb-same a b c d f g = go (ltb a b) refl (ltb c d) refl
+  where
+    go : (t : Bool) → ltb a b ≡ t → (u : Bool) → ltb c d ≡ u → t ≡ u
+    go true p true q = refl
+    go false p false q = refl
+    go true p false q = absurd (let h = f (ltb-true a b p) in let k = ltb-false c d q in omega arith)
+    go false p true q = absurd (let h = g (ltb-true c d q) in let k = ltb-false a b p in omega arith)
+
+-- nothing is left of a number divided by a greater one
+pub div-eqb : (n d : ℕ) → 0 < d → eqb (n / d) 0 ≡ ltb n d
+div-eqb n d h = go (ltb n d) refl
+  where
+    go : (t : Bool) → ltb n d ≡ t → eqb (n / d) 0 ≡ t
+    go true p = eq-eqb _ _ (div-eq-of-lt (ltb-true n d p))
+    go false p =
+        ne-eqb _ _ (λ (e : n / d ≡ 0). let k = div-lt-iff-lt-mul {x = n} {y = 1} h .0 (omega arith) in let l = one-mul d in let m = ltb-false n d p in omega arith)
+
+module _ (n gone left : ℕ) where
+  -- no digit is left before all are gone
+  pub digits-none : (precision : ℕ) → gone ≤ precision → left ≡ n / 10 ^ gone → left ≡ 0 → ltb n (10 ^ precision) ≡ true
+  digits-none precision h e z =
+      lt-ltb _ _ (lt-of-lt-of-le (ltb-true _ _ (sym (div-eqb n (10 ^ gone) (one-le-pow gone 10 (omega arith))) ∙ eq-eqb _ _ (sym e ∙ z))) (pow-le-pow-right {n = 10} (omega arith) h))
+
+  -- one more is gone
+  pub digits-next : left ≡ n / 10 ^ gone → left / 10 ≡ n / 10 ^ (gone + 1)
+  digits-next e = rw (add-one, pow-suc, ← div-div-eq-div-mul) (ap (λ (m : ℕ). m / 10) e)
+
+  -- all are gone
+  pub digits-all : (precision : ℕ) → gone ≡ precision → left ≡ n / 10 ^ gone → eqb left 0 ≡ ltb n (10 ^ precision)
+  digits-all precision g e = rw (e, g) (div-eqb n (10 ^ precision) (one-le-pow precision 10 (omega arith)))
+
+doubled : (m n : ℕ) → ltb (m * 2) (2 ^ n) ≡ ltb m (2 ^ (n - 1))
+doubled m zero = ltb-same (m * 2) 1 m 1 (λ h. omega arith) (λ h. omega arith)
+doubled m (suc k) =
+    let e : suc k - 1 ≡ k = omega arith in
+    rw e (ltb-same (m * 2) (2 ^ suc k) m (2 ^ k) (λ h. omega (arith, two-pow-succ k)) (λ h. omega (arith, two-pow-succ k)))
+
+and-true : (t : Bool) → (t && true) ≡ t
+and-true true = refl
+and-true false = refl
+
+around : (k : ℕ) (z : ℤ) → ltb (mag z) (suc k) ≡ (leZ (negℤ (pos (suc k))) z && ltZ z (pos (suc k)))
+around k (pos a) = refl
+around k (negsuc a) = leb·suc-suc a k ∙ sym (and-true (leb a k))
+
+-- so many bits hold a signed number where they hold twice its magnitude
+pub inSignedBits-mag : (n : ℕ) (z : ℤ) → ltb (mag z * 2) (2 ^ n) ≡ inSignedBits n z
+unfolding inSignedBits
+inSignedBits-mag n z =
+    doubled (mag z) n ∙ subst (λ (m : ℕ). ltb (mag z) m ≡ (leZ (negℤ (pos m)) z && ltZ z (pos m))) (suc-ones (n - 1)) (around (2 ^ (n - 1) - 1) z)

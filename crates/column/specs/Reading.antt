@@ -1,0 +1,40 @@
+-- Reading one value: which value valid bytes are, and what reading answers for any column type and any bytes.
+use Prim.Native.Nat.{ℕ}
+use mathlib.Core.Bool.{Bool, cond}
+use mathlib.Core.List.{List}
+use lib.Dec.{eqb}
+use lib.Ieee.{binary32, binary64, ofBits}
+use lib.IntN.{ℤ}
+use lib.ListN.{length}
+use Rattle.column_type.specs.declared.types.ColumnType.{ColumnType}
+use Rattle.column_type.specs.Lawful.{isLawful}
+use Rattle.column.specs.Codes.{BOOLEAN, FLOAT, DOUBLE}
+use Rattle.column.specs.Numbers.{little, signed}
+use Rattle.column.specs.Lengths.{lengthRight}
+use Rattle.column.specs.Annotations.{isWhole, isUnsigned, keeps}
+use Rattle.column.specs.declared.value.Value.{Value}
+use Rattle.column.specs.declared.value.Value.the-variants.{Truth, Signed, Unsigned, Float, Double, Bytes}
+use Rattle.column.specs.declared.value.Read.{Read}
+use Rattle.column.specs.declared.value.Read.the-variants as read
+
+-- "INT(n, false) reads its bytes unsigned"; every other whole number is signed
+abbrev pub wholeValue : ColumnType → ℕ → ℤ → Value
+wholeValue c n z = cond (isUnsigned c) (Unsigned n) (Signed z)
+
+-- "A read value is a truth value, a whole number, a FLOAT, a DOUBLE or, for INT96 and all byte forms, a stretch of bytes (start and
+-- length)". A FLOAT or DOUBLE is the float of its bits; each pattern of a NaN is the NaN
+unfoldable pub valueOf : ColumnType → List ℕ → Value
+valueOf c bs =
+    cond (eqb (c .physical) BOOLEAN) (Truth (eqb (little bs) 1))
+    (cond (isWhole c) (wholeValue c (little bs) (signed bs))
+    (cond (eqb (c .physical) FLOAT) (Float (ofBits binary32 (little bs)))
+    (cond (eqb (c .physical) DOUBLE) (Double (ofBits binary64 (little bs))) (Bytes 0 (length bs)))))
+
+-- a value of the right length: 16 where it breaks its annotation
+abbrev pub checked : Bool → Value → Read
+checked kept v = cond kept (read.Value v) read.BreaksAnnotation
+
+-- "One value is checked for 20, then 15, then 16"
+unfoldable pub readOf : ColumnType → List ℕ → Read
+readOf c bs =
+    cond (isLawful c) (cond (lengthRight c (length bs)) (checked (keeps c bs) (valueOf c bs)) read.WrongLength) read.Unlawful

@@ -1,0 +1,97 @@
+// The numbers that bytes stand for, and the ranges that they are held to.
+ghost use mathlib.Core.Path.{_≡_};
+ghost use Prim.Native.Nat.{_*_, _<_, _≤_, _^_};
+ghost use lib.Dec.{ltb};
+ghost use lib.IntN.{natAbs};
+ghost use lib.ListN.{length};
+ghost use lib.Signed.{mag};
+ghost use Rattle.column.specs.Numbers.{little, twosComplement};
+
+// The weight of the first bit of 4 bytes.
+pub(crate) const INT32_SIGN: u64 = 0x8000_0000;
+
+// The weight of the first bit of 8 bytes.
+pub(crate) const INT64_SIGN: u64 = 0x8000_0000_0000_0000;
+
+// The bits of a number here.
+const BITS: u32 = 64;
+
+// The number of up to 8 bytes, the least significant first.
+pub(crate) fn little(value: &[u8]) -> u64
+    requires { ⌜ length (now value) ≤ 8 ⌝ }
+    ensures { λ r. ⌜ (r ≡ little (now (value .entry))) × (r < 256 ^ length (now (value .entry))) ⌝ }
+{
+    let mut n: u64 = 0;
+    let mut at = value.len();
+    while at > 0 {
+        at -= 1;
+        n = n * 256 + wide(value[at]);
+    }
+    n
+}
+
+fn wide(byte: u8) -> u64
+    ensures { λ r. ⌜ r ≡ byte ⌝ }
+{
+    byte as u64
+}
+
+// The signed number of `n` in two's complement, where the first bit has this weight.
+pub(crate) fn signed(n: u64, weight: u64) -> i64
+    requires { ⌜ (n < 2 * weight) × (weight ≤ 2 ^ 63) ⌝ }
+    ensures { λ r. ⌜ r ≡ twosComplement weight n ⌝ }
+{
+    let size = magnitude(n, weight) as i64;
+    if n < weight {
+        return size;
+    }
+    -1 - size
+}
+
+// The m for which that number is m or `-1 - m`.
+pub(crate) fn magnitude(n: u64, weight: u64) -> u64
+    requires { ⌜ n < 2 * weight ⌝ }
+    ensures { λ r. ⌜ r ≡ mag (twosComplement weight n) ⌝ }
+{
+    if n < weight {
+        return n;
+    }
+    weight - 1 - (n - weight)
+}
+
+// How far that number lies from 0.
+pub(crate) fn absolute(n: u64, weight: u64) -> u64
+    requires { ⌜ (n < 2 * weight) × (weight ≤ 2 ^ 63) ⌝ }
+    ensures { λ r. ⌜ r ≡ natAbs (twosComplement weight n) ⌝ }
+{
+    if n < weight {
+        return n;
+    }
+    weight - (n - weight)
+}
+
+// Whether `n` is below 2^bits.
+pub(crate) fn in_bits(n: u64, bits: u32) -> bool
+    ensures { λ r. ⌜ r ≡ ltb n (2 ^ bits) ⌝ }
+{
+    if bits >= BITS {
+        return true;
+    }
+    n >> bits == 0
+}
+
+// Whether `n` is below 10^precision: whether no digit is left once so many are gone.
+pub(crate) fn in_digits(n: u64, precision: u32) -> bool
+    ensures { λ r. ⌜ r ≡ ltb n (10 ^ precision) ⌝ }
+{
+    let mut left = n;
+    let mut gone = 0;
+    while gone < precision {
+        if left == 0 {
+            return true;
+        }
+        left /= 10;
+        gone += 1;
+    }
+    left == 0
+}

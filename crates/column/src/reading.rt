@@ -1,0 +1,104 @@
+// Reading one value of a column.
+ghost use mathlib.Core.Path.{_≡_};
+ghost use mathlib.Core.Bool.{true, false};
+ghost use Prim.Native.Nat.{_*_, _<_, _≤_, _^_};
+ghost use lib.Dec.{eqb};
+ghost use lib.ListN.{length};
+ghost use Rattle.decimal.specs.Precision.{isLength};
+ghost use Rattle.column.specs.Codes.{DECIMAL, UNKNOWN};
+ghost use Rattle.column.specs.Numbers.{little, twosComplement};
+ghost use Rattle.column.specs.Lengths.{lengthRight};
+ghost use Rattle.column.specs.Annotations.{isTruth, wholeKeeps, bytesKeep, keeps};
+ghost use Rattle.column.specs.Reading.{wholeValue, valueOf, checked, readOf};
+ghost use Rattle.column.specs.Outcome.{outcomeOf, outcome};
+use crate::annotations::bytes_keep;
+use crate::annotations::is_unsigned;
+use crate::annotations::whole_keeps;
+use crate::codes;
+use crate::floats::double_of;
+use crate::floats::float_of;
+use crate::lengths::length_right;
+use crate::numbers::INT32_SIGN;
+use crate::numbers::INT64_SIGN;
+use crate::numbers::little;
+use crate::numbers::signed;
+use crate::value::Read;
+use crate::value::Value;
+use column_type::ColumnType;
+
+// The value that the bytes are in a column of this type, or the first refusal that holds.
+pub fn read(c: ColumnType, value: &[u8]) -> Read
+    ensures { λ r. ⌜ r ≡ readOf c (now (value .entry)) ⌝ }
+    ensures { λ r. ⌜ outcomeOf c (now (value .entry)) r ≡ outcome c (now (value .entry)) ⌝ }
+{
+    if !column_type::is_lawful(c) {
+        return Read::Unlawful;
+    }
+    if !length_right(c, value.len()) {
+        return Read::WrongLength;
+    }
+    if c.kind == codes::UNKNOWN {
+        return Read::BreaksAnnotation;
+    }
+    read_present(c, value)
+}
+
+// Reads bytes of a right length, under any kind but UNKNOWN.
+fn read_present(c: ColumnType, value: &[u8]) -> Read
+    requires { ⌜ (lengthRight c (length (now value)) ≡ true) × (eqb (c .kind) UNKNOWN ≡ false) ⌝ }
+    ensures { λ r. ⌜ r ≡ checked (keeps c (now (value .entry))) (valueOf c (now (value .entry))) ⌝ }
+{
+    let physical = c.physical;
+    match physical {
+        codes::BOOLEAN => read_truth(little(value)),
+        codes::INT32 => read_whole(c, little(value), INT32_SIGN),
+        codes::INT64 => read_whole(c, little(value), INT64_SIGN),
+        codes::FLOAT => Read::Value(Value::Float(float_of(little(value) as u32))),
+        codes::DOUBLE => Read::Value(Value::Double(double_of(little(value)))),
+        codes::BYTE_ARRAY => read_bytes(c, value),
+        codes::FIXED_LEN_BYTE_ARRAY => read_bytes(c, value),
+        _ => Read::Value(stretch(value.len())),
+    }
+}
+
+// A truth value: 0 or 1.
+fn read_truth(n: u64) -> Read
+    ensures { λ r. ⌜ r ≡ checked (isTruth n) (Value.Truth (eqb n 1)) ⌝ }
+{
+    if n > 1 {
+        return Read::BreaksAnnotation;
+    }
+    Read::Value(Value::Truth(n == 1))
+}
+
+// A whole number, of which `n` are the bits and the first has this weight.
+fn read_whole(c: ColumnType, n: u64, weight: u64) -> Read
+    requires { ⌜ (n < 2 * weight) × (weight ≤ 2 ^ 63) ⌝ }
+    ensures { λ r. ⌜ r ≡ checked (wholeKeeps c n (twosComplement weight n)) (wholeValue c n (twosComplement weight n)) ⌝ }
+{
+    if !whole_keeps(c, n, weight) {
+        return Read::BreaksAnnotation;
+    }
+    if is_unsigned(c) {
+        return Read::Value(Value::Unsigned(n));
+    }
+    Read::Value(Value::Signed(signed(n, weight)))
+}
+
+// A byte form. A decimal has 1 to 256 bytes.
+fn read_bytes(c: ColumnType, value: &[u8]) -> Read
+    requires { ⌜ ((eqb (c .kind) DECIMAL ≡ true) → isLength (length (now value)) ≡ true) ⌝ }
+    ensures { λ r. ⌜ r ≡ checked (bytesKeep c (now (value .entry))) (Value.Bytes 0 (length (now (value .entry)))) ⌝ }
+{
+    if !bytes_keep(c, value) {
+        return Read::BreaksAnnotation;
+    }
+    Read::Value(stretch(value.len()))
+}
+
+// All of so many bytes.
+fn stretch(len: usize) -> Value
+    ensures { λ r. ⌜ r ≡ Value.Bytes 0 len ⌝ }
+{
+    Value::Bytes { start: 0, len }
+}

@@ -1,0 +1,2 @@
+-- A law of floats.
+pub mod FloatLaws

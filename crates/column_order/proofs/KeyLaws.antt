@@ -1,0 +1,129 @@
+-- The order of read values is that of the keys of their bytes. Assumes nothing.
+use mathlib.Core.Path.{_≡_, refl, sym, ap, ap₂, _∙_}
+use mathlib.Core.Bool.{Bool, true, false, not, cond, _||_}
+use mathlib.Core.List.{List}
+use Prim.Native.Nat.{ℕ}
+use native.Mathlib.Omega.{arith}
+use borrow.Author.Tests.{leb-true, eqb-true, eqb-false}
+use lib.Dec.{eqb}
+use lib.Ieee.{binary32, binary64, ofBits}
+use lib.IntN.{pos}
+use lib.ListN.{length}
+use Rattle.column_type.specs.declared.types.ColumnType.{ColumnType}
+use Rattle.decimal.specs.Precision.{isLength}
+use Rattle.decimal.specs.Number.{number}
+use Rattle.column.specs.Codes.{BOOLEAN, INT32, INT64, FLOAT, DOUBLE, BYTE-ARRAY, FIXED-LEN-BYTE-ARRAY, DECIMAL, UNKNOWN}
+use Rattle.column.specs.Numbers.{little, signed}
+use Rattle.column.specs.Lengths.{isByteForm, isByteDecimal}
+use Rattle.column.specs.Annotations.{isWhole, isUnsigned, keeps, isTruth}
+use Rattle.column.specs.Reading.{valueOf, wholeValue, readOf}
+use Rattle.column.specs.declared.value.Value.{Value}
+use Rattle.column.specs.declared.value.Value.the-variants.{Truth, Signed, Unsigned, Float, Double, Bytes}
+use Rattle.column.specs.declared.value.Read.{Read}
+use Rattle.column.proofs.BoolLaws.{and-left, and-right}
+use Rattle.column.proofs.LengthLaws.{decimal-right}
+use Rattle.column.proofs.ReadingLaws.{reads}
+use Rattle.column_order.specs.Keys.{Key, whole, bytes, numberOf, floatKey, keyOf, wholeOrder, byteOrder, keyOrder}
+use Rattle.column_order.specs.Values.{flag, truthOrder, signedOrder, unsignedOrder, singleOrder, doubleOrder, stretchOrder}
+use Rattle.column_order.specs.declared.answer.Order.{Order}
+use Rattle.column_order.proofs.FloatLaws.{floatOrder-bits}
+
+-- two values by their cases, where `stretches` is the order of two stretches
+abbrev pub valueOrder : Order → Value → Value → Order
+valueOrder stretches (Truth p) v = truthOrder p v
+valueOrder stretches (Signed x) v = signedOrder x v
+valueOrder stretches (Unsigned m) v = unsignedOrder m v
+valueOrder stretches (Float x) v = singleOrder x v
+valueOrder stretches (Double x) v = doubleOrder x v
+valueOrder stretches (Bytes s n) v = stretches
+
+-- a byte that is 0 or 1 is its truth value
+flag-truth : (n : ℕ) → isTruth n ≡ true → flag (eqb n 1) ≡ n
+flag-truth n e = go (eqb n 1) refl
+  where
+    go : (t : Bool) → eqb n 1 ≡ t → flag t ≡ n
+    go true p = sym (eqb-true n 1 p)
+    go false p = let h = leb-true n 1 e in let k = eqb-false n 1 p in omega arith
+
+module _ (c : ColumnType) where
+  whole-signed : (bs : List ℕ) → isWhole c ≡ true → numberOf c bs ≡ signed bs
+  unfolding numberOf
+  whole-signed bs e = ap (λ (t : Bool). cond t (number bs) (signed bs)) (go (eqb (c .physical) INT32) refl e)
+    where
+      form : ℕ → Bool
+      form p = eqb p BYTE-ARRAY || eqb p FIXED-LEN-BYTE-ARRAY
+
+      go : (t : Bool) → eqb (c .physical) INT32 ≡ t → (t || eqb (c .physical) INT64) ≡ true → isByteForm c ≡ false
+      go true p f = ap form (eqb-true (c .physical) INT32 p)
+      go false p f = ap form (eqb-true (c .physical) INT64 f)
+
+  byte-number : (bs : List ℕ) → isByteDecimal c ≡ true → numberOf c bs ≡ number bs
+  unfolding numberOf
+  byte-number bs e = rw (and-left (isByteForm c) (eqb (c .kind) DECIMAL) e)
+
+  truth-kept : (bs : List ℕ) → keeps c bs ≡ true → eqb (c .physical) BOOLEAN ≡ true → isTruth (little bs) ≡ true
+  unfolding keeps
+  truth-kept bs k e = rw e at (and-right (not (eqb (c .kind) UNKNOWN)) _ k)
+
+module _ (c : ColumnType) (a b : List ℕ) where
+  truths : keeps c a ≡ true → keeps c b ≡ true → eqb (c .physical) BOOLEAN ≡ true
+      → wholeOrder (pos (flag (eqb (little a) 1))) (pos (flag (eqb (little b) 1))) ≡ wholeOrder (pos (little a)) (pos (little b))
+  truths p q e = ap₂ (λ (m n : ℕ). wholeOrder (pos m) (pos n)) (flag-truth (little a) (truth-kept c a p e)) (flag-truth (little b) (truth-kept c b q e))
+
+  wholes : isWhole c ≡ true
+      → valueOrder (stretchOrder c a b) (wholeValue c (little a) (signed a)) (wholeValue c (little b) (signed b))
+      ≡ wholeOrder (cond (isUnsigned c) (pos (little a)) (numberOf c a)) (cond (isUnsigned c) (pos (little b)) (numberOf c b))
+  wholes e = go (isUnsigned c)
+    where
+      go : (t : Bool) → valueOrder (stretchOrder c a b) (cond t (Unsigned (little a)) (Signed (signed a))) (cond t (Unsigned (little b)) (Signed (signed b)))
+          ≡ wholeOrder (cond t (pos (little a)) (numberOf c a)) (cond t (pos (little b)) (numberOf c b))
+      go true = refl
+      go false = ap₂ wholeOrder (sym (whole-signed c a e)) (sym (whole-signed c b e))
+
+  stretches : stretchOrder c a b ≡ keyOrder (cond (isByteDecimal c) (whole (numberOf c a)) (bytes a)) (cond (isByteDecimal c) (whole (numberOf c b)) (bytes b))
+  unfolding stretchOrder keyOrder
+  stretches = go (isByteDecimal c) refl
+    where
+      go : (t : Bool) → isByteDecimal c ≡ t → cond t (wholeOrder (number a) (number b)) (byteOrder a b)
+          ≡ keyOrder (cond t (whole (numberOf c a)) (bytes a)) (cond t (whole (numberOf c b)) (bytes b))
+      go true e = ap₂ wholeOrder (sym (byte-number c a e)) (sym (byte-number c b e))
+      go false e = refl
+
+  pub value-order : keeps c a ≡ true → keeps c b ≡ true
+      → valueOrder (stretchOrder c a b) (valueOf c a) (valueOf c b) ≡ keyOrder (keyOf c a) (keyOf c b)
+  unfolding valueOf keyOf keyOrder
+  value-order p q = go (eqb (c .physical) BOOLEAN) refl (isWhole c) refl (eqb (c .physical) FLOAT) (eqb (c .physical) DOUBLE)
+    where
+      value : Bool → Bool → Bool → Bool → List ℕ → Value
+      value t w f d bs =
+          cond t (Truth (eqb (little bs) 1))
+          (cond w (wholeValue c (little bs) (signed bs))
+          (cond f (Float (ofBits binary32 (little bs))) (cond d (Double (ofBits binary64 (little bs))) (Bytes 0 (length bs)))))
+
+      key : Bool → Bool → Bool → Bool → List ℕ → Key
+      key t w f d bs =
+          cond t (whole (pos (little bs)))
+          (cond w (whole (cond (isUnsigned c) (pos (little bs)) (numberOf c bs)))
+          (cond f (floatKey binary32 (little bs))
+          (cond d (floatKey binary64 (little bs)) (cond (isByteDecimal c) (whole (numberOf c bs)) (bytes bs)))))
+
+      go : (t : Bool) → eqb (c .physical) BOOLEAN ≡ t → (w : Bool) → isWhole c ≡ w → (f d : Bool)
+          → valueOrder (stretchOrder c a b) (value t w f d a) (value t w f d b) ≡ keyOrder (key t w f d a) (key t w f d b)
+      go true e w i f d = truths p q e
+      go false e true i f d = wholes i
+      go false e false i true d = floatOrder-bits binary32 (little a) (little b)
+      go false e false i false true = floatOrder-bits binary64 (little a) (little b)
+      go false e false i false false = stretches
+
+module _ (c : ColumnType) (a b : List ℕ) (x y : Value) (p : readOf c a ≡ Read.Value x) (q : readOf c b ≡ Read.Value y) where
+  pub read-order : valueOrder (stretchOrder c a b) x y ≡ keyOrder (keyOf c a) (keyOf c b)
+  read-order =
+      let r = reads c a x p in
+      let s = reads c b y q in
+      ap₂ (valueOrder (stretchOrder c a b)) (r .value) (s .value) ∙ value-order c a b (r .kept) (s .kept)
+
+  pub read-lengths : isByteDecimal c ≡ true → (isLength (length a) ≡ true) × (isLength (length b) ≡ true)
+  read-lengths e =
+      let form = and-left (isByteForm c) (eqb (c .kind) DECIMAL) e in
+      let kind = and-right (isByteForm c) (eqb (c .kind) DECIMAL) e in
+      (decimal-right c (length a) (reads c a x p .right) form kind, decimal-right c (length b) (reads c b y q .right) form kind)

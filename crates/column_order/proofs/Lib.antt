@@ -1,0 +1,8 @@
+-- Laws of the order of single values.
+pub mod Turning
+pub mod WholeLaws
+pub mod ByteLaws
+pub mod FloatLaws
+pub mod KeyLaws
+pub mod OrderLaws
+pub mod Points

@@ -1,0 +1,103 @@
+-- `column_order::ordering::order_read` meets its contract: each arm knows the case of the first value, and the order of values is that of their keys.
+-- Assumes nothing.
+use mathlib.Core.Path.{sym, ap, _∙_}
+use lib.IntN.{ℤ}
+use mir.Syntax.{w64}
+use mir.ValLaws.{toZ-ofZ}
+use Rattle.column.specs.declared.value.Value.{Value}
+use Rattle.column_order.specs.Values.{signedOrder, stretchOrder}
+use Rattle.column_order.proofs.KeyLaws.{valueOrder, read-order, read-lengths}
+use borrow.Author.Needs.{needs}
+use Rattle.column_order.proofs.ordering.order_read.Statement.{statement}
+use Rattle.column_order.proofs.ordering.order_read.Tie as tie
+
+enum-known-x : tie.Need-enum-known-x
+enum-known-x c = search needs
+
+compare-truth-requires : tie.Need-compare-truth-requires
+compare-truth-requires c κs = search needs
+
+enum-known-x-2 : tie.Need-enum-known-x-2
+enum-known-x-2 c = search needs
+
+compare-signed-requires : tie.Need-compare-signed-requires
+compare-signed-requires c κs = search needs
+
+enum-known-x-3 : tie.Need-enum-known-x-3
+enum-known-x-3 c = search needs
+
+compare-unsigned-requires : tie.Need-compare-unsigned-requires
+compare-unsigned-requires c κs = search needs
+
+enum-known-x-4 : tie.Need-enum-known-x-4
+enum-known-x-4 c = search needs
+
+compare-float-requires : tie.Need-compare-float-requires
+compare-float-requires c κs = search needs
+
+enum-known-x-5 : tie.Need-enum-known-x-5
+enum-known-x-5 c = search needs
+
+compare-double-requires : tie.Need-compare-double-requires
+compare-double-requires c κs = search needs
+
+enum-told : tie.Need-enum-told
+enum-told c = search needs
+
+compare-stretches-requires : tie.Need-compare-stretches-requires
+compare-stretches-requires c κs =
+    let s = c .before .before .before .before in
+    read-lengths (s .args .c) _ _ (s .args .x) (s .args .y) (s .pre .0) (s .pre .1)
+
+returns : tie.Need-returns
+returns c =
+    let s = c .before .before .before .before .before .before in
+    c .compare-truth .ensures ∙ ap (λ (v : Value). valueOrder (stretchOrder (s .args .c) (s .args .a .now) (s .args .b .now)) v (s .args .y)) (sym (c .before .before .x .given .1)) ∙ read-order (s .args .c) _ _ (s .args .x) (s .args .y) (s .pre .0) (s .pre .1)
+
+returns-2 : tie.Need-returns-2
+returns-2 c =
+    let s = c .before .before .before .before .before .before in
+    c .compare-signed .ensures ∙ ap (λ (z : ℤ). signedOrder z (s .args .y)) (toZ-ofZ w64 _ (record { sfits = c .before .known-told2 .given .0 .1 })) ∙ ap (λ (v : Value). valueOrder (stretchOrder (s .args .c) (s .args .a .now) (s .args .b .now)) v (s .args .y)) (sym (c .before .before .x2 .given .1)) ∙ read-order (s .args .c) _ _ (s .args .x) (s .args .y) (s .pre .0) (s .pre .1)
+
+returns-3 : tie.Need-returns-3
+returns-3 c =
+    let s = c .before .before .before .before .before .before in
+    c .compare-unsigned .ensures ∙ ap (λ (v : Value). valueOrder (stretchOrder (s .args .c) (s .args .a .now) (s .args .b .now)) v (s .args .y)) (sym (c .before .before .x3 .given .1)) ∙ read-order (s .args .c) _ _ (s .args .x) (s .args .y) (s .pre .0) (s .pre .1)
+
+returns-4 : tie.Need-returns-4
+returns-4 c =
+    let s = c .before .before .before .before .before .before in
+    c .compare-float .ensures ∙ ap (λ (v : Value). valueOrder (stretchOrder (s .args .c) (s .args .a .now) (s .args .b .now)) v (s .args .y)) (sym (c .before .before .x4 .given .1)) ∙ read-order (s .args .c) _ _ (s .args .x) (s .args .y) (s .pre .0) (s .pre .1)
+
+returns-5 : tie.Need-returns-5
+returns-5 c =
+    let s = c .before .before .before .before .before .before in
+    c .compare-double .ensures ∙ ap (λ (v : Value). valueOrder (stretchOrder (s .args .c) (s .args .a .now) (s .args .b .now)) v (s .args .y)) (sym (c .before .before .x5 .given .1)) ∙ read-order (s .args .c) _ _ (s .args .x) (s .args .y) (s .pre .0) (s .pre .1)
+
+returns-6 : tie.Need-returns-6
+returns-6 c =
+    let s = c .before .before .before .before .before in
+    c .compare-stretches .ensures ∙ ap (λ (v : Value). valueOrder (stretchOrder (s .args .c) (s .args .a .now) (s .args .b .now)) v (s .args .y)) (sym (c .before .enum-told .given .1)) ∙ read-order (s .args .c) _ _ (s .args .x) (s .args .y) (s .pre .0) (s .pre .1)
+
+pub order-read-spec : {M : Type 1} → statement M
+order-read-spec =
+    tie.close
+    (tie.spec
+    enum-known-x
+    compare-truth-requires
+    enum-known-x-2
+    compare-signed-requires
+    enum-known-x-3
+    compare-unsigned-requires
+    enum-known-x-4
+    compare-float-requires
+    enum-known-x-5
+    compare-double-requires
+    enum-told
+    compare-stretches-requires
+    returns
+    returns-2
+    returns-3
+    returns-4
+    returns-5
+    returns-6)

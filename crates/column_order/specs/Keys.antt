@@ -1,0 +1,63 @@
+-- What a value is ordered by (document 01, "Order"), over its bytes alone.
+use Prim.Native.Nat.{ℕ, _%_}
+use mathlib.Core.Bool.{cond}
+use mathlib.Core.List.{List, [], _∷_}
+use lib.Dec.{leb, ltb, eqb}
+use lib.Ieee.{Format, binary32, binary64, top, nanBits}
+use lib.IntN.{ℤ, pos, negℤ}
+use lib.Signed.{ltZ}
+use Rattle.column_type.specs.declared.types.ColumnType.{ColumnType}
+use Rattle.decimal.specs.Number.{number}
+use Rattle.column.specs.Codes.{BOOLEAN, FLOAT, DOUBLE}
+use Rattle.column.specs.Numbers.{little, signed}
+use Rattle.column.specs.Lengths.{isByteForm, isByteDecimal}
+use Rattle.column.specs.Annotations.{isWhole, isUnsigned}
+use Rattle.column_order.specs.declared.answer.Order.{Order}
+use Rattle.column_order.specs.declared.answer.Order.the-variants.{Less, Equal, Greater, Unordered}
+
+-- a whole number, or bytes; a NaN has no key
+pub data Key : Type 0 where
+  whole : ℤ → Key
+  bytes : List ℕ → Key
+  none : Key
+
+-- the signed number that the bytes of a whole number or of a DECIMAL stand for, over all four physical types: big-endian in the byte
+-- forms, and little-endian in INT32 and INT64
+unfoldable pub numberOf : ColumnType → List ℕ → ℤ
+numberOf c bs = cond (isByteForm c) (number bs) (signed bs)
+
+-- "FLOAT, DOUBLE numeric, stated over their bits (those below the sign as a whole number, negated where the sign is set)": 0 and -0 have
+-- one key
+unfoldable pub floatKey : Format → ℕ → Key
+floatKey f bits =
+    cond (nanBits f bits) none (whole (cond (leb (top f) bits) (negℤ (pos (bits % top f))) (pos (bits % top f))))
+
+-- "signed for numbers, dates, times, decimals; unsigned for INT(n, false) and BOOLEAN; unsigned byte-wise for other bytes"
+unfoldable pub keyOf : ColumnType → List ℕ → Key
+keyOf c bs =
+    cond (eqb (c .physical) BOOLEAN) (whole (pos (little bs)))
+    (cond (isWhole c) (whole (cond (isUnsigned c) (pos (little bs)) (numberOf c bs)))
+    (cond (eqb (c .physical) FLOAT) (floatKey binary32 (little bs))
+    (cond (eqb (c .physical) DOUBLE) (floatKey binary64 (little bs))
+    (cond (isByteDecimal c) (whole (numberOf c bs)) (bytes bs)))))
+
+-- the order of two whole numbers
+unfoldable pub wholeOrder : ℤ → ℤ → Order
+wholeOrder x y = cond (ltZ x y) Less (cond (ltZ y x) Greater Equal)
+
+-- "unsigned byte-wise .., a proper prefix being less"
+unfoldable pub byteOrder : List ℕ → List ℕ → Order
+byteOrder [] [] = Equal
+byteOrder [] (y ∷ ys) = Less
+byteOrder (x ∷ xs) [] = Greater
+byteOrder (x ∷ xs) (y ∷ ys) = cond (ltb x y) Less (cond (ltb y x) Greater (byteOrder xs ys))
+
+-- the order of two keys of one column: "NaN is answered as unordered"
+unfoldable pub keyOrder : Key → Key → Order
+keyOrder (whole x) (whole y) = wholeOrder x y
+keyOrder (whole x) (bytes b) = Unordered
+keyOrder (whole x) none = Unordered
+keyOrder (bytes a) (whole y) = Unordered
+keyOrder (bytes a) (bytes b) = byteOrder a b
+keyOrder (bytes a) none = Unordered
+keyOrder none k = Unordered

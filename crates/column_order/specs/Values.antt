@@ -1,0 +1,68 @@
+-- The order of two read values, case by case, as whole numbers and floats compare. That it is the order of the keys of their bytes is
+-- proved.
+use Prim.Native.Nat.{ℕ}
+use mathlib.Core.Bool.{Bool, cond}
+use mathlib.Core.List.{List}
+use lib.Ieee as Ieee
+use lib.IntN.{ℤ, pos}
+use Rattle.column_type.specs.declared.types.ColumnType.{ColumnType}
+use Rattle.decimal.specs.Number.{number}
+use Rattle.column.specs.Lengths.{isByteDecimal}
+use Rattle.column.specs.declared.value.Value.{Value}
+use Rattle.column.specs.declared.value.Value.the-variants.{Truth, Signed, Unsigned, Float, Double, Bytes}
+use Rattle.column_order.specs.declared.answer.Order.{Order}
+use Rattle.column_order.specs.declared.answer.Order.the-variants.{Less, Equal, Greater, Unordered}
+use Rattle.column_order.specs.Keys.{wholeOrder, byteOrder}
+
+-- a truth value as its byte has it
+abbrev pub flag : Bool → ℕ
+flag p = cond p 1 0
+
+-- floats compare as numbers; a NaN is neither less, greater nor equal
+unfoldable pub floatOrder : Ieee.Float → Ieee.Float → Order
+floatOrder x y = cond (Ieee.lt x y) Less (cond (Ieee.lt y x) Greater (cond (Ieee.eq x y) Equal Unordered))
+
+-- a value of each case against any value; values of two cases are unordered
+abbrev pub truthOrder : Bool → Value → Order
+truthOrder p (Truth q) = wholeOrder (pos (flag p)) (pos (flag q))
+truthOrder p (Signed y) = Unordered
+truthOrder p (Unsigned n) = Unordered
+truthOrder p (Float y) = Unordered
+truthOrder p (Double y) = Unordered
+truthOrder p (Bytes s n) = Unordered
+
+abbrev pub signedOrder : ℤ → Value → Order
+signedOrder x (Truth q) = Unordered
+signedOrder x (Signed y) = wholeOrder x y
+signedOrder x (Unsigned n) = Unordered
+signedOrder x (Float y) = Unordered
+signedOrder x (Double y) = Unordered
+signedOrder x (Bytes s n) = Unordered
+
+abbrev pub unsignedOrder : ℕ → Value → Order
+unsignedOrder m (Truth q) = Unordered
+unsignedOrder m (Signed y) = Unordered
+unsignedOrder m (Unsigned n) = wholeOrder (pos m) (pos n)
+unsignedOrder m (Float y) = Unordered
+unsignedOrder m (Double y) = Unordered
+unsignedOrder m (Bytes s n) = Unordered
+
+abbrev pub singleOrder : Ieee.Float → Value → Order
+singleOrder x (Truth q) = Unordered
+singleOrder x (Signed y) = Unordered
+singleOrder x (Unsigned n) = Unordered
+singleOrder x (Float y) = floatOrder x y
+singleOrder x (Double y) = Unordered
+singleOrder x (Bytes s n) = Unordered
+
+abbrev pub doubleOrder : Ieee.Float → Value → Order
+doubleOrder x (Truth q) = Unordered
+doubleOrder x (Signed y) = Unordered
+doubleOrder x (Unsigned n) = Unordered
+doubleOrder x (Float y) = Unordered
+doubleOrder x (Double y) = floatOrder x y
+doubleOrder x (Bytes s n) = Unordered
+
+-- two stretches of bytes: decimals as numbers, and others byte by byte
+unfoldable pub stretchOrder : ColumnType → List ℕ → List ℕ → Order
+stretchOrder c a b = cond (isByteDecimal c) (wholeOrder (number a) (number b)) (byteOrder a b)

@@ -1,0 +1,75 @@
+// Ordering two values of a column.
+ghost use mathlib.Core.Path.{_≡_};
+ghost use Rattle.column.specs.Reading.{readOf};
+ghost use Rattle.column.specs.declared.value.Read as declared;
+ghost use Rattle.column_order.specs.Keys.{keyOf, keyOrder};
+ghost use Rattle.column_order.specs.Order.{hasOrder, unlessRefused, orderOf};
+ghost use Rattle.column_order.specs.Outcome.{outcomeOf, outcome};
+use crate::answer::Order;
+use crate::stretches::compare_stretches;
+use crate::values::compare_double;
+use crate::values::compare_float;
+use crate::values::compare_signed;
+use crate::values::compare_truth;
+use crate::values::compare_unsigned;
+use column::Read;
+use column::Value;
+use column::codes;
+use column_type::ColumnType;
+
+// The order of two values in a column of this type.
+pub fn order(c: ColumnType, a: &[u8], b: &[u8]) -> Order
+    ensures { λ r. ⌜ r ≡ orderOf c (now (a .entry)) (now (b .entry)) ⌝ }
+    ensures { λ r. ⌜ outcomeOf c (now (a .entry)) (now (b .entry)) r ≡ outcome c (now (a .entry)) (now (b .entry)) ⌝ }
+{
+    if !column_type::is_lawful(c) {
+        return Order::Unlawful;
+    }
+    if !has_order(c) {
+        return Order::NoOrder;
+    }
+    match column::read(c, a) {
+        Read::Value(x) => order_after(c, x, a, b),
+        Read::Unlawful => Order::Unlawful,
+        Read::WrongLength => Order::WrongLength,
+        Read::BreaksAnnotation => Order::BreaksAnnotation,
+    }
+}
+
+// Whether the column has an order.
+fn has_order(c: ColumnType) -> bool
+    ensures { λ r. ⌜ r ≡ hasOrder c ⌝ }
+{
+    if c.physical == codes::INT96 {
+        return false;
+    }
+    c.kind != codes::INTERVAL
+}
+
+// The order of a first value that was read against a second.
+fn order_after(c: ColumnType, x: Value, a: &[u8], b: &[u8]) -> Order
+    requires { ⌜ readOf c (now a) ≡ declared.Read.Value x ⌝ }
+    ensures { λ r. ⌜ r ≡ unlessRefused (readOf c (now (b .entry))) (keyOrder (keyOf c (now (a .entry))) (keyOf c (now (b .entry)))) ⌝ }
+{
+    match column::read(c, b) {
+        Read::Value(y) => order_read(c, x, a, y, b),
+        Read::Unlawful => Order::Unlawful,
+        Read::WrongLength => Order::WrongLength,
+        Read::BreaksAnnotation => Order::BreaksAnnotation,
+    }
+}
+
+// The order of two values that were read: of stretches over their bytes, of others by their cases.
+fn order_read(c: ColumnType, x: Value, a: &[u8], y: Value, b: &[u8]) -> Order
+    requires { ⌜ (readOf c (now a) ≡ declared.Read.Value x) × (readOf c (now b) ≡ declared.Read.Value y) ⌝ }
+    ensures { λ r. ⌜ r ≡ keyOrder (keyOf c (now (a .entry))) (keyOf c (now (b .entry))) ⌝ }
+{
+    match x {
+        Value::Truth(p) => compare_truth(p, y),
+        Value::Signed(p) => compare_signed(p, y),
+        Value::Unsigned(p) => compare_unsigned(p, y),
+        Value::Float(p) => compare_float(p, y),
+        Value::Double(p) => compare_double(p, y),
+        Value::Bytes { start: _, len: _ } => compare_stretches(c, a, b),
+    }
+}

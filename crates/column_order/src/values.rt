@@ -1,0 +1,89 @@
+// The order of two read values, by their cases. Values of two cases, which one column never has, are unordered.
+ghost use mathlib.Core.Path.{_≡_};
+ghost use Rattle.column_order.specs.Values.{flag, truthOrder, signedOrder, unsignedOrder, singleOrder, doubleOrder};
+use crate::answer::Order;
+use crate::doubles::order_doubles;
+use crate::floats::order_floats;
+use crate::wholes::order_numbers;
+use crate::wholes::order_signed;
+use column::Value;
+
+// A truth value against any value.
+pub(crate) fn compare_truth(p: bool, y: Value) -> Order
+    ensures { λ r. ⌜ r ≡ truthOrder p y ⌝ }
+{
+    match y {
+        Value::Truth(q) => order_numbers(number(p), number(q)),
+        Value::Signed(_) => Order::Unordered,
+        Value::Unsigned(_) => Order::Unordered,
+        Value::Float(_) => Order::Unordered,
+        Value::Double(_) => Order::Unordered,
+        Value::Bytes { start: _, len: _ } => Order::Unordered,
+    }
+}
+
+// A signed number against any value.
+pub(crate) fn compare_signed(p: i64, y: Value) -> Order
+    ensures { λ r. ⌜ r ≡ signedOrder p y ⌝ }
+{
+    match y {
+        Value::Truth(_) => Order::Unordered,
+        Value::Signed(q) => order_signed(p, q),
+        Value::Unsigned(_) => Order::Unordered,
+        Value::Float(_) => Order::Unordered,
+        Value::Double(_) => Order::Unordered,
+        Value::Bytes { start: _, len: _ } => Order::Unordered,
+    }
+}
+
+// A number without sign against any value.
+pub(crate) fn compare_unsigned(p: u64, y: Value) -> Order
+    ensures { λ r. ⌜ r ≡ unsignedOrder p y ⌝ }
+{
+    match y {
+        Value::Truth(_) => Order::Unordered,
+        Value::Signed(_) => Order::Unordered,
+        Value::Unsigned(q) => order_numbers(p, q),
+        Value::Float(_) => Order::Unordered,
+        Value::Double(_) => Order::Unordered,
+        Value::Bytes { start: _, len: _ } => Order::Unordered,
+    }
+}
+
+// A FLOAT against any value.
+pub(crate) fn compare_float(p: f32, y: Value) -> Order
+    ensures { λ r. ⌜ r ≡ singleOrder p y ⌝ }
+{
+    match y {
+        Value::Truth(_) => Order::Unordered,
+        Value::Signed(_) => Order::Unordered,
+        Value::Unsigned(_) => Order::Unordered,
+        Value::Float(q) => order_floats(p, q),
+        Value::Double(_) => Order::Unordered,
+        Value::Bytes { start: _, len: _ } => Order::Unordered,
+    }
+}
+
+// A DOUBLE against any value.
+pub(crate) fn compare_double(p: f64, y: Value) -> Order
+    ensures { λ r. ⌜ r ≡ doubleOrder p y ⌝ }
+{
+    match y {
+        Value::Truth(_) => Order::Unordered,
+        Value::Signed(_) => Order::Unordered,
+        Value::Unsigned(_) => Order::Unordered,
+        Value::Float(_) => Order::Unordered,
+        Value::Double(q) => order_doubles(p, q),
+        Value::Bytes { start: _, len: _ } => Order::Unordered,
+    }
+}
+
+// A truth value as its byte has it.
+fn number(p: bool) -> u64
+    ensures { λ r. ⌜ r ≡ flag p ⌝ }
+{
+    if p {
+        return 1;
+    }
+    0
+}
