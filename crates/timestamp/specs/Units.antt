@@ -3,6 +3,8 @@ use Prim.Native.Nat.{ℕ, _*_}
 use mathlib.Core.Bool.{cond}
 use mathlib.Core.Option.{Option, none, some}
 use lib.Dec.{eqb}
+use Rattle.timestamp.specs.declared.units.Named
+use Rattle.timestamp.specs.declared.units.Named.{Named}
 use Rattle.timestamp.specs.Clock.{secondsPerDay}
 
 -- MILLIS, MICROS and NANOS
@@ -23,3 +25,10 @@ ticksPerDay ticks = ticks * secondsPerDay
 abbrev pub unitOf : ℕ → Option TimeUnit
 unitOf number =
     cond (eqb number 1) (some millis) (cond (eqb number 2) (some micros) (cond (eqb number 3) (some nanos) none))
+
+-- the unit that each case of the code's answer stands for: one of the three, or none
+abbrev pub unitNamed : Named → Option TimeUnit
+unitNamed Named.Millis = some millis
+unitNamed Named.Micros = some micros
+unitNamed Named.Nanos = some nanos
+unitNamed Named.Unknown = none

@@ -13,7 +13,9 @@ use crate::division::Division;
 use crate::fields::Fields;
 use crate::units::Micros;
 use crate::units::Millis;
+use crate::units::Named;
 use crate::units::Nanos;
+use crate::units::which;
 
 // What decoding answers.
 pub enum Decoded {
@@ -26,16 +28,17 @@ pub enum Decoded {
 pub fn decode(unit: u32, count: i64) -> Decoded
     ensures { λ r. ⌜ Decodes (unitOf unit) count (decoded r) ⌝ }
 {
-    if unit == Millis::NUMBER {
-        return Decoded::Fields(fields_of(Millis::TICKS_PER_SECOND, Millis::divide(count)));
+    let named = which(unit);
+    match named {
+        Named::Millis => {
+            Decoded::Fields(fields_of(Millis::TICKS_PER_SECOND, Millis::divide(count)))
+        }
+        Named::Micros => {
+            Decoded::Fields(fields_of(Micros::TICKS_PER_SECOND, Micros::divide(count)))
+        }
+        Named::Nanos => Decoded::Fields(fields_of(Nanos::TICKS_PER_SECOND, Nanos::divide(count))),
+        Named::Unknown => Decoded::UnknownUnit,
     }
-    if unit == Micros::NUMBER {
-        return Decoded::Fields(fields_of(Micros::TICKS_PER_SECOND, Micros::divide(count)));
-    }
-    if unit == Nanos::NUMBER {
-        return Decoded::Fields(fields_of(Nanos::TICKS_PER_SECOND, Nanos::divide(count)));
-    }
-    Decoded::UnknownUnit
 }
 
 // The fields of a day number and a tick of that day.

@@ -21,7 +21,9 @@ use crate::signed::magnitude;
 use crate::signed::signed;
 use crate::units::Micros;
 use crate::units::Millis;
+use crate::units::Named;
 use crate::units::Nanos;
+use crate::units::which;
 
 // The greatest magnitude of a signed number of 64 bits.
 const GREATEST: u64 = 0x7fff_ffff_ffff_ffff;
@@ -41,16 +43,13 @@ pub enum Encoded {
 pub fn encode(unit: u32, fields: Fields) -> Encoded
     ensures { λ r. ⌜ encoded r ≡ encoding (unitOf unit) fields ⌝ }
 {
-    if unit == Millis::NUMBER {
-        return encode_in(Millis::TICKS_PER_SECOND, Millis::TICKS_PER_DAY, fields);
+    let named = which(unit);
+    match named {
+        Named::Millis => encode_in(Millis::TICKS_PER_SECOND, Millis::TICKS_PER_DAY, fields),
+        Named::Micros => encode_in(Micros::TICKS_PER_SECOND, Micros::TICKS_PER_DAY, fields),
+        Named::Nanos => encode_in(Nanos::TICKS_PER_SECOND, Nanos::TICKS_PER_DAY, fields),
+        Named::Unknown => Encoded::UnknownUnit,
     }
-    if unit == Micros::NUMBER {
-        return encode_in(Micros::TICKS_PER_SECOND, Micros::TICKS_PER_DAY, fields);
-    }
-    if unit == Nanos::NUMBER {
-        return encode_in(Nanos::TICKS_PER_SECOND, Nanos::TICKS_PER_DAY, fields);
-    }
-    Encoded::UnknownUnit
 }
 
 // The count of the fields at so many ticks in a second and in a day.

@@ -1,7 +1,7 @@
 // The three time units, each a type that knows its ticks in a second and in a day and divides a count into days.
 
 ghost use mathlib.Core.Path.{_≡_};
-ghost use Rattle.timestamp.specs.Units.{millis, micros, nanos, ticksPerSecond, ticksPerDay, unitOf};
+ghost use Rattle.timestamp.specs.Units.{millis, micros, nanos, ticksPerSecond, ticksPerDay, unitOf, unitNamed};
 ghost use Rattle.timestamp.specs.FloorDivision.{FloorDivision};
 ghost use Rattle.timestamp.specs.Outcomes.{dayTicks, ticksInDay};
 use crate::division::Division;
@@ -67,6 +67,30 @@ impl Nanos {
     }
 }
 
+// The unit that a number names, if any.
+pub enum Named {
+    Millis,
+    Micros,
+    Nanos,
+    Unknown,
+}
+
+// Reads a unit's number, here and nowhere else.
+pub(crate) fn which(unit: u32) -> Named
+    ensures { λ r. ⌜ unitNamed r ≡ unitOf unit ⌝ }
+{
+    if unit == Millis::NUMBER {
+        return Named::Millis;
+    }
+    if unit == Micros::NUMBER {
+        return Named::Micros;
+    }
+    if unit == Nanos::NUMBER {
+        return Named::Nanos;
+    }
+    Named::Unknown
+}
+
 // What the ticks of a day are.
 pub enum DayTicks {
     Ticks(u64),
@@ -78,14 +102,11 @@ pub enum DayTicks {
 pub fn ticks_per_day(unit: u32) -> DayTicks
     ensures { λ r. ⌜ dayTicks r ≡ ticksInDay (unitOf unit) ⌝ }
 {
-    if unit == Millis::NUMBER {
-        return DayTicks::Ticks(Millis::TICKS_PER_DAY);
+    let named = which(unit);
+    match named {
+        Named::Millis => DayTicks::Ticks(Millis::TICKS_PER_DAY),
+        Named::Micros => DayTicks::Ticks(Micros::TICKS_PER_DAY),
+        Named::Nanos => DayTicks::Ticks(Nanos::TICKS_PER_DAY),
+        Named::Unknown => DayTicks::UnknownUnit,
     }
-    if unit == Micros::NUMBER {
-        return DayTicks::Ticks(Micros::TICKS_PER_DAY);
-    }
-    if unit == Nanos::NUMBER {
-        return DayTicks::Ticks(Nanos::TICKS_PER_DAY);
-    }
-    DayTicks::UnknownUnit
 }
