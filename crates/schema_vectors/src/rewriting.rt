@@ -84,7 +84,12 @@ fn print_again(sheet: &[u8]) {
     schema::rewrite(sheet, &mut again, 0);
     if sheet.len() <= again.len() {
         let length = sheet.len();
-        print_same(sheet, &again[..length], b" again the same", b" again another");
+        print_same(
+            sheet,
+            &again[..length],
+            b" again the same",
+            b" again another",
+        );
     }
 }
 
