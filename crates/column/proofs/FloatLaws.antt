@@ -2,10 +2,10 @@
 use mathlib.Core.Path.{_≡_, sym, _∙_}
 use mathlib.Core.Bool.{true, not}
 use Prim.Native.Nat.{ℕ, _*_, _%_, _<_, _≤_}
-use borrow.Author.Tests.{lt-ltb, le-ltb}
 use lib.Dec.{T}
 use lib.Ieee.{Float, Format, nan, inf, fin, hid, ones, top, ofBits, nanBits, isNan}
 use lib.Ieee.Bits.{nanBits-is, nanBits-above}
+use borrow.Author.Tests.{lt-ltb, le-ltb}
 
 is-nan : (x : Float) → isNan x ≡ true → x ≡ nan
 unfolding isNan

@@ -7,13 +7,13 @@ use Prim.Native.Nat.{ℕ, zero, suc, _+_, _-_, _*_, _/_, _^_, _<_, _≤_}
 use native.Mathlib.Nat.{lt-of-lt-of-le, one-mul, div-eq-of-lt, div-lt-iff-lt-mul, div-div-eq-div-mul, pow-suc, one-le-pow, pow-le-pow-right, two-pow-succ}
 use native.Mathlib.Numerals.{add-one}
 use native.Mathlib.Omega.{arith}
-use borrow.Author.Tests.{lt-ltb, le-ltb, ltb-true, ltb-false, eq-eqb, ne-eqb}
 use lib.Dec.{leb, ltb, eqb, leb·suc-suc}
 use lib.IntN.{ℤ, pos, negsuc, negℤ}
 use lib.ListN.{length, getD, drop}
 use lib.Pow.{suc-ones}
 use lib.Seq.{drop-cons}
 use lib.Signed.{mag, leZ, ltZ}
+use borrow.Author.Tests.{lt-ltb, le-ltb, ltb-true, ltb-false, eq-eqb, ne-eqb}
 use Rattle.decimal.proofs.NumberLaws.{lt-or-ge, subℕ-<, subℕ-≥}
 use Rattle.column.specs.Numbers.{little, twosComplement}
 use Rattle.column.specs.Annotations.{inSignedBits}

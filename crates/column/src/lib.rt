@@ -1,10 +1,18 @@
 // Single values: one value of a column, checked for refusals 20, 15 and 16 and read.
+
+// Which values keep the annotation of their column.
 mod annotations;
+// The codes of a column type.
 pub mod codes;
+// The floats of bit patterns.
 mod floats;
+// The lengths that values have.
 mod lengths;
+// The numbers that bytes stand for.
 mod numbers;
+// Reading a value.
 pub mod reading;
+// A value that was read, and what reading answers.
 pub mod value;
 
 pub use lengths::is_byte_decimal;

@@ -9,7 +9,6 @@ use mathlib.Core.Logic.{_⊎_, inl, inr, ⊎-elim}
 use Prim.Native.Nat.{ℕ, zero, suc, _+_, _-_, _*_, _/_, _%_, _^_, _≤_, _<_}
 use native.Mathlib.Nat.{le-refl, le-of-lt, lt-irrefl, lt-of-lt-of-le, lt-of-mul-lt-mul-right, mul-lt-mul-of-pos-right, mul-le-mul, mul-le-mul-right, mul-pos, mul-one, zero-mul, zero-add, add-zero, mod-lt, mul-comm, mul-assoc, add-mul, mul-add, mul-right-comm, suc-mul, two-pow-succ, eq-or-lt-of-le}
 use native.Mathlib.Omega.{arith}
-use borrow.Author.Tests.{not-false, lt-ltb, le-ltb, ltb-true, ltb-false, eq-eqb, ne-eqb, eqb-true, eqb-false}
 use lib.Dec.{leb, ltb, eqb, leb·suc-suc}
 use lib.Ieee.{Float, nan, inf, fin, Format, binary32, binary64, up, down, low, hid, ones, top, below, level, lt, eq, ofFields, ofBits, nanBits, prec, odd}
 use lib.Ieee.Bits.{nanBits-above}
@@ -18,6 +17,7 @@ use lib.Ieee.Fits.{down-pos}
 use lib.Pow.{pow-pos, pow-mono}
 use lib.IntN.{ℤ, pos, negℤ}
 use lib.Signed.{ltZ}
+use borrow.Author.Tests.{not-false, lt-ltb, le-ltb, ltb-true, ltb-false, eq-eqb, ne-eqb, eqb-true, eqb-false}
 use Rattle.decimal.proofs.NumberLaws.{lt-or-ge}
 use Rattle.column.proofs.NumberLaws.{ltb-same}
 use Rattle.column.proofs.FloatLaws.{nan-above}

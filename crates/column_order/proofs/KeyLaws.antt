@@ -4,11 +4,11 @@ use mathlib.Core.Bool.{Bool, true, false, not, cond, _||_}
 use mathlib.Core.List.{List}
 use Prim.Native.Nat.{ℕ}
 use native.Mathlib.Omega.{arith}
-use borrow.Author.Tests.{leb-true, eqb-true, eqb-false}
 use lib.Dec.{eqb}
 use lib.Ieee.{binary32, binary64, ofBits}
 use lib.IntN.{pos}
 use lib.ListN.{length}
+use borrow.Author.Tests.{leb-true, eqb-true, eqb-false}
 use Rattle.column_type.specs.declared.types.ColumnType.{ColumnType}
 use Rattle.decimal.specs.Precision.{isLength}
 use Rattle.decimal.specs.Number.{number}

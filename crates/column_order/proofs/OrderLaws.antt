@@ -5,11 +5,11 @@ use mathlib.Core.Bool.{Bool, true, false, cond, _||_, _&&_}
 use mathlib.Core.List.{List}
 use mathlib.Core.Logic.{_↔_, _⊎_, inl, inr, ⊎-elim}
 use Prim.Native.Nat.{ℕ}
-use borrow.Author.Tests.{eqb-true}
 use lib.Dec.{eqb}
 use lib.Ieee.{Format, binary32, binary64, nanBits}
 use lib.IntN.{ℤ, pos}
 use lib.Signed.{_<ℤ_}
+use borrow.Author.Tests.{eqb-true}
 use Rattle.annotation.specs.Meaning.{annotationOf}
 use Rattle.annotation.specs.Parameters.{validParameters}
 use Rattle.annotation.specs.Rule9.{rule9}

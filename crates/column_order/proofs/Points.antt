@@ -1,7 +1,7 @@
 -- The starred points of document 01 that single values have, by computation from the definitions.
-use Prim.Native.Nat.{ℕ}
 use mathlib.Core.Path.{_≡_, refl}
 use mathlib.Core.List.{List, [], _∷_}
+use Prim.Native.Nat.{ℕ}
 use Rattle.annotation.specs.Backward.{backwardOf}
 use Rattle.annotation.specs.Meaning.{annotationOf}
 use Rattle.annotation.specs.Parameters.{unitOf, bitWidthOf, validParameters}

@@ -1,7 +1,7 @@
 -- `column_lines::print_double` is safe: a float that does not differ from itself is no NaN.
 -- Assumes nothing.
-use Rattle.column_lines.proofs.FloatLaws.{no-nan}
 use borrow.Author.Needs.{needs}
+use Rattle.column_lines.proofs.FloatLaws.{no-nan}
 use Rattle.column_lines.proofs.print_double.Statement.{statement}
 use Rattle.column_lines.proofs.print_double.Tie as tie
 

@@ -1,14 +1,14 @@
 -- `column_lines::print_signed` is safe: a number below 0 is one more than its magnitude from 0.
 -- Assumes nothing.
+use mathlib.Core.Path.{_≡_, sym, ap, subst}
 use Prim.Native.Nat.{ℕ, _+_}
 use native.Mathlib.Omega.{arith}
-use mathlib.Core.Path.{_≡_, sym, ap, subst}
 use lib.IntN.{pos, negsuc, natAbs, _-ℤ_}
 use lib.Signed.{mag}
 use mir.Syntax.{w64}
 use mir.Val.{Fits, SFits, toZ, ofZ}
-use Rattle.timestamp.proofs.SignedLaws.{below-zero, read-back, cast-fits, sign-told, complement-read, nonnegative-read}
 use borrow.Author.Needs.{needs}
+use Rattle.timestamp.proofs.SignedLaws.{below-zero, read-back, cast-fits, sign-told, complement-read, nonnegative-read}
 use Rattle.column_lines.proofs.print_signed.Statement.{statement}
 use Rattle.column_lines.proofs.print_signed.Tie as tie
 

@@ -1,7 +1,7 @@
 -- `column_values::number` is safe and ends. The invariant: the digits passed make a number of 32 bits.
 -- Assumes nothing.
-use native.Mathlib.Omega.{arith}
 use Prim.Native.Nat.{_≤_, _-_}
+use native.Mathlib.Omega.{arith}
 use lib.ListN.{length}
 use Rattle.column_values.proofs.number.Statement.{statement}
 use Rattle.column_values.proofs.number.Tie as tie

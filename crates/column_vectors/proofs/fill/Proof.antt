@@ -1,8 +1,8 @@
 -- `column_vectors::fill` is safe and ends: it counts up, and the slice keeps its length.
 -- Assumes nothing.
-use native.Mathlib.Omega.{arith}
 use mathlib.Core.Path.{_≡_}
 use Prim.Native.Nat.{_≤_, _-_}
+use native.Mathlib.Omega.{arith}
 use lib.ListN.{length, length-set}
 use Rattle.column_vectors.proofs.fill.Statement.{statement}
 use Rattle.column_vectors.proofs.fill.Tie as tie

@@ -1,8 +1,8 @@
 -- `column_vectors::print_orders` is safe: each value lies within its room.
 -- Assumes nothing.
 use mathlib.Core.Path.{sym}
-use lib.Seq.{length-take-le}
 use native.Mathlib.Omega.{arith}
+use lib.Seq.{length-take-le}
 use borrow.Author.Needs.{needs}
 use Rattle.column_vectors.proofs.print_orders.Statement.{statement}
 use Rattle.column_vectors.proofs.print_orders.Tie as tie

@@ -1,8 +1,8 @@
 -- `column_vectors::print_read` is safe: the value lies within its room.
 -- Assumes nothing.
 use mathlib.Core.Path.{sym}
-use lib.Seq.{length-take-le}
 use native.Mathlib.Omega.{arith}
+use lib.Seq.{length-take-le}
 use borrow.Author.Needs.{needs}
 use Rattle.column_vectors.proofs.print_read.Statement.{statement}
 use Rattle.column_vectors.proofs.print_read.Tie as tie

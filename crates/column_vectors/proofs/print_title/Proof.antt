@@ -1,8 +1,8 @@
 -- `column_vectors::print_title` is safe: the title lies within the room.
 -- Assumes nothing.
 use mathlib.Core.Path.{sym}
-use lib.Seq.{length-take-le}
 use native.Mathlib.Omega.{arith}
+use lib.Seq.{length-take-le}
 use borrow.Author.Needs.{needs}
 use Rattle.column_vectors.proofs.print_title.Statement.{statement}
 use Rattle.column_vectors.proofs.print_title.Tie as tie

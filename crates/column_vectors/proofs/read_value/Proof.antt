@@ -1,8 +1,8 @@
 -- `column_vectors::read_value` is safe: what is read and what is filled lie within the room.
 -- Assumes nothing.
 use mathlib.Core.Path.{sym}
-use lib.Seq.{length-take-le}
 use native.Mathlib.Omega.{arith}
+use lib.Seq.{length-take-le}
 use borrow.Author.Needs.{needs}
 use Rattle.column_vectors.proofs.read_value.Statement.{statement}
 use Rattle.column_vectors.proofs.read_value.Tie as tie

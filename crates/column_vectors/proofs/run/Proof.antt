@@ -1,9 +1,9 @@
 -- `column_vectors::run` is safe and ends: it counts up, and the room keeps its length.
 -- Assumes nothing.
-use borrow.Author.Needs.{needs}
 use mathlib.Core.Path.{_≡_}
 use Prim.Native.Nat.{_≤_, _-_}
 use lib.ListN.{length}
+use borrow.Author.Needs.{needs}
 use Rattle.column_vectors.proofs.run.Statement.{statement}
 use Rattle.column_vectors.proofs.run.Tie as tie
 

@@ -2,8 +2,8 @@
 -- Assumes nothing.
 use mathlib.Core.Path.{sym, _∙_}
 use borrow.Author.Tests.{eq-eqb, ne-eqb}
-use Rattle.column.specs.Annotations.{bytesKeep}
 use borrow.Author.Needs.{needs}
+use Rattle.column.specs.Annotations.{bytesKeep}
 use Rattle.column.proofs.annotations.bytes_keep.Statement.{statement}
 use Rattle.column.proofs.annotations.bytes_keep.Tie as tie
 

@@ -1,11 +1,11 @@
 -- `column::annotations::decimal_keeps` meets its contract.
 -- Assumes nothing.
 use mathlib.Core.Path.{_≡_, sym, ap, _∙_}
-use Rattle.decimal.specs.declared.fit.Fit.{Fit}
-use Rattle.column.proofs.DecimalLaws.{isWithin, fits-within}
-use Rattle.column.specs.Annotations.{inDigits}
-use Rattle.decimal.specs.Number.{number}
 use borrow.Author.Needs.{needs}
+use Rattle.decimal.specs.declared.fit.Fit.{Fit}
+use Rattle.decimal.specs.Number.{number}
+use Rattle.column.specs.Annotations.{inDigits}
+use Rattle.column.proofs.DecimalLaws.{isWithin, fits-within}
 use Rattle.column.proofs.annotations.decimal_keeps.Statement.{statement}
 use Rattle.column.proofs.annotations.decimal_keeps.Tie as tie
 

@@ -1,9 +1,9 @@
 -- `column::annotations::in_day` meets its contract: by the unit, then by the sign.
 -- Assumes nothing.
 use mathlib.Core.Path.{sym, ap, _∙_}
+use borrow.Author.Needs.{needs}
 use Rattle.timestamp.specs.Outcomes.{dayTicks}
 use Rattle.column.proofs.DayLaws.{day-negative, day-below, day-unknown}
-use borrow.Author.Needs.{needs}
 use Rattle.column.proofs.annotations.in_day.Statement.{statement}
 use Rattle.column.proofs.annotations.in_day.Tie as tie
 

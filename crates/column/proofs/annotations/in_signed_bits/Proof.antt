@@ -4,9 +4,9 @@ use mathlib.Core.Path.{ap, _∙_}
 use Prim.Native.Nat.{ℕ, _*_, _^_}
 use native.Mathlib.Omega.{arith}
 use lib.Dec.{ltb}
+use borrow.Author.Needs.{needs}
 use Rattle.column.specs.Numbers.{twosComplement}
 use Rattle.column.proofs.NumberLaws.{twos-mag-<, inSignedBits-mag}
-use borrow.Author.Needs.{needs}
 use Rattle.column.proofs.annotations.in_signed_bits.Statement.{statement}
 use Rattle.column.proofs.annotations.in_signed_bits.Tie as tie
 

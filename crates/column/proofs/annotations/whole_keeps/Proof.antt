@@ -1,8 +1,8 @@
 -- `column::annotations::whole_keeps` meets its contract, by the kind.
 -- Assumes nothing.
 use borrow.Author.Tests.{eq-eqb, ne-eqb}
-use Rattle.column.specs.Annotations.{wholeKeeps}
 use borrow.Author.Needs.{needs}
+use Rattle.column.specs.Annotations.{wholeKeeps}
 use Rattle.column.proofs.annotations.whole_keeps.Statement.{statement}
 use Rattle.column.proofs.annotations.whole_keeps.Tie as tie
 

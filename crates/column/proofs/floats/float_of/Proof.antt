@@ -2,8 +2,8 @@
 -- Assumes nothing.
 use mathlib.Core.Path.{sym}
 use lib.Ieee.{binary32, ofBits, div}
-use Rattle.column.proofs.FloatLaws.{nan-above, not-nan-below}
 use borrow.Author.Needs.{needs}
+use Rattle.column.proofs.FloatLaws.{nan-above, not-nan-below}
 use Rattle.column.proofs.floats.float_of.Statement.{statement}
 use Rattle.column.proofs.floats.float_of.Tie as tie
 

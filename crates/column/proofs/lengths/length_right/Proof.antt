@@ -2,8 +2,8 @@
 -- Assumes nothing.
 use mathlib.Core.Path.{sym, _∙_}
 use borrow.Author.Tests.{le-leb, lt-leb, not-true, not-false}
-use Rattle.column.specs.Lengths.{lengthRight}
 use borrow.Author.Needs.{needs}
+use Rattle.column.specs.Lengths.{lengthRight}
 use Rattle.column.proofs.lengths.length_right.Statement.{statement}
 use Rattle.column.proofs.lengths.length_right.Tie as tie
 

@@ -4,8 +4,8 @@ use mathlib.Core.Path.{sym}
 use native.Mathlib.Nat.{lt-of-lt-of-le}
 use lib.Pow.{pow-pos, pow-mono}
 use borrow.Author.Tests.{lt-ltb}
-use Rattle.column.proofs.NumberLaws.{div-eqb}
 use borrow.Author.Needs.{needs}
+use Rattle.column.proofs.NumberLaws.{div-eqb}
 use Rattle.column.proofs.numbers.in_bits.Statement.{statement}
 use Rattle.column.proofs.numbers.in_bits.Tie as tie
 

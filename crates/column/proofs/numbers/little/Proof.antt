@@ -1,12 +1,12 @@
 -- `column::numbers::little` meets its contract. The invariant: `n` is the number of the bytes from `at` on, and below 256 for each of them.
 -- Assumes nothing.
-use Rattle.decimal.proofs.UnsignedLaws.{pow-pos256}
 use mathlib.Core.Path.{_≡_, sym, ap, subst}
 use Prim.Native.Nat.{ℕ, _-_, _^_, _≤_, _<_}
 use native.Mathlib.Nat.{lt-of-lt-of-le, pow-le-pow-right}
 use native.Mathlib.Omega.{arith}
 use lib.ListN.{length, drop}
 use lib.Seq.{drop-length}
+use Rattle.decimal.proofs.UnsignedLaws.{pow-pos256}
 use Rattle.column.specs.Numbers.{little}
 use Rattle.column.proofs.NumberLaws.{little-back, power-back, little-start}
 use Rattle.column.proofs.numbers.little.Statement.{statement}

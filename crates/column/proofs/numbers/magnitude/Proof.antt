@@ -2,8 +2,8 @@
 -- Assumes nothing.
 use mathlib.Core.Path.{sym, ap}
 use lib.Signed.{mag}
-use Rattle.column.proofs.NumberLaws.{twos-below, twos-above}
 use borrow.Author.Needs.{needs}
+use Rattle.column.proofs.NumberLaws.{twos-below, twos-above}
 use Rattle.column.proofs.numbers.magnitude.Statement.{statement}
 use Rattle.column.proofs.numbers.magnitude.Tie as tie
 

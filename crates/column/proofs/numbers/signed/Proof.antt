@@ -8,9 +8,9 @@ use lib.Signed.{mag}
 use mir.Syntax.{w64}
 use mir.Val.{SFits, toZ}
 use mir.ValLaws.{toZ-pos}
+use borrow.Author.Needs.{needs}
 use Rattle.timestamp.proofs.SignedLaws.{complement-nonnegative, read-back}
 use Rattle.column.proofs.NumberLaws.{twos-below, twos-above, twos-mag-<}
-use borrow.Author.Needs.{needs}
 use Rattle.column.proofs.numbers.signed.Statement.{statement}
 use Rattle.column.proofs.numbers.signed.Tie as tie
 

@@ -6,6 +6,7 @@ use mathlib.Core.List.{List}
 use Prim.Native.Nat.{ℕ}
 use lib.ListN.{length}
 use borrow.Author.Tests.{eq-eqb, ne-eqb, not-true, not-false}
+use borrow.Author.Needs.{needs}
 use Rattle.column_type.specs.Lawful.{isLawful}
 use Rattle.column_type.specs.declared.types.ColumnType.{ColumnType}
 use Rattle.column.specs.declared.value.Read.{Read}
@@ -13,7 +14,6 @@ use Rattle.column.specs.Lengths.{lengthRight}
 use Rattle.column.specs.Annotations.{keeps}
 use Rattle.column.specs.Reading.{readOf}
 use Rattle.column.specs.Outcome.{outcomeOf, outcome}
-use borrow.Author.Needs.{needs}
 use Rattle.column.proofs.reading.read.Statement.{statement}
 use Rattle.column.proofs.reading.read.Tie as tie
 

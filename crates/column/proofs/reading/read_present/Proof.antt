@@ -5,62 +5,63 @@ use Prim.Native.Nat.{ℕ, _<_, _^_}
 use native.Mathlib.Omega.{arith}
 use lib.ListN.{length}
 use borrow.Author.Tests.{ne-eqb}
+use borrow.Author.Needs.{needs}
 use Rattle.column.specs.Numbers.{little}
 use Rattle.column.specs.Annotations.{wholeKeeps, bytesKeep, keeps}
 use Rattle.column.specs.Reading.{valueOf}
 use Rattle.column.proofs.LengthLaws.{width-right, decimal-right}
-use borrow.Author.Needs.{needs}
 use Rattle.column.proofs.reading.read_present.Statement.{statement}
 use Rattle.column.proofs.reading.read_present.Tie as tie
 
-bytes1 : (c : tie.At-match-keys1) → length (c .before .before .args .value .now) ≡ 1
-bytes1 c = width-right _ _ (c .before .before .pre .0) 1 (rw (c .match .keys1))
+-- the length of a value of each physical type
+boolean-bytes : (c : tie.At-match-keys1) → length (c .before .before .args .value .now) ≡ 1
+boolean-bytes c = width-right _ _ (c .before .before .pre .0) 1 (rw (c .match .keys1))
 
-bytes2 : (c : tie.At-match-keys2) → length (c .before .before .args .value .now) ≡ 4
-bytes2 c = width-right _ _ (c .before .before .pre .0) 4 (rw (c .match .keys2))
+int32-bytes : (c : tie.At-match-keys2) → length (c .before .before .args .value .now) ≡ 4
+int32-bytes c = width-right _ _ (c .before .before .pre .0) 4 (rw (c .match .keys2))
 
-bytes3 : (c : tie.At-match-keys3) → length (c .before .before .args .value .now) ≡ 8
-bytes3 c = width-right _ _ (c .before .before .pre .0) 8 (rw (c .match .keys3))
+int64-bytes : (c : tie.At-match-keys3) → length (c .before .before .args .value .now) ≡ 8
+int64-bytes c = width-right _ _ (c .before .before .pre .0) 8 (rw (c .match .keys3))
 
-bytes4 : (c : tie.At-match-keys4) → length (c .before .before .args .value .now) ≡ 4
-bytes4 c = width-right _ _ (c .before .before .pre .0) 4 (rw (c .match .keys4))
+float-bytes : (c : tie.At-match-keys4) → length (c .before .before .args .value .now) ≡ 4
+float-bytes c = width-right _ _ (c .before .before .pre .0) 4 (rw (c .match .keys4))
 
-bytes5 : (c : tie.At-match-keys5) → length (c .before .before .args .value .now) ≡ 8
-bytes5 c = width-right _ _ (c .before .before .pre .0) 8 (rw (c .match .keys5))
+double-bytes : (c : tie.At-match-keys5) → length (c .before .before .args .value .now) ≡ 8
+double-bytes c = width-right _ _ (c .before .before .pre .0) 8 (rw (c .match .keys5))
 
 little-requires : tie.Need-little-requires
-little-requires c κs = omega (arith, bytes1 c)
+little-requires c κs = omega (arith, boolean-bytes c)
 
 read-truth-requires : tie.Need-read-truth-requires
 read-truth-requires c κs = search needs
 
 little-requires-2 : tie.Need-little-requires-2
-little-requires-2 c κs = omega (arith, bytes2 c)
+little-requires-2 c κs = omega (arith, int32-bytes c)
 
 read-whole-requires : tie.Need-read-whole-requires
 read-whole-requires c κs =
-    let e = bytes2 (c .before) in
+    let e = int32-bytes (c .before) in
     (subst (λ (n : ℕ). c .little2 .result < 256 ^ n) e (c .little2 .ensures .1), omega arith)
 
 little-requires-3 : tie.Need-little-requires-3
-little-requires-3 c κs = omega (arith, bytes3 c)
+little-requires-3 c κs = omega (arith, int64-bytes c)
 
 read-whole-requires-2 : tie.Need-read-whole-requires-2
 read-whole-requires-2 c κs = search needs
 
 little-requires-4 : tie.Need-little-requires-4
-little-requires-4 c κs = omega (arith, bytes4 c)
+little-requires-4 c κs = omega (arith, float-bytes c)
 
 cast-float-of : tie.Need-cast-float-of
 cast-float-of c =
-    let e = bytes4 (c .before) in
+    let e = float-bytes (c .before) in
     record { fits = subst (λ (n : ℕ). c .little4 .result < 256 ^ n) e (c .little4 .ensures .1) }
 
 float-of-requires : tie.Need-float-of-requires
 float-of-requires c κs = search needs
 
 little-requires-5 : tie.Need-little-requires-5
-little-requires-5 c κs = omega (arith, bytes5 c)
+little-requires-5 c κs = omega (arith, double-bytes c)
 
 double-of-requires : tie.Need-double-of-requires
 double-of-requires c κs = search needs
@@ -84,13 +85,13 @@ returns-2 : tie.Need-returns-2
 unfolding keeps wholeKeeps valueOf
 returns-2 c =
     let s = c .before .before .before .before in
-    rw (s .pre .1, c .before .before .match .keys2, bytes2 (c .before .before), ← c .before .little2 .ensures .0) (c .read-whole .ensures)
+    rw (s .pre .1, c .before .before .match .keys2, int32-bytes (c .before .before), ← c .before .little2 .ensures .0) (c .read-whole .ensures)
 
 returns-3 : tie.Need-returns-3
 unfolding keeps wholeKeeps valueOf
 returns-3 c =
     let s = c .before .before .before .before in
-    rw (s .pre .1, c .before .before .match .keys3, bytes3 (c .before .before), ← c .before .little3 .ensures .0) (c .read-whole2 .ensures)
+    rw (s .pre .1, c .before .before .match .keys3, int64-bytes (c .before .before), ← c .before .little3 .ensures .0) (c .read-whole2 .ensures)
 
 returns-4 : tie.Need-returns-4
 unfolding keeps valueOf

@@ -1,14 +1,14 @@
 -- `column::reading::read_whole` meets its contract: 16, then the number with its sign or without.
 -- Assumes nothing.
-use native.Mathlib.Nat.{lt-of-lt-of-le}
-use Rattle.timestamp.proofs.SignedLaws.{read-back}
-use Rattle.column.proofs.NumberLaws.{twos-mag-<}
 use mathlib.Core.Path.{_≡_, sym, _∙_}
 use mathlib.Core.Bool.{true}
+use native.Mathlib.Nat.{lt-of-lt-of-le}
 use borrow.Author.Tests.{not-true, not-false}
+use borrow.Author.Needs.{needs}
+use Rattle.timestamp.proofs.SignedLaws.{read-back}
 use Rattle.column.specs.Numbers.{twosComplement}
 use Rattle.column.specs.Annotations.{wholeKeeps}
-use borrow.Author.Needs.{needs}
+use Rattle.column.proofs.NumberLaws.{twos-mag-<}
 use Rattle.column.proofs.reading.read_whole.Statement.{statement}
 use Rattle.column.proofs.reading.read_whole.Tie as tie
 

@@ -5,6 +5,7 @@ use mathlib.Core.Bool.{true}
 use mathlib.Core.List.{List}
 use Prim.Native.Nat.{ℕ}
 use borrow.Author.Tests.{not-true, not-false}
+use borrow.Author.Needs.{needs}
 use Rattle.column_type.specs.declared.types.ColumnType.{ColumnType}
 use Rattle.column_type.specs.Lawful.{isLawful}
 use Rattle.column.specs.Reading.{readOf}
@@ -13,7 +14,6 @@ use Rattle.column_order.specs.Keys.{keyOf, keyOrder}
 use Rattle.column_order.specs.Order.{unlessRefused, orderOf}
 use Rattle.column_order.specs.Outcome.{outcomeOf, outcome}
 use Rattle.column_order.specs.declared.answer.Order.{Order}
-use borrow.Author.Needs.{needs}
 use Rattle.column_order.proofs.ordering.order.Statement.{statement}
 use Rattle.column_order.proofs.ordering.order.Tie as tie
 

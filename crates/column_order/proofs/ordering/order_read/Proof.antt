@@ -4,10 +4,10 @@ use mathlib.Core.Path.{sym, ap, _∙_}
 use lib.IntN.{ℤ}
 use mir.Syntax.{w64}
 use mir.ValLaws.{toZ-ofZ}
+use borrow.Author.Needs.{needs}
 use Rattle.column.specs.declared.value.Value.{Value}
 use Rattle.column_order.specs.Values.{signedOrder, stretchOrder}
 use Rattle.column_order.proofs.KeyLaws.{valueOrder, read-order, read-lengths}
-use borrow.Author.Needs.{needs}
 use Rattle.column_order.proofs.ordering.order_read.Statement.{statement}
 use Rattle.column_order.proofs.ordering.order_read.Tie as tie
 

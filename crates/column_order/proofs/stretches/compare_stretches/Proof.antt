@@ -1,8 +1,8 @@
 -- `column_order::stretches::compare_stretches` meets its contract.
 -- Assumes nothing.
 use mathlib.Core.Path.{sym, _∙_}
-use Rattle.column_order.specs.Values.{stretchOrder}
 use borrow.Author.Needs.{needs}
+use Rattle.column_order.specs.Values.{stretchOrder}
 use Rattle.column_order.proofs.stretches.compare_stretches.Statement.{statement}
 use Rattle.column_order.proofs.stretches.compare_stretches.Tie as tie
 

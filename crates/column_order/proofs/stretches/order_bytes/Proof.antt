@@ -1,13 +1,13 @@
 -- `column_order::stretches::order_bytes` meets its contract. The invariant: from `at` on the bytes are ordered as the wholes are.
 -- Assumes nothing.
 use mathlib.Core.Path.{refl, sym, _∙_}
-use native.Mathlib.Omega.{arith}
-use native.Mathlib.Numerals.{add-one}
-use Rattle.column_order.proofs.ByteLaws.{byteOrder-longer, byteOrder-shorter, byteOrder-ended, byteOrder-<, byteOrder->, byteOrder-same}
 use mathlib.Core.Path.{_≡_}
 use Prim.Native.Nat.{_-_, _≤_}
+use native.Mathlib.Omega.{arith}
+use native.Mathlib.Numerals.{add-one}
 use lib.ListN.{length, drop}
 use Rattle.column_order.specs.Keys.{byteOrder}
+use Rattle.column_order.proofs.ByteLaws.{byteOrder-longer, byteOrder-shorter, byteOrder-ended, byteOrder-<, byteOrder->, byteOrder-same}
 use Rattle.column_order.proofs.stretches.order_bytes.Statement.{statement}
 use Rattle.column_order.proofs.stretches.order_bytes.Tie as tie
 

@@ -1,11 +1,11 @@
 -- `column_order::stretches::order_decimals` meets its contract: the order of numbers by the crate `decimal`, case by case.
 -- Assumes nothing.
 use mathlib.Core.Path.{_≡_, sym, ap, _∙_}
+use borrow.Author.Needs.{needs}
 use Rattle.decimal.specs.declared.order.Order.{Order}
 use Rattle.decimal.specs.Number.{number}
 use Rattle.column_order.specs.Keys.{wholeOrder}
 use Rattle.column_order.proofs.WholeLaws.{named, decimal-named}
-use borrow.Author.Needs.{needs}
 use Rattle.column_order.proofs.stretches.order_decimals.Statement.{statement}
 use Rattle.column_order.proofs.stretches.order_decimals.Tie as tie
 

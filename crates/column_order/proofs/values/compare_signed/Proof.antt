@@ -3,8 +3,8 @@
 use mathlib.Core.Path.{_∙_, ap₂}
 use mir.Syntax.{w64}
 use mir.ValLaws.{toZ-ofZ}
-use Rattle.column_order.specs.Keys.{wholeOrder}
 use borrow.Author.Needs.{needs}
+use Rattle.column_order.specs.Keys.{wholeOrder}
 use Rattle.column_order.proofs.values.compare_signed.Statement.{statement}
 use Rattle.column_order.proofs.values.compare_signed.Tie as tie
 
