@@ -18,13 +18,14 @@ use Rattle.annotation.specs.Rule10.{annotationOn, rule10}
 use Rattle.annotation.specs.Rule11.{isDecimal, decimalHolds, rule11}
 use Rattle.annotation.specs.Kinds.{PLAIN-GROUP, kindAs, kindOf}
 use Rattle.annotation.specs.Outcome.{resolutionOf}
-use Rattle.annotation.specs.Rewriting.{writtenAs, writtenOf, withWritten, rewritten}
+use Rattle.annotation.specs.Rewriting.{writtenAs, writtenOf, rewritingOf, outcomeOf, outcome, withWritten, rewritten}
 use Rattle.annotation.specs.declared.types.LogicalType.{LogicalType}
 use Rattle.annotation.specs.declared.types.Annotation.{Annotation}
 use Rattle.annotation.specs.declared.slot.Annotated.{Annotated}
 use Rattle.annotation.specs.declared.resolution.Kind.{Kind}
 use Rattle.annotation.specs.declared.resolution.Resolution.{Resolution}
 use Rattle.annotation.specs.declared.rewriting.Written.{Written}
+use Rattle.annotation.specs.declared.rewriting.Rewriting.{Rewriting}
 use Rattle.annotation.proofs.ConversionLaws.{forward-decimal}
 use Rattle.annotation.proofs.SpellingLaws.{stated-spelled, code-stands}
 use Rattle.annotation.proofs.PlacementLaws.{kind-logical}
@@ -170,3 +171,8 @@ module _ (n : Annotated) (underMap : Bool) (nine : rule9 n ≡ true) (ten : rule
   unfolding rewritten writtenOf
   decimal-rewritten e =
       written-decimal (annotationOf n underMap) (decimal-by-either (eqb (n .converted) converted.DECIMAL) refl e)
+
+-- an answer that rewriting gives has the slot's outcome
+pub with-outcome : (n : Annotated) (underMap : Bool) (r : Rewriting) → r ≡ rewritingOf n underMap → (r ≡ rewritingOf n underMap) × (outcomeOf r ≡ outcome n underMap)
+unfolding outcome
+with-outcome n underMap r e = (e, ap outcomeOf e)

@@ -50,6 +50,10 @@ abbrev pub outcomeOf : Rewriting → Outcome Written
 outcomeOf (Rewriting.Written w) = given w
 outcomeOf (Rewriting.Refused number) = refused number
 
+-- the outcome of rewriting any slot
+unfoldable pub outcome : Annotated → Bool → Outcome Written
+outcome n underMap = outcomeOf (rewritingOf n underMap)
+
 -- a slot's numbers with others for its annotations: "All else .. is copied"
 abbrev pub withWritten : Annotated → Written → Annotated
 withWritten n w =

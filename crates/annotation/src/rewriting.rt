@@ -1,6 +1,6 @@
 // What the rewritten sheet says of a node.
 ghost use mathlib.Core.Path.{_≡_};
-ghost use Rattle.annotation.specs.Rewriting.{rewritingOf, writtenOf, writtenAs, convertedWritten, logicalWritten};
+ghost use Rattle.annotation.specs.Rewriting.{rewritingOf, outcomeOf, outcome, writtenOf, writtenAs, convertedWritten, logicalWritten};
 use crate::conversion::forward;
 use crate::converted;
 use crate::logical;
@@ -33,6 +33,7 @@ pub enum Rewriting {
 // that resolves says once it is rewritten. under_map is as for resolve.
 pub fn rewrite(n: Annotated, under_map: bool) -> Rewriting
     ensures { λ r. ⌜ r ≡ rewritingOf n «under_map» ⌝ }
+    ensures { λ r. ⌜ outcomeOf r ≡ outcome n «under_map» ⌝ }
 {
     let resolution = resolve(n, under_map);
     match resolution {

@@ -1,5 +1,5 @@
--- The order of two read values, case by case, as whole numbers and floats compare. That it is the order of the keys of their bytes is
--- proved.
+-- The order of two read values, case by case, as whole numbers and floats compare, which the contracts of private functions cite. Nothing here is
+-- a promise to a caller: that it is the order of the keys of their bytes is proved.
 use Prim.Native.Nat.{ℕ}
 use mathlib.Core.Bool.{Bool, cond}
 use mathlib.Core.List.{List}

@@ -363,7 +363,7 @@ write-tree-returns t c =
     let slot = c .before .before .before .before .before .before .before .before .before .before .before .before .before .before .slot-at in
     let visited : Visited (start .args .sheet .now) (start .args .at) (slot .result) = record { claimed = start .pre .1 .0; below = start .pre .1 .1; numbers = slot .ensures } in
     let run = c .before .before .write-run in
-    (tree-end _ _ _ visited _ (run .ensures .0), tree-rewritten _ (start .args .out .now) _ _ (start .args .place) visited _ _ _ _ _ _ _ (c .before .before .before .before .before .before .before .before .before .before .before .before .before .annotated .ensures) (c .before .before .before .before .before .before .before .before .before .before .before .before .under-map .ensures) (c .before .before .before .before .before .before .before .before .before .before .rewrite .ensures) (c .before .before .before .before .before .before .before .before .before .write-slot .ensures) (c .before .before .before .before .before .before .resolved-kind .ensures) (c .before .before .before .place-under .ensures) (run .ensures .1))
+    (tree-end _ _ _ visited _ (run .ensures .0), tree-rewritten _ (start .args .out .now) _ _ (start .args .place) visited _ _ _ _ _ _ _ (c .before .before .before .before .before .before .before .before .before .before .before .before .before .annotated .ensures) (c .before .before .before .before .before .before .before .before .before .before .before .before .under-map .ensures) (c .before .before .before .before .before .before .before .before .before .before .rewrite .ensures .0) (c .before .before .before .before .before .before .before .before .before .write-slot .ensures) (c .before .before .before .before .before .before .resolved-kind .ensures) (c .before .before .before .place-under .ensures) (run .ensures .1))
 
 pub +write-run+write-tree-spec : {M : Type 1} → statement M
 +write-run+write-tree-spec = close μ-write-run μ-write-tree (λ t. write-run-lts.spec (
