@@ -46,7 +46,7 @@ def resolved(sheet, lent):
 
 
 def rewritten(sheet, lent, start):
-    """The sheet with both annotations at every node, for an output of so many bytes that it begins at such a place of, or Refused."""
+    """The sheet with both annotations at every node, or Refused: it goes into an output of so many bytes, from the start on."""
     nodes = judged(sheet)
     if start > lent or lent - start < len(sheet):
         raise Refused(14, 0)
