@@ -1,15 +1,14 @@
 -- Forward and backward undo one another, as far as document 01 says.
 -- Assumes nothing.
-use Prim.Native.Nat.{ℕ, zero, suc, _<_}
-use native.Mathlib.Nat.{not-suc-le-zero}
+use Prim.Native.Nat.{ℕ, _<_}
 use native.Mathlib.Omega.{arith}
-use native.Mathlib.Decide.{decLt}
 use mathlib.Core.Path.{_≡_, refl, sym, ap, _∙_}
-use mathlib.Core.Bool.{Bool, true, false, true≢false, _||_, _&&_}
-use lib.Dec.{eqb, T, eqb→eq}
-use borrow.Author.Tests.{eqb-false, ne-eqb}
-use Rattle.annotation.specs.Converted as converted
-use Rattle.annotation.specs.Logical as logical
+use mathlib.Core.Bool.{Bool, true, false, _||_}
+use lib.Dec.{eqb}
+use borrow.Author.Tests.{eqb-true, eqb-false, ne-eqb}
+use Rattle.laws.proofs.BoolLaws.{or-rest, at-each}
+use Rattle.parquet.specs.Converted as converted
+use Rattle.parquet.specs.Logical as logical
 use Rattle.annotation.specs.Spelling.{codeOf}
 use Rattle.annotation.specs.Forward.{forwardOf, imageOf}
 use Rattle.annotation.specs.Backward.{backwardOf}
@@ -62,40 +61,15 @@ backward-forward LogicalType.Json underMap h = refl
 backward-forward LogicalType.Bson underMap h = refl
 backward-forward LogicalType.Uuid underMap h = absurd (h refl)
 
--- a test that passes at each number below n
-abbrev allBelow : (ℕ → Bool) → ℕ → Bool
-allBelow test zero = true
-allBelow test (suc n) = test n && allBelow test n
-
-and-left : (a b : Bool) → T (a && b) → T a
-and-left true b t = tt
-and-left false b t = t
-
-and-right : (a b : Bool) → T (a && b) → T b
-and-right true b t = t
-and-right false b t = absurd t
-
-below : (test : ℕ → Bool) (n : ℕ) → T (allBelow test n) → (k : ℕ) → k < n → T (test k)
-below test zero t k h = absurd (not-suc-le-zero h)
-below test (suc n) t k h = last (decLt k n) (below test n (and-right (test n) (allBelow test n) t) k)
-  where
-    last : Dec (k < n) → (k < n → T (test k)) → T (test k)
-    last (yes earlier) f = f earlier
-    last (no here) f = let e : k ≡ n = omega arith in rw e (and-left (test n) (allBelow test n) t)
-
 -- a converted code is MAP_KEY_VALUE, or comes back from its backward reading
 comesBack : Bool → ℕ → Bool
 comesBack underMap code = eqb code converted.MAP-KEY-VALUE || eqb (imageOf (backwardOf code underMap)) code
-
-or-right : (a b : Bool) → a ≡ false → T (a || b) → T b
-or-right true b e t = absurd (true≢false e)
-or-right false b e t = t
 
 -- forward after backward is the converted type again, for every converted type but MAP_KEY_VALUE and INTERVAL, the last of the codes
 pub forward-backward : (code : ℕ) (underMap : Bool) → code < converted.INTERVAL → (code ≡ converted.MAP-KEY-VALUE → ⊥) → imageOf (backwardOf code underMap) ≡ code
 unfolding comesBack backwardOf
 forward-backward code underMap h ne =
-    eqb→eq _ _ (or-right _ _ (ne-eqb code converted.MAP-KEY-VALUE ne) (below (comesBack underMap) converted.INTERVAL tt code h))
+    eqb-true _ _ (or-rest _ _ (ne-eqb code converted.MAP-KEY-VALUE ne) (at-each converted.INTERVAL (comesBack underMap) refl code h))
 
 -- a code other than NONE is the image only of types that its backward reading gives
 image-read : (code : ℕ) (l : LogicalType) (underMap : Bool) → eqb code converted.NONE ≡ false → forwardOf l ≡ code → backwardOf code underMap ≡ Annotation.Logical (adjusted l)

@@ -1,4 +1,4 @@
--- A slot is resolved exactly where rules 9, 10 and 11 hold, to its kind; else the first that fails is answered.
+-- The numbers of a slot resolve exactly where rules 9, 10 and 11 hold, to their kind; else the first that fails is answered.
 -- Assumes nothing.
 use mathlib.Core.Path.{_≡_, refl, ap}
 use mathlib.Core.Bool.{Bool, true, false, cond}
@@ -17,7 +17,7 @@ pub record Keeps (n : Annotated) (underMap : Bool) : Type 0 where
   pub ten : rule10 n underMap ≡ true
   pub eleven : rule11 n underMap ≡ true
 
--- where they hold, the slot resolves to its kind
+-- where they hold, the numbers resolve to their kind
 pub resolved-of-keeps : (n : Annotated) (underMap : Bool) → Keeps n underMap → resolutionOf n underMap ≡ Resolution.Resolved (kindOf n underMap)
 unfolding resolutionOf
 resolved-of-keeps n underMap k = rw (k .nine, k .ten, k .eleven)
@@ -33,7 +33,7 @@ all-held true true false k k′ e = (refl, refl, (cc), (cc))
 all-held true false eleven k k′ e = (refl, (cc), (cc), (cc))
 all-held false ten eleven k k′ e = ((cc), (cc), (cc), (cc))
 
--- a slot that resolves keeps the three rules, and what it resolves to is its kind
+-- numbers that resolve keep the three rules, and what they resolve to is their kind
 pub keeps-of-resolved : (n : Annotated) (underMap : Bool) (k : Kind) → resolutionOf n underMap ≡ Resolution.Resolved k → Keeps n underMap
 unfolding resolutionOf InOrder
 keeps-of-resolved n underMap k e =
@@ -44,7 +44,7 @@ pub kind-of-resolved : (n : Annotated) (underMap : Bool) (k : Kind) → resoluti
 unfolding resolutionOf InOrder
 kind-of-resolved n underMap k e = all-held (rule9 n) (rule10 n underMap) (rule11 n underMap) (kindOf n underMap) k e .3
 
--- an answer that resolving gives has the slot's outcome
+-- an answer that resolving gives has the outcome of the numbers
 pub with-outcome : (n : Annotated) (underMap : Bool) (r : Resolution) → r ≡ resolutionOf n underMap → (r ≡ resolutionOf n underMap) × (outcomeOf r ≡ outcome n underMap)
 unfolding outcome
 with-outcome n underMap r e = (e, ap outcomeOf e)

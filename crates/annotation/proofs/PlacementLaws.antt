@@ -4,8 +4,8 @@ use Prim.Native.Nat.{ℕ}
 use mathlib.Core.Path.{_≡_, refl, sym, _∙_, subst}
 use mathlib.Core.Bool.{Bool, true, false, true≢false, _||_}
 use lib.Dec.{eqb}
-use Rattle.annotation.specs.Physical as physical
-use Rattle.annotation.specs.Logical as logical
+use Rattle.parquet.specs.Physical as physical
+use Rattle.parquet.specs.Logical as logical
 use Rattle.annotation.specs.Spelling.{codeOf}
 use Rattle.annotation.specs.Signed.{natural}
 use Rattle.annotation.specs.Meaning.{annotationOf}

@@ -5,8 +5,8 @@ use mathlib.Core.Path.{_≡_, refl, sym, ap, _∙_}
 use mathlib.Core.Bool.{Bool, true, false, true≢false, cond, _||_, or-true}
 use lib.Dec.{eqb}
 use borrow.Author.Tests.{eq-eqb, eqb-true, eqb-false}
-use Rattle.annotation.specs.Converted as converted
-use Rattle.annotation.specs.Logical as logical
+use Rattle.parquet.specs.Converted as converted
+use Rattle.parquet.specs.Logical as logical
 use Rattle.annotation.specs.Parameters.{validParameters}
 use Rattle.annotation.specs.Spelling.{codeOf, namedOf, statedOf}
 use Rattle.annotation.specs.Signed.{natural}
@@ -62,13 +62,13 @@ settled-on (Annotation.Logical l) code length e = refl
 settled-on Annotation.Interval code length e = refl
 settled-on Annotation.Unreadable code length e = absurd (true≢false (sym e))
 
--- a slot that keeps rule 10 says the same after rewriting
+-- numbers that keep rule 10 say the same after rewriting
 pub annotation-rewritten : (n : Annotated) (underMap : Bool) → rule10 n underMap ≡ true → annotationOf (rewritten n underMap) underMap ≡ annotationOf n underMap
 unfolding rewritten writtenOf rule10
 annotation-rewritten n underMap e =
     annotation-written (annotationOf n underMap) n underMap ∙ settled-on (annotationOf n underMap) (n .physical) (natural (n .«type_length»)) e
 
--- the kind of an annotation does not look at the slot's own annotations
+-- the kind of an annotation does not look at the annotation numbers themselves
 kind-written : (says : Annotation) (n : Annotated) (w : Written) → kindAs says (withWritten n w) ≡ kindAs says n
 kind-written Annotation.Plain n w = refl
 kind-written (Annotation.Logical l) n w = refl
@@ -105,7 +105,7 @@ pub rewritten-rewritten : (n : Annotated) (underMap : Bool) → rewritten (rewri
 unfolding rewritten
 rewritten-rewritten n underMap = ap (withWritten n) (written-rewritten n underMap)
 
--- a slot without annotation is written without one
+-- numbers without annotation are written without one
 pub written-plain : (n : Annotated) (underMap : Bool) → n .converted ≡ converted.NONE → n .logical ≡ logical.NONE → writtenOf n underMap ≡ writtenAs Annotation.Plain
 unfolding writtenOf annotationOf backwardOf
 written-plain n underMap c l = rw (l, c) (plain-either (validParameters logical.NONE (n .a) (n .b)))
@@ -145,7 +145,7 @@ written-decimal Annotation.Interval e = absurd (true≢false (sym e))
 written-decimal Annotation.Unreadable e = absurd (true≢false (sym e))
 
 module _ (n : Annotated) (underMap : Bool) (nine : rule9 n ≡ true) (ten : rule10 n underMap ≡ true) where
-  -- a slot that keeps rules 9 and 10 is DECIMAL where its logical type is
+  -- numbers that keep rules 9 and 10 say DECIMAL where their logical type is DECIMAL
 
   decimal-by-logical : n .logical ≡ logical.DECIMAL → isDecimal (annotationOf n underMap) ≡ true
   unfolding rule10 annotationOf statedOf namedOf
@@ -153,7 +153,7 @@ module _ (n : Annotated) (underMap : Bool) (nine : rule9 n ≡ true) (ten : rule
       rw e
       (decimal-read (validParameters logical.DECIMAL (n .a) (n .b)) (n .physical) (natural (n .«type_length»)) (rw e at ten))
 
-  -- and where its converted type is, alone or beside a logical type
+  -- and where their converted type is, alone or beside a logical type
   decimal-by-converted : n .converted ≡ converted.DECIMAL → (alone : Bool) → eqb (n .logical) logical.NONE ≡ alone → isDecimal (annotationOf n underMap) ≡ true
   unfolding rule9 rule10 annotationOf backwardOf
   decimal-by-converted e true f =
@@ -172,7 +172,7 @@ module _ (n : Annotated) (underMap : Bool) (nine : rule9 n ≡ true) (ten : rule
   decimal-rewritten e =
       written-decimal (annotationOf n underMap) (decimal-by-either (eqb (n .converted) converted.DECIMAL) refl e)
 
--- an answer that rewriting gives has the slot's outcome
+-- an answer that rewriting gives has the outcome of the numbers
 pub with-outcome : (n : Annotated) (underMap : Bool) (r : Rewriting) → r ≡ rewritingOf n underMap → (r ≡ rewritingOf n underMap) × (outcomeOf r ≡ outcome n underMap)
 unfolding outcome
 with-outcome n underMap r e = (e, ap outcomeOf e)

@@ -3,7 +3,7 @@
 use mathlib.Core.Path.{_≡_, refl}
 use mathlib.Core.Bool.{Bool, true, false}
 use lib.Dec.{eqb}
-use Rattle.annotation.specs.Logical as logical
+use Rattle.parquet.specs.Logical as logical
 use Rattle.annotation.specs.Parameters.{unitOf, bitWidthOf, flagOf, unitCode, bitWidthCode, flagCode, validUnit, validBitWidth, validFlag, validParameters}
 use Rattle.annotation.specs.Spelling.{codeOf, aOf, bOf, namedOf, statedOf}
 use Rattle.annotation.specs.Kinds.{PLAIN-GROUP}

@@ -3,7 +3,7 @@ use Prim.Native.Nat.{ℕ}
 use mathlib.Core.Bool.{Bool, true, false}
 use mathlib.Core.List.{List, [], _∷_}
 use Rattle.annotation.specs.Table.{lookup}
-use Rattle.annotation.specs.Converted as converted
+use Rattle.parquet.specs.Converted as converted
 use Rattle.annotation.specs.declared.types.TimeUnit.{TimeUnit}
 use Rattle.annotation.specs.declared.types.BitWidth.{BitWidth}
 use Rattle.annotation.specs.declared.types.LogicalType.{LogicalType}

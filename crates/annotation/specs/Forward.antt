@@ -1,7 +1,7 @@
 -- The forward image: the converted type that a writer puts beside a logical type (01, rule 9).
 use Prim.Native.Nat.{ℕ}
-use mathlib.Core.Bool.{Bool, true, false}
-use Rattle.annotation.specs.Converted as converted
+use mathlib.Core.Bool.{Bool, cond}
+use Rattle.parquet.specs.Converted as converted
 use Rattle.annotation.specs.declared.types.TimeUnit.{TimeUnit}
 use Rattle.annotation.specs.declared.types.BitWidth.{BitWidth}
 use Rattle.annotation.specs.declared.types.LogicalType.{LogicalType}
@@ -9,14 +9,10 @@ use Rattle.annotation.specs.declared.types.Annotation.{Annotation}
 
 -- "IntType isSigned bitWidth = 8 INT_8 .. !isSigned .. bitWidth = 64 UINT_64" (003); INT(64, false) is what UINT_64 means (01)
 abbrev pub forwardInteger : BitWidth → Bool → ℕ
-forwardInteger BitWidth.Bits8 true = converted.INT-8
-forwardInteger BitWidth.Bits16 true = converted.INT-16
-forwardInteger BitWidth.Bits32 true = converted.INT-32
-forwardInteger BitWidth.Bits64 true = converted.INT-64
-forwardInteger BitWidth.Bits8 false = converted.UINT-8
-forwardInteger BitWidth.Bits16 false = converted.UINT-16
-forwardInteger BitWidth.Bits32 false = converted.UINT-32
-forwardInteger BitWidth.Bits64 false = converted.UINT-64
+forwardInteger BitWidth.Bits8 signed = cond signed converted.INT-8 converted.UINT-8
+forwardInteger BitWidth.Bits16 signed = cond signed converted.INT-16 converted.UINT-16
+forwardInteger BitWidth.Bits32 signed = cond signed converted.INT-32 converted.UINT-32
+forwardInteger BitWidth.Bits64 signed = cond signed converted.INT-64 converted.UINT-64
 
 -- "unit = MILLIS TIME_MILLIS, unit = MICROS TIME_MICROS, unit = NANOS -", whatever the UTC flag (003)
 abbrev pub forwardTime : TimeUnit → ℕ
@@ -46,7 +42,7 @@ forwardOf LogicalType.Json = converted.JSON
 forwardOf LogicalType.Bson = converted.BSON
 forwardOf LogicalType.Uuid = converted.NONE
 
--- the forward image of what a slot's logical numbers say: "invalid parameters have no image" (01, rule 9)
+-- the forward image of what the numbers logical, a and b say: "invalid parameters have no image" (01, rule 9)
 abbrev pub imageOf : Annotation → ℕ
 imageOf Annotation.Plain = converted.NONE
 imageOf (Annotation.Logical l) = forwardOf l

@@ -2,9 +2,9 @@
 use Prim.Native.Nat.{ℕ}
 use mathlib.Core.Bool.{Bool, cond}
 use lib.Dec.{eqb}
-use Rattle.annotation.specs.Physical as physical
-use Rattle.annotation.specs.Converted as converted
-use Rattle.annotation.specs.Logical as logical
+use Rattle.parquet.specs.Physical as physical
+use Rattle.parquet.specs.Converted as converted
+use Rattle.parquet.specs.Logical as logical
 use Rattle.annotation.specs.Spelling.{codeOf, aOf, bOf}
 use Rattle.annotation.specs.Signed.{natural}
 use Rattle.annotation.specs.Meaning.{annotationOf}
@@ -12,6 +12,7 @@ use Rattle.annotation.specs.Rule11.{isDecimal}
 use Rattle.annotation.specs.declared.types.LogicalType.{LogicalType}
 use Rattle.annotation.specs.declared.types.Annotation.{Annotation}
 use Rattle.annotation.specs.declared.slot.Annotated.{Annotated}
+-- `Kind` has the numbers kind, p1 and p2
 use Rattle.annotation.specs.declared.resolution.Kind.{Kind}
 
 -- "Kind: 0 plain leaf"
@@ -45,6 +46,6 @@ kindAs (Annotation.Logical l) n = cond (isDecimal (Annotation.Logical l)) (decim
 kindAs Annotation.Interval n = bareKind converted.INTERVAL
 kindAs Annotation.Unreadable n = plainKind (n .physical)
 
--- the kind of a slot, whatever else is wrong with it
+-- the kind that the numbers of a slot say, whatever else is wrong with them
 unfoldable pub kindOf : Annotated → Bool → Kind
 kindOf n underMap = kindAs (annotationOf n underMap) n

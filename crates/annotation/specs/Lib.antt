@@ -1,8 +1,5 @@
--- What the contracts of `annotation` cite, in the order of document 01.
+-- What the contracts of `annotation` cite, in the order of document 01. The first file that names a type of src/ says what it holds.
 pub mod Table
-pub mod Physical
-pub mod Converted
-pub mod Logical
 pub mod Parameters
 pub mod Spelling
 pub mod Signed

@@ -1,11 +1,12 @@
 -- What the annotations of a slot say of its node.
 use mathlib.Core.Bool.{Bool, cond}
 use lib.Dec.{eqb}
-use Rattle.annotation.specs.Logical as logical
+use Rattle.parquet.specs.Logical as logical
 use Rattle.annotation.specs.Parameters.{validParameters}
 use Rattle.annotation.specs.Spelling.{statedOf}
 use Rattle.annotation.specs.Backward.{backwardOf}
 use Rattle.annotation.specs.declared.types.Annotation.{Annotation}
+-- `Annotated` has the numbers of a slot that say its type: physical, converted, logical, a and b, which are naturals, and type_length, scale and precision, which are integers
 use Rattle.annotation.specs.declared.slot.Annotated.{Annotated}
 
 -- what the converted type says where no logical type stands: "a = b = 0, also when logical is absent" (01, rule 10)

@@ -2,8 +2,10 @@
 use Prim.Native.Nat.{ℕ}
 use mathlib.Core.Bool.{Bool, true, false, cond, _||_, _&&_}
 use lib.Dec.{eqb}
-use Rattle.annotation.specs.Logical as logical
+use Rattle.parquet.specs.Logical as logical
+-- `TimeUnit` is Millis, Micros or Nanos
 use Rattle.annotation.specs.declared.types.TimeUnit.{TimeUnit}
+-- `BitWidth` is Bits8, Bits16, Bits32 or Bits64
 use Rattle.annotation.specs.declared.types.BitWidth.{BitWidth}
 
 -- the code of a bit width: "Allowed bit width values are 8, 16, 32, 64" (000)

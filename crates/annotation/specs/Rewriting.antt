@@ -1,8 +1,8 @@
 -- What the rewritten sheet says of a node (01, "Rows and the rewritten sheet").
 use Prim.Native.Nat.{ℕ}
 use mathlib.Core.Bool.{Bool}
-use Rattle.annotation.specs.Converted as converted
-use Rattle.annotation.specs.Logical as logical
+use Rattle.parquet.specs.Converted as converted
+use Rattle.parquet.specs.Logical as logical
 use Rattle.annotation.specs.Parameters.{UNUSED}
 use Rattle.annotation.specs.Spelling.{codeOf, aOf, bOf}
 use Rattle.annotation.specs.Forward.{forwardOf}
@@ -12,7 +12,9 @@ use Rattle.annotation.specs.declared.types.Annotation.{Annotation}
 use Rattle.annotation.specs.declared.slot.Annotated.{Annotated}
 use Rattle.annotation.specs.Outcome.{Outcome, given, refused, refusalOf, resolutionOf}
 use Rattle.annotation.specs.declared.resolution.Resolution.{Resolution}
+-- `Written` has the annotation numbers of a rewritten slot: converted, logical, a and b
 use Rattle.annotation.specs.declared.rewriting.Written.{Written}
+-- `Rewriting` is Written, with a `Written`, or Refused, with the number of the refusal
 use Rattle.annotation.specs.declared.rewriting.Rewriting.{Rewriting}
 
 -- a converted type alone, or none
@@ -31,17 +33,18 @@ writtenAs (Annotation.Logical l) = logicalWritten l
 writtenAs Annotation.Interval = convertedWritten converted.INTERVAL
 writtenAs Annotation.Unreadable = convertedWritten converted.NONE
 
--- what is written for a slot; "a key_value layer has none", since MAP_KEY_VALUE counts as no annotation there
+-- what is written for the numbers of a slot; "a key_value layer has none", since MAP_KEY_VALUE counts as no annotation there
 unfoldable pub writtenOf : Annotated → Bool → Written
 writtenOf n underMap = writtenAs (annotationOf n underMap)
 
--- what rewriting answers for a slot: the number of the refusal where it does not resolve
+-- what rewriting answers: what is written, or the number of the refusal where the numbers do not resolve
 abbrev pub rewritingAs : Resolution → Written → Rewriting
 rewritingAs (Resolution.Resolved k) w = Rewriting.Written w
 rewritingAs Resolution.Disagreement w = Rewriting.Refused (refusalOf Resolution.Disagreement)
 rewritingAs Resolution.Misplaced w = Rewriting.Refused (refusalOf Resolution.Misplaced)
 rewritingAs Resolution.BadDecimal w = Rewriting.Refused (refusalOf Resolution.BadDecimal)
 
+-- what rewriting answers for the numbers of a slot
 unfoldable pub rewritingOf : Annotated → Bool → Rewriting
 rewritingOf n underMap = rewritingAs (resolutionOf n underMap) (writtenOf n underMap)
 
@@ -50,11 +53,11 @@ abbrev pub outcomeOf : Rewriting → Outcome Written
 outcomeOf (Rewriting.Written w) = given w
 outcomeOf (Rewriting.Refused number) = refused number
 
--- the outcome of rewriting any slot
+-- the outcome of rewriting the numbers of any slot
 unfoldable pub outcome : Annotated → Bool → Outcome Written
 outcome n underMap = outcomeOf (rewritingOf n underMap)
 
--- a slot's numbers with others for its annotations: "All else .. is copied"
+-- the numbers of a slot with others for its annotations: "All else .. is copied"
 abbrev pub withWritten : Annotated → Written → Annotated
 withWritten n w =
     record {
@@ -68,6 +71,6 @@ withWritten n w =
       precision = n .precision;
     }
 
--- a slot's numbers as the rewritten sheet has them
+-- the numbers of a slot as the rewritten sheet has them
 unfoldable pub rewritten : Annotated → Bool → Annotated
 rewritten n underMap = withWritten n (writtenOf n underMap)

@@ -5,8 +5,8 @@ use lib.Dec.{eqb, leb}
 use lib.IntN.{ℤ, pos}
 use lib.Signed.{leZ, ltZ}
 use Rattle.decimal.specs.Precision.{isLength, greatestPrecision}
-use Rattle.annotation.specs.Physical as physical
-use Rattle.annotation.specs.Logical as logical
+use Rattle.parquet.specs.Physical as physical
+use Rattle.parquet.specs.Logical as logical
 use Rattle.annotation.specs.Spelling.{codeOf}
 use Rattle.annotation.specs.Signed.{natural}
 use Rattle.annotation.specs.Meaning.{annotationOf}

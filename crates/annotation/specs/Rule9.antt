@@ -1,8 +1,8 @@
 -- Rule 9: converted and logical agree.
 use mathlib.Core.Bool.{Bool, _||_}
 use lib.Dec.{eqb}
-use Rattle.annotation.specs.Converted as converted
-use Rattle.annotation.specs.Logical as logical
+use Rattle.parquet.specs.Converted as converted
+use Rattle.parquet.specs.Logical as logical
 use Rattle.annotation.specs.Spelling.{statedOf}
 use Rattle.annotation.specs.Forward.{imageOf}
 use Rattle.annotation.specs.declared.slot.Annotated.{Annotated}

@@ -1,4 +1,4 @@
--- Signed numbers as counts.
+-- Signed numbers as naturals.
 use Prim.Native.Nat.{ℕ}
 use lib.IntN.{ℤ, pos, negsuc}
 

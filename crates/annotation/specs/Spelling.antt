@@ -3,58 +3,46 @@ use Prim.Native.Nat.{ℕ}
 use mathlib.Core.Bool.{cond}
 use mathlib.Core.List.{List, [], _∷_}
 use Rattle.annotation.specs.Table.{lookup}
-use Rattle.annotation.specs.Logical as logical
+use Rattle.parquet.specs.Logical as logical
 use Rattle.annotation.specs.Parameters.{UNUSED, unitCode, bitWidthCode, flagCode, unitOf, bitWidthOf, flagOf, validParameters}
+-- `LogicalType` is Time or Timestamp, with a `TimeUnit` and whether it is adjusted to UTC; Integer, with a `BitWidth` and whether it is signed; or String, Map, List, Enum, Decimal, Date, Unknown, Json, Bson or Uuid, which hold nothing
 use Rattle.annotation.specs.declared.types.LogicalType.{LogicalType}
+-- `Annotation` is Plain, no annotation; Logical, with a `LogicalType`; Interval, which no logical type is; or Unreadable, a code outside the lists or parameters that its type does not take
 use Rattle.annotation.specs.declared.types.Annotation.{Annotation}
+-- `Spelling` has the numbers logical, a and b
+use Rattle.annotation.specs.declared.spelling.Spelling.{Spelling}
+
+-- the spelling of a logical type without parameters: "else a = b = 0" (01, rule 10)
+abbrev pub bareSpelling : ℕ → Spelling
+bareSpelling code = record { logical = code; a = UNUSED; b = UNUSED }
+
+-- the numbers that spell a logical type: its code, parameter a (a bit width or a unit) and parameter b (the sign or the UTC flag)
+abbrev pub spellingOf : LogicalType → Spelling
+spellingOf LogicalType.String = bareSpelling logical.STRING
+spellingOf LogicalType.Map = bareSpelling logical.MAP
+spellingOf LogicalType.List = bareSpelling logical.LIST
+spellingOf LogicalType.Enum = bareSpelling logical.ENUM
+spellingOf LogicalType.Decimal = bareSpelling logical.DECIMAL
+spellingOf LogicalType.Date = bareSpelling logical.DATE
+spellingOf (LogicalType.Time unit utc) = record { logical = logical.TIME; a = unitCode unit; b = flagCode utc }
+spellingOf (LogicalType.Timestamp unit utc) = record { logical = logical.TIMESTAMP; a = unitCode unit; b = flagCode utc }
+spellingOf (LogicalType.Integer width signed) = record { logical = logical.INTEGER; a = bitWidthCode width; b = flagCode signed }
+spellingOf LogicalType.Unknown = bareSpelling logical.UNKNOWN
+spellingOf LogicalType.Json = bareSpelling logical.JSON
+spellingOf LogicalType.Bson = bareSpelling logical.BSON
+spellingOf LogicalType.Uuid = bareSpelling logical.UUID
 
 -- the code of a logical type
 abbrev pub codeOf : LogicalType → ℕ
-codeOf LogicalType.String = logical.STRING
-codeOf LogicalType.Map = logical.MAP
-codeOf LogicalType.List = logical.LIST
-codeOf LogicalType.Enum = logical.ENUM
-codeOf LogicalType.Decimal = logical.DECIMAL
-codeOf LogicalType.Date = logical.DATE
-codeOf (LogicalType.Time unit utc) = logical.TIME
-codeOf (LogicalType.Timestamp unit utc) = logical.TIMESTAMP
-codeOf (LogicalType.Integer width signed) = logical.INTEGER
-codeOf LogicalType.Unknown = logical.UNKNOWN
-codeOf LogicalType.Json = logical.JSON
-codeOf LogicalType.Bson = logical.BSON
-codeOf LogicalType.Uuid = logical.UUID
+codeOf l = spellingOf l .logical
 
--- parameter a of a logical type: a bit width or a unit
+-- parameter a of a logical type
 abbrev pub aOf : LogicalType → ℕ
-aOf LogicalType.String = UNUSED
-aOf LogicalType.Map = UNUSED
-aOf LogicalType.List = UNUSED
-aOf LogicalType.Enum = UNUSED
-aOf LogicalType.Decimal = UNUSED
-aOf LogicalType.Date = UNUSED
-aOf (LogicalType.Time unit utc) = unitCode unit
-aOf (LogicalType.Timestamp unit utc) = unitCode unit
-aOf (LogicalType.Integer width signed) = bitWidthCode width
-aOf LogicalType.Unknown = UNUSED
-aOf LogicalType.Json = UNUSED
-aOf LogicalType.Bson = UNUSED
-aOf LogicalType.Uuid = UNUSED
+aOf l = spellingOf l .a
 
--- parameter b of a logical type: the sign or the UTC flag
+-- parameter b of a logical type
 abbrev pub bOf : LogicalType → ℕ
-bOf LogicalType.String = UNUSED
-bOf LogicalType.Map = UNUSED
-bOf LogicalType.List = UNUSED
-bOf LogicalType.Enum = UNUSED
-bOf LogicalType.Decimal = UNUSED
-bOf LogicalType.Date = UNUSED
-bOf (LogicalType.Time unit utc) = flagCode utc
-bOf (LogicalType.Timestamp unit utc) = flagCode utc
-bOf (LogicalType.Integer width signed) = flagCode signed
-bOf LogicalType.Unknown = UNUSED
-bOf LogicalType.Json = UNUSED
-bOf LogicalType.Bson = UNUSED
-bOf LogicalType.Uuid = UNUSED
+bOf l = spellingOf l .b
 
 -- the logical type of each code, with parameters as they stand
 abbrev pub logicalTable : ℕ → ℕ → List (ℕ × Annotation)

@@ -1,16 +1,19 @@
 // Forward and backward between logical and converted types.
+ghost use mathlib.Core.Bool.{cond};
 ghost use mathlib.Core.Path.{_≡_};
-ghost use mathlib.Core.Bool.{true};
 ghost use Rattle.annotation.specs.Forward.{forwardOf, forwardTime, forwardTimestamp, forwardInteger, imageOf};
 ghost use Rattle.annotation.specs.Backward.{backwardOf, mapKeyValue};
-use crate::converted;
 use crate::types::Annotation;
 use crate::types::BitWidth;
 use crate::types::LogicalType;
 use crate::types::TimeUnit;
+use crate::types::integer;
+use crate::types::time;
+use crate::types::timestamp;
+use parquet::converted;
 
 // The converted type that stands beside a logical type, whatever its UTC flag; NONE for NANOS, UNKNOWN and UUID.
-pub(crate) fn forward(l: LogicalType) -> u8
+pub(crate) fn forward_of(l: LogicalType) -> u8
     ensures { λ r. ⌜ r ≡ forwardOf l ⌝ }
 {
     match l {
@@ -40,19 +43,19 @@ pub(crate) fn forward(l: LogicalType) -> u8
 }
 
 // The forward image of an annotation: NONE where it is no logical type.
-pub(crate) fn image(annotation: Annotation) -> u8
+pub(crate) fn image_of(annotation: Annotation) -> u8
     ensures { λ r. ⌜ r ≡ imageOf annotation ⌝ }
 {
     match annotation {
         Annotation::Plain => converted::NONE,
-        Annotation::Logical(l) => forward(l),
+        Annotation::Logical(l) => forward_of(l),
         Annotation::Interval => converted::NONE,
         Annotation::Unreadable => converted::NONE,
     }
 }
 
 // What a converted type that stands alone means, with UTC true; NONE means no annotation, a code outside the list nothing.
-pub(crate) fn backward(converted: u8, under_map: bool) -> Annotation
+pub(crate) fn backward_of(converted: u8, under_map: bool) -> Annotation
     ensures { λ r. ⌜ r ≡ backwardOf converted «under_map» ⌝ }
 {
     match converted {
@@ -63,10 +66,10 @@ pub(crate) fn backward(converted: u8, under_map: bool) -> Annotation
         converted::ENUM => Annotation::Logical(LogicalType::Enum),
         converted::DECIMAL => Annotation::Logical(LogicalType::Decimal),
         converted::DATE => Annotation::Logical(LogicalType::Date),
-        converted::TIME_MILLIS => time(TimeUnit::Millis),
-        converted::TIME_MICROS => time(TimeUnit::Micros),
-        converted::TIMESTAMP_MILLIS => timestamp(TimeUnit::Millis),
-        converted::TIMESTAMP_MICROS => timestamp(TimeUnit::Micros),
+        converted::TIME_MILLIS => time(TimeUnit::Millis, true),
+        converted::TIME_MICROS => time(TimeUnit::Micros, true),
+        converted::TIMESTAMP_MILLIS => timestamp(TimeUnit::Millis, true),
+        converted::TIMESTAMP_MICROS => timestamp(TimeUnit::Micros, true),
         converted::UINT_8 => integer(BitWidth::Bits8, false),
         converted::UINT_16 => integer(BitWidth::Bits16, false),
         converted::UINT_32 => integer(BitWidth::Bits32, false),
@@ -93,33 +96,6 @@ fn map_key_value(under_map: bool) -> Annotation
     }
 }
 
-fn time(unit: TimeUnit) -> Annotation
-    ensures { λ r. ⌜ r ≡ Annotation.Logical (LogicalType.Time unit true) ⌝ }
-{
-    Annotation::Logical(LogicalType::Time {
-        unit,
-        is_adjusted_to_utc: true,
-    })
-}
-
-fn timestamp(unit: TimeUnit) -> Annotation
-    ensures { λ r. ⌜ r ≡ Annotation.Logical (LogicalType.Timestamp unit true) ⌝ }
-{
-    Annotation::Logical(LogicalType::Timestamp {
-        unit,
-        is_adjusted_to_utc: true,
-    })
-}
-
-fn integer(bit_width: BitWidth, is_signed: bool) -> Annotation
-    ensures { λ r. ⌜ r ≡ Annotation.Logical (LogicalType.Integer «bit_width» «is_signed») ⌝ }
-{
-    Annotation::Logical(LogicalType::Integer {
-        bit_width,
-        is_signed,
-    })
-}
-
 fn forward_time(unit: TimeUnit) -> u8
     ensures { λ r. ⌜ r ≡ forwardTime unit ⌝ }
 {
@@ -144,25 +120,15 @@ fn forward_integer(bit_width: BitWidth, is_signed: bool) -> u8
     ensures { λ r. ⌜ r ≡ forwardInteger «bit_width» «is_signed» ⌝ }
 {
     match bit_width {
-        BitWidth::Bits8 => if is_signed {
-            converted::INT_8
-        } else {
-            converted::UINT_8
-        },
-        BitWidth::Bits16 => if is_signed {
-            converted::INT_16
-        } else {
-            converted::UINT_16
-        },
-        BitWidth::Bits32 => if is_signed {
-            converted::INT_32
-        } else {
-            converted::UINT_32
-        },
-        BitWidth::Bits64 => if is_signed {
-            converted::INT_64
-        } else {
-            converted::UINT_64
-        },
+        BitWidth::Bits8 => by_sign(is_signed, converted::INT_8, converted::UINT_8),
+        BitWidth::Bits16 => by_sign(is_signed, converted::INT_16, converted::UINT_16),
+        BitWidth::Bits32 => by_sign(is_signed, converted::INT_32, converted::UINT_32),
+        BitWidth::Bits64 => by_sign(is_signed, converted::INT_64, converted::UINT_64),
     }
+}
+
+fn by_sign(is_signed: bool, signed: u8, unsigned: u8) -> u8
+    ensures { λ r. ⌜ r ≡ cond «is_signed» signed unsigned ⌝ }
+{
+    if is_signed { signed } else { unsigned }
 }

@@ -1,15 +1,15 @@
 // Rule 11: precision and scale of a DECIMAL.
 ghost use mathlib.Core.Path.{_≡_};
 ghost use Rattle.annotation.specs.Rule11.{digitsAllowed, isDecimal, decimalHolds, ordered, physicalHolds, fixedHolds};
-use crate::logical;
-use crate::physical;
 use crate::slot::Annotated;
-use crate::slot::length;
 use crate::slot::precision;
-use crate::spelling::code_of;
+use crate::slot::type_length;
+use crate::spelling::spelling_of;
 use crate::types::Annotation;
-use decimal::precision::greatest_precision;
-use decimal::precision::is_length;
+use decimal::greatest_precision;
+use decimal::is_length;
+use parquet::logical;
+use parquet::physical;
 
 // The greatest precisions on INT32 and INT64.
 const INT32_DIGITS: u32 = 9;
@@ -29,7 +29,7 @@ pub(crate) fn is_decimal(says: Annotation) -> bool
 {
     match says {
         Annotation::Plain => false,
-        Annotation::Logical(l) => code_of(l) == logical::DECIMAL,
+        Annotation::Logical(l) => spelling_of(l).logical == logical::DECIMAL,
         Annotation::Interval => false,
         Annotation::Unreadable => false,
     }
@@ -39,16 +39,10 @@ pub(crate) fn is_decimal(says: Annotation) -> bool
 fn decimal_holds(n: Annotated) -> bool
     ensures { λ r. ⌜ r ≡ decimalHolds n ⌝ }
 {
-    is_ordered(n) & physical_holds(n.physical, length(n), precision(n))
+    ordered(n.precision, n.scale) & physical_holds(n.physical, type_length(n), precision(n))
 }
 
-fn is_ordered(n: Annotated) -> bool
-    ensures { λ r. ⌜ r ≡ ordered (n .precision) (n .scale) ⌝ }
-{
-    ordered_numbers(n.precision, n.scale)
-}
-
-fn ordered_numbers(precision: i32, scale: i32) -> bool
+fn ordered(precision: i32, scale: i32) -> bool
     ensures { λ r. ⌜ r ≡ ordered precision scale ⌝ }
 {
     (1 <= precision) & (0 <= scale) & (scale < precision)

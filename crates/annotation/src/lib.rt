@@ -1,16 +1,15 @@
 // Annotations of one schema node: what its converted and logical types mean, and where they may stand.
 //
-// A slot is document 01's word for the numbers of one node of a sheet. Nothing here knows bytes or trees.
+// A slot is document 01's word for the bytes of one node of a sheet. Nothing here knows bytes or trees: `Annotated` has the
+// numbers of a slot that say its type.
 mod agreement; // rule 9: converted and logical agree
-pub mod converted; // codes of the converted types
 mod conversion; // forward and backward between logical and converted types
 mod decimals; // rule 11: precision and scale
-pub mod logical; // codes of the logical types and of their parameters
-pub mod physical; // codes of the physical types
+pub mod parameters; // codes of the parameters of logical types
 mod placement; // rule 10: physical type and length
 mod resolution; // the rules in order, and the kind
 mod rewriting; // what the rewritten sheet says of a node
-mod slot; // the numbers of one slot, and what its annotations mean
+mod slot; // the numbers of a slot that say its type, and what its annotations mean
 mod spelling; // how numbers spell a logical type with its parameters
 mod types; // logical types with their parameters
 
@@ -23,7 +22,7 @@ pub use rewriting::Rewriting;
 pub use rewriting::Written;
 pub use rewriting::rewrite;
 pub use slot::Annotated;
-pub use slot::length;
+pub use slot::type_length;
 pub use types::Annotation;
 pub use types::BitWidth;
 pub use types::LogicalType;

@@ -1,18 +1,18 @@
 // Rule 10: each annotation on its physical type and length.
 ghost use mathlib.Core.Path.{_≡_};
 ghost use Rattle.annotation.specs.Rule10.{annotationOn, logicalOn, decimalOn, integerPhysical, timePhysical, isFixed};
-use crate::physical;
 use crate::types::Annotation;
 use crate::types::BitWidth;
 use crate::types::LogicalType;
 use crate::types::TimeUnit;
+use parquet::physical;
 
 const UUID_LENGTH: u32 = 16;
 
 const INTERVAL_LENGTH: u32 = 12;
 
 // Rule 10: whether an annotation may stand on a physical type and length.
-pub(crate) fn may_stand(says: Annotation, physical: u8, length: u32) -> bool
+pub(crate) fn annotation_on(says: Annotation, physical: u8, length: u32) -> bool
     ensures { λ r. ⌜ r ≡ annotationOn says physical length ⌝ }
 {
     match says {

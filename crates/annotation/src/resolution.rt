@@ -1,24 +1,22 @@
-// The outcome of a slot: its kind as rows have it, or the first of the rules 9, 10 and 11 that it breaks.
+// The outcome of the numbers of a slot: their kind as rows have it, or the first of the rules 9, 10 and 11 that they break.
 ghost use mathlib.Core.Path.{_≡_};
 ghost use Rattle.annotation.specs.Kinds.{kindOf, kindAs, bareKind, plainKind, decimalKind, logicalKind};
 ghost use Rattle.annotation.specs.Outcome.{resolutionOf, refusalOf, outcomeOf, outcome};
-use crate::agreement::agree;
-use crate::converted;
+use crate::agreement::rule9;
 use crate::decimals::digits_allowed;
 use crate::decimals::is_decimal;
-use crate::logical;
-use crate::physical;
-use crate::placement::may_stand;
+use crate::placement::annotation_on;
 use crate::slot::Annotated;
-use crate::slot::annotation;
-use crate::slot::length;
+use crate::slot::annotation_of;
 use crate::slot::precision;
 use crate::slot::scale;
-use crate::spelling::a_of;
-use crate::spelling::b_of;
-use crate::spelling::code_of;
+use crate::slot::type_length;
+use crate::spelling::spelling_of;
 use crate::types::Annotation;
 use crate::types::LogicalType;
+use parquet::converted;
+use parquet::logical;
+use parquet::physical;
 
 // A kind and its parameters, as a row has them: precision and scale, or a and b, else 0.
 pub struct Kind {
@@ -51,17 +49,17 @@ const PLAIN_LEAF: u32 = 0;
 
 const PLAIN_GROUP: u32 = 30;
 
-// Resolves the annotations of one slot. under_map says that its parent's resolved kind is MAP. Codes outside the lists are
+// Resolves the numbers of a slot. under_map says that the parent's resolved kind is MAP. Codes outside the lists are
 // refused like parameters that a type does not take: beside the other annotation by 9, alone by 10.
 pub fn resolve(n: Annotated, under_map: bool) -> Resolution
     ensures { λ r. ⌜ r ≡ resolutionOf n «under_map» ⌝ }
     ensures { λ r. ⌜ outcomeOf r ≡ outcome n «under_map» ⌝ }
 {
-    if !agree(n) {
+    if !rule9(n) {
         return Resolution::Disagreement;
     }
-    let says = annotation(n, under_map);
-    if !may_stand(says, n.physical, length(n)) {
+    let says = annotation_of(n, under_map);
+    if !annotation_on(says, n.physical, type_length(n)) {
         return Resolution::Misplaced;
     }
     if !digits_allowed(says, n) {
@@ -70,14 +68,14 @@ pub fn resolve(n: Annotated, under_map: bool) -> Resolution
     Resolution::Resolved(kind_as(says, n))
 }
 
-// The kind that the annotations of one slot say, whatever else is wrong with them: none where they cannot be read.
+// The kind that the numbers of a slot say, whatever else is wrong with them: that of no annotation where they cannot be read.
 pub fn resolved_kind(n: Annotated, under_map: bool) -> Kind
     ensures { λ r. ⌜ r ≡ kindOf n «under_map» ⌝ }
 {
-    kind_as(annotation(n, under_map), n)
+    kind_as(annotation_of(n, under_map), n)
 }
 
-// The number of a refusal: 9, 10 or 11, and 0 for a slot that resolves.
+// The number of a refusal: 9, 10 or 11, and 0 for numbers that resolve.
 pub fn refusal(r: Resolution) -> u32
     ensures { λ number. ⌜ number ≡ refusalOf r ⌝ }
 {
@@ -89,7 +87,7 @@ pub fn refusal(r: Resolution) -> u32
     }
 }
 
-// The kind of an annotation on a slot.
+// The kind of an annotation beside the numbers of its slot.
 fn kind_as(says: Annotation, n: Annotated) -> Kind
     ensures { λ r. ⌜ r ≡ kindAs says n ⌝ }
 {
@@ -102,7 +100,7 @@ fn kind_as(says: Annotation, n: Annotated) -> Kind
                 logical_kind(l)
             }
         }
-        Annotation::Interval => bare_kind(wide(converted::INTERVAL)),
+        Annotation::Interval => bare_kind(converted::INTERVAL as u32),
         Annotation::Unreadable => plain_kind(n.physical),
     }
 }
@@ -120,7 +118,7 @@ fn plain_kind(physical: u8) -> Kind
 fn decimal_kind(n: Annotated) -> Kind
     ensures { λ r. ⌜ r ≡ decimalKind n ⌝ }
 {
-    let kind = wide(logical::DECIMAL);
+    let kind = logical::DECIMAL as u32;
     let p1 = precision(n);
     let p2 = scale(n);
     Kind { kind, p1, p2 }
@@ -129,10 +127,11 @@ fn decimal_kind(n: Annotated) -> Kind
 fn logical_kind(l: LogicalType) -> Kind
     ensures { λ r. ⌜ r ≡ logicalKind l ⌝ }
 {
+    let spelling = spelling_of(l);
     Kind {
-        kind: wide(code_of(l)),
-        p1: wide(a_of(l)),
-        p2: wide(b_of(l)),
+        kind: spelling.logical as u32,
+        p1: spelling.a as u32,
+        p2: spelling.b as u32,
     }
 }
 
@@ -141,10 +140,4 @@ fn bare_kind(kind: u32) -> Kind
     ensures { λ r. ⌜ r ≡ bareKind kind ⌝ }
 {
     Kind { kind, p1: 0, p2: 0 }
-}
-
-fn wide(x: u8) -> u32
-    ensures { λ r. ⌜ r ≡ x ⌝ }
-{
-    x as u32
 }

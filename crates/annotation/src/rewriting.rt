@@ -1,19 +1,18 @@
 // What the rewritten sheet says of a node.
 ghost use mathlib.Core.Path.{_≡_};
-ghost use Rattle.annotation.specs.Rewriting.{rewritingOf, outcomeOf, outcome, writtenOf, writtenAs, convertedWritten, logicalWritten};
-use crate::conversion::forward;
-use crate::converted;
-use crate::logical;
+ghost use Rattle.annotation.specs.Rewriting.{rewritingOf, outcomeOf, outcome, writtenAs, convertedWritten, logicalWritten};
+use crate::conversion::forward_of;
+use crate::parameters;
 use crate::resolution::Resolution;
 use crate::resolution::refusal;
 use crate::resolution::resolve;
 use crate::slot::Annotated;
-use crate::slot::annotation;
-use crate::spelling::a_of;
-use crate::spelling::b_of;
-use crate::spelling::code_of;
+use crate::slot::annotation_of;
+use crate::spelling::spelling_of;
 use crate::types::Annotation;
 use crate::types::LogicalType;
+use parquet::converted;
+use parquet::logical;
 
 // The annotation numbers of a rewritten slot.
 pub struct Written {
@@ -23,34 +22,28 @@ pub struct Written {
     pub b: u8,
 }
 
-// What rewriting answers for a slot: its annotation numbers, or the number of the refusal, 9, 10 or 11.
+// What rewriting answers for the numbers of a slot: its annotation numbers, or the number of the refusal, 9, 10 or 11.
 pub enum Rewriting {
     Written(Written),
     Refused(u32),
 }
 
-// Every logical annotation with its parameters and its forward image, INTERVAL as converted alone, else none: what a slot
-// that resolves says once it is rewritten. under_map is as for resolve.
+// Every logical annotation with its parameters and its forward image, INTERVAL as converted alone, else none: what is
+// written where the numbers of a slot resolve. under_map is as for resolve.
 pub fn rewrite(n: Annotated, under_map: bool) -> Rewriting
     ensures { λ r. ⌜ r ≡ rewritingOf n «under_map» ⌝ }
     ensures { λ r. ⌜ outcomeOf r ≡ outcome n «under_map» ⌝ }
 {
     let resolution = resolve(n, under_map);
     match resolution {
-        Resolution::Resolved(_) => Rewriting::Written(written_for(n, under_map)),
+        Resolution::Resolved(_) => Rewriting::Written(written_as(annotation_of(n, under_map))),
         Resolution::Disagreement => Rewriting::Refused(refusal(resolution)),
         Resolution::Misplaced => Rewriting::Refused(refusal(resolution)),
         Resolution::BadDecimal => Rewriting::Refused(refusal(resolution)),
     }
 }
 
-// What is written for a slot's annotation.
-fn written_for(n: Annotated, under_map: bool) -> Written
-    ensures { λ r. ⌜ r ≡ writtenOf n «under_map» ⌝ }
-{
-    written_as(annotation(n, under_map))
-}
-
+// What is written for an annotation.
 fn written_as(annotation: Annotation) -> Written
     ensures { λ r. ⌜ r ≡ writtenAs annotation ⌝ }
 {
@@ -69,18 +62,19 @@ fn converted_written(converted: u8) -> Written
     Written {
         converted,
         logical: logical::NONE,
-        a: logical::UNUSED,
-        b: logical::UNUSED,
+        a: parameters::UNUSED,
+        b: parameters::UNUSED,
     }
 }
 
 fn logical_written(l: LogicalType) -> Written
     ensures { λ r. ⌜ r ≡ logicalWritten l ⌝ }
 {
+    let spelling = spelling_of(l);
     Written {
-        converted: forward(l),
-        logical: code_of(l),
-        a: a_of(l),
-        b: b_of(l),
+        converted: forward_of(l),
+        logical: spelling.logical,
+        a: spelling.a,
+        b: spelling.b,
     }
 }

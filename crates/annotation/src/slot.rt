@@ -1,12 +1,12 @@
-// The numbers of one slot that say its type, and what its annotations mean.
+// The numbers of a slot that say its type, and what its annotations mean.
 ghost use mathlib.Core.Path.{_≡_};
 ghost use Rattle.annotation.specs.Signed.{natural};
 ghost use Rattle.annotation.specs.Meaning.{annotationOf, convertedAlone};
-use crate::conversion::backward;
-use crate::logical;
-use crate::spelling::stated;
+use crate::conversion::backward_of;
+use crate::spelling::stated_of;
 use crate::spelling::valid_parameters;
 use crate::types::Annotation;
+use parquet::logical;
 
 // Physical GROUP is a group, converted NONE and logical NONE are no annotation; any other number may stand in a field.
 pub struct Annotated {
@@ -22,49 +22,49 @@ pub struct Annotated {
 
 // The logical type where one stands, else what the converted type means. under_map says that the parent's resolved kind is
 // MAP, where MAP_KEY_VALUE counts as no annotation.
-pub(crate) fn annotation(n: Annotated, under_map: bool) -> Annotation
+pub(crate) fn annotation_of(n: Annotated, under_map: bool) -> Annotation
     ensures { λ r. ⌜ r ≡ annotationOf n «under_map» ⌝ }
 {
     if n.logical == logical::NONE {
         return converted_alone(n, under_map);
     }
-    stated(n.logical, n.a, n.b)
+    stated_of(n.logical, n.a, n.b)
 }
 
-// A slot without logical type has no parameters either.
+// Where no logical type stands there are no parameters either.
 fn converted_alone(n: Annotated, under_map: bool) -> Annotation
     ensures { λ r. ⌜ r ≡ convertedAlone n «under_map» ⌝ }
 {
     if valid_parameters(logical::NONE, n.a, n.b) {
-        backward(n.converted, under_map)
+        backward_of(n.converted, under_map)
     } else {
         Annotation::Unreadable
     }
 }
 
-// The type length as a count, 0 where it is negative.
-pub fn length(n: Annotated) -> u32
+// The type length as a natural number, 0 where it is negative.
+pub fn type_length(n: Annotated) -> u32
     ensures { λ r. ⌜ r ≡ natural (n .«type_length») ⌝ }
 {
-    count(n.type_length)
+    natural(n.type_length)
 }
 
-// The precision as a count, 0 where it is negative.
+// The precision as a natural number, 0 where it is negative.
 pub(crate) fn precision(n: Annotated) -> u32
     ensures { λ r. ⌜ r ≡ natural (n .precision) ⌝ }
 {
-    count(n.precision)
+    natural(n.precision)
 }
 
-// The scale as a count, 0 where it is negative.
+// The scale as a natural number, 0 where it is negative.
 pub(crate) fn scale(n: Annotated) -> u32
     ensures { λ r. ⌜ r ≡ natural (n .scale) ⌝ }
 {
-    count(n.scale)
+    natural(n.scale)
 }
 
-// A signed number as a count, 0 where it is negative.
-fn count(x: i32) -> u32
+// A signed number as a natural number, 0 where it is negative.
+fn natural(x: i32) -> u32
     ensures { λ r. ⌜ r ≡ natural x ⌝ }
 {
     if x < 0 { 0 } else { x as u32 }

@@ -1,20 +1,31 @@
-// How three numbers of a slot (logical, a, b) spell a logical type with its parameters.
+// How three numbers of a slot (logical, a, b) spell a logical type with its parameters, and how they are read.
 ghost use mathlib.Core.Path.{_≡_};
 ghost use Rattle.annotation.specs.Parameters.{validBitWidth, validUnit, validFlag, validParameters, bitWidthOf, unitOf, flagOf, bitWidthCode, unitCode, flagCode};
-ghost use Rattle.annotation.specs.Spelling.{codeOf, aOf, bOf, namedOf, statedOf};
-use crate::logical;
+ghost use Rattle.annotation.specs.Spelling.{bareSpelling, spellingOf, namedOf, statedOf};
+use crate::parameters;
 use crate::types::Annotation;
 use crate::types::BitWidth;
 use crate::types::LogicalType;
 use crate::types::TimeUnit;
+use crate::types::integer;
+use crate::types::time;
+use crate::types::timestamp;
+use parquet::logical;
+
+// The numbers of a slot that spell its logical type.
+pub(crate) struct Spelling {
+    pub logical: u8,
+    pub a: u8,
+    pub b: u8,
+}
 
 // What a logical code with its parameters says: Unreadable where the code is in no list, where none stands, or where the
 // type does not take the parameters.
-pub(crate) fn stated(logical: u8, a: u8, b: u8) -> Annotation
+pub(crate) fn stated_of(logical: u8, a: u8, b: u8) -> Annotation
     ensures { λ r. ⌜ r ≡ statedOf logical a b ⌝ }
 {
     if valid_parameters(logical, a, b) {
-        named(logical, a, b)
+        named_of(logical, a, b)
     } else {
         Annotation::Unreadable
     }
@@ -30,101 +41,53 @@ pub(crate) fn valid_parameters(logical: u8, a: u8, b: u8) -> bool
     if (logical == logical::TIME) | (logical == logical::TIMESTAMP) {
         return valid_unit(a) & valid_flag(b);
     }
-    (a == logical::UNUSED) & (b == logical::UNUSED)
+    (a == parameters::UNUSED) & (b == parameters::UNUSED)
 }
 
-// The code of a logical type.
-pub(crate) fn code_of(l: LogicalType) -> u8
-    ensures { λ r. ⌜ r ≡ codeOf l ⌝ }
+// The numbers that spell a logical type.
+pub(crate) fn spelling_of(l: LogicalType) -> Spelling
+    ensures { λ r. ⌜ r ≡ spellingOf l ⌝ }
 {
     match l {
-        LogicalType::String => logical::STRING,
-        LogicalType::Map => logical::MAP,
-        LogicalType::List => logical::LIST,
-        LogicalType::Enum => logical::ENUM,
-        LogicalType::Decimal => logical::DECIMAL,
-        LogicalType::Date => logical::DATE,
-        LogicalType::Time {
-            unit: _,
-            is_adjusted_to_utc: _,
-        } => logical::TIME,
-        LogicalType::Timestamp {
-            unit: _,
-            is_adjusted_to_utc: _,
-        } => logical::TIMESTAMP,
-        LogicalType::Integer {
-            bit_width: _,
-            is_signed: _,
-        } => logical::INTEGER,
-        LogicalType::Unknown => logical::UNKNOWN,
-        LogicalType::Json => logical::JSON,
-        LogicalType::Bson => logical::BSON,
-        LogicalType::Uuid => logical::UUID,
-    }
-}
-
-// Parameter a of a logical type.
-pub(crate) fn a_of(l: LogicalType) -> u8
-    ensures { λ r. ⌜ r ≡ aOf l ⌝ }
-{
-    match l {
-        LogicalType::String => logical::UNUSED,
-        LogicalType::Map => logical::UNUSED,
-        LogicalType::List => logical::UNUSED,
-        LogicalType::Enum => logical::UNUSED,
-        LogicalType::Decimal => logical::UNUSED,
-        LogicalType::Date => logical::UNUSED,
+        LogicalType::String => bare_spelling(logical::STRING),
+        LogicalType::Map => bare_spelling(logical::MAP),
+        LogicalType::List => bare_spelling(logical::LIST),
+        LogicalType::Enum => bare_spelling(logical::ENUM),
+        LogicalType::Decimal => bare_spelling(logical::DECIMAL),
+        LogicalType::Date => bare_spelling(logical::DATE),
         LogicalType::Time {
             unit,
-            is_adjusted_to_utc: _,
-        } => unit_code(unit),
+            is_adjusted_to_utc,
+        } => Spelling {
+            logical: logical::TIME,
+            a: unit_code(unit),
+            b: flag_code(is_adjusted_to_utc),
+        },
         LogicalType::Timestamp {
             unit,
-            is_adjusted_to_utc: _,
-        } => unit_code(unit),
+            is_adjusted_to_utc,
+        } => Spelling {
+            logical: logical::TIMESTAMP,
+            a: unit_code(unit),
+            b: flag_code(is_adjusted_to_utc),
+        },
         LogicalType::Integer {
             bit_width,
-            is_signed: _,
-        } => bit_width_code(bit_width),
-        LogicalType::Unknown => logical::UNUSED,
-        LogicalType::Json => logical::UNUSED,
-        LogicalType::Bson => logical::UNUSED,
-        LogicalType::Uuid => logical::UNUSED,
-    }
-}
-
-// Parameter b of a logical type.
-pub(crate) fn b_of(l: LogicalType) -> u8
-    ensures { λ r. ⌜ r ≡ bOf l ⌝ }
-{
-    match l {
-        LogicalType::String => logical::UNUSED,
-        LogicalType::Map => logical::UNUSED,
-        LogicalType::List => logical::UNUSED,
-        LogicalType::Enum => logical::UNUSED,
-        LogicalType::Decimal => logical::UNUSED,
-        LogicalType::Date => logical::UNUSED,
-        LogicalType::Time {
-            unit: _,
-            is_adjusted_to_utc,
-        } => flag_code(is_adjusted_to_utc),
-        LogicalType::Timestamp {
-            unit: _,
-            is_adjusted_to_utc,
-        } => flag_code(is_adjusted_to_utc),
-        LogicalType::Integer {
-            bit_width: _,
             is_signed,
-        } => flag_code(is_signed),
-        LogicalType::Unknown => logical::UNUSED,
-        LogicalType::Json => logical::UNUSED,
-        LogicalType::Bson => logical::UNUSED,
-        LogicalType::Uuid => logical::UNUSED,
+        } => Spelling {
+            logical: logical::INTEGER,
+            a: bit_width_code(bit_width),
+            b: flag_code(is_signed),
+        },
+        LogicalType::Unknown => bare_spelling(logical::UNKNOWN),
+        LogicalType::Json => bare_spelling(logical::JSON),
+        LogicalType::Bson => bare_spelling(logical::BSON),
+        LogicalType::Uuid => bare_spelling(logical::UUID),
     }
 }
 
 // The logical type of a code, with whatever parameters: Unreadable where it has none.
-fn named(logical: u8, a: u8, b: u8) -> Annotation
+fn named_of(logical: u8, a: u8, b: u8) -> Annotation
     ensures { λ r. ⌜ r ≡ namedOf logical a b ⌝ }
 {
     match logical {
@@ -134,9 +97,9 @@ fn named(logical: u8, a: u8, b: u8) -> Annotation
         logical::ENUM => Annotation::Logical(LogicalType::Enum),
         logical::DECIMAL => Annotation::Logical(LogicalType::Decimal),
         logical::DATE => Annotation::Logical(LogicalType::Date),
-        logical::TIME => Annotation::Logical(time(a, b)),
-        logical::TIMESTAMP => Annotation::Logical(timestamp(a, b)),
-        logical::INTEGER => Annotation::Logical(integer(a, b)),
+        logical::TIME => time(unit_of(a), b == parameters::TRUE),
+        logical::TIMESTAMP => timestamp(unit_of(a), b == parameters::TRUE),
+        logical::INTEGER => integer(bit_width_of(a), b == parameters::TRUE),
         logical::UNKNOWN => Annotation::Logical(LogicalType::Unknown),
         logical::JSON => Annotation::Logical(LogicalType::Json),
         logical::BSON => Annotation::Logical(LogicalType::Bson),
@@ -145,60 +108,44 @@ fn named(logical: u8, a: u8, b: u8) -> Annotation
     }
 }
 
-fn time(a: u8, b: u8) -> LogicalType
-    ensures { λ r. ⌜ r ≡ LogicalType.Time (unitOf a) (flagOf b) ⌝ }
+// The spelling of a logical type without parameters.
+fn bare_spelling(logical: u8) -> Spelling
+    ensures { λ r. ⌜ r ≡ bareSpelling logical ⌝ }
 {
-    LogicalType::Time {
-        unit: unit_of(a),
-        is_adjusted_to_utc: b == logical::TRUE,
-    }
-}
-
-fn timestamp(a: u8, b: u8) -> LogicalType
-    ensures { λ r. ⌜ r ≡ LogicalType.Timestamp (unitOf a) (flagOf b) ⌝ }
-{
-    LogicalType::Timestamp {
-        unit: unit_of(a),
-        is_adjusted_to_utc: b == logical::TRUE,
-    }
-}
-
-fn integer(a: u8, b: u8) -> LogicalType
-    ensures { λ r. ⌜ r ≡ LogicalType.Integer (bitWidthOf a) (flagOf b) ⌝ }
-{
-    LogicalType::Integer {
-        bit_width: bit_width_of(a),
-        is_signed: b == logical::TRUE,
+    Spelling {
+        logical,
+        a: parameters::UNUSED,
+        b: parameters::UNUSED,
     }
 }
 
 fn valid_bit_width(a: u8) -> bool
     ensures { λ r. ⌜ r ≡ validBitWidth a ⌝ }
 {
-    (a == logical::BITS_8)
-        | (a == logical::BITS_16)
-        | (a == logical::BITS_32)
-        | (a == logical::BITS_64)
+    (a == parameters::BITS_8)
+        | (a == parameters::BITS_16)
+        | (a == parameters::BITS_32)
+        | (a == parameters::BITS_64)
 }
 
 fn valid_unit(a: u8) -> bool
     ensures { λ r. ⌜ r ≡ validUnit a ⌝ }
 {
-    (a == logical::MILLIS) | (a == logical::MICROS) | (a == logical::NANOS)
+    (a == parameters::MILLIS) | (a == parameters::MICROS) | (a == parameters::NANOS)
 }
 
 fn valid_flag(b: u8) -> bool
     ensures { λ r. ⌜ r ≡ validFlag b ⌝ }
 {
-    (b == logical::FALSE) | (b == logical::TRUE)
+    (b == parameters::FALSE) | (b == parameters::TRUE)
 }
 
 fn unit_of(a: u8) -> TimeUnit
     ensures { λ r. ⌜ r ≡ unitOf a ⌝ }
 {
     match a {
-        logical::MILLIS => TimeUnit::Millis,
-        logical::MICROS => TimeUnit::Micros,
+        parameters::MILLIS => TimeUnit::Millis,
+        parameters::MICROS => TimeUnit::Micros,
         _ => TimeUnit::Nanos,
     }
 }
@@ -207,9 +154,9 @@ fn bit_width_of(a: u8) -> BitWidth
     ensures { λ r. ⌜ r ≡ bitWidthOf a ⌝ }
 {
     match a {
-        logical::BITS_8 => BitWidth::Bits8,
-        logical::BITS_16 => BitWidth::Bits16,
-        logical::BITS_32 => BitWidth::Bits32,
+        parameters::BITS_8 => BitWidth::Bits8,
+        parameters::BITS_16 => BitWidth::Bits16,
+        parameters::BITS_32 => BitWidth::Bits32,
         _ => BitWidth::Bits64,
     }
 }
@@ -218,9 +165,9 @@ fn unit_code(unit: TimeUnit) -> u8
     ensures { λ r. ⌜ r ≡ unitCode unit ⌝ }
 {
     match unit {
-        TimeUnit::Millis => logical::MILLIS,
-        TimeUnit::Micros => logical::MICROS,
-        TimeUnit::Nanos => logical::NANOS,
+        TimeUnit::Millis => parameters::MILLIS,
+        TimeUnit::Micros => parameters::MICROS,
+        TimeUnit::Nanos => parameters::NANOS,
     }
 }
 
@@ -228,15 +175,19 @@ fn bit_width_code(bit_width: BitWidth) -> u8
     ensures { λ r. ⌜ r ≡ bitWidthCode «bit_width» ⌝ }
 {
     match bit_width {
-        BitWidth::Bits8 => logical::BITS_8,
-        BitWidth::Bits16 => logical::BITS_16,
-        BitWidth::Bits32 => logical::BITS_32,
-        BitWidth::Bits64 => logical::BITS_64,
+        BitWidth::Bits8 => parameters::BITS_8,
+        BitWidth::Bits16 => parameters::BITS_16,
+        BitWidth::Bits32 => parameters::BITS_32,
+        BitWidth::Bits64 => parameters::BITS_64,
     }
 }
 
 fn flag_code(flag: bool) -> u8
     ensures { λ r. ⌜ r ≡ flagCode flag ⌝ }
 {
-    if flag { logical::TRUE } else { logical::FALSE }
+    if flag {
+        parameters::TRUE
+    } else {
+        parameters::FALSE
+    }
 }

@@ -2,9 +2,10 @@
 use crate::text;
 use annotation::Annotated;
 use annotation::Resolution;
-use annotation::converted;
-use annotation::logical;
-use annotation::physical;
+use annotation::parameters;
+use parquet::converted;
+use parquet::logical;
+use parquet::physical;
 
 const LENGTHS: [i32; 15] = [
     -2147483648,
@@ -128,8 +129,8 @@ fn precisions_taken(length: i32) -> u32 {
                 type_length: length,
                 converted: converted::DECIMAL,
                 logical: logical::DECIMAL,
-                a: logical::UNUSED,
-                b: logical::UNUSED,
+                a: parameters::UNUSED,
+                b: parameters::UNUSED,
                 scale: 0,
                 precision: signed(precision),
             },
@@ -154,8 +155,8 @@ fn of_length(converted: u8, logical: u8, length: i32, precision: i32) -> Resolut
         type_length: length,
         converted,
         logical,
-        a: logical::UNUSED,
-        b: logical::UNUSED,
+        a: parameters::UNUSED,
+        b: parameters::UNUSED,
         scale: 0,
         precision,
     };
@@ -168,8 +169,8 @@ fn decimal(physical: u8, length: i32, precision: i32, scale: i32) -> Resolution 
         type_length: length,
         converted: converted::DECIMAL,
         logical: logical::NONE,
-        a: logical::UNUSED,
-        b: logical::UNUSED,
+        a: parameters::UNUSED,
+        b: parameters::UNUSED,
         scale,
         precision,
     };

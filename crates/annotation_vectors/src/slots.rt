@@ -45,9 +45,29 @@ const CONVERTED: [u8; 24] = [
 const LOGICAL_END: u8 = 16;
 
 // Pairs of parameters.
-const A: [u8; 15] = [0, 1, 0, 1, 2, 2, 3, 4, 1, 8, 8, 16, 32, 64, 65];
+const A: [u8; 19] = [
+    0,
+    1,
+    0,
+    1,
+    2,
+    2,
+    3,
+    3,
+    4,
+    1,
+    8,
+    8,
+    16,
+    16,
+    32,
+    32,
+    64,
+    64,
+    65,
+];
 
-const B: [u8; 15] = [0, 0, 1, 1, 0, 1, 1, 1, 2, 0, 1, 1, 0, 1, 0];
+const B: [u8; 19] = [0, 0, 1, 1, 0, 1, 0, 1, 1, 2, 0, 1, 0, 1, 0, 1, 0, 1, 0];
 
 // Every physical type, one outside the list, and the group; FIXED_LEN_BYTE_ARRAY at two lengths.
 const PHYSICAL: [u8; 11] = [0, 1, 2, 3, 4, 5, 6, 7, 7, 8, 255];
@@ -90,7 +110,7 @@ fn logical_codes(under_map: bool, converted: u8) -> u32 {
 fn parameters(under_map: bool, converted: u8, logical: u8) -> u32 {
     let mut refused = 0;
     let mut i = 0;
-    while i < 15 {
+    while i < 19 {
         let a = A[i];
         let b = B[i];
         let codes = Codes {
@@ -162,15 +182,15 @@ fn next(n: u8) {
 }
 
 fn resolved(codes: Codes, physical: u8, length: i32) -> Resolution {
-    annotation::resolve(slot(codes, physical, length), codes.under_map)
+    annotation::resolve(numbers(codes, physical, length), codes.under_map)
 }
 
 fn rewritten(codes: Codes, physical: u8, length: i32) -> Rewriting {
-    annotation::rewrite(slot(codes, physical, length), codes.under_map)
+    annotation::rewrite(numbers(codes, physical, length), codes.under_map)
 }
 
 // The codes on a physical type, with scale 2 and precision 5.
-fn slot(codes: Codes, physical: u8, length: i32) -> Annotated {
+fn numbers(codes: Codes, physical: u8, length: i32) -> Annotated {
     Annotated {
         physical,
         type_length: length,

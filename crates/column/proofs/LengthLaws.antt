@@ -7,9 +7,9 @@ use lib.Dec.{leb, eqb}
 use borrow.Author.Tests.{eqb-true}
 use Rattle.column_type.specs.declared.types.ColumnType.{ColumnType}
 use Rattle.decimal.specs.Precision.{isLength}
-use Rattle.column.specs.Codes.{DECIMAL}
+use Rattle.parquet.specs.Logical.{DECIMAL}
 use Rattle.column.specs.Lengths.{mostBytes, widthOf, isWidth, isByteForm, isByteDecimal, lengthRight}
-use Rattle.column.proofs.BoolLaws.{and-left, and-right, or-right}
+use Rattle.laws.proofs.BoolLaws.{and-left, and-right, implied}
 
 module _ (c : ColumnType) (n : ℕ) (right : lengthRight c n ≡ true) where
   pub width-right : (width : ℕ) → widthOf c ≡ some width → n ≡ width
@@ -20,4 +20,4 @@ module _ (c : ColumnType) (n : ℕ) (right : lengthRight c n ≡ true) where
   pub decimal-right : isByteForm c ≡ true → eqb (c .kind) DECIMAL ≡ true → isLength n ≡ true
   unfolding lengthRight
   decimal-right e f =
-      or-right (isByteDecimal c) _ (and-right (leb n mostBytes && isWidth (widthOf c) n) _ right) (rw (e, f))
+      implied (isByteDecimal c) _ (and-right (leb n mostBytes && isWidth (widthOf c) n) _ right) (rw (e, f))

@@ -1,5 +1,4 @@
 -- Laws of reading single values.
-pub mod BoolLaws
 pub mod NumberLaws
 pub mod FloatLaws
 pub mod DayLaws

@@ -14,7 +14,8 @@ use lib.Pow.{suc-ones}
 use lib.Seq.{drop-cons}
 use lib.Signed.{mag, leZ, ltZ}
 use borrow.Author.Tests.{lt-ltb, le-ltb, ltb-true, ltb-false, eq-eqb, ne-eqb}
-use Rattle.decimal.proofs.NumberLaws.{lt-or-ge, subℕ-<, subℕ-≥}
+use Rattle.laws.proofs.DifferenceLaws.{sub-below, sub-above}
+use Rattle.decimal.proofs.NumberLaws.{lt-or-ge}
 use Rattle.column.specs.Numbers.{little, twosComplement}
 use Rattle.column.specs.Annotations.{inSignedBits}
 
@@ -44,11 +45,11 @@ little-start bs at n z p q = let e : length bs - at ≡ length bs = omega arith 
 
 pub twos-below : (weight n : ℕ) → n < weight → twosComplement weight n ≡ pos n
 unfolding twosComplement
-twos-below weight n h = rw (lt-ltb n weight h) (subℕ-≥ n 0 (omega arith) ∙ ap pos (omega arith))
+twos-below weight n h = rw (lt-ltb n weight h) (sub-above n 0 (omega arith) ∙ ap pos (omega arith))
 
 pub twos-above : (weight n : ℕ) → weight ≤ n → n < 2 * weight → twosComplement weight n ≡ negsuc (weight - 1 - (n - weight))
 unfolding twosComplement
-twos-above weight n h k = rw (le-ltb n weight h) (subℕ-< n (2 * weight) k ∙ ap negsuc (omega arith))
+twos-above weight n h k = rw (le-ltb n weight h) (sub-below n (2 * weight) k ∙ ap negsuc (omega arith))
 
 pub twos-mag-< : (weight n : ℕ) → n < 2 * weight → mag (twosComplement weight n) < weight
 twos-mag-< weight n h = ⊎-elim below above (lt-or-ge n weight)
@@ -108,7 +109,7 @@ around : (k : ℕ) (z : ℤ) → ltb (mag z) (suc k) ≡ (leZ (negℤ (pos (suc 
 around k (pos a) = refl
 around k (negsuc a) = leb·suc-suc a k ∙ sym (and-true (leb a k))
 
--- so many bits hold a signed number where they hold twice its magnitude
+-- so many bits hold a signed number where they hold twice the number it folds onto
 pub inSignedBits-mag : (n : ℕ) (z : ℤ) → ltb (mag z * 2) (2 ^ n) ≡ inSignedBits n z
 unfolding inSignedBits
 inSignedBits-mag n z =

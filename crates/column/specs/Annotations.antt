@@ -11,13 +11,19 @@ use Rattle.column_type.specs.declared.types.ColumnType.{ColumnType}
 use Rattle.decimal.specs.Number.{number}
 use Rattle.timestamp.specs.Units.{TimeUnit, ticksPerSecond, ticksPerDay, unitOf}
 use Rattle.utf8.specs.Valid.{validUpTo}
-use Rattle.column.specs.Codes.{BOOLEAN, INT32, INT64, STRING, ENUM, DECIMAL, TIME, INTEGER, UNKNOWN, JSON, UNSIGNED}
+use Rattle.parquet.specs.Physical.{BOOLEAN, INT32, INT64}
+use Rattle.parquet.specs.Logical.{STRING, ENUM, DECIMAL, TIME, INTEGER, UNKNOWN, JSON}
+use Rattle.annotation.specs.Parameters.{flagCode}
 use Rattle.column.specs.Numbers.{little, signed}
 use Rattle.column.specs.Lengths.{isByteForm}
 
 -- the physical types whose values are whole numbers
 abbrev pub isWhole : ColumnType → Bool
 isWhole c = eqb (c .physical) INT32 || eqb (c .physical) INT64
+
+-- p2 of INT(n, false): "b signed 1 or 0"
+abbrev pub UNSIGNED : ℕ
+UNSIGNED = flagCode false
 
 -- INT(n, false)
 abbrev pub isUnsigned : ColumnType → Bool

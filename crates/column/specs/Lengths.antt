@@ -5,7 +5,8 @@ use mathlib.Core.Option.{Option, none, some}
 use lib.Dec.{leb, eqb}
 use Rattle.column_type.specs.declared.types.ColumnType.{ColumnType}
 use Rattle.decimal.specs.Precision.{isLength}
-use Rattle.column.specs.Codes.{BOOLEAN, INT32, INT64, INT96, FLOAT, DOUBLE, BYTE-ARRAY, FIXED-LEN-BYTE-ARRAY, DECIMAL}
+use Rattle.parquet.specs.Physical.{BOOLEAN, INT32, INT64, INT96, FLOAT, DOUBLE, BYTE-ARRAY, FIXED-LEN-BYTE-ARRAY}
+use Rattle.parquet.specs.Logical.{DECIMAL}
 
 -- "value of wrong length, or over 65,536 bytes"
 abbrev pub mostBytes : ℕ

@@ -1,5 +1,4 @@
 -- What document 01 says of single values, in its order.
-pub mod Codes
 pub mod Numbers
 pub mod Lengths
 pub mod Annotations

@@ -8,7 +8,7 @@ use lib.IntN.{ℤ}
 use lib.ListN.{length}
 use Rattle.column_type.specs.declared.types.ColumnType.{ColumnType}
 use Rattle.column_type.specs.Lawful.{isLawful}
-use Rattle.column.specs.Codes.{BOOLEAN, FLOAT, DOUBLE}
+use Rattle.parquet.specs.Physical.{BOOLEAN, FLOAT, DOUBLE}
 use Rattle.column.specs.Numbers.{little, signed}
 use Rattle.column.specs.Lengths.{lengthRight}
 use Rattle.column.specs.Annotations.{isWhole, isUnsigned, keeps}

@@ -7,16 +7,16 @@ ghost use lib.ListN.{length};
 ghost use Rattle.decimal.specs.Precision.{isLength};
 ghost use Rattle.decimal.specs.Number.{number};
 ghost use Rattle.timestamp.specs.Units.{unitOf};
-ghost use Rattle.column.specs.Codes.{DECIMAL};
+ghost use Rattle.parquet.specs.Logical.{DECIMAL};
 ghost use Rattle.column.specs.Numbers.{twosComplement};
 ghost use Rattle.column.specs.Annotations.{isUnsigned, isText, inSignedBits, inDay, inDigits, wholeKeeps, bytesKeep};
 use crate::codes;
 use crate::numbers::absolute;
+use crate::numbers::folded;
 use crate::numbers::in_bits;
 use crate::numbers::in_digits;
-use crate::numbers::magnitude;
 use column_type::ColumnType;
-use decimal::fit::Fit;
+use decimal::Fit;
 use timestamp::DayTicks;
 
 // Whether the column's values are INT(n, false).
@@ -49,12 +49,12 @@ pub(crate) fn whole_keeps(c: ColumnType, n: u64, weight: u64) -> bool
     true
 }
 
-// Whether so many bits hold the signed number: whether twice its magnitude is below 2^bits.
+// Whether so many bits hold the signed number: whether twice the number it folds onto is below 2^bits.
 fn in_signed_bits(n: u64, weight: u64, bits: u32) -> bool
     requires { ⌜ (n < 2 * weight) × (weight ≤ 2 ^ 63) ⌝ }
     ensures { λ r. ⌜ r ≡ inSignedBits bits (twosComplement weight n) ⌝ }
 {
-    in_bits(magnitude(n, weight) * 2, bits)
+    in_bits(folded(n, weight) * 2, bits)
 }
 
 // Whether the signed number is a tick of a day, in the unit of that number.
@@ -92,7 +92,7 @@ fn decimal_keeps(value: &[u8], precision: u32) -> bool
     requires { ⌜ isLength (length (now value)) ≡ true ⌝ }
     ensures { λ r. ⌜ r ≡ inDigits precision (number (now (value .entry))) ⌝ }
 {
-    match decimal::fit::fits_precision(value, precision) {
+    match decimal::fits_precision(value, precision) {
         Fit::Within => true,
         Fit::Beyond => false,
         Fit::WrongLength => false,

@@ -41,15 +41,15 @@ pub(crate) fn signed(n: u64, weight: u64) -> i64
     requires { ⌜ (n < 2 * weight) × (weight ≤ 2 ^ 63) ⌝ }
     ensures { λ r. ⌜ r ≡ twosComplement weight n ⌝ }
 {
-    let size = magnitude(n, weight) as i64;
+    let size = folded(n, weight) as i64;
     if n < weight {
         return size;
     }
     -1 - size
 }
 
-// The m for which that number is m or `-1 - m`.
-pub(crate) fn magnitude(n: u64, weight: u64) -> u64
+// That number folded onto the naturals: itself, or -1 less it where it is negative, so that -1 folds onto 0.
+pub(crate) fn folded(n: u64, weight: u64) -> u64
     requires { ⌜ n < 2 * weight ⌝ }
     ensures { λ r. ⌜ r ≡ mag (twosComplement weight n) ⌝ }
 {

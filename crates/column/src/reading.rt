@@ -5,7 +5,7 @@ ghost use Prim.Native.Nat.{_*_, _<_, _≤_, _^_};
 ghost use lib.Dec.{eqb};
 ghost use lib.ListN.{length};
 ghost use Rattle.decimal.specs.Precision.{isLength};
-ghost use Rattle.column.specs.Codes.{DECIMAL, UNKNOWN};
+ghost use Rattle.parquet.specs.Logical.{DECIMAL, UNKNOWN};
 ghost use Rattle.column.specs.Numbers.{little, twosComplement};
 ghost use Rattle.column.specs.Lengths.{lengthRight};
 ghost use Rattle.column.specs.Annotations.{isTruth, wholeKeeps, bytesKeep, keeps};

@@ -12,7 +12,7 @@ use lib.Seq.{drop-cons}
 use borrow.Author.Tests.{lt-ltb, le-ltb, ltb-true, ltb-false}
 use Rattle.column_order.specs.Keys.{byteOrder}
 use Rattle.column_order.specs.declared.answer.Order.the-variants.{Less, Equal, Greater}
-use Rattle.column_order.proofs.Turning.{turned, atMost}
+use Rattle.column_order.specs.Comparison.{turned, atMost}
 
 module _ (a b : List ℕ) (at : ℕ) where
   -- the second ends first

@@ -12,7 +12,8 @@ use borrow.Author.Tests.{leb-true, eqb-true, eqb-false}
 use Rattle.column_type.specs.declared.types.ColumnType.{ColumnType}
 use Rattle.decimal.specs.Precision.{isLength}
 use Rattle.decimal.specs.Number.{number}
-use Rattle.column.specs.Codes.{BOOLEAN, INT32, INT64, FLOAT, DOUBLE, BYTE-ARRAY, FIXED-LEN-BYTE-ARRAY, DECIMAL, UNKNOWN}
+use Rattle.parquet.specs.Physical.{BOOLEAN, INT32, INT64, FLOAT, DOUBLE, BYTE-ARRAY, FIXED-LEN-BYTE-ARRAY}
+use Rattle.parquet.specs.Logical.{DECIMAL, UNKNOWN}
 use Rattle.column.specs.Numbers.{little, signed}
 use Rattle.column.specs.Lengths.{isByteForm, isByteDecimal}
 use Rattle.column.specs.Annotations.{isWhole, isUnsigned, keeps, isTruth}
@@ -20,7 +21,7 @@ use Rattle.column.specs.Reading.{valueOf, wholeValue, readOf}
 use Rattle.column.specs.declared.value.Value.{Value}
 use Rattle.column.specs.declared.value.Value.the-variants.{Truth, Signed, Unsigned, Float, Double, Bytes}
 use Rattle.column.specs.declared.value.Read.{Read}
-use Rattle.column.proofs.BoolLaws.{and-left, and-right}
+use Rattle.laws.proofs.BoolLaws.{and-left, and-right}
 use Rattle.column.proofs.LengthLaws.{decimal-right}
 use Rattle.column.proofs.ReadingLaws.{reads}
 use Rattle.column_order.specs.Keys.{Key, whole, bytes, numberOf, floatKey, keyOf, wholeOrder, byteOrder, keyOrder}

@@ -5,4 +5,3 @@ pub mod ByteLaws
 pub mod FloatLaws
 pub mod KeyLaws
 pub mod OrderLaws
-pub mod Points

@@ -16,22 +16,24 @@ use Rattle.annotation.specs.Rule9.{rule9}
 use Rattle.annotation.specs.Rule10.{decimalOn, rule10}
 use Rattle.annotation.specs.Rule11.{rule11}
 use Rattle.annotation.specs.Spelling.{namedOf, statedOf}
-use Rattle.schema.specs.Rules.{lengthShape}
+use Rattle.tree.specs.Rules.{lengthShape}
 use Rattle.column_type.specs.declared.types.ColumnType.{ColumnType}
 use Rattle.column_type.specs.Lawful.{slotOf, fits, isLeaf, annotationRight, isLawful}
-use Rattle.column.specs.Codes.{BOOLEAN, INT32, INT64, FLOAT, DOUBLE, BYTE-ARRAY, FIXED-LEN-BYTE-ARRAY, DECIMAL}
+use Rattle.parquet.specs.Physical.{BOOLEAN, INT32, INT64, FLOAT, DOUBLE, BYTE-ARRAY, FIXED-LEN-BYTE-ARRAY}
+use Rattle.parquet.specs.Logical.{DECIMAL}
 use Rattle.column.specs.Numbers.{little}
 use Rattle.column.specs.Lengths.{isByteDecimal}
 use Rattle.column.specs.Annotations.{isWhole, isUnsigned}
 use Rattle.column.specs.Reading.{readOf}
 use Rattle.column.specs.declared.value.Value.{Value}
 use Rattle.column.specs.declared.value.Read.{Read}
-use Rattle.column.proofs.BoolLaws.{and-left, and-right}
+use Rattle.laws.proofs.BoolLaws.{and-left, and-right}
 use Rattle.column.proofs.ReadingLaws.{reads}
 use Rattle.column_order.specs.Keys.{Key, whole, bytes, none, numberOf, floatKey, keyOf, wholeOrder, keyOrder}
 use Rattle.column_order.specs.Order.{hasOrder, orderOf}
 use Rattle.column_order.specs.declared.answer.Order.the-variants.{Less, Equal, Greater, Unordered}
-use Rattle.column_order.proofs.Turning.{turned, atMost, at-most-both}
+use Rattle.column_order.specs.Comparison.{Valid, NotANumber, turned, atMost}
+use Rattle.column_order.proofs.Turning.{at-most-both}
 use Rattle.column_order.proofs.WholeLaws.{whole-less, whole-equal, whole-greater, whole-turned, whole-trans, whole-total}
 use Rattle.column_order.proofs.ByteLaws.{byte-refl, byte-turned, byte-trans, byte-total}
 
@@ -117,14 +119,6 @@ keys-comparable c a b = go (eqb (c .physical) BOOLEAN) (isWhole c) (eqb (c .phys
     go false false false false false = refl
 
 -- ---- the values of a column that has an order
-
--- bytes that a value is read of
-abbrev pub Valid : ColumnType → List ℕ → Type 0
-Valid c bs = (x : Value) × (readOf c bs ≡ Read.Value x)
-
--- a FLOAT or a DOUBLE that is a NaN
-abbrev pub NotANumber : ColumnType → List ℕ → Type 0
-NotANumber c bs = keyOf c bs ≡ none
 
 module _ (c : ColumnType) (ordered : hasOrder c ≡ true) where
   -- valid values are ordered by their keys

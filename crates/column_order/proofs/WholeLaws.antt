@@ -17,7 +17,7 @@ use Rattle.decimal.proofs.OrderLaws.{orderOf-order, order-less, order-equal, or
 use Rattle.column_order.specs.Keys.{wholeOrder}
 use Rattle.column_order.specs.declared.answer.Order.{Order}
 use Rattle.column_order.specs.declared.answer.Order.the-variants.{Less, Equal, Greater, WrongLength}
-use Rattle.column_order.proofs.Turning.{turned, atMost}
+use Rattle.column_order.specs.Comparison.{turned, atMost}
 
 -- ---- decimals
 

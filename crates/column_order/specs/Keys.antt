@@ -8,7 +8,7 @@ use lib.IntN.{ℤ, pos, negℤ}
 use lib.Signed.{ltZ}
 use Rattle.column_type.specs.declared.types.ColumnType.{ColumnType}
 use Rattle.decimal.specs.Number.{number}
-use Rattle.column.specs.Codes.{BOOLEAN, FLOAT, DOUBLE}
+use Rattle.parquet.specs.Physical.{BOOLEAN, FLOAT, DOUBLE}
 use Rattle.column.specs.Numbers.{little, signed}
 use Rattle.column.specs.Lengths.{isByteForm, isByteDecimal}
 use Rattle.column.specs.Annotations.{isWhole, isUnsigned}

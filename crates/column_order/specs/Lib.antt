@@ -2,4 +2,5 @@
 pub mod Keys
 pub mod Values
 pub mod Order
+pub mod Comparison
 pub mod Outcome

@@ -5,7 +5,8 @@ use mathlib.Core.List.{List}
 use lib.Dec.{eqb}
 use Rattle.column_type.specs.declared.types.ColumnType.{ColumnType}
 use Rattle.column_type.specs.Lawful.{isLawful}
-use Rattle.column.specs.Codes.{INT96, INTERVAL}
+use Rattle.parquet.specs.Physical.{INT96}
+use Rattle.parquet.specs.Converted.{INTERVAL}
 use Rattle.column.specs.Reading.{readOf}
 use Rattle.column.specs.declared.value.Read.{Read}
 use Rattle.column.specs.declared.value.Read.the-variants as read

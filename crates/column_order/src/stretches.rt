@@ -10,7 +10,6 @@ ghost use Rattle.column_order.specs.Values.{stretchOrder};
 use crate::answer::Order;
 use column::is_byte_decimal;
 use column_type::ColumnType;
-use decimal::order;
 
 // The order of the bytes of two values: of decimals, each of 1 to 256 bytes, as numbers, and of others byte by byte.
 pub(crate) fn compare_stretches(c: ColumnType, a: &[u8], b: &[u8]) -> Order
@@ -28,11 +27,11 @@ fn order_decimals(a: &[u8], b: &[u8]) -> Order
     requires { ⌜ (isLength (length (now a)) ≡ true) × (isLength (length (now b)) ≡ true) ⌝ }
     ensures { λ r. ⌜ r ≡ wholeOrder (number (now (a .entry))) (number (now (b .entry))) ⌝ }
 {
-    match order::compare(a, b) {
-        order::Order::Less => Order::Less,
-        order::Order::Equal => Order::Equal,
-        order::Order::Greater => Order::Greater,
-        order::Order::WrongLength => Order::WrongLength,
+    match decimal::compare(a, b) {
+        decimal::Order::Less => Order::Less,
+        decimal::Order::Equal => Order::Equal,
+        decimal::Order::Greater => Order::Greater,
+        decimal::Order::WrongLength => Order::WrongLength,
     }
 }
 

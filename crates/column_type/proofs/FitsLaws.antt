@@ -6,9 +6,10 @@ use native.Mathlib.Decide.{decLe}
 use native.Mathlib.Omega.{arith}
 use lib.Dec.{ltb, leb, eqb}
 use borrow.Author.Tests.{ltb-true, lt-ltb, le-leb, lt-leb, eq-eqb, ne-eqb, not-true}
-use Rattle.annotation.specs.Logical as logical
-use Rattle.sheet.specs.Sound.{listed, fixedLenByteArray, group, physicalListed}
-use Rattle.schema.specs.Rules.{isGroup}
+use Rattle.parquet.specs.Logical as logical
+use Rattle.parquet.specs.Physical as physical
+use Rattle.sheet.specs.Sound.{listed, physicalListed}
+use Rattle.tree.specs.Rules.{isGroup}
 use Rattle.column_type.specs.Lawful.{byteNumbers, signedNumbers, parameterNumbers, fits, isLeaf}
 use Rattle.column_type.specs.declared.types.ColumnType.{ColumnType}
 
@@ -41,19 +42,19 @@ parts-fits c f =
     rw (lt-ltb _ _ (f .physical), lt-ltb _ _ (f .«type-length»), lt-ltb _ _ (f .kind), lt-ltb _ _ (f .p1), lt-ltb _ _ (f .p2))
 
 -- the physical codes of leaves are those up to FIXED_LEN_BYTE_ARRAY
-pub isLeaf-upto : (code : ℕ) → leb code fixedLenByteArray ≡ isLeaf code
+pub isLeaf-upto : (code : ℕ) → leb code physical.FIXED-LEN-BYTE-ARRAY ≡ isLeaf code
 unfolding isLeaf physicalListed listed
-isLeaf-upto code = cases (decLe code fixedLenByteArray)
+isLeaf-upto code = cases (decLe code physical.FIXED-LEN-BYTE-ARRAY)
   where
     beside : (b : Bool) → false ≡ b && not b
     beside true = refl
     beside false = refl
 
-    cases : Dec (code ≤ fixedLenByteArray) → leb code fixedLenByteArray ≡ isLeaf code
-    cases (yes h) = rw (le-leb code fixedLenByteArray h, ne-eqb code group (λ (e : code ≡ group). omega arith))
-    cases (no h) = rw (lt-leb code fixedLenByteArray (omega arith)) (beside (eqb code group))
+    cases : Dec (code ≤ physical.FIXED-LEN-BYTE-ARRAY) → leb code physical.FIXED-LEN-BYTE-ARRAY ≡ isLeaf code
+    cases (yes h) = rw (le-leb code physical.FIXED-LEN-BYTE-ARRAY h, ne-eqb code physical.GROUP (λ (e : code ≡ physical.GROUP). omega arith))
+    cases (no h) = rw (lt-leb code physical.FIXED-LEN-BYTE-ARRAY (omega arith)) (beside (eqb code physical.GROUP))
 
--- a leaf is no group
+-- a leaf is no physical.GROUP
 pub isLeaf-not-group : (code : ℕ) → isLeaf code ≡ true → isGroup code ≡ false
 unfolding isLeaf
 isLeaf-not-group code e = not-true (isGroup code) (and-eq-true-iff (physicalListed code) (not (isGroup code)) .0 e .1)

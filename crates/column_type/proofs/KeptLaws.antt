@@ -6,8 +6,8 @@ use native.Mathlib.Omega.{arith}
 use lib.Dec.{eqb, leb}
 use lib.IntN.{ℤ, pos, negsuc}
 use lib.Signed.{mag}
-use Rattle.annotation.specs.Physical as physical
-use Rattle.annotation.specs.Logical as logical
+use Rattle.parquet.specs.Physical as physical
+use Rattle.parquet.specs.Logical as logical
 use Rattle.annotation.specs.Parameters.{validParameters}
 use Rattle.annotation.specs.Spelling.{namedOf, statedOf}
 use Rattle.annotation.specs.Signed.{natural}
@@ -22,7 +22,7 @@ use Rattle.annotation.specs.declared.slot.Annotated.{Annotated}
 use Rattle.annotation.specs.declared.resolution.Kind.{Kind}
 use Rattle.annotation.proofs.SpellingLaws.{stated-spelled}
 use Rattle.annotation.proofs.ReadingLaws.{spelled-bytes}
-use Rattle.schema.specs.Rules.{isGroup, isNought, lengthShape}
+use Rattle.tree.specs.Rules.{isGroup, isNought, lengthShape}
 use Rattle.column_type.specs.Lawful.{slotOf, byteNumbers, signedNumbers, parameterNumbers, isLeaf, isLawful}
 use Rattle.column_type.specs.declared.types.ColumnType.{ColumnType}
 use Rattle.column_type.proofs.FitsLaws.{Fits, parts-fits, isLeaf-not-group}

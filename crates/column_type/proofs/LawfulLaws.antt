@@ -19,8 +19,8 @@ use Rattle.annotation.specs.declared.slot.Annotated.{Annotated}
 use Rattle.sheet.specs.Block.{totalOf}
 use Rattle.sheet.specs.Slot as slot
 use Rattle.sheet.specs.Sound.{physicalListed}
-use Rattle.schema.specs.Annotated.{annotated, kind}
-use Rattle.schema.specs.Rules.{isGroup, lengthShape}
+use Rattle.tree.specs.Annotated.{annotated, kind}
+use Rattle.tree.specs.Rules.{isGroup, lengthShape}
 use Rattle.schema.specs.Rows.{rowWidth, role, row, parentBy, parentOf, rowsFrom, rows}
 use Rattle.schema.specs.Outcome.{outcome}
 use Rattle.schema.specs.Demand.{EnoughOutput, Sound, Accepted}

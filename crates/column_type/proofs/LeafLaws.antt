@@ -9,20 +9,21 @@ use borrow.Author.Tests.{eq-eqb, le-leb}
 use lib.ListN.{length, getD, drop}
 use Rattle.sheet.specs.Block.{totalOf}
 use Rattle.sheet.specs.Slot.{physical, typeLength, scale, precision, numbersOf, slotAt, slots}
-use Rattle.sheet.specs.Sound.{fixedLenByteArray, group, slotSound}
+use Rattle.parquet.specs.Physical as physical
+use Rattle.sheet.specs.Sound.{slotSound}
 use Rattle.sheet.proofs.NumberLaws.{Bytes}
 use Rattle.sheet.proofs.FieldLaws.{physical-lt, typeLength-mag, scale-mag, precision-mag}
 use Rattle.sheet.proofs.SlotLaws.{slots-length, slots-at, slotAt-bytes}
 use Rattle.sheet.proofs.SoundLaws.{sound-physical}
 use Rattle.sheet.proofs.OpeningLaws.{openOf-accepts, openOf-sound}
-use Rattle.schema.specs.Annotated.{annotated, kind, rule10, rule11}
-use Rattle.schema.specs.Tree.{Slot, Tree, Fields, listing, count, size}
-use Rattle.schema.specs.Rules.{isGroup, underMap, shape, placeShape, lengthShape, decimalShape, rule8, KeepsAt}
+use Rattle.tree.specs.Annotated.{annotated, kind, rule10, rule11}
+use Rattle.tree.specs.Tree.{SlotBytes, Tree, Fields, listing, count, size}
+use Rattle.tree.specs.Rules.{isGroup, underMap, shape, placeShape, lengthShape, decimalShape, rule8, KeepsAt}
 use Rattle.schema.specs.Rows.{isMapParent, row, rowWidth, rows}
 use Rattle.schema.specs.Outcome.{outcome, written}
 use Rattle.schema.specs.Demand.{IsTreeOf, Sound}
-use Rattle.schema.specs.declared.place.Place.{Place}
-use Rattle.schema.specs.declared.place.Place.the-variants.{Root}
+use Rattle.tree.specs.declared.place.Place.{Place}
+use Rattle.tree.specs.declared.place.Place.the-variants.{Root}
 use Rattle.schema.specs.declared.roles.Parent.{Parent}
 use Rattle.schema.specs.declared.roles.Parent.the-variants as parent
 use Rattle.schema.proofs.AcceptedLaws.{accepted-sound, accepted-enough}
@@ -35,12 +36,12 @@ use Rattle.column_type.proofs.FitsLaws.{isLeaf-upto}
 use Rattle.column_type.proofs.KeptLaws.{columnWith, InRange, kept-lawful}
 
 -- the column type in a row
-column-row : (at up : ℕ) (q : Parent) (above s : Slot) (fs : Fields) (rest : List ℕ) → columnOf (row at up q above s fs ++ rest) ≡ columnWith (annotated s) (kind (isMapParent q) s)
+column-row : (at up : ℕ) (q : Parent) (above s : SlotBytes) (fs : Fields) (rest : List ℕ) → columnOf (row at up q above s fs ++ rest) ≡ columnWith (annotated s) (kind (isMapParent q) s)
 unfolding columnOf row columnWith annotated numbersOf
 column-row at up q above s fs rest = refl
 
 -- the numbers of a slot of bytes
-slot-range : (s : Slot) → Bytes s → InRange (annotated s)
+slot-range : (s : SlotBytes) → Bytes s → InRange (annotated s)
 unfolding annotated numbersOf
 slot-range s bytes =
     record {
@@ -50,16 +51,16 @@ slot-range s bytes =
       precision = precision-mag s bytes;
     }
 
--- a sound slot that is no group's is a leaf's
-slot-leaf : (s : Slot) → slotSound s ≡ true → isGroup (physical s) ≡ false → isLeaf (physical s) ≡ true
+-- a sound slot that is no physical.GROUP's is a leaf's
+slot-leaf : (s : SlotBytes) → slotSound s ≡ true → isGroup (physical s) ≡ false → isLeaf (physical s) ≡ true
 slot-leaf s sound leaf = cases (sound-physical s sound)
   where
-    cases : (physical s ≤ fixedLenByteArray) ⊎ (physical s ≡ group) → isLeaf (physical s) ≡ true
-    cases (inl h) = sym (isLeaf-upto (physical s)) ∙ le-leb (physical s) fixedLenByteArray h
-    cases (inr e) = absurd (true≢false (sym (eq-eqb (physical s) group e) ∙ leaf))
+    cases : (physical s ≤ physical.FIXED-LEN-BYTE-ARRAY) ⊎ (physical s ≡ physical.GROUP) → isLeaf (physical s) ≡ true
+    cases (inl h) = sym (isLeaf-upto (physical s)) ∙ le-leb (physical s) physical.FIXED-LEN-BYTE-ARRAY h
+    cases (inr e) = absurd (true≢false (sym (eq-eqb (physical s) physical.GROUP e) ∙ leaf))
 
 -- a node that keeps rule 8 has its type length
-shape-length : (p : Place) (s : Slot) (fs : Fields) → rule8 p s fs ≡ true → lengthShape (physical s) (typeLength s) ≡ true
+shape-length : (p : Place) (s : SlotBytes) (fs : Fields) → rule8 p s fs ≡ true → lengthShape (physical s) (typeLength s) ≡ true
 unfolding rule8 shape numbersOf
 shape-length p s fs e =
     let n = numbersOf s in
@@ -68,7 +69,7 @@ shape-length p s fs e =
     .1
 
 -- a leaf that keeps the rules has a lawful column type
-slot-lawful : (p : Place) (s : Slot) (fs : Fields) → Bytes s → slotSound s ≡ true → KeepsAt p s fs → isGroup (physical s) ≡ false → isLawful (columnWith (annotated s) (kind (underMap p) s)) ≡ true
+slot-lawful : (p : Place) (s : SlotBytes) (fs : Fields) → Bytes s → slotSound s ≡ true → KeepsAt p s fs → isGroup (physical s) ≡ false → isLawful (columnWith (annotated s) (kind (underMap p) s)) ≡ true
 unfolding annotated numbersOf kind rule10 rule11
 slot-lawful p s fs bytes sound keeps leaf =
     kept-lawful (annotated s) (underMap p) (slot-range s bytes) (slot-leaf s sound leaf) (shape-length p s fs (keeps .shape)) (keeps .placement) (keeps .decimals)
@@ -82,7 +83,7 @@ module _ (c : ColumnType) (sheet lent : List ℕ) (k : ℕ) (h : IsLeafOf c shee
 
   -- node k is listed as the k-th
   slot-listed : getD (listing (tree .0)) k [] ≡ slotAt sheet k
-  slot-listed = ap (λ (ss : List Slot). getD ss k []) (tree .1 .lists) ∙ slots-at sheet k [] (h .below)
+  slot-listed = ap (λ (ss : List SlotBytes). getD ss k []) (tree .1 .lists) ∙ slots-at sheet k [] (h .below)
 
   below-size : k < size (tree .0)
   unfolding size

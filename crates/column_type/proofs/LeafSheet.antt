@@ -6,9 +6,11 @@ use mathlib.Core.List.{List, [], _∷_, _++_}
 use native.Mathlib.Omega.{arith}
 use lib.IntN.{pos}
 use lib.ListN.{length, replicate}
-use Rattle.annotation.specs.Physical as physical
-use Rattle.annotation.specs.Converted as converted
-use Rattle.annotation.specs.Logical as logical
+use Rattle.parquet.specs.Repetition.{REQUIRED}
+use Rattle.parquet.specs.Repetition as repetition
+use Rattle.parquet.specs.Physical as physical
+use Rattle.parquet.specs.Converted as converted
+use Rattle.parquet.specs.Logical as logical
 use Rattle.annotation.specs.Parameters.{UNUSED}
 use Rattle.annotation.specs.Signed.{natural}
 use Rattle.annotation.specs.declared.slot.Annotated.{Annotated}
@@ -23,8 +25,7 @@ use Rattle.sheet.proofs.NumberLaws.{Bytes, signed32-low}
 use Rattle.sheet.proofs.BytesLaws.{all-bytes, bytes-append, bytes-replicate, bytes-renewed}
 use Rattle.sheet.proofs.BlockLaws.{blockCount-same}
 use Rattle.sheet.proofs.RenewalLaws.{length-renewed, renewed-right}
-use Rattle.schema.specs.Annotated.{annotated}
-use Rattle.schema.specs.Rules.{REQUIRED, NO-REPETITION}
+use Rattle.tree.specs.Annotated.{annotated}
 use Rattle.schema.specs.Demand.{Sound}
 use Rattle.column_type.specs.Lawful.{byteNumbers, signedNumbers}
 
@@ -66,7 +67,7 @@ rootNumbers =
     }
 
 unfoldable pub rootSlot : List ℕ
-rootSlot = slotBytes NO-REPETITION 1 rootName rootNumbers
+rootSlot = slotBytes repetition.NONE 1 rootName rootNumbers
 
 -- the required leaf
 unfoldable pub leafSlot : Annotated → List ℕ
@@ -199,5 +200,5 @@ unfolding leafSheet blockBytes rootSlot leafSlot
 leafSheet-bytes n h =
     bytes-renewed (blockBytes n)
     (bytes-append header (rootSlot ++ leafSlot n ++ unused) (all-bytes header (omega arith))
-    (bytes-append rootSlot (leafSlot n ++ unused) (slot-bytes NO-REPETITION 1 rootName rootNumbers (omega arith) (omega arith) (omega arith) root-holds)
+    (bytes-append rootSlot (leafSlot n ++ unused) (slot-bytes repetition.NONE 1 rootName rootNumbers (omega arith) (omega arith) (omega arith) root-holds)
     (bytes-append (leafSlot n) unused (slot-bytes REQUIRED 0 leafName n (omega arith) (omega arith) (omega arith) h) (bytes-replicate (blockSize - firstSlotAt - 2 * slotSize) 0 (omega arith)))))

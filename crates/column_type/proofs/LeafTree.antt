@@ -6,7 +6,7 @@ use mathlib.Core.List.{[], _∷_}
 use native.Mathlib.Omega.{arith}
 use lib.Dec.{eqb}
 use lib.ListN.{getD}
-use Rattle.annotation.specs.Logical as logical
+use Rattle.parquet.specs.Logical as logical
 use Rattle.annotation.specs.Parameters.{validParameters}
 use Rattle.annotation.specs.Signed.{natural}
 use Rattle.annotation.specs.Backward.{backwardOf}
@@ -20,12 +20,11 @@ use Rattle.annotation.proofs.PlacementLaws.{leaf-kind}
 use Rattle.sheet.specs.Number.{numberAt, signed32}
 use Rattle.sheet.specs.Slot as slot
 use Rattle.sheet.specs.Slot.{numbersOf}
-use Rattle.schema.specs.Annotated.{annotated, kind, rule9, rule10, rule11}
-use Rattle.schema.specs.Tree.{Tree, Fields, node, empty, field, listing, count, depths, AtMostDeep, Claims}
-use Rattle.schema.specs.Rules.{isGroup, isNought, lengthShape, decimalShape, placeBelow, shape, rule8, isList, isMap, rule12, rule13, KeepsAt, Keeps}
-use Rattle.schema.specs.Outcome.{mostDepth}
+use Rattle.tree.specs.Annotated.{annotated, kind, rule9, rule10, rule11}
+use Rattle.tree.specs.Tree.{Tree, Fields, node, empty, field, listing, count, depths, AtMostDeep, Claims, mostDepth}
+use Rattle.tree.specs.Rules.{isGroup, isNought, lengthShape, decimalShape, placeBelow, shape, rule8, isList, isMap, rule12, rule13, KeepsAt, Keeps}
 use Rattle.schema.specs.Demand.{IsTreeOf}
-use Rattle.schema.specs.declared.place.Place.the-variants.{Root, Field}
+use Rattle.tree.specs.declared.place.Place.the-variants.{Root, Field}
 use Rattle.column_type.proofs.LeafSheet.{rootSlot, leafSlot, leafSheet, leafSheet-slots, Holds, leafSlot-annotated}
 
 -- a root and one leaf

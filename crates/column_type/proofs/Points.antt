@@ -4,9 +4,9 @@ use mathlib.Core.Path.{_≡_, refl}
 use mathlib.Core.Bool.{Bool, true, false}
 use mathlib.Core.List.{List, [], _∷_, map}
 use Rattle.decimal.specs.Precision.{greatestPrecision, greatest}
-use Rattle.annotation.specs.Physical.{INT32, INT64, BYTE-ARRAY, FIXED-LEN-BYTE-ARRAY, GROUP}
-use Rattle.annotation.specs.Converted as converted
-use Rattle.annotation.specs.Logical as logical
+use Rattle.parquet.specs.Physical.{INT32, INT64, BYTE-ARRAY, FIXED-LEN-BYTE-ARRAY, GROUP}
+use Rattle.parquet.specs.Converted as converted
+use Rattle.parquet.specs.Logical as logical
 use Rattle.annotation.specs.Parameters.{bitWidthCode, unitCode, flagCode, unitOf, bitWidthOf, validParameters}
 use Rattle.annotation.specs.Spelling.{namedOf, statedOf}
 use Rattle.annotation.specs.Signed.{natural}
@@ -19,7 +19,7 @@ use Rattle.annotation.specs.Kinds.{PLAIN-LEAF, PLAIN-GROUP}
 use Rattle.annotation.specs.declared.types.TimeUnit.{TimeUnit}
 use Rattle.annotation.specs.declared.types.BitWidth.{BitWidth}
 use Rattle.sheet.specs.Sound.{listed, physicalListed}
-use Rattle.schema.specs.Rules.{isNought, lengthShape}
+use Rattle.tree.specs.Rules.{isNought, lengthShape}
 use Rattle.column_type.specs.Lawful.{slotOf, fits, isLeaf, isLawful}
 use Rattle.column_type.specs.declared.types.ColumnType.{ColumnType}
 

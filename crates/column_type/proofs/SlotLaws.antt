@@ -4,8 +4,8 @@ use mathlib.Core.Bool.{Bool, true, false, cond}
 use lib.Dec.{eqb}
 use lib.IntN.{pos}
 use borrow.Author.Tests.{eq-eqb, ne-eqb}
-use Rattle.annotation.specs.Converted as converted
-use Rattle.annotation.specs.Logical as logical
+use Rattle.parquet.specs.Converted as converted
+use Rattle.parquet.specs.Logical as logical
 use Rattle.annotation.specs.Parameters.{UNUSED}
 use Rattle.annotation.specs.Rule9.{rule9}
 use Rattle.annotation.specs.declared.slot.Annotated.{Annotated}

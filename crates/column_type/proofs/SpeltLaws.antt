@@ -6,8 +6,8 @@ use native.Mathlib.Decide.{ℕ-discrete}
 use native.Mathlib.Omega.{arith}
 use lib.Dec.{eqb}
 use borrow.Author.Tests.{eqb-true, ne-eqb}
-use Rattle.annotation.specs.Converted as converted
-use Rattle.annotation.specs.Logical as logical
+use Rattle.parquet.specs.Converted as converted
+use Rattle.parquet.specs.Logical as logical
 use Rattle.annotation.specs.Parameters.{UNUSED, validParameters}
 use Rattle.annotation.specs.Spelling.{codeOf, namedOf, statedOf}
 use Rattle.annotation.specs.Signed.{natural}
@@ -21,7 +21,7 @@ use Rattle.annotation.specs.declared.slot.Annotated.{Annotated}
 use Rattle.annotation.specs.declared.resolution.Kind.{Kind}
 use Rattle.annotation.proofs.ReadingLaws.{Spells, spelled-stated}
 use Rattle.sheet.specs.Sound.{listed, convertedListed, logicalListed}
-use Rattle.schema.specs.Rules.{isGroup, isNought, decimalShape}
+use Rattle.tree.specs.Rules.{isGroup, isNought, decimalShape}
 use Rattle.column_type.specs.Lawful.{slotWith, slotOf, byteNumbers, signedNumbers}
 use Rattle.column_type.specs.declared.types.ColumnType.{ColumnType}
 use Rattle.column_type.proofs.FitsLaws.{Fits, fits-decimal, fits-other}

@@ -3,15 +3,15 @@ use Prim.Native.Nat.{ℕ, _^_}
 use mathlib.Core.Bool.{Bool, false, cond, not, _&&_}
 use lib.Dec.{eqb, ltb}
 use lib.IntN.{pos}
-use Rattle.annotation.specs.Converted as converted
-use Rattle.annotation.specs.Logical as logical
+use Rattle.parquet.specs.Converted as converted
+use Rattle.parquet.specs.Logical as logical
 use Rattle.annotation.specs.Parameters.{UNUSED}
 use Rattle.annotation.specs.Rule9.{rule9}
 use Rattle.annotation.specs.Rule10.{rule10}
 use Rattle.annotation.specs.Rule11.{rule11}
 use Rattle.annotation.specs.declared.slot.Annotated.{Annotated}
 use Rattle.sheet.specs.Sound.{physicalListed}
-use Rattle.schema.specs.Rules.{isGroup, lengthShape}
+use Rattle.tree.specs.Rules.{isGroup, lengthShape}
 use Rattle.column_type.specs.declared.types.ColumnType.{ColumnType}
 
 -- a slot with the physical and the type length of a column type: its converted, logical, a, b, precision and scale

@@ -5,7 +5,7 @@ use mathlib.Core.Bool.{false}
 use mathlib.Core.List.{List}
 use lib.ListN.{length, getD, drop}
 use Rattle.sheet.specs.Block.{totalOf}
-use Rattle.schema.specs.Rules.{isGroup}
+use Rattle.tree.specs.Rules.{isGroup}
 use Rattle.schema.specs.Rows.{rowWidth}
 use Rattle.schema.specs.Outcome.{outcome, written}
 use Rattle.schema.specs.Demand.{Accepted}

@@ -3,15 +3,16 @@ ghost use Prim.Native.Nat.{_<_};
 ghost use mathlib.Core.Path.{_≡_};
 ghost use mathlib.Core.Bool.{true};
 ghost use lib.IntN.{pos};
-ghost use Rattle.schema.specs.Rules.{lengthShape};
+ghost use Rattle.tree.specs.Rules.{lengthShape};
 ghost use Rattle.column_type.specs.Lawful.{slotWith, slotOf, byteNumbers, signedNumbers, parameterNumbers, fits, isLeaf, annotationRight, isLawful};
 use crate::types::ColumnType;
 use annotation::Annotated;
-use annotation::converted;
-use annotation::logical;
-use annotation::physical;
+use annotation::parameters;
 use annotation::refusal;
 use annotation::resolve;
+use parquet::converted;
+use parquet::logical;
+use parquet::physical;
 
 // How many numbers from 0 on a byte of a slot has, and a signed number of four bytes.
 const BYTE_NUMBERS: u32 = 256;
@@ -89,8 +90,8 @@ fn slot(c: ColumnType) -> Annotated
             c,
             converted::NONE,
             logical::DECIMAL,
-            logical::UNUSED,
-            logical::UNUSED,
+            parameters::UNUSED,
+            parameters::UNUSED,
             c.p1,
             c.p2,
         );

@@ -3,7 +3,7 @@
 //
 // Standard input is a count, and then each vector as the length of its title and the title, the five numbers of a column type, a
 // value, whether a second follows, and that. A value is its length, how many of its bytes are given, the byte that the others are,
-// and those given. Each number is four bytes, the least first. reference/vectors.py writes it, and stdout.
+// and those given. Each number is four bytes, the least first. The independent reader writes it, and stdout.
 use column_type::ColumnType;
 use libc::STDIN_FILENO;
 use libc::STDOUT_FILENO;

@@ -18,7 +18,8 @@ use Rattle.decimal.specs.declared.order.Order.{Order}
 use Rattle.decimal.specs.declared.fit.Fit.{Fit}
 use Rattle.decimal.specs.declared.fit.Fit.the-variants.{Within, Beyond, WrongLength}
 use Rattle.decimal.specs.Precision.{isLength, greatestPrecision}
-use Rattle.decimal.specs.Number.{unsigned, isNegative, number, significant}
+use Rattle.decimal.specs.Number.{unsigned, isNegative, number}
+use Rattle.decimal.specs.Significant.{significant}
 use Rattle.decimal.specs.Order.{order, orderOf}
 use Rattle.decimal.specs.Fit.{fitOf}
 use Rattle.decimal.proofs.PrecisionLaws.{isLength-bounds, isLength-within, greatestPrecision-low, greatestPrecision-high}

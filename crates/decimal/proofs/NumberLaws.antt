@@ -1,45 +1,28 @@
--- Laws of the number that bytes stand for: differences of naturals, the sign in front, and what the length says of the magnitude.
+-- Laws of the number that bytes stand for: the sign in front, and what the length says of the magnitude.
 -- Assumes nothing.
 use mathlib.Core.Path.{_≡_, refl, sym, ap, ap₂, subst, _∙_}
-use mathlib.Core.Logic.{_⊎_, inl, inr, ⊎-elim}
+use mathlib.Core.Logic.{_⊎_, inl, inr}
 use mathlib.Core.Bool.{Bool, true, false, cond}
 use mathlib.Core.List.{List, [], _∷_, _++_, map}
 use Prim.Native.Nat.{ℕ, zero, suc, _+_, _*_, _-_, _^_, _≤_, _<_}
 use native.Mathlib.Nat.{pow-suc, zero-mul, zero-add, add-mul, sub-add-cancel, le-of-suc-le-suc, not-suc-le-self, not-suc-le-zero, mul-le-mul-right}
 use native.Mathlib.Numerals.{add-one}
 use native.Mathlib.Omega.{arith}
-use lib.Dec.{leb, ltb, eqb}
+use lib.Dec.{leb, eqb}
 use lib.IntN.{pos, negsuc, subℕ}
 use lib.ListN.{length, getD, drop, replicate}
 use lib.Arith.{digits-lt}
 use lib.Pow.{pow-add}
 use lib.Seq.{drop-cons}
 use lib.Signed.{mag}
-use borrow.Author.Tests.{lt-ltb, le-ltb, ltb-true, ltb-false, leb-true, leb-false, eqb-true, eqb-false, eq-eqb, ne-eqb}
-use Rattle.decimal.specs.Number.{unsigned, isNegative, number, signByte, significant}
+use borrow.Author.Tests.{leb-true, leb-false, eqb-true, eqb-false, eq-eqb, ne-eqb}
+use Rattle.laws.proofs.DifferenceLaws.{sub-below, sub-above, sub-eq, below?}
+use Rattle.decimal.specs.Number.{unsigned, isNegative, number}
+use Rattle.decimal.specs.Significant.{signByte, significant}
 use Rattle.decimal.proofs.UnsignedLaws.{Bytes, pow-split, unsigned-<}
 
--- ---- a − b, for two naturals
-
 pub lt-or-ge : (a b : ℕ) → (a < b) ⊎ (b ≤ a)
-lt-or-ge a b = go (ltb a b) refl
-  where
-    go : (t : Bool) → ltb a b ≡ t → (a < b) ⊎ (b ≤ a)
-    go true e = inl (ltb-true a b e)
-    go false e = inr (ltb-false a b e)
-
-pub subℕ-< : (a b : ℕ) → a < b → subℕ a b ≡ negsuc (b - suc a)
-subℕ-< a b h = rw (lt-ltb a b h)
-
-pub subℕ-≥ : (a b : ℕ) → b ≤ a → subℕ a b ≡ pos (a - b)
-subℕ-≥ a b h = rw (le-ltb a b h)
-
-pub subℕ-+ : (k a b : ℕ) → subℕ (k + a) (k + b) ≡ subℕ a b
-subℕ-+ k a b =
-    ⊎-elim
-    (λ h. subℕ-< (k + a) (k + b) (omega arith) ∙ ap negsuc (omega arith) ∙ sym (subℕ-< a b h))
-    (λ h. subℕ-≥ (k + a) (k + b) (omega arith) ∙ ap pos (omega arith) ∙ sym (subℕ-≥ a b h))
-    (lt-or-ge a b)
+lt-or-ge a b = below? a b inl inr
 
 -- ---- the number by its sign
 
@@ -48,10 +31,10 @@ unfolding number
 number-by bs negative e = ap (λ (t : Bool). subℕ (unsigned bs) (cond t (256 ^ length bs) 0)) e
 
 pub number-pos : (bs : List ℕ) → isNegative bs ≡ false → number bs ≡ pos (unsigned bs)
-number-pos bs e = number-by bs false e ∙ subℕ-≥ (unsigned bs) 0 (omega arith) ∙ ap pos (omega arith)
+number-pos bs e = number-by bs false e ∙ sub-above (unsigned bs) 0 (omega arith) ∙ ap pos (omega arith)
 
 pub number-neg : (bs : List ℕ) → isNegative bs ≡ true → Bytes bs → number bs ≡ negsuc (256 ^ length bs - suc (unsigned bs))
-number-neg bs e h = number-by bs true e ∙ subℕ-< (unsigned bs) (256 ^ length bs) (unsigned-< bs h)
+number-neg bs e h = number-by bs true e ∙ sub-below (unsigned bs) (256 ^ length bs) (unsigned-< bs h)
 
 -- ---- bytes of the sign in front change nothing
 
@@ -70,7 +53,7 @@ number-front x bs s = ap (λ (y : ℕ). number (y ∷ bs)) s ∙ go (isNegative 
         ap (λ (t : Bool). number (cond t 255 0 ∷ bs)) e
         ∙ number-by (255 ∷ bs) true refl
         ∙ ap (subℕ (255 * 256 ^ length bs + unsigned bs)) (pow-split (length bs))
-        ∙ subℕ-+ (255 * 256 ^ length bs) (unsigned bs) (256 ^ length bs)
+        ∙ sub-eq (255 * 256 ^ length bs + unsigned bs) (255 * 256 ^ length bs + 256 ^ length bs) (unsigned bs) (256 ^ length bs) (omega arith)
         ∙ sym (number-by bs true e)
     go false e =
         ap (λ (t : Bool). number (cond t 255 0 ∷ bs)) e

@@ -1,7 +1,7 @@
 -- Laws of the order of decimals: each answer exactly where the numbers are so, and the order of two lists of one length and sign.
 -- Assumes nothing.
 use mathlib.Core.Path.{_≡_, refl, sym, ap, ap₂, subst, _∙_}
-use mathlib.Core.Logic.{_↔_, ⊎-elim}
+use mathlib.Core.Logic.{_↔_}
 use mathlib.Core.Bool.{Bool, true, false, cond, _&&_}
 use mathlib.Core.List.{List, [], _∷_, _++_}
 use Prim.Native.Nat.{ℕ, suc, _+_, _-_, _^_, _≤_, _<_}
@@ -17,10 +17,13 @@ use borrow.Author.Tests.{lt-ltb, le-ltb, ltb-true, ltb-false}
 use Rattle.decimal.specs.declared.order.Order.{Order}
 use Rattle.decimal.specs.declared.order.Order.the-variants.{Less, Equal, Greater, WrongLength}
 use Rattle.decimal.specs.Precision.{isLength}
-use Rattle.decimal.specs.Number.{unsigned, isNegative, number, signByte}
+use Rattle.decimal.specs.Number.{unsigned, isNegative, number}
+use Rattle.decimal.specs.Significant.{signByte}
 use Rattle.decimal.specs.Order.{order, orderOf}
 use Rattle.decimal.proofs.UnsignedLaws.{Bytes, Bytes-++, Bytes-replicate, unsigned-first}
-use Rattle.decimal.proofs.NumberLaws.{lt-or-ge, subℕ-<, subℕ-≥, number-by, number-pos, number-neg, isNegative-sign, isNegative-extended, number-extended}
+use Rattle.laws.proofs.BoolLaws.{T-true}
+use Rattle.laws.proofs.DifferenceLaws.{sub-below, sub-above, below?}
+use Rattle.decimal.proofs.NumberLaws.{number-by, number-pos, number-neg, isNegative-sign, isNegative-extended, number-extended}
 
 -- ---- the order of whole numbers
 
@@ -61,17 +64,13 @@ by-tests x y o {A} e l g s = go (ltZ x y) refl (ltZ y x) refl e
     go false p true q r = g q r
     go false p false q r = s (ltZ-neither x y p q) r
 
-test : (b : Bool) → T b → b ≡ true
-test true t = refl
-test false t = absurd t
-
 holds : {b : Bool} → b ≡ true → T b
 holds e = subst T (sym e) tt
 
 pub order-less : (x y : ℤ) → (order x y ≡ Less) ↔ (x <ℤ y)
 order-less x y = (
   λ e. ltZ-yes (holds (by-tests x y Less e (λ p r. p) (λ p r. cc) (λ p r. cc))),
-  λ h. order-< x y (test (ltZ x y) (h .lt)),
+  λ h. order-< x y (T-true (ltZ x y) (h .lt)),
 )
 
 pub order-equal : (x y : ℤ) → (order x y ≡ Equal) ↔ (x ≡ y)
@@ -81,7 +80,7 @@ order-equal x y =
 pub order-greater : (x y : ℤ) → (order x y ≡ Greater) ↔ (y <ℤ x)
 order-greater x y = (
   λ e. ltZ-yes (holds (by-tests x y Greater e (λ p r. cc) (λ p r. p) (λ p r. cc))),
-  λ h. order-> x y (test (ltZ y x) (h .lt)),
+  λ h. order-> x y (T-true (ltZ y x) (h .lt)),
 )
 
 pub orderOf-order : (a b : List ℕ) → isLength (length a) ≡ true → isLength (length b) ≡ true → orderOf a b ≡ order (number a) (number b)
@@ -102,16 +101,16 @@ module _ (a b : List ℕ) (p : isLength (length a) ≡ true) (q : isLength (leng
 -- ---- two lists of one length and sign
 
 subℕ-monotone : (a b k : ℕ) → a < b → ltZ (subℕ a k) (subℕ b k) ≡ true
-subℕ-monotone a b k h = ⊎-elim both-below (λ p. ⊎-elim (between p) both-above (lt-or-ge a k)) (lt-or-ge b k)
+subℕ-monotone a b k h = below? b k both-below (λ p. below? a k (between p) both-above)
   where
     both-below : b < k → ltZ (subℕ a k) (subℕ b k) ≡ true
-    both-below p = ap₂ ltZ (subℕ-< a k (omega arith)) (subℕ-< b k p) ∙ lt-ltb (k - suc b) (k - suc a) (omega arith)
+    both-below p = ap₂ ltZ (sub-below a k (omega arith)) (sub-below b k p) ∙ lt-ltb (k - suc b) (k - suc a) (omega arith)
 
     between : k ≤ b → a < k → ltZ (subℕ a k) (subℕ b k) ≡ true
-    between p q = ap₂ ltZ (subℕ-< a k q) (subℕ-≥ b k p)
+    between p q = ap₂ ltZ (sub-below a k q) (sub-above b k p)
 
     both-above : k ≤ a → ltZ (subℕ a k) (subℕ b k) ≡ true
-    both-above q = ap₂ ltZ (subℕ-≥ a k q) (subℕ-≥ b k (omega arith)) ∙ lt-ltb (a - k) (b - k) (omega arith)
+    both-above q = ap₂ ltZ (sub-above a k q) (sub-above b k (omega arith)) ∙ lt-ltb (a - k) (b - k) (omega arith)
 
 -- the first byte that differs decides
 pub number-first : (i : ℕ) (a b : List ℕ) → Bytes a → length a ≡ length b → isNegative a ≡ isNegative b → i < length a

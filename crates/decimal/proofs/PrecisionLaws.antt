@@ -2,7 +2,7 @@
 -- Assumes nothing.
 use mathlib.Core.Path.{_≡_, refl, sym, subst}
 use mathlib.Core.Logic.{⊎-elim}
-use mathlib.Core.Bool.{Bool, true, false, not, cond, _&&_, false≢true}
+use mathlib.Core.Bool.{Bool, true, false, not, cond}
 use mathlib.Core.List.{[], _∷_, map}
 use Prim.Native.Nat.{ℕ, zero, suc, _+_, _*_, _-_, _^_, _≤_, _<_, zero-le}
 use native.Mathlib.Nat.{le-refl, le-step, le-trans, le-antisymm, le-of-suc-le-suc, lt-irrefl, lt-of-lt-of-le, lt-of-not-le, not-suc-le-zero, eq-or-lt-of-le, pow-le-pow-left, pow-le-pow-right}
@@ -11,6 +11,7 @@ use native.Mathlib.Omega.{arith}
 use lib.Dec.{T, leb, leb→le, nleb→lt, le→leb}
 use lib.Pow.{pow-mono, ones-lt}
 use borrow.Author.Tests.{le-leb, leb-true}
+use Rattle.laws.proofs.BoolLaws.{and-both}
 use Rattle.decimal.specs.Precision.{greatestLength, isLength, greatestNumber, greatest, greatestPrecision}
 
 -- the greatest number that passes is within the limit
@@ -92,12 +93,7 @@ published = refl
 
 -- a length is 1 to 256
 pub isLength-bounds : (n : ℕ) → isLength n ≡ true → (1 ≤ n) × (n ≤ greatestLength)
-isLength-bounds n e = go (leb 1 n) refl (leb n 256) refl e
-  where
-    go : (t : Bool) → leb 1 n ≡ t → (u : Bool) → leb n 256 ≡ u → t && u ≡ true → (1 ≤ n) × (n ≤ greatestLength)
-    go true p true q r = (leb-true 1 n p, leb-true n 256 q)
-    go true p false q r = absurd (false≢true r)
-    go false p u q r = absurd (false≢true r)
+isLength-bounds n e = let p = and-both (leb 1 n) (leb n greatestLength) e in (leb-true 1 n (p .0), leb-true n greatestLength (p .1))
 
 pub isLength-within : (n : ℕ) → 1 ≤ n → n ≤ greatestLength → isLength n ≡ true
 isLength-within n low high = rw (le-leb 1 n low, le-leb n 256 high)

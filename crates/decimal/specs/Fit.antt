@@ -1,5 +1,4 @@
 -- Whether a decimal keeps to its precision: |unscaled| < 10^precision (document 01, single values).
--- Assumes nothing.
 use Prim.Native.Nat.{ℕ, _^_}
 use mathlib.Core.Bool.{cond}
 use mathlib.Core.List.{List}
@@ -10,6 +9,8 @@ use Rattle.decimal.specs.declared.fit.Fit.{Fit}
 use Rattle.decimal.specs.declared.fit.Fit.the-variants.{Within, Beyond, WrongLength}
 use Rattle.decimal.specs.Precision.{isLength}
 use Rattle.decimal.specs.Number.{number}
+
+-- `Fit` is what holding to a precision answers, declared in src/fit.rt: Within, Beyond, or WrongLength
 
 -- a decimal of 1 to 256 bytes is within its precision where |number| < 10^precision; any other length is wrong
 unfoldable pub fitOf : List ℕ → ℕ → Fit

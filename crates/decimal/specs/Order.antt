@@ -1,5 +1,4 @@
 -- The order of decimals: that of the signed numbers that their bytes stand for (document 01, single values).
--- Assumes nothing.
 use Prim.Native.Nat.{ℕ}
 use mathlib.Core.Bool.{cond, _&&_}
 use mathlib.Core.List.{List}
@@ -10,6 +9,8 @@ use Rattle.decimal.specs.declared.order.Order.{Order}
 use Rattle.decimal.specs.declared.order.Order.the-variants.{Less, Equal, Greater, WrongLength}
 use Rattle.decimal.specs.Precision.{isLength}
 use Rattle.decimal.specs.Number.{number}
+
+-- `Order` is what comparing answers, declared in src/order.rt: Less, Equal, Greater, or WrongLength
 
 -- the order of two whole numbers
 abbrev pub order : ℤ → ℤ → Order

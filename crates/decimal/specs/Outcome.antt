@@ -1,5 +1,4 @@
 -- What the answers of `decimal` are in document 01: a refusal by its number and place, or what was asked for.
--- Assumes nothing.
 use Prim.Native.Nat.{ℕ}
 use mathlib.Core.List.{List}
 use Rattle.decimal.specs.declared.order.Order
@@ -9,6 +8,7 @@ use Rattle.decimal.specs.declared.fit.Fit.{Fit}
 use Rattle.decimal.specs.Order.{orderOf}
 use Rattle.decimal.specs.Fit.{fitOf}
 
+-- a refusal, by its number and place, or what was asked for
 pub data Outcome (A : Type 0) : Type 0 where
   refused : ℕ → ℕ → Outcome A
   given : A → Outcome A
@@ -25,7 +25,7 @@ breaksAnnotation = refused 16 0
 pub data Relation : Type 0 where
   less equal greater : Relation
 
--- what each answer of compare stands for
+-- what each answer of compare stands for: the cases of `Order`, declared in src/order.rt
 abbrev pub compared : Order → Outcome Relation
 compared Order.Less = given less
 compared Order.Equal = given equal
@@ -36,7 +36,8 @@ compared Order.WrongLength = wrongLength
 abbrev pub comparing : List ℕ → List ℕ → Outcome Relation
 comparing a b = compared (orderOf a b)
 
--- what each answer of fits_precision stands for: a number within its precision keeps its annotation
+-- what each answer of fits_precision stands for, the cases of `Fit`, declared in src/fit.rt: a number within its precision keeps its
+-- annotation
 abbrev pub fitted : Fit → Outcome (Unit {0})
 fitted Fit.Within = given tt
 fitted Fit.Beyond = breaksAnnotation

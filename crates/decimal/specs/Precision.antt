@@ -1,5 +1,4 @@
 -- The greatest decimal precision by byte length: rule 11 of document 01, for FIXED n.
--- Assumes nothing.
 use Prim.Native.Nat.{ℕ, zero, suc, _*_, _-_, _^_}
 use mathlib.Core.Bool.{Bool, cond, _&&_}
 use lib.Dec.{leb}

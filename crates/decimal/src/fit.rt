@@ -9,7 +9,7 @@ ghost use mathlib.Core.Bool.{true};
 ghost use Prim.Native.Nat.{_≤_};
 ghost use lib.ListN.{length};
 ghost use Rattle.decimal.specs.Precision.{greatestLength, isLength, greatestPrecision};
-ghost use Rattle.decimal.specs.Number.{significant};
+ghost use Rattle.decimal.specs.Significant.{significant};
 ghost use Rattle.decimal.specs.Fit.{fitOf};
 ghost use Rattle.decimal.specs.Outcome.{fitted, fitting};
 

@@ -1,12 +1,19 @@
 // Decimals: whole numbers as big-endian two's complement of 1 to 256 bytes.
 
 // Whether |number| < 10^precision.
-pub mod fit;
+mod fit;
 // The sign of a number, and the bytes that it needs.
 mod number;
 // The order of two numbers of any two lengths.
-pub mod order;
+mod order;
 // Powers of ten, as bytes.
 mod power;
 // The lengths, and the greatest precision of each.
-pub mod precision;
+mod precision;
+
+pub use fit::Fit;
+pub use fit::fits_precision;
+pub use order::Order;
+pub use order::compare;
+pub use precision::greatest_precision;
+pub use precision::is_length;

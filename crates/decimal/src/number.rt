@@ -1,6 +1,7 @@
 // The number that bytes stand for: its sign, and the bytes that it needs.
 ghost use mathlib.Core.Path.{_≡_};
-ghost use Rattle.decimal.specs.Number.{isNegative, signByte, significant};
+ghost use Rattle.decimal.specs.Number.{isNegative};
+ghost use Rattle.decimal.specs.Significant.{signByte, significant};
 
 // The first bit of a byte, which is the sign in the first byte of a number.
 const SIGN_BIT: u8 = 128;

@@ -5,7 +5,8 @@ ghost use mathlib.Core.Path.{_≡_};
 ghost use mathlib.Core.List.{_++_};
 ghost use Prim.Native.Nat.{_+_, _<_, max};
 ghost use lib.ListN.{length, getD, replicate};
-ghost use Rattle.decimal.specs.Number.{number, signByte};
+ghost use Rattle.decimal.specs.Number.{number};
+ghost use Rattle.decimal.specs.Significant.{signByte};
 ghost use Rattle.decimal.specs.Order.{order, orderOf};
 ghost use Rattle.decimal.specs.Outcome.{compared, comparing};
 

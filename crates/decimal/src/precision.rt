@@ -3,7 +3,7 @@ ghost use mathlib.Core.Path.{_≡_};
 ghost use Rattle.decimal.specs.Precision.{isLength, greatestPrecision};
 
 // The greatest byte length of a decimal.
-pub const GREATEST_LENGTH: usize = 256;
+pub(crate) const GREATEST_LENGTH: usize = 256;
 
 // At n - 1 the greatest d with 10^d <= 2^(8n-1) - 1, for n from 1 to 256.
 const GREATEST_PRECISION: [u32; GREATEST_LENGTH] = [

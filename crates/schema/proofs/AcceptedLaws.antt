@@ -11,13 +11,14 @@ use Rattle.sheet.specs.Opening as sheet
 use Rattle.sheet.specs.declared.opening.Opened.the-variants.{Nodes}
 use Rattle.sheet.proofs.OpeningLaws.{openOf-blocks, openOf-slots}
 use Rattle.schema.specs.Rows.{rowWidth}
-use Rattle.schema.specs.Outcome.{shortOutput, judgement, answer, outcome}
+use Rattle.tree.specs.Judgement.{judgement}
+use Rattle.schema.specs.Outcome.{shortOutput, answer, outcome}
 use Rattle.schema.specs.Demand.{Sound, EnoughOutput, Accepted}
-use Rattle.schema.specs.declared.refusal.Verdict.{Verdict}
-use Rattle.schema.specs.declared.refusal.Verdict.the-variants.{Lawful, Refused}
+use Rattle.tree.specs.declared.refusal.Verdict.{Verdict}
+use Rattle.tree.specs.declared.refusal.Verdict.the-variants.{Lawful, Refused}
 use Rattle.schema.specs.declared.resolving.Resolved.{Resolved}
 use Rattle.schema.proofs.DemandLaws.{accepted-no-refusal}
-use Rattle.schema.proofs.JudgementLaws.{lawful-opened}
+use Rattle.tree.proofs.JudgementLaws.{lawful-opened}
 
 -- 14 is not given
 answer-enough : (v : Verdict) (t lent : ℕ) → Accepted (answer v t lent) → rowWidth * t ≤ lent

@@ -1,19 +1,8 @@
--- What the proofs of several functions use.
-pub mod TreeLaws
-pub mod OpenPlacesLaws
-pub mod PlacesLaws
-pub mod FaultLaws
-pub mod DemandLaws
-pub mod StandingLaws
-pub mod JudgingLaws
-pub mod PlacingLaws
+-- What the proofs of several functions use, and what the crates above cite.
 pub mod RowsLaws
-pub mod ShapeLaws
-pub mod VisitLaws
-pub mod StructureLaws
-pub mod NodeLaws
-pub mod JudgingSteps
-pub mod CountingLaws
+pub mod PlacingLaws
+pub mod ResolvingLaws
+pub mod DemandLaws
 pub mod RolesLaws
 pub mod RowsSteps
 pub mod RewritingSteps
@@ -23,7 +12,6 @@ pub mod RewrittenRowsLaws
 pub mod RewrittenLaws
 pub mod RewriteLaws
 pub mod RewriteDemandLaws
-pub mod JudgementLaws
-pub mod Points
 pub mod AcceptedLaws
 pub mod NodeRowLaws
+pub mod RowKindLaws

@@ -6,21 +6,21 @@ use native.Mathlib.Decide.{decLt}
 use native.Mathlib.Omega.{arith}
 use lib.ListN.{length, getD, drop, length-append, List·getD-append}
 use lib.Seq.{drop-append-add, getD-append-add}
-use Rattle.schema.specs.Tree.{Slot, Tree, Fields, node, empty, field, listing, listings, size}
-use Rattle.schema.specs.Rules.{underMap, placeBelow, KeepsAt, Keeps, KeepsAll}
-use Rattle.schema.specs.Rows.{isMapParent, row, parentOf, afterFirst, rowsFrom, rowssFrom, rowWidth}
-use Rattle.schema.specs.declared.place.Place.{Place}
+use Rattle.tree.specs.Tree.{SlotBytes, Tree, Fields, node, empty, field, listing, listings, size}
+use Rattle.tree.specs.Rules.{underMap, placeBelow, KeepsAt, Keeps, KeepsAll}
+use Rattle.schema.specs.Rows.{isMapParent, row, parentOf, afterFirst, rowsFrom, runRowsFrom, rowWidth}
+use Rattle.tree.specs.declared.place.Place.{Place}
 use Rattle.schema.specs.declared.roles.Parent.{Parent}
 use Rattle.schema.proofs.RewrittenRowsLaws.{map-after, map-below}
 use Rattle.schema.proofs.RowsLaws.{length-row, length-rowsFrom}
 
 -- some numbers begin with the row of a node that keeps the rules; the rules and the row take its parent for a MAP alike
-pub record BeginsWith (s : Slot) (numbers : List ℕ) : Type 0 where
+pub record BeginsWith (s : SlotBytes) (numbers : List ℕ) : Type 0 where
   pub place : Place
   pub «parent» : Parent
   pub at : ℕ
   pub up : ℕ
-  pub above : Slot
+  pub above : SlotBytes
   pub fields : Fields
   pub rest : List ℕ
   pub keeps : KeepsAt place s fields
@@ -34,7 +34,7 @@ drop-rows n k xs ys e =
     rw sum (drop-append-add xs ys (rowWidth * k))
 
 -- a node of a run is one of its first field's, or one of the shorter run's
-in-run : (first others : List Slot) (xs ys rest : List ℕ) (k : ℕ) → length xs ≡ rowWidth * length first → k < length (first ++ others)
+in-run : (first others : List SlotBytes) (xs ys rest : List ℕ) (k : ℕ) → length xs ≡ rowWidth * length first → k < length (first ++ others)
     → (k < length first → BeginsWith (getD first k []) (drop (rowWidth * k) (xs ++ (ys ++ rest))))
     → ((j : ℕ) → j < length others → BeginsWith (getD others j []) (drop (rowWidth * j) (ys ++ rest)))
     → BeginsWith (getD (first ++ others) k []) (drop (rowWidth * k) ((xs ++ ys) ++ rest))
@@ -52,7 +52,7 @@ mutual
   unfolding Keeps rowsFrom listing size
 
   -- the row of node k stands at 9k
-  pub row-at : (t : Tree) (p : Place) (q : Parent) (at up : ℕ) (above : Slot) (rest : List ℕ) → Keeps p t → underMap p ≡ isMapParent q → (k : ℕ) → k < size t → BeginsWith (getD (listing t) k []) (drop (rowWidth * k) (rowsFrom at up q above t ++ rest))
+  pub row-at : (t : Tree) (p : Place) (q : Parent) (at up : ℕ) (above : SlotBytes) (rest : List ℕ) → Keeps p t → underMap p ≡ isMapParent q → (k : ℕ) → k < size t → BeginsWith (getD (listing t) k []) (drop (rowWidth * k) (rowsFrom at up q above t ++ rest))
   row-at (node s fs) p q at up above rest h e zero l =
       record {
         place = p;
@@ -61,22 +61,22 @@ mutual
         up = up;
         above = above;
         fields = fs;
-        rest = rowssFrom (suc at) at (parentOf q above s fs) s fs ++ rest;
+        rest = runRowsFrom (suc at) at (parentOf q above s fs) s fs ++ rest;
         keeps = h .0;
         alike = e;
-        begins = append-assoc (row at up q above s fs) (rowssFrom (suc at) at (parentOf q above s fs) s fs) rest;
+        begins = append-assoc (row at up q above s fs) (runRowsFrom (suc at) at (parentOf q above s fs) s fs) rest;
       }
   row-at (node s fs) p q at up above rest h e (suc k) l =
       let own = row at up q above s fs in
-      let run = rowssFrom (suc at) at (parentOf q above s fs) s fs in
+      let run = runRowsFrom (suc at) at (parentOf q above s fs) s fs in
       let next : suc k ≡ 1 + k = omega arith in
       subst (BeginsWith (getD (listings fs) k []))
       (sym (ap (drop (rowWidth * suc k)) (append-assoc own run rest) ∙ rw next (drop-rows 1 k own (run ++ rest) (length-row at up q above s fs))))
       (row-in fs (placeBelow p s) (parentOf q above s fs) (suc at) at s rest (h .1) (map-below p q above s fs e) k (omega arith))
 
-  row-in : (fs : Fields) (p : Place) (q : Parent) (at up : ℕ) (above : Slot) (rest : List ℕ) → KeepsAll p fs → underMap p ≡ isMapParent q → (k : ℕ) → k < length (listings fs) → BeginsWith (getD (listings fs) k []) (drop (rowWidth * k) (rowssFrom at up q above fs ++ rest))
+  row-in : (fs : Fields) (p : Place) (q : Parent) (at up : ℕ) (above : SlotBytes) (rest : List ℕ) → KeepsAll p fs → underMap p ≡ isMapParent q → (k : ℕ) → k < length (listings fs) → BeginsWith (getD (listings fs) k []) (drop (rowWidth * k) (runRowsFrom at up q above fs ++ rest))
   row-in empty p q at up above rest h e k l = absurd (omega arith)
   row-in (field t fs) p q at up above rest h e k l =
-      in-run (listing t) (listings fs) (rowsFrom at up q above t) (rowssFrom (at + size t) up (afterFirst q) above fs) rest k (length-rowsFrom t at up q above) l
-      (λ b. row-at t p q at up above (rowssFrom (at + size t) up (afterFirst q) above fs ++ rest) (h .0) e k b)
+      in-run (listing t) (listings fs) (rowsFrom at up q above t) (runRowsFrom (at + size t) up (afterFirst q) above fs) rest k (length-rowsFrom t at up q above) l
+      (λ b. row-at t p q at up above (runRowsFrom (at + size t) up (afterFirst q) above fs ++ rest) (h .0) e k b)
       (λ j b. row-in fs p (afterFirst q) (at + size t) up above rest (h .1) (e ∙ sym (map-after q)) j b)

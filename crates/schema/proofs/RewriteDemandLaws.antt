@@ -23,19 +23,23 @@ use Rattle.sheet.proofs.RenewalLaws.{renewed-right, renewed-renewed}
 use Rattle.sheet.proofs.SlotLaws.{slotStart-within, reaches-true, slotAt-length, slots-length}
 use Rattle.sheet.proofs.SoundLaws.{slotRight-used, slotRight-unused}
 use Rattle.annotation.specs.declared.rewriting.Rewriting.{Rewriting}
-use Rattle.schema.specs.Tree.{Slot, Tree, listing, size, AtMostDeep}
+use Rattle.tree.specs.Tree.{SlotBytes, Tree, listing, size, AtMostDeep}
 use Rattle.schema.specs.Rows.{rows}
-use Rattle.schema.specs.Reading.{treeOf}
-use Rattle.schema.specs.Outcome.{judgement, outcome, written}
+use Rattle.tree.specs.Reading.{treeOf}
+use Rattle.tree.specs.Judgement.{judgement}
+use Rattle.schema.specs.Outcome.{outcome, written}
 use Rattle.schema.specs.Rewriting.{rewritings, withRewriting, withRewritings, rewritten, fits, rewriteAnswer, rewriteOutcome, stretched, rewriteWritten}
-use Rattle.schema.specs.Demand.{IsTreeOf, EnoughOutput, Accepted, EnoughRoom, AcceptedRewriting}
-use Rattle.schema.specs.declared.place.Place.the-variants.{Root}
-use Rattle.schema.specs.declared.refusal.Verdict.{Verdict}
+use Rattle.schema.specs.Demand.{IsTreeOf, EnoughOutput, Accepted, EnoughRoom, AcceptedRewriting, Copied}
+use Rattle.tree.specs.declared.place.Place.the-variants.{Root}
+use Rattle.tree.specs.declared.refusal.Refusal.{Refusal}
+use Rattle.tree.specs.declared.refusal.Verdict.{Verdict}
 use Rattle.schema.specs.declared.resolving.Resolved.{Resolved}
-use Rattle.schema.proofs.DemandLaws.{treeOf-listing, tree-accepted, accepted-tree, sound-judgement, accepted-no-refusal, no-refusal-rows}
-use Rattle.schema.proofs.JudgementLaws.{judgement-nodes, lawful-opened}
+use Rattle.schema.specs.declared.rewriting.Rewritten.{Rewritten}
+use Rattle.tree.proofs.TreeOfLaws.{treeOf-listing}
+use Rattle.schema.proofs.DemandLaws.{tree-accepted, accepted-tree, sound-judgement, accepted-no-refusal, no-refusal-rows}
+use Rattle.tree.proofs.JudgementLaws.{judgement-nodes, lawful-opened}
 use Rattle.schema.proofs.RewritingSteps.{length-rewritings}
-use Rattle.schema.proofs.RewrittenSlotLaws.{Copied, copied-refl, copied-trans}
+use Rattle.schema.proofs.RewrittenSlotLaws.{copied-refl, copied-trans}
 use Rattle.schema.proofs.RewrittenTreeLaws.{rewrittenTree, Long, depths-rewritten, claims-rewritten, keeps-rewritten, rewritings-rewritten}
 use Rattle.schema.proofs.RewrittenRowsLaws.{rows-rewritten}
 use Rattle.schema.proofs.RewrittenLaws.{copied-rewriting, LongSlot, SoundSlot, pairwise, listing-rewritten, slotsFrom-rewritings, slotsFrom-same, slotAt-behind, Each, each-slotsFrom, slotsFrom-each, long-listing, sound-listing, HoldsEach, holds-listing, withRewritings-same, headers-rewritings, rewritten-headers, length-rewritten}
@@ -181,7 +185,7 @@ pub rewritten-copied : (b : List ℕ) (k : ℕ) → Copied (slotAt (rewritten b)
 unfolding rewritten
 rewritten-copied b k =
     let rs = rewritings Root (treeOf (slots b)) in
-    subst (λ (s : Slot). Copied s (slotAt b k)) (sym (slotAt-renewed (withRewritings b 0 rs) k)) (copied-rewritings rs b 0 k)
+    subst (λ (s : SlotBytes). Copied s (slotAt b k)) (sym (slotAt-renewed (withRewritings b 0 rs) k)) (copied-rewritings rs b 0 k)
 
 -- what is answered and written ------------------------------------------------------------------------------------------
 
@@ -193,6 +197,11 @@ accepted-lawful (Verdict.Refused r) enough n a = absurd a
 lawful-accepted : (v : Verdict) (enough : Bool) (n : ℕ) → v ≡ Verdict.Lawful → enough ≡ true → AcceptedRewriting (rewriteAnswer v enough n)
 unfolding AcceptedRewriting rewriteAnswer
 lawful-accepted v enough n e f = rw (e, f) tt
+
+-- what judging refuses, rewriting refuses so, whatever is lent
+pub refused-rewriting : (b : List ℕ) (lent start : ℕ) (r : Refusal) → judgement b ≡ Verdict.Refused r → rewriteOutcome b lent start ≡ Rewritten.Refused r
+unfolding rewriteOutcome rewriteAnswer
+refused-rewriting b lent start r e = rw e
 
 -- where both outputs are enough, rewriting accepts a sheet exactly where resolving does
 pub rewriting-accepts : (b : List ℕ) (lent start places : ℕ) → EnoughRoom b lent start → EnoughOutput b places → AcceptedRewriting (rewriteOutcome b lent start) ↔ Accepted (outcome b places)

@@ -9,15 +9,16 @@ use borrow.Author.Tests.{le-leb, lt-leb, leb-true}
 use lib.Dec.{leb}
 use borrow.Rule.Slice.PartMut.{putMid, post-is}
 use lib.ListN.{length, take, drop}
-use Rattle.schema.specs.Outcome.{shortOutput, judgement}
+use Rattle.tree.specs.Judgement.{judgement}
+use Rattle.schema.specs.Outcome.{shortOutput}
 use Rattle.schema.specs.Rewriting.{rewritten, fits, rewriteAnswer, rewriteOutcome, stretched, rewriteWritten}
-use Rattle.schema.specs.Steps.{judgementOf}
-use Rattle.schema.specs.declared.refusal.Refusal.{Refusal}
-use Rattle.schema.specs.declared.refusal.Verdict.{Verdict}
-use Rattle.schema.specs.declared.judgement.Judgement.{Judgement}
+use Rattle.tree.specs.Steps.{judgementOf}
+use Rattle.tree.specs.declared.refusal.Refusal.{Refusal}
+use Rattle.tree.specs.declared.refusal.Verdict.{Verdict}
+use Rattle.tree.specs.declared.judgement.Judgement.{Judgement}
 use Rattle.schema.specs.declared.rewriting.Rewritten.{Rewritten}
 use Rattle.schema.proofs.RewrittenLaws.{length-rewritten}
-use Rattle.schema.proofs.JudgementLaws.{judged-refused, judged-lawful}
+use Rattle.tree.proofs.JudgementLaws.{judged-refused, judged-lawful}
 
 module _ (b lent : List ℕ) (start : ℕ) where
   -- a refused sheet

@@ -14,16 +14,16 @@ use Rattle.annotation.specs.Rewriting.{rewritingOf}
 use Rattle.annotation.specs.declared.slot.Annotated.{Annotated}
 use Rattle.annotation.specs.declared.resolution.Kind.{Kind}
 use Rattle.annotation.specs.declared.rewriting.Rewriting.{Rewriting}
-use Rattle.schema.specs.Annotated.{annotatedBy, annotated, kind}
-use Rattle.schema.specs.Tree.{Tree, Fields, node, empty, field, listings, count, size}
-use Rattle.schema.specs.Rules.{underMap, placeUnder, placeBelow}
-use Rattle.schema.specs.Reading.{trees}
+use Rattle.tree.specs.Annotated.{annotatedBy, annotated, kind}
+use Rattle.tree.specs.Tree.{Tree, Fields, node, empty, field, listings, count, size}
+use Rattle.tree.specs.Rules.{underMap, placeUnder, placeBelow}
+use Rattle.tree.specs.Reading.{trees}
 use Rattle.schema.specs.Rewriting.{rewriting, rewritings, runRewritings, withRewriting, withRewritings}
-use Rattle.schema.specs.Steps.{Claimed, Visited, treeAt, runAt, sizes}
-use Rattle.schema.specs.declared.place.Place.{Place}
-use Rattle.schema.proofs.StandingLaws.{runAt-zero, sizes-field, size-node}
-use Rattle.schema.proofs.VisitLaws.{treeAt-slot, run-at, next-after, next-claimed, run-split, run-end, run-end-empty}
-use Rattle.schema.proofs.NodeLaws.{placeBelow-is}
+use Rattle.tree.specs.Steps.{Claimed, Visited, treeAt, runAt, sizes}
+use Rattle.tree.specs.declared.place.Place.{Place}
+use Rattle.tree.proofs.StandingLaws.{runAt-zero, sizes-field, size-node}
+use Rattle.tree.proofs.VisitLaws.{treeAt-slot, run-at, next-after, next-claimed, run-split, run-end, run-end-empty}
+use Rattle.tree.proofs.NodeLaws.{placeBelow-is}
 
 -- what follows a list of rewritings stands behind it
 pub withRewritings-append : (us vs : List Rewriting) (l : List ℕ) (k : ℕ) → withRewritings l k (us ++ vs) ≡ withRewritings (withRewritings l k us) (k + length us) vs

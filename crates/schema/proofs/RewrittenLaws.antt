@@ -13,14 +13,15 @@ use Rattle.sheet.specs.Sound.{slotSound}
 use Rattle.sheet.proofs.AnnotationLaws.{annotated-nowhere, length-withAnnotation, slotAt-annotated, slotAt-annotated-other, withAnnotation-header, withAnnotation-same}
 use Rattle.sheet.proofs.CopyLaws.{SameHeaders, headers-trans, reaches-same, renewed-headers}
 use Rattle.annotation.specs.declared.rewriting.Rewriting.{Rewriting}
-use Rattle.schema.specs.Tree.{Slot, Tree, Fields, node, empty, field, listing, listings, size}
-use Rattle.schema.specs.Rules.{underMap, placeBelow, Keeps, KeepsAll}
-use Rattle.schema.specs.Reading.{treeOf}
+use Rattle.tree.specs.Tree.{SlotBytes, Tree, Fields, node, empty, field, listing, listings, size}
+use Rattle.tree.specs.Rules.{underMap, placeBelow, Keeps, KeepsAll}
+use Rattle.tree.specs.Reading.{treeOf}
 use Rattle.schema.specs.Rewriting.{rewritings, runRewritings, withRewriting, withRewritings, rewritten}
-use Rattle.schema.specs.declared.place.Place.{Place}
-use Rattle.schema.specs.declared.place.Place.the-variants.{Root}
+use Rattle.tree.specs.declared.place.Place.{Place}
+use Rattle.tree.specs.declared.place.Place.the-variants.{Root}
 use Rattle.schema.proofs.RewritingSteps.{length-rewritings}
-use Rattle.schema.proofs.RewrittenSlotLaws.{rewrittenAs, rewrittenSlot, Copied, copied-refl, copied-as, Holds, holds-rewritten, sound-rewritten}
+use Rattle.schema.specs.Demand.{Copied}
+use Rattle.schema.proofs.RewrittenSlotLaws.{rewrittenAs, rewrittenSlot, copied-refl, copied-as, Holds, holds-rewritten, sound-rewritten}
 use Rattle.schema.proofs.RewrittenRowsLaws.{size-rewritten}
 use Rattle.schema.proofs.RewrittenTreeLaws.{rewrittenTree, rewrittenRun, Long, LongAll, resolves}
 
@@ -55,12 +56,12 @@ module _ (sheet : List ℕ) (k : ℕ) where
   copied-rewriting r j = own (ℕ-discrete j k) (reaches sheet k) refl
     where
       same : slotAt (withRewriting sheet k r) j ≡ slotAt sheet j → Copied (slotAt (withRewriting sheet k r) j) (slotAt sheet j)
-      same e = subst (λ (s : Slot). Copied s (slotAt sheet j)) (sym e) (copied-refl (slotAt sheet j))
+      same e = subst (λ (s : SlotBytes). Copied s (slotAt sheet j)) (sym e) (copied-refl (slotAt sheet j))
 
       own : Dec (j ≡ k) → (there : Bool) → reaches sheet k ≡ there → Copied (slotAt (withRewriting sheet k r) j) (slotAt sheet j)
       own (yes e) true h =
           subst (λ (i : ℕ). Copied (slotAt (withRewriting sheet k r) i) (slotAt sheet i)) (sym e)
-          (subst (λ (s : Slot). Copied s (slotAt sheet k)) (sym (slotAt-rewriting r h)) (copied-as r (slotAt sheet k)))
+          (subst (λ (s : SlotBytes). Copied s (slotAt sheet k)) (sym (slotAt-rewriting r h)) (copied-as r (slotAt sheet k)))
       own (yes e) false h = same (ap (λ (l : List ℕ). slotAt l j) (rewriting-nowhere r h))
       own (no e) there h = same (slotAt-rewriting-other r j e)
 
@@ -89,10 +90,10 @@ pub slotsFrom-same : (n : ℕ) (x y : List ℕ) (k : ℕ) → ((j : ℕ) → k �
 unfolding slotsFrom
 slotsFrom-same zero x y k same = refl
 slotsFrom-same (suc n) x y k same =
-    ap₂ (λ (s : Slot) (ss : List Slot). s ∷ ss) (same k (omega arith)) (slotsFrom-same n x y (suc k) (λ j h. same j (omega arith)))
+    ap₂ (λ (s : SlotBytes) (ss : List SlotBytes). s ∷ ss) (same k (omega arith)) (slotsFrom-same n x y (suc k) (λ j h. same j (omega arith)))
 
 -- slots with what is rewritten of each
-unfoldable pub pairwise : List Rewriting → List Slot → List Slot
+unfoldable pub pairwise : List Rewriting → List SlotBytes → List SlotBytes
 pairwise [] ss = []
 pairwise (r ∷ rs) [] = []
 pairwise (r ∷ rs) (s ∷ ss) = rewrittenAs r s ∷ pairwise rs ss
@@ -101,17 +102,17 @@ pub slotsFrom-rewritings : (rs : List Rewriting) (sheet : List ℕ) (k : ℕ) �
 unfolding withRewritings slotsFrom pairwise
 slotsFrom-rewritings [] sheet k there = refl
 slotsFrom-rewritings (r ∷ rs) sheet k there =
-    ap₂ (λ (s : Slot) (ss : List Slot). s ∷ ss)
+    ap₂ (λ (s : SlotBytes) (ss : List SlotBytes). s ∷ ss)
     (slotAt-before rs (withRewriting sheet k r) (suc k) k (omega arith) ∙ slotAt-rewriting sheet k r (there k (omega arith) (omega arith)))
     (slotsFrom-rewritings rs (withRewriting sheet k r) (suc k) (λ j l h. reaches-same (withRewriting sheet k r) sheet (headers-rewriting sheet k r) j ∙ there j (omega arith) (omega arith))
     ∙ ap (pairwise rs) (slotsFrom-same (length rs) (withRewriting sheet k r) sheet (suc k) (λ j h. slotAt-rewriting-other sheet k r j (λ (e : j ≡ k). omega arith))))
 
-pairwise-append : (us vs : List Rewriting) (xs ys : List Slot) → length us ≡ length xs → pairwise (us ++ vs) (xs ++ ys) ≡ pairwise us xs ++ pairwise vs ys
+pairwise-append : (us vs : List Rewriting) (xs ys : List SlotBytes) → length us ≡ length xs → pairwise (us ++ vs) (xs ++ ys) ≡ pairwise us xs ++ pairwise vs ys
 unfolding pairwise
 pairwise-append [] vs [] ys e = refl
 pairwise-append [] vs (x ∷ xs) ys e = absurd (omega arith)
 pairwise-append (u ∷ us) vs [] ys e = absurd (omega arith)
-pairwise-append (u ∷ us) vs (x ∷ xs) ys e = ap (λ (ss : List Slot). rewrittenAs u x ∷ ss) (pairwise-append us vs xs ys (omega arith))
+pairwise-append (u ∷ us) vs (x ∷ xs) ys e = ap (λ (ss : List SlotBytes). rewrittenAs u x ∷ ss) (pairwise-append us vs xs ys (omega arith))
 
 length-listed : (t : Tree) (p : Place) → length (rewritings p t) ≡ length (listing t)
 unfolding size
@@ -122,7 +123,7 @@ mutual
 
   -- the listing of the rewritten tree
   pub listing-rewritten : (t : Tree) (p : Place) → listing (rewrittenTree p t) ≡ pairwise (rewritings p t) (listing t)
-  listing-rewritten (node s fs) p = ap (λ (ss : List Slot). rewrittenSlot (underMap p) s ∷ ss) (listings-rewritten fs (placeBelow p s))
+  listing-rewritten (node s fs) p = ap (λ (ss : List SlotBytes). rewrittenSlot (underMap p) s ∷ ss) (listings-rewritten fs (placeBelow p s))
 
   listings-rewritten : (fs : Fields) (p : Place) → listings (rewrittenRun p fs) ≡ pairwise (runRewritings p fs) (listings fs)
   listings-rewritten empty p = refl
@@ -131,17 +132,17 @@ mutual
       ∙ sym (pairwise-append (rewritings p t) (runRewritings p fs) (listing t) (listings fs) (length-listed t p))
 
 -- a property of each slot of a list
-unfoldable pub Each : (Slot → Type 0) → List Slot → Type 0
+unfoldable pub Each : (SlotBytes → Type 0) → List SlotBytes → Type 0
 Each P [] = Unit {0}
 Each P (s ∷ ss) = P s × Each P ss
 
-module _ (P : Slot → Type 0) where
-  each-split : (xs ys : List Slot) → Each P (xs ++ ys) → Each P xs × Each P ys
+module _ (P : SlotBytes → Type 0) where
+  each-split : (xs ys : List SlotBytes) → Each P (xs ++ ys) → Each P xs × Each P ys
   unfolding Each
   each-split [] ys h = (tt, h)
   each-split (x ∷ xs) ys h = let rest = each-split xs ys (h .1) in ((h .0, rest .0), rest .1)
 
-  each-join : (xs ys : List Slot) → Each P xs → Each P ys → Each P (xs ++ ys)
+  each-join : (xs ys : List SlotBytes) → Each P xs → Each P ys → Each P (xs ++ ys)
   unfolding Each
   each-join [] ys g h = h
   each-join (x ∷ xs) ys g h = (g .0, each-join xs ys (g .1) h)
@@ -159,7 +160,7 @@ module _ (P : Slot → Type 0) where
       subst (λ (j : ℕ). P (slotAt sheet j)) (suc-add k i ∙ sym (add-suc k i)) (slotsFrom-each n sheet (suc k) (h .1) i (omega arith))
 
 -- a slot that is long enough to have annotations
-abbrev pub LongSlot : Slot → Type 0
+abbrev pub LongSlot : SlotBytes → Type 0
 LongSlot s = childCountAt ≤ length s
 
 mutual
@@ -174,7 +175,7 @@ mutual
       let parts = each-split LongSlot (listing t) (listings fs) h in
       (long-listing t (parts .0), long-listings fs (parts .1))
 
-abbrev pub SoundSlot : Slot → Type 0
+abbrev pub SoundSlot : SlotBytes → Type 0
 SoundSlot s = slotSound s ≡ true
 
 mutual
@@ -195,12 +196,12 @@ mutual
       (sound-listing t p (long .0) (h .0) (parts .0)) (sound-listings fs p (long .1) (h .1) (parts .1))
 
 -- each slot of a list has what is rewritten of it
-unfoldable pub HoldsEach : List Rewriting → List Slot → Type 0
+unfoldable pub HoldsEach : List Rewriting → List SlotBytes → Type 0
 HoldsEach [] ss = Unit {0}
 HoldsEach (r ∷ rs) [] = ⊥
 HoldsEach (r ∷ rs) (s ∷ ss) = Holds r s × HoldsEach rs ss
 
-holds-join : (us vs : List Rewriting) (xs ys : List Slot) → length us ≡ length xs → HoldsEach us xs → HoldsEach vs ys → HoldsEach (us ++ vs) (xs ++ ys)
+holds-join : (us vs : List Rewriting) (xs ys : List SlotBytes) → length us ≡ length xs → HoldsEach us xs → HoldsEach vs ys → HoldsEach (us ++ vs) (xs ++ ys)
 unfolding HoldsEach
 holds-join [] vs [] ys e g h = h
 holds-join [] vs (x ∷ xs) ys e g h = absurd (omega arith)

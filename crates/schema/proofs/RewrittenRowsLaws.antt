@@ -7,13 +7,13 @@ use borrow.Author.Tests.{eqb-true}
 use lib.Dec.{eqb}
 use lib.ListN.{length, length-append}
 use Rattle.sheet.specs.Slot.{childCountAt, name}
-use Rattle.annotation.specs.Logical as logical
-use Rattle.schema.specs.Annotated.{kind}
-use Rattle.schema.specs.Tree.{Slot, Tree, Fields, node, empty, field, listing, listings, size}
-use Rattle.schema.specs.Rules.{underMap, placeUnder, placeBelow, KeepsAt, Keeps, KeepsAll}
-use Rattle.schema.specs.Rows.{isMapParent, LIST-LAYER, KEY-VALUE-LAYER, listRole, ownRole, role, parentBy, parentOf, afterFirst, row, rowsFrom, rowssFrom, rows}
-use Rattle.schema.specs.declared.place.Place.{Place}
-use Rattle.schema.specs.declared.place.Place.the-variants.{Root, Field, MapField}
+use Rattle.parquet.specs.Logical as logical
+use Rattle.tree.specs.Annotated.{kind}
+use Rattle.tree.specs.Tree.{SlotBytes, Tree, Fields, node, empty, field, listing, listings, size}
+use Rattle.tree.specs.Rules.{underMap, placeUnder, placeBelow, KeepsAt, Keeps, KeepsAll}
+use Rattle.schema.specs.Rows.{isMapParent, LIST-LAYER, KEY-VALUE-LAYER, listRole, ownRole, role, parentBy, parentOf, afterFirst, row, rowsFrom, runRowsFrom, rows}
+use Rattle.tree.specs.declared.place.Place.{Place}
+use Rattle.tree.specs.declared.place.Place.the-variants.{Root, Field, MapField}
 use Rattle.schema.specs.declared.roles.Parent.{Parent}
 use Rattle.schema.specs.declared.roles.Parent.the-variants as parent
 use Rattle.schema.proofs.RewrittenSlotLaws.{rewrittenSlot, slot-copied, kind-rewritten}
@@ -45,7 +45,7 @@ map-after parent.KeyValue = refl
 map-after parent.KeyValueRest = refl
 
 -- where a node's rows and its rules agree on its parent, they agree on it as a parent
-pub map-below : (p : Place) (q : Parent) (above s : Slot) (fs : Fields) → underMap p ≡ isMapParent q → underMap (placeBelow p s) ≡ isMapParent (parentOf q above s fs)
+pub map-below : (p : Place) (q : Parent) (above s : SlotBytes) (fs : Fields) → underMap p ≡ isMapParent q → underMap (placeBelow p s) ≡ isMapParent (parentOf q above s fs)
 unfolding placeBelow parentOf
 map-below p q above s fs e =
     rw e (sym (map-parent (kind (isMapParent q) s .kind) (role q above s fs)))
@@ -69,7 +69,7 @@ unfolding size
 size-rewritten t p = length-listing t p
 
 -- a node has the same role
-role-rewritten : (q : Parent) (above copy s : Slot) (fs : Fields) (p : Place) → name copy ≡ name above → role q copy (rewrittenSlot (underMap p) s) (rewrittenRun (placeBelow p s) fs) ≡ role q above s fs
+role-rewritten : (q : Parent) (above copy s : SlotBytes) (fs : Fields) (p : Place) → name copy ≡ name above → role q copy (rewrittenSlot (underMap p) s) (rewrittenRun (placeBelow p s) fs) ≡ role q above s fs
 unfolding role listRole
 role-rewritten parent.Other above copy s fs p e = ap ownRole (slot-copied (underMap p) s .repetition-is)
 role-rewritten parent.List above copy s fs p e =
@@ -80,7 +80,7 @@ role-rewritten parent.Map above copy s fs p e = refl
 role-rewritten parent.KeyValue above copy s fs p e = refl
 role-rewritten parent.KeyValueRest above copy s fs p e = refl
 
-module _ (p : Place) (q : Parent) (above copy s : Slot) (fs : Fields) (long : childCountAt ≤ length s) (h : KeepsAt p s fs) (agree : underMap p ≡ isMapParent q) (e : name copy ≡ name above) where
+module _ (p : Place) (q : Parent) (above copy s : SlotBytes) (fs : Fields) (long : childCountAt ≤ length s) (h : KeepsAt p s fs) (agree : underMap p ≡ isMapParent q) (e : name copy ≡ name above) where
   kind-row : kind (isMapParent q) (rewrittenSlot (underMap p) s) ≡ kind (isMapParent q) s
   kind-row = rw (← agree) (kind-rewritten (underMap p) s (resolves p s fs long h))
 
@@ -99,20 +99,20 @@ module _ (p : Place) (q : Parent) (above copy s : Slot) (fs : Fields) (long : ch
 mutual
   unfolding rewrittenTree rowsFrom Keeps Long
 
-  rowsFrom-rewritten : (t : Tree) (p : Place) (q : Parent) (at up : ℕ) (above copy : Slot) → Long t → Keeps p t → underMap p ≡ isMapParent q → name copy ≡ name above → rowsFrom at up q copy (rewrittenTree p t) ≡ rowsFrom at up q above t
+  rowsFrom-rewritten : (t : Tree) (p : Place) (q : Parent) (at up : ℕ) (above copy : SlotBytes) → Long t → Keeps p t → underMap p ≡ isMapParent q → name copy ≡ name above → rowsFrom at up q copy (rewrittenTree p t) ≡ rowsFrom at up q above t
   rowsFrom-rewritten (node s fs) p q at up above copy long h agree e =
       ap₂ _++_
       (row-rewritten p q above copy s fs (long .0) (h .0) agree e at up)
-      (ap (λ (o : Parent). rowssFrom (suc at) at o (rewrittenSlot (underMap p) s) (rewrittenRun (placeBelow p s) fs)) (parent-rewritten p q above copy s fs (long .0) (h .0) agree e)
-      ∙ rowssFrom-rewritten fs (placeBelow p s) (parentOf q above s fs) (suc at) at s (rewrittenSlot (underMap p) s) (long .1) (h .1) (map-below p q above s fs agree) (slot-copied (underMap p) s .name-is))
+      (ap (λ (o : Parent). runRowsFrom (suc at) at o (rewrittenSlot (underMap p) s) (rewrittenRun (placeBelow p s) fs)) (parent-rewritten p q above copy s fs (long .0) (h .0) agree e)
+      ∙ runRowsFrom-rewritten fs (placeBelow p s) (parentOf q above s fs) (suc at) at s (rewrittenSlot (underMap p) s) (long .1) (h .1) (map-below p q above s fs agree) (slot-copied (underMap p) s .name-is))
 
-  rowssFrom-rewritten : (fs : Fields) (p : Place) (q : Parent) (at up : ℕ) (above copy : Slot) → LongAll fs → KeepsAll p fs → underMap p ≡ isMapParent q → name copy ≡ name above → rowssFrom at up q copy (rewrittenRun p fs) ≡ rowssFrom at up q above fs
-  rowssFrom-rewritten empty p q at up above copy long h agree e = refl
-  rowssFrom-rewritten (field t fs) p q at up above copy long h agree e =
+  runRowsFrom-rewritten : (fs : Fields) (p : Place) (q : Parent) (at up : ℕ) (above copy : SlotBytes) → LongAll fs → KeepsAll p fs → underMap p ≡ isMapParent q → name copy ≡ name above → runRowsFrom at up q copy (rewrittenRun p fs) ≡ runRowsFrom at up q above fs
+  runRowsFrom-rewritten empty p q at up above copy long h agree e = refl
+  runRowsFrom-rewritten (field t fs) p q at up above copy long h agree e =
       ap₂ _++_
       (rowsFrom-rewritten t p q at up above copy (long .0) (h .0) agree e)
-      (ap (λ (n : ℕ). rowssFrom (at + n) up (afterFirst q) copy (rewrittenRun p fs)) (size-rewritten t p)
-      ∙ rowssFrom-rewritten fs p (afterFirst q) (at + size t) up above copy (long .1) (h .1) (agree ∙ sym (map-after q)) e)
+      (ap (λ (n : ℕ). runRowsFrom (at + n) up (afterFirst q) copy (rewrittenRun p fs)) (size-rewritten t p)
+      ∙ runRowsFrom-rewritten fs p (afterFirst q) (at + size t) up above copy (long .1) (h .1) (agree ∙ sym (map-after q)) e)
 
 -- a tree that keeps every rule has the same rows once it is rewritten
 pub rows-rewritten : (t : Tree) → Long t → Keeps Root t → rows (rewrittenTree Root t) ≡ rows t

@@ -20,33 +20,24 @@ use Rattle.annotation.specs.declared.rewriting.Written.{Written}
 use Rattle.annotation.specs.declared.rewriting.Rewriting.{Rewriting}
 use Rattle.annotation.proofs.OutcomeLaws.{Keeps, resolved-of-keeps, keeps-of-resolved, kind-of-resolved}
 use Rattle.annotation.proofs.RewritingLaws.{resolved-rewritten, written-rewritten}
-use Rattle.schema.specs.Annotated.{annotated, kind, rule9, rule10, rule11}
-use Rattle.schema.specs.Tree.{Slot}
+use Rattle.tree.specs.Annotated.{annotated, kind, rule9, rule10, rule11}
+use Rattle.tree.specs.Tree.{SlotBytes}
+use Rattle.schema.specs.Demand.{Copied}
 use Rattle.schema.specs.Rewriting.{rewriting}
 
 -- a slot with what is rewritten of it
-abbrev pub rewrittenAs : Rewriting → Slot → Slot
+abbrev pub rewrittenAs : Rewriting → SlotBytes → SlotBytes
 rewrittenAs (Rewriting.Written w) s = annotatedSlot s (w .converted) (w .logical) (w .a) (w .b)
 rewrittenAs (Rewriting.Refused number) s = s
 
-unfoldable pub rewrittenSlot : Bool → Slot → Slot
+unfoldable pub rewrittenSlot : Bool → SlotBytes → SlotBytes
 rewrittenSlot under s = rewrittenAs (rewriting under s) s
 
--- a slot has every field of another but its annotations: "All else .. is copied"
-pub record Copied (copy s : Slot) : Type 0 where
-  pub physical-is : physical copy ≡ physical s
-  pub repetition-is : repetition copy ≡ repetition s
-  pub childCount-is : childCount copy ≡ childCount s
-  pub typeLength-is : typeLength copy ≡ typeLength s
-  pub scale-is : scale copy ≡ scale s
-  pub precision-is : precision copy ≡ precision s
-  pub name-is : name copy ≡ name s
-
-pub copied-refl : (s : Slot) → Copied s s
+pub copied-refl : (s : SlotBytes) → Copied s s
 copied-refl s =
     record { physical-is = refl; repetition-is = refl; childCount-is = refl; typeLength-is = refl; scale-is = refl; precision-is = refl; name-is = refl }
 
-pub copied-trans : (r s u : Slot) → Copied r s → Copied s u → Copied r u
+pub copied-trans : (r s u : SlotBytes) → Copied r s → Copied s u → Copied r u
 copied-trans r s u first second =
     record {
       physical-is = first .physical-is ∙ second .physical-is;
@@ -58,7 +49,7 @@ copied-trans r s u first second =
       name-is = first .name-is ∙ second .name-is;
     }
 
-pub copied-as : (r : Rewriting) (s : Slot) → Copied (rewrittenAs r s) s
+pub copied-as : (r : Rewriting) (s : SlotBytes) → Copied (rewrittenAs r s) s
 copied-as (Rewriting.Written w) s =
     record {
       physical-is = physical-annotated s (w .converted) (w .logical) (w .a) (w .b);
@@ -71,12 +62,12 @@ copied-as (Rewriting.Written w) s =
     }
 copied-as (Rewriting.Refused number) s = copied-refl s
 
-pub slot-copied : (under : Bool) (s : Slot) → Copied (rewrittenSlot under s) s
+pub slot-copied : (under : Bool) (s : SlotBytes) → Copied (rewrittenSlot under s) s
 unfolding rewrittenSlot
 slot-copied under s = copied-as (rewriting under s) s
 
 -- a slot has what is rewritten
-abbrev pub Holds : Rewriting → Slot → Type 0
+abbrev pub Holds : Rewriting → SlotBytes → Type 0
 Holds (Rewriting.Written w) s =
     (converted s ≡ w .converted) × (logical s ≡ w .logical) × (parameterA s ≡ w .a) × (parameterB s ≡ w .b)
 Holds (Rewriting.Refused number) s = Unit {0}
@@ -117,13 +108,13 @@ written-listed Annotation.Interval = (refl, refl)
 written-listed Annotation.Unreadable = (refl, refl)
 
 -- a slot that is long enough to have annotations, and keeps rules 9, 10 and 11
-pub record Resolves (under : Bool) (s : Slot) : Type 0 where
+pub record Resolves (under : Bool) (s : SlotBytes) : Type 0 where
   pub long : childCountAt ≤ length s
   pub nine : rule9 s ≡ true
   pub ten : rule10 under s ≡ true
   pub eleven : rule11 under s ≡ true
 
-module _ (under : Bool) (s : Slot) (h : Resolves under s) where
+module _ (under : Bool) (s : SlotBytes) (h : Resolves under s) where
   keeps : Keeps (annotated s) under
   unfolding rule9 rule10 rule11
   keeps = record { nine = h .nine; ten = h .ten; eleven = h .eleven }

@@ -7,21 +7,23 @@ use borrow.Author.Tests.{eqb-true}
 use lib.Dec.{eqb}
 use lib.ListN.{length}
 use Rattle.sheet.specs.Slot.{childCountAt, physical as physicalOf, repetition, converted as convertedOf, logical as logicalOf, scale, precision, name, numbersOf}
-use Rattle.annotation.specs.Converted as converted
-use Rattle.annotation.specs.Logical as logical
+use Rattle.parquet.specs.Repetition as repetition
+use Rattle.parquet.specs.Converted as converted
+use Rattle.parquet.specs.Logical as logical
 use Rattle.annotation.specs.Rewriting.{rewritten as rewrittenNumbers}
 use Rattle.annotation.proofs.RewritingLaws.{written-plain, decimal-rewritten}
 use Rattle.annotation.specs.declared.resolution.Kind.{Kind}
 use Rattle.annotation.specs.declared.slot.Annotated.{Annotated}
 use Rattle.annotation.specs.declared.rewriting.Written.{Written}
 use Rattle.annotation.specs.declared.rewriting.Rewriting.{Rewriting}
-use Rattle.schema.specs.Annotated.{annotated, kind, rule9, rule10}
-use Rattle.schema.specs.Tree.{Slot, Tree, Fields, node, empty, field, count, depths, depthss, Claims, ClaimsAll}
-use Rattle.schema.specs.Rules.{isGroup, NO-REPETITION, isRequiredOrOptional, underMap, isList, isMap, placeUnder, placeBelow, rootShape, placeShape, lengthShape, decimalShape, shape, rule8, namedElement, isElementGroup, holdsElement, listChild, listRun, listKept, rule12, keyValue, mapRun, mapKept, rule13, KeepsAt, Keeps, KeepsAll}
+use Rattle.tree.specs.Annotated.{annotated, kind, rule9, rule10}
+use Rattle.tree.specs.Tree.{SlotBytes, Tree, Fields, node, empty, field, count, depths, runDepths, Claims, ClaimsAll}
+use Rattle.tree.specs.Rules.{isGroup, isRequiredOrOptional, underMap, isList, isMap, placeUnder, placeBelow, rootShape, placeShape, lengthShape, decimalShape, shape, rule8, namedElement, isElementGroup, holdsElement, listChild, listRun, listKept, rule12, keyValue, mapRun, mapKept, rule13, KeepsAt, Keeps, KeepsAll}
 use Rattle.schema.specs.Rewriting.{rewritings, runRewritings}
-use Rattle.schema.specs.declared.place.Place.{Place}
-use Rattle.schema.specs.declared.place.Place.the-variants.{Root, Field, MapField}
-use Rattle.schema.proofs.RewrittenSlotLaws.{rewrittenSlot, Copied, slot-copied, Resolves, annotated-rewritten, kind-rewritten, resolves-rewritten, rewriting-rewritten}
+use Rattle.tree.specs.declared.place.Place.{Place}
+use Rattle.tree.specs.declared.place.Place.the-variants.{Root, Field, MapField}
+use Rattle.schema.specs.Demand.{Copied}
+use Rattle.schema.proofs.RewrittenSlotLaws.{rewrittenSlot, slot-copied, Resolves, annotated-rewritten, kind-rewritten, resolves-rewritten, rewriting-rewritten}
 
 unfoldable mutual
   -- the tree of what is rewritten at each node
@@ -43,11 +45,11 @@ mutual
 
   -- at the same depths
   pub depths-rewritten : (t : Tree) (p : Place) (d : ℕ) → depths d (rewrittenTree p t) ≡ depths d t
-  depths-rewritten (node s fs) p d = ap (λ (ds : List ℕ). d ∷ ds) (depthss-rewritten fs (placeBelow p s) (suc d))
+  depths-rewritten (node s fs) p d = ap (λ (ds : List ℕ). d ∷ ds) (runDepths-rewritten fs (placeBelow p s) (suc d))
 
-  depthss-rewritten : (fs : Fields) (p : Place) (d : ℕ) → depthss d (rewrittenRun p fs) ≡ depthss d fs
-  depthss-rewritten empty p d = refl
-  depthss-rewritten (field t fs) p d = ap₂ _++_ (depths-rewritten t p d) (depthss-rewritten fs p d)
+  runDepths-rewritten : (fs : Fields) (p : Place) (d : ℕ) → runDepths d (rewrittenRun p fs) ≡ runDepths d fs
+  runDepths-rewritten empty p d = refl
+  runDepths-rewritten (field t fs) p d = ap₂ _++_ (depths-rewritten t p d) (runDepths-rewritten fs p d)
 
 mutual
   unfolding rewrittenTree Claims
@@ -65,7 +67,7 @@ mutual
 
 -- rules 12 and 13 look at what is copied -------------------------------------------------------------------------------
 
-pub element-group : (list copy layer other : Slot) (fs : Fields) (p : Place) → name copy ≡ name list → name other ≡ name layer → isElementGroup copy other (rewrittenRun p fs) ≡ isElementGroup list layer fs
+pub element-group : (list copy layer other : SlotBytes) (fs : Fields) (p : Place) → name copy ≡ name list → name other ≡ name layer → isElementGroup copy other (rewrittenRun p fs) ≡ isElementGroup list layer fs
 unfolding rewrittenRun isElementGroup namedElement
 element-group list copy layer other empty p e q = refl
 element-group list copy layer other (field t empty) p e q = rw (e, q)
@@ -77,13 +79,13 @@ holds-element empty p = refl
 holds-element (field (node s gs) empty) p = ap isRequiredOrOptional (slot-copied (underMap p) s .repetition-is)
 holds-element (field (node s gs) (field u fs)) p = refl
 
-list-child : (list copy : Slot) (t : Tree) (p : Place) → name copy ≡ name list → listChild copy (rewrittenTree p t) ≡ listChild list t
+list-child : (list copy : SlotBytes) (t : Tree) (p : Place) → name copy ≡ name list → listChild copy (rewrittenTree p t) ≡ listChild list t
 unfolding rewrittenTree listChild
 list-child list copy (node s fs) p e =
     let same = slot-copied (underMap p) s in
     rw (same .repetition-is, same .physical-is, element-group list copy s (rewrittenSlot (underMap p) s) fs (placeBelow p s) e (same .name-is), holds-element fs (placeBelow p s))
 
-list-run : (list copy : Slot) (fs : Fields) (p : Place) → name copy ≡ name list → listRun copy (rewrittenRun p fs) ≡ listRun list fs
+list-run : (list copy : SlotBytes) (fs : Fields) (p : Place) → name copy ≡ name list → listRun copy (rewrittenRun p fs) ≡ listRun list fs
 unfolding rewrittenRun listRun
 list-run list copy empty p e = refl
 list-run list copy (field t empty) p e = list-child list copy t p e
@@ -107,14 +109,14 @@ map-run (field (node s fs) (field u gs)) p = refl
 -- every rule is kept ---------------------------------------------------------------------------------------------------
 
 -- a slot that keeps rules 9 to 11 and is long enough to have annotations
-pub resolves : (p : Place) (s : Slot) (fs : Fields) → childCountAt ≤ length s → KeepsAt p s fs → Resolves (underMap p) s
+pub resolves : (p : Place) (s : SlotBytes) (fs : Fields) → childCountAt ≤ length s → KeepsAt p s fs → Resolves (underMap p) s
 resolves p s fs long h = record { long = long; nine = h .agreement; ten = h .placement; eleven = h .decimals }
 
-module _ (p : Place) (s : Slot) (fs : Fields) (long : childCountAt ≤ length s) (h : KeepsAt p s fs) where
+module _ (p : Place) (s : SlotBytes) (fs : Fields) (long : childCountAt ≤ length s) (h : KeepsAt p s fs) where
   kept : Resolves (underMap p) s
   kept = resolves p s fs long h
 
-  copy : Slot
+  copy : SlotBytes
   copy = rewrittenSlot (underMap p) s
 
   same : Copied copy s
@@ -150,19 +152,19 @@ module _ (p : Place) (s : Slot) (fs : Fields) (long : childCountAt ≤ length s)
       rw (same .scale-is, same .precision-is, rw e at (shape-parts .2), or-true (eqb (convertedOf copy) converted.DECIMAL || eqb (logicalOf copy) logical.DECIMAL))
 
 -- a root without annotation stays without one
-root-parts : (ph rep conv log : ℕ) → rootShape ph rep conv log ≡ true → ((isGroup ph && eqb rep NO-REPETITION) ≡ true) × (conv ≡ converted.NONE) × (log ≡ logical.NONE)
+root-parts : (ph rep conv log : ℕ) → rootShape ph rep conv log ≡ true → ((isGroup ph && eqb rep repetition.NONE) ≡ true) × (conv ≡ converted.NONE) × (log ≡ logical.NONE)
 root-parts ph rep conv log e =
     let whole = and-eq-true-iff _ _ .0 e in
     let front = and-eq-true-iff _ _ .0 (whole .0) in
     (front .0, eqb-true conv converted.NONE (front .1), eqb-true log logical.NONE (whole .1))
 
-root-written : (s : Slot) → convertedOf s ≡ converted.NONE → logicalOf s ≡ logical.NONE → (rewrittenNumbers (annotated s) false .converted ≡ converted.NONE) × (rewrittenNumbers (annotated s) false .logical ≡ logical.NONE)
+root-written : (s : SlotBytes) → convertedOf s ≡ converted.NONE → logicalOf s ≡ logical.NONE → (rewrittenNumbers (annotated s) false .converted ≡ converted.NONE) × (rewrittenNumbers (annotated s) false .logical ≡ logical.NONE)
 unfolding rewrittenNumbers annotated numbersOf
 root-written s c l =
     let plain = written-plain (annotated s) false c l in
     (ap (λ (w : Written). w .converted) plain, ap (λ (w : Written). w .logical) plain)
 
-place-kept : (p : Place) (s : Slot) (fs : Fields) (long : childCountAt ≤ length s) (h : KeepsAt p s fs) → placeShape p (numbersOf (rewrittenSlot (underMap p) s)) (count fs) ≡ true
+place-kept : (p : Place) (s : SlotBytes) (fs : Fields) (long : childCountAt ≤ length s) (h : KeepsAt p s fs) → placeShape p (numbersOf (rewrittenSlot (underMap p) s)) (count fs) ≡ true
 unfolding numbersOf copy
 place-kept Root s fs long h =
     let same = slot-copied false s in
@@ -176,7 +178,7 @@ place-kept MapField s fs long h =
     let same = slot-copied true s in
     rw (same .physical-is, same .repetition-is) (shape-parts MapField s fs long h .0)
 
-module _ (p : Place) (s : Slot) (fs : Fields) (long : childCountAt ≤ length s) (h : KeepsAt p s fs) where
+module _ (p : Place) (s : SlotBytes) (fs : Fields) (long : childCountAt ≤ length s) (h : KeepsAt p s fs) where
   rule8-kept : rule8 p (rewrittenSlot (underMap p) s) (rewrittenRun (placeBelow p s) fs) ≡ true
   unfolding rule8 shape numbersOf copy
   rule8-kept =

@@ -6,26 +6,26 @@ use mathlib.Core.List.{List}
 use native.Mathlib.Omega.{arith}
 use Rattle.sheet.specs.Slot.{slotAt}
 use Rattle.sheet.specs.declared.slots.Slot.{Slot as Numbers}
-use Rattle.annotation.specs.Physical as physical
-use Rattle.schema.specs.Tree.{Slot, Fields, count}
-use Rattle.schema.specs.Rules.{namedElement, isElementGroup}
+use Rattle.parquet.specs.Physical as physical
+use Rattle.tree.specs.Tree.{SlotBytes, Fields, count}
+use Rattle.tree.specs.Rules.{namedElement, isElementGroup}
 use Rattle.schema.specs.Rows.{listRole}
-use Rattle.schema.specs.Steps.{Visited, fieldsAt}
-use Rattle.schema.proofs.StructureLaws.{run-none, run-one, run-many, leaf, group, own-count}
+use Rattle.tree.specs.Steps.{Visited, fieldsAt}
+use Rattle.tree.proofs.StructureLaws.{run-none, run-one, run-many, leaf, group, own-count}
 
-element-none : (list layer : Slot) (fs : Fields) → count fs ≡ 0 → isElementGroup list layer fs ≡ false
+element-none : (list layer : SlotBytes) (fs : Fields) → count fs ≡ 0 → isElementGroup list layer fs ≡ false
 unfolding isElementGroup
 element-none list layer fs e = rw (run-none fs e)
 
-element-one : (list layer : Slot) (fs : Fields) → count fs ≡ 1 → isElementGroup list layer fs ≡ namedElement list layer
+element-one : (list layer : SlotBytes) (fs : Fields) → count fs ≡ 1 → isElementGroup list layer fs ≡ namedElement list layer
 unfolding isElementGroup
 element-one list layer fs e = rw (run-one fs e .1)
 
-element-many : (list layer : Slot) (fs : Fields) → 2 ≤ count fs → isElementGroup list layer fs ≡ true
+element-many : (list layer : SlotBytes) (fs : Fields) → 2 ≤ count fs → isElementGroup list layer fs ≡ true
 unfolding isElementGroup
 element-many list layer fs h = rw (run-many fs h .3)
 
-module _ (b : List ℕ) (at : ℕ) (s : Numbers) (v : Visited b at s) (list : Slot) where
+module _ (b : List ℕ) (at : ℕ) (s : Numbers) (v : Visited b at s) (list : SlotBytes) where
   pub role-leaf : (s .physical ≡ physical.GROUP → ⊥) → 2 ≡ listRole list (slotAt b at) (fieldsAt b at)
   unfolding listRole
   role-leaf n = rw (leaf b at s (v .claimed) (v .below) (v .numbers) n)

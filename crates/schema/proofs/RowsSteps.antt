@@ -14,20 +14,21 @@ use Rattle.annotation.specs.Kinds.{kindOf}
 use Rattle.annotation.specs.Signed.{natural}
 use Rattle.annotation.specs.declared.slot.Annotated.{Annotated}
 use Rattle.annotation.specs.declared.resolution.Kind.{Kind}
-use Rattle.schema.specs.Annotated.{annotatedBy, annotated, kind}
-use Rattle.schema.specs.Tree.{Slot, Tree, Fields, count, size}
-use Rattle.schema.specs.Reading.{trees}
-use Rattle.schema.specs.Rows.{isMapParent, role, parentBy, parentOf, afterFirst, row, rowsFrom, rowssFrom, rowWidth}
-use Rattle.schema.specs.Steps.{Claimed, Visited, treeAt, runAt, fieldsAt, sizes, placed}
+use Rattle.tree.specs.Annotated.{annotatedBy, annotated, kind}
+use Rattle.tree.specs.Tree.{SlotBytes, Tree, Fields, count, size}
+use Rattle.tree.specs.Reading.{trees}
+use Rattle.schema.specs.Rows.{isMapParent, role, parentBy, parentOf, afterFirst, row, rowsFrom, runRowsFrom, rowWidth}
+use Rattle.tree.specs.Steps.{Claimed, Visited, treeAt, runAt, fieldsAt, sizes}
+use Rattle.schema.specs.Steps.{placed}
 use Rattle.schema.specs.declared.roles.Parent.{Parent}
-use Rattle.schema.proofs.StandingLaws.{runAt-zero, size-node}
-use Rattle.schema.proofs.VisitLaws.{treeAt-slot, run-at, run-below, next-after, next-claimed, run-split, run-end, run-end-empty, tree-within}
+use Rattle.tree.proofs.StandingLaws.{runAt-zero, size-node}
+use Rattle.tree.proofs.VisitLaws.{treeAt-slot, run-at, run-below, next-after, next-claimed, run-split, run-end, run-end-empty, tree-within}
 use Rattle.schema.proofs.PlacingLaws.{placed-empty, placed-after, placed-before}
-use Rattle.schema.proofs.RowsLaws.{length-row, length-rowsFrom, length-rowssFrom}
+use Rattle.schema.proofs.RowsLaws.{length-row, length-rowsFrom, length-runRowsFrom}
 
-module _ (b l : List ℕ) (at n up : ℕ) (p : Parent) (above : Slot) where
-  pub run-rows-empty : n ≡ 0 → l ≡ placed l (rowWidth * at) (rowssFrom at up p above (runAt (slots b) at n))
-  unfolding rowssFrom
+module _ (b l : List ℕ) (at n up : ℕ) (p : Parent) (above : SlotBytes) where
+  pub run-rows-empty : n ≡ 0 → l ≡ placed l (rowWidth * at) (runRowsFrom at up p above (runAt (slots b) at n))
+  unfolding runRowsFrom
   run-rows-empty e = sym (rw (e, runAt-zero) (placed-empty l (rowWidth * at)))
 
   module _ (h : Claimed b) (k : n ≡ 0 → ⊥) (c : n ≤ count (trees (drop at (slots b)))) (next : ℕ) (e : next ≡ at + size (treeAt (slots b) at)) where
@@ -43,31 +44,31 @@ module _ (b l : List ℕ) (at n up : ℕ) (p : Parent) (above : Slot) where
       unfolding first
       next-base = omega (arith, e, length-rowsFrom (treeAt (slots b) at) at up p above)
 
-      pub run-rows : (q : Parent) (r : List ℕ) → q ≡ afterFirst p → r ≡ placed m (rowWidth * next) (rowssFrom next up q above (runAt (slots b) next (n - 1))) → r ≡ placed l (rowWidth * at) (rowssFrom at up p above (runAt (slots b) at n))
-      unfolding rowssFrom first
+      pub run-rows : (q : Parent) (r : List ℕ) → q ≡ afterFirst p → r ≡ placed m (rowWidth * next) (runRowsFrom next up q above (runAt (slots b) next (n - 1))) → r ≡ placed l (rowWidth * at) (runRowsFrom at up p above (runAt (slots b) at n))
+      unfolding runRowsFrom first
       run-rows q r u v =
           v
-          ∙ ap (λ (i : ℕ). placed m i (rowssFrom next up q above (runAt (slots b) next (n - 1)))) next-base
-          ∙ ap (λ (x : List ℕ). placed x (rowWidth * at + length first) (rowssFrom next up q above (runAt (slots b) next (n - 1)))) w
-          ∙ placed-after l (rowWidth * at) first (rowssFrom next up q above (runAt (slots b) next (n - 1))) first-fits
-          ∙ ap (λ (x : Parent). placed l (rowWidth * at) (first ++ rowssFrom next up x above (runAt (slots b) next (n - 1)))) u
-          ∙ ap (λ (i : ℕ). placed l (rowWidth * at) (first ++ rowssFrom i up (afterFirst p) above (runAt (slots b) next (n - 1)))) e
-          ∙ ap (λ (fs : Fields). placed l (rowWidth * at) (rowssFrom at up p above fs)) (sym (run-split b at n h k c next e))
+          ∙ ap (λ (i : ℕ). placed m i (runRowsFrom next up q above (runAt (slots b) next (n - 1)))) next-base
+          ∙ ap (λ (x : List ℕ). placed x (rowWidth * at + length first) (runRowsFrom next up q above (runAt (slots b) next (n - 1)))) w
+          ∙ placed-after l (rowWidth * at) first (runRowsFrom next up q above (runAt (slots b) next (n - 1))) first-fits
+          ∙ ap (λ (x : Parent). placed l (rowWidth * at) (first ++ runRowsFrom next up x above (runAt (slots b) next (n - 1)))) u
+          ∙ ap (λ (i : ℕ). placed l (rowWidth * at) (first ++ runRowsFrom i up (afterFirst p) above (runAt (slots b) next (n - 1)))) e
+          ∙ ap (λ (fs : Fields). placed l (rowWidth * at) (runRowsFrom at up p above fs)) (sym (run-split b at n h k c next e))
 
 -- the rows of a run written up to one of its fields: with those of the others they are the run's
-pub record Behind (b lent : List ℕ) (start n up : ℕ) (p : Parent) (above : Slot) (rows : List ℕ) (at left : ℕ) (q : Parent) : Type 0 where
+pub record Behind (b lent : List ℕ) (start n up : ℕ) (p : Parent) (above : SlotBytes) (rows : List ℕ) (at left : ℕ) (q : Parent) : Type 0 where
   pub reached : start ≤ at
   pub claimed : left ≤ count (trees (drop at (slots b)))
   pub long : length rows ≡ length lent
   pub ended : start + sizes (runAt (slots b) start n) ≡ at + sizes (runAt (slots b) at left)
-  pub found : placed lent (rowWidth * start) (rowssFrom start up p above (runAt (slots b) start n)) ≡ placed rows (rowWidth * at) (rowssFrom at up q above (runAt (slots b) at left))
+  pub found : placed lent (rowWidth * start) (runRowsFrom start up p above (runAt (slots b) start n)) ≡ placed rows (rowWidth * at) (runRowsFrom at up q above (runAt (slots b) at left))
 
-pub behind-start : (b lent : List ℕ) (start n up : ℕ) (p : Parent) (above : Slot) → n ≤ count (trees (drop start (slots b))) → Behind b lent start n up p above lent start n p
+pub behind-start : (b lent : List ℕ) (start n up : ℕ) (p : Parent) (above : SlotBytes) → n ≤ count (trees (drop start (slots b))) → Behind b lent start n up p above lent start n p
 behind-start b lent start n up p above c =
     record { reached = le-refl start; claimed = c; long = refl; ended = refl; found = refl }
 
-module _ (b lent : List ℕ) (start n up : ℕ) (p : Parent) (above : Slot) (rows : List ℕ) (at left : ℕ) (q : Parent) (r : Behind b lent start n up p above rows at left q) where
-  pub behind-end : left ≡ 0 → (at ≡ start + sizes (runAt (slots b) start n)) × (rows ≡ placed lent (rowWidth * start) (rowssFrom start up p above (runAt (slots b) start n)))
+module _ (b lent : List ℕ) (start n up : ℕ) (p : Parent) (above : SlotBytes) (rows : List ℕ) (at left : ℕ) (q : Parent) (r : Behind b lent start n up p above rows at left q) where
+  pub behind-end : left ≡ 0 → (at ≡ start + sizes (runAt (slots b) start n)) × (rows ≡ placed lent (rowWidth * start) (runRowsFrom start up p above (runAt (slots b) start n)))
   behind-end e = (
     run-end-empty b at left e ∙ sym (r .ended),
     run-rows-empty b rows at left up q above e ∙ sym (r .found),
@@ -82,10 +83,10 @@ module _ (b lent : List ℕ) (start n up : ℕ) (p : Parent) (above : Slot) (row
         claimed = next-claimed b at left h k (r .claimed) next e;
         long = long ∙ r .long;
         ended = r .ended ∙ run-end b at left h k (r .claimed) next e;
-        found = r .found ∙ sym (run-rows b rows at left up q above h k (r .claimed) next e room below m w o (placed m (rowWidth * next) (rowssFrom next up o above (runAt (slots b) next (left - 1)))) u refl);
+        found = r .found ∙ sym (run-rows b rows at left up q above h k (r .claimed) next e room below m w o (placed m (rowWidth * next) (runRowsFrom next up o above (runAt (slots b) next (left - 1)))) u refl);
       }
 
-module _ (b l : List ℕ) (at up : ℕ) (s : Numbers) (p : Parent) (above : Slot) (v : Visited b at s) where
+module _ (b l : List ℕ) (at up : ℕ) (s : Numbers) (p : Parent) (above : SlotBytes) (v : Visited b at s) where
   -- what a node is to its fields
   pub parent-is : (n : Annotated) (u : Bool) (k : Kind) (own : ℕ) (q : Parent) → n ≡ annotatedBy s → u ≡ isMapParent p → k ≡ kindOf n u → own ≡ role p above (slotAt b at) (fieldsAt b at) → q ≡ parentBy (k .kind) own → q ≡ parentOf p above (slotAt b at) (fieldsAt b at)
   unfolding parentOf kind annotated
@@ -98,9 +99,9 @@ module _ (b l : List ℕ) (at up : ℕ) (s : Numbers) (p : Parent) (above : Slot
   row-is n u k own next bytes a w d o e t =
       rw (t, d, a, w, o, v .numbers, e, treeAt-slot b at (v .claimed) (v .below))
 
-  module _ (f : rowWidth * totalOf b ≤ length l) (q : Parent) (w : q ≡ parentOf p above (slotAt b at) (fieldsAt b at)) (m : List ℕ) (e : m ≡ placed l (rowWidth * (at + 1)) (rowssFrom (at + 1) at q (slotAt b at) (runAt (slots b) (at + 1) (s .children)))) where
+  module _ (f : rowWidth * totalOf b ≤ length l) (q : Parent) (w : q ≡ parentOf p above (slotAt b at) (fieldsAt b at)) (m : List ℕ) (e : m ≡ placed l (rowWidth * (at + 1)) (runRowsFrom (at + 1) at q (slotAt b at) (runAt (slots b) (at + 1) (s .children)))) where
     rest : List ℕ
-    rest = rowssFrom (suc at) at (parentOf p above (slotAt b at) (fieldsAt b at)) (slotAt b at) (fieldsAt b at)
+    rest = runRowsFrom (suc at) at (parentOf p above (slotAt b at) (fieldsAt b at)) (slotAt b at) (fieldsAt b at)
 
     rest-is : m ≡ placed l (rowWidth * (at + 1)) rest
     unfolding rest
@@ -112,7 +113,7 @@ module _ (b l : List ℕ) (at up : ℕ) (s : Numbers) (p : Parent) (above : Slot
 
     rest-fits : rowWidth * (at + 1) + length rest ≤ length l
     unfolding rest sizes
-    rest-fits = omega (arith, length-rowssFrom (fieldsAt b at) (suc at) at (parentOf p above (slotAt b at) (fieldsAt b at)) (slotAt b at), end-within)
+    rest-fits = omega (arith, length-runRowsFrom (fieldsAt b at) (suc at) at (parentOf p above (slotAt b at) (fieldsAt b at)) (slotAt b at), end-within)
 
     pub tree-rows : (r ns : List ℕ) → ns ≡ row at up p above (slotAt b at) (fieldsAt b at) → r ≡ placed m (rowWidth * at) ns → r ≡ placed l (rowWidth * at) (rowsFrom at up p above (treeAt (slots b) at))
     unfolding rowsFrom rest

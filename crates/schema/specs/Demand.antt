@@ -5,12 +5,11 @@ use mathlib.Core.List.{List}
 use lib.ListN.{length}
 use Rattle.sheet.specs.Block.{totalOf}
 use Rattle.sheet.specs.Opening.{BlocksSound, SlotsSound}
-use Rattle.sheet.specs.Slot.{slots}
-use Rattle.schema.specs.Tree.{Tree, AtMostDeep, Claims, listing}
-use Rattle.schema.specs.Rules.{Keeps}
+use Rattle.sheet.specs.Slot.{physical, repetition, childCount, typeLength, scale, precision, name, slots}
+use Rattle.tree.specs.Tree.{SlotBytes, Tree, AtMostDeep, Claims, listing, mostDepth}
+use Rattle.tree.specs.Rules.{Keeps}
 use Rattle.schema.specs.Rows.{rowWidth}
-use Rattle.schema.specs.Outcome.{mostDepth}
-use Rattle.schema.specs.declared.place.Place.the-variants.{Root}
+use Rattle.tree.specs.declared.place.Place.the-variants.{Root}
 use Rattle.schema.specs.declared.resolving.Resolved.{Resolved}
 use Rattle.schema.specs.declared.rewriting.Rewritten.{Rewritten}
 
@@ -42,3 +41,13 @@ EnoughRoom bytes lent start = start + length bytes ≤ lent
 unfoldable pub AcceptedRewriting : Rewritten → Type 0
 AcceptedRewriting (Rewritten.Bytes n) = Unit {0}
 AcceptedRewriting (Rewritten.Refused r) = ⊥
+
+-- a slot has every field of another but its annotations: "All else .. is copied"
+pub record Copied (copy s : SlotBytes) : Type 0 where
+  pub physical-is : physical copy ≡ physical s
+  pub repetition-is : repetition copy ≡ repetition s
+  pub childCount-is : childCount copy ≡ childCount s
+  pub typeLength-is : typeLength copy ≡ typeLength s
+  pub scale-is : scale copy ≡ scale s
+  pub precision-is : precision copy ≡ precision s
+  pub name-is : name copy ≡ name s

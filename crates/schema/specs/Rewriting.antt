@@ -8,19 +8,20 @@ use Rattle.sheet.specs.Check.{renewed}
 use Rattle.sheet.specs.Slot.{slots, withAnnotation}
 use Rattle.annotation.specs.Rewriting.{rewritingOf}
 use Rattle.annotation.specs.declared.rewriting.Rewriting.{Rewriting}
-use Rattle.schema.specs.Annotated.{annotated}
-use Rattle.schema.specs.Tree.{Slot, Tree, Fields, node, empty, field}
-use Rattle.schema.specs.Rules.{underMap, placeBelow}
-use Rattle.schema.specs.Reading.{treeOf}
-use Rattle.schema.specs.Outcome.{shortOutput, judgement}
-use Rattle.schema.specs.declared.place.Place.{Place}
-use Rattle.schema.specs.declared.place.Place.the-variants.{Root}
-use Rattle.schema.specs.declared.refusal.Verdict.{Verdict}
+use Rattle.tree.specs.Annotated.{annotated}
+use Rattle.tree.specs.Tree.{SlotBytes, Tree, Fields, node, empty, field}
+use Rattle.tree.specs.Rules.{underMap, placeBelow}
+use Rattle.tree.specs.Reading.{treeOf}
+use Rattle.tree.specs.Judgement.{judgement}
+use Rattle.schema.specs.Outcome.{shortOutput}
+use Rattle.tree.specs.declared.place.Place.{Place}
+use Rattle.tree.specs.declared.place.Place.the-variants.{Root}
+use Rattle.tree.specs.declared.refusal.Verdict.{Verdict}
 use Rattle.schema.specs.declared.rewriting.Rewritten.{Rewritten}
 
 -- what is rewritten of a node, its parent a resolved MAP or not: "every resolved logical annotation with its parameters and its forward image;
 -- INTERVAL keeps converted alone; a key_value layer has none"
-unfoldable pub rewriting : Bool → Slot → Rewriting
+unfoldable pub rewriting : Bool → SlotBytes → Rewriting
 rewriting under s = rewritingOf (annotated s) under
 
 -- of each node of a tree, in listing order

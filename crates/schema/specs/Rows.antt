@@ -1,18 +1,22 @@
 -- The rows of a tree: nine numbers for each node, in listing order.
-use Prim.Native.Nat.{ℕ, suc, _+_}
+use Prim.Native.Nat.{ℕ, zero, suc, _+_}
 use mathlib.Core.Bool.{Bool, true, false, cond}
 use mathlib.Core.List.{List, [], _∷_, _++_}
 use lib.Dec.{eqb}
-use Rattle.annotation.specs.Logical as logical
+use lib.ListN.{getD, drop}
+use Rattle.parquet.specs.Repetition.{REPEATED}
+use Rattle.parquet.specs.Logical as logical
 use Rattle.annotation.specs.Signed.{natural}
+use Rattle.annotation.specs.declared.resolution.Kind.{Kind}
 use Rattle.sheet.specs.Slot.{physical, repetition, typeLength}
-use Rattle.schema.specs.Annotated.{kind}
-use Rattle.schema.specs.Tree.{Slot, Tree, Fields, node, empty, field, size}
-use Rattle.schema.specs.Rules.{isGroup, REPEATED, isElementGroup}
+use Rattle.tree.specs.Annotated.{kind}
+use Rattle.tree.specs.Tree.{SlotBytes, Tree, Fields, node, empty, field, size}
+use Rattle.tree.specs.Rules.{isGroup, isElementGroup}
 use Rattle.schema.specs.declared.roles.Parent.{Parent}
 use Rattle.schema.specs.declared.roles.Parent.the-variants as parent
 
--- whether a parent is a resolved MAP
+-- what a node's parent is to it (`Parent`): a `List` or a `Map`, by its resolved kind; a `ListLayer` that holds a LIST's element; the key_value layer of
+-- a MAP, of which the node is the first field (`KeyValue`) or a later one (`KeyValueRest`); or any `Other`. Whether it is a resolved MAP:
 abbrev pub isMapParent : Parent → Bool
 isMapParent parent.Other = false
 isMapParent parent.List = false
@@ -47,7 +51,7 @@ abbrev pub BARE-REPEATED : ℕ
 BARE-REPEATED = 7
 
 -- the role of a LIST's child: a leaf, a group that is the element, or a group that holds it
-unfoldable pub listRole : Slot → Slot → Fields → ℕ
+unfoldable pub listRole : SlotBytes → SlotBytes → Fields → ℕ
 listRole list s fs = cond (isGroup (physical s)) (cond (isElementGroup list s fs) ELEMENT-LAYER LIST-LAYER) ELEMENT
 
 -- "any other repeated node has 7, the rest 0"
@@ -55,7 +59,7 @@ abbrev pub ownRole : ℕ → ℕ
 ownRole rep = cond (eqb rep REPEATED) BARE-REPEATED FIELD
 
 -- the role of a node, by what its parent is to it
-unfoldable pub role : Parent → Slot → Slot → Fields → ℕ
+unfoldable pub role : Parent → SlotBytes → SlotBytes → Fields → ℕ
 role parent.Other above s fs = ownRole (repetition s)
 role parent.List above s fs = listRole above s fs
 role parent.ListLayer above s fs = ELEMENT
@@ -81,7 +85,7 @@ afterFirst parent.KeyValue = parent.KeyValueRest
 afterFirst parent.KeyValueRest = parent.KeyValueRest
 
 -- one row: physical, type length, repetition, kind, p1, p2, parent, end, role
-unfoldable pub row : ℕ → ℕ → Parent → Slot → Slot → Fields → List ℕ
+unfoldable pub row : ℕ → ℕ → Parent → SlotBytes → SlotBytes → Fields → List ℕ
 row at up p above s fs =
     physical s
     ∷ natural (typeLength s)
@@ -95,17 +99,17 @@ row at up p above s fs =
     ∷ []
 
 -- what a node is to its fields
-unfoldable pub parentOf : Parent → Slot → Slot → Fields → Parent
+unfoldable pub parentOf : Parent → SlotBytes → SlotBytes → Fields → Parent
 parentOf p above s fs = parentBy (kind (isMapParent p) s .kind) (role p above s fs)
 
 -- the rows of a tree whose root has the number `at`, under the node `above` of number `up`, which is p to it
 unfoldable mutual
-  pub rowsFrom : ℕ → ℕ → Parent → Slot → Tree → List ℕ
-  rowsFrom at up p above (node s fs) = row at up p above s fs ++ rowssFrom (suc at) at (parentOf p above s fs) s fs
+  pub rowsFrom : ℕ → ℕ → Parent → SlotBytes → Tree → List ℕ
+  rowsFrom at up p above (node s fs) = row at up p above s fs ++ runRowsFrom (suc at) at (parentOf p above s fs) s fs
 
-  pub rowssFrom : ℕ → ℕ → Parent → Slot → Fields → List ℕ
-  rowssFrom at up p above empty = []
-  rowssFrom at up p above (field t fs) = rowsFrom at up p above t ++ rowssFrom (at + size t) up (afterFirst p) above fs
+  pub runRowsFrom : ℕ → ℕ → Parent → SlotBytes → Fields → List ℕ
+  runRowsFrom at up p above empty = []
+  runRowsFrom at up p above (field t fs) = rowsFrom at up p above t ++ runRowsFrom (at + size t) up (afterFirst p) above fs
 
 -- a tree's rows, its nodes numbered from 0: the root's parent is 0
 unfoldable pub rows : Tree → List ℕ
@@ -114,3 +118,8 @@ rows t = rowsFrom 0 0 parent.Other [] t
 -- how many numbers a row has
 abbrev pub rowWidth : ℕ
 rowWidth = 9
+
+-- the kind, p1 and p2 that stand in each of n rows
+unfoldable pub kindsIn : List ℕ → ℕ → List Kind
+kindsIn numbers zero = []
+kindsIn numbers (suc n) = record { kind = getD numbers 3 0; p1 = getD numbers 4 0; p2 = getD numbers 5 0 } ∷ kindsIn (drop rowWidth numbers) n

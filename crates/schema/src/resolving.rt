@@ -3,13 +3,13 @@ ghost use mathlib.Core.Path.{_≡_};
 ghost use Prim.Native.Nat.{_*_, _<_};
 ghost use lib.ListN.{length};
 ghost use Rattle.schema.specs.Outcome.{outcome, written};
-use crate::judgement::Judgement;
-use crate::judgement::judge;
-use crate::refusal::Refusal;
-use crate::refusal::short_output;
+use crate::output::short_output;
 use crate::roles::Parent;
 use crate::rows::ROW_WIDTH;
 use crate::rows::write_tree;
+use tree::Judgement;
+use tree::Refusal;
+use tree::judge;
 
 // What resolving answers: the number of nodes, whose rows are written, or the refusal.
 pub enum Resolved {

@@ -4,19 +4,19 @@ ghost use Prim.Native.Nat.{_+_, _≤_, _<_};
 ghost use lib.ListN.{length, drop};
 ghost use Rattle.sheet.specs.Block.{totalOf};
 ghost use Rattle.sheet.specs.Slot.{slots};
-ghost use Rattle.schema.specs.Tree.{count as Tree·count, size};
-ghost use Rattle.schema.specs.Reading.{trees};
+ghost use Rattle.tree.specs.Tree.{count as Tree·count, size};
+ghost use Rattle.tree.specs.Reading.{trees};
 ghost use Rattle.schema.specs.Rewriting.{rewritings, runRewritings, withRewriting, withRewritings, rewritten, rewriteOutcome, rewriteWritten};
-ghost use Rattle.schema.specs.Steps.{Claimed, treeAt, runAt, sizes};
-use crate::faults::annotated;
-use crate::judgement::Judgement;
-use crate::judgement::judge;
-use crate::place::Place;
-use crate::place::place_under;
-use crate::place::under_map;
-use crate::refusal::Refusal;
-use crate::refusal::short_output;
+ghost use Rattle.tree.specs.Steps.{Claimed, treeAt, runAt, sizes};
+use crate::output::short_output;
 use annotation::Rewriting;
+use tree::Judgement;
+use tree::Place;
+use tree::Refusal;
+use tree::annotated;
+use tree::judge;
+use tree::place_under;
+use tree::under_map;
 
 // What rewriting answers: how many bytes are written, or the refusal.
 pub enum Rewritten {

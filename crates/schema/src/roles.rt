@@ -2,12 +2,12 @@
 ghost use mathlib.Core.Path.{_≡_};
 ghost use Rattle.sheet.specs.Slot.{slotAt};
 ghost use Rattle.schema.specs.Rows.{isMapParent, role as Rows·role, listRole, ownRole, parentBy, afterFirst};
-ghost use Rattle.schema.specs.Steps.{Visited, fieldsAt};
-use crate::codes::REPEATED;
-use crate::structure::named_element;
-use annotation::logical;
-use annotation::physical;
+ghost use Rattle.tree.specs.Steps.{Visited, fieldsAt};
+use parquet::logical;
+use parquet::physical;
+use parquet::repetition;
 use sheet::Slot;
+use tree::named_element;
 
 // What a node's parent is to it, as far as roles go.
 pub enum Parent {
@@ -74,7 +74,7 @@ pub(crate) fn role(sheet: &[u8], up: usize, at: usize, s: Slot, parent: Parent) 
 fn own_role(repetition: u8) -> u32
     ensures { λ r. ⌜ r ≡ ownRole repetition ⌝ }
 {
-    if repetition == REPEATED {
+    if repetition == repetition::REPEATED {
         BARE_REPEATED
     } else {
         FIELD

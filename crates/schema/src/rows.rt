@@ -4,19 +4,20 @@ ghost use Prim.Native.Nat.{_+_, _*_, _≤_, _<_};
 ghost use lib.ListN.{length, drop};
 ghost use Rattle.sheet.specs.Block.{totalOf};
 ghost use Rattle.sheet.specs.Slot.{slots, slotAt};
-ghost use Rattle.schema.specs.Tree.{count as Tree·count, size};
-ghost use Rattle.schema.specs.Rows.{rowWidth, rowsFrom, rowssFrom};
-ghost use Rattle.schema.specs.Reading.{trees};
-ghost use Rattle.schema.specs.Steps.{Claimed, treeAt, runAt, sizes, placed, rowNumbers};
-use crate::faults::annotated;
+ghost use Rattle.tree.specs.Tree.{count as Tree·count, size};
+ghost use Rattle.schema.specs.Rows.{rowWidth, rowsFrom, runRowsFrom};
+ghost use Rattle.tree.specs.Reading.{trees};
+ghost use Rattle.tree.specs.Steps.{Claimed, treeAt, runAt, sizes};
+ghost use Rattle.schema.specs.Steps.{placed, rowNumbers};
 use crate::roles::Parent;
 use crate::roles::after_first;
 use crate::roles::is_map_parent;
 use crate::roles::parent_by;
 use crate::roles::role;
+use tree::annotated;
 
 // How many numbers a row has.
-pub(crate) const ROW_WIDTH: usize = 9;
+pub const ROW_WIDTH: usize = 9;
 
 // A node's row.
 struct Row {
@@ -63,7 +64,7 @@ pub(crate) fn write_tree(
         ROW_WIDTH * at,
         Row {
             physical: s.physical as u32,
-            type_length: annotation::length(n),
+            type_length: annotation::type_length(n),
             repetition: s.repetition as u32,
             kind: kind.kind,
             p1: kind.p1,
@@ -90,7 +91,7 @@ fn write_run(
     requires { ⌜ up < totalOf (now sheet) ⌝ }
     requires { ⌜ rowWidth * totalOf (now sheet) ≤ length (now rows) ⌝ }
     ensures { λ r. ⌜ r ≡ start + sizes (runAt (slots (now (sheet .entry))) start count) ⌝ }
-    ensures { λ _. ⌜ now (rows .exit) ≡ placed (now (rows .entry)) (rowWidth * start) (rowssFrom start up parent (slotAt (now (sheet .entry)) up) (runAt (slots (now (sheet .entry))) start count)) ⌝ }
+    ensures { λ _. ⌜ now (rows .exit) ≡ placed (now (rows .entry)) (rowWidth * start) (runRowsFrom start up parent (slotAt (now (sheet .entry)) up) (runAt (slots (now (sheet .entry))) start count)) ⌝ }
 {
     let mut at = start;
     let mut left = count;

@@ -1,4 +1,4 @@
-// Runs the sheets of standard input and prints what the library answers for each. reference/vectors.py writes the input, and
+// Runs the sheets of standard input and prints what the library answers for each. The independent reader writes the input, and
 // stdout. Each number of it is four bytes, the least first.
 mod resolving; // resolving.rt: sheets resolved into rows
 mod rewriting; // rewriting.rt: sheets rewritten

@@ -11,7 +11,11 @@ use lib.ListN.{length, getD}
 use borrow.Author.Tests.{eq-eqb, ne-eqb, lt-ltb, le-ltb, lt-leb, leb-true, eqb-true}
 use Rattle.sheet.specs.Block.{totalOf}
 use Rattle.sheet.specs.Slot.{physical, repetition, converted, logical, nameLength, slotAt}
-use Rattle.sheet.specs.Sound.{listed, fixedLenByteArray, group, physicalListed, repeated, noRepetition, repetitionListed, interval, noConverted, convertedListed, timestamp, integer, uuid, logicalListed, mostNameLength, nameLengthRight, allZero, reservedZero, tailZero, codesListed, nameRight, slotSound, slotRight}
+use Rattle.parquet.specs.Physical as physical
+use Rattle.parquet.specs.Repetition as repetition
+use Rattle.parquet.specs.Converted as converted
+use Rattle.parquet.specs.Logical as logical
+use Rattle.sheet.specs.Sound.{listed, physicalListed, repetitionListed, convertedListed, logicalListed, mostNameLength, nameLengthRight, allZero, reservedZero, tailZero, codesListed, nameRight, slotSound, slotRight}
 
 pub allZero-true : (bytes : List ℕ) → ((k : ℕ) → k < length bytes → getD bytes k 0 ≡ 0) → allZero bytes ≡ true
 unfolding allZero
@@ -46,19 +50,19 @@ listed-cases last beside code e = cases (decLe code last)
     cases (yes h) = inl h
     cases (no h) = inr (eqb-true code beside (sym (listed-beside last beside code (omega arith)) ∙ e))
 
-logicalListed-upper : (code : ℕ) → timestamp < code → logicalListed code ≡ leb integer code && leb code uuid
+logicalListed-upper : (code : ℕ) → logical.TIMESTAMP < code → logicalListed code ≡ leb logical.INTEGER code && leb code logical.UUID
 unfolding logicalListed
-logicalListed-upper code h = rw (lt-leb code timestamp h)
+logicalListed-upper code h = rw (lt-leb code logical.TIMESTAMP h)
 
 -- a logical type's code, taken apart
-pub logicalListed-cases : (code : ℕ) → logicalListed code ≡ true → (code ≤ timestamp) ⊎ ((integer ≤ code) × (code ≤ uuid))
-logicalListed-cases code e = cases (decLe code timestamp)
+pub logicalListed-cases : (code : ℕ) → logicalListed code ≡ true → (code ≤ logical.TIMESTAMP) ⊎ ((logical.INTEGER ≤ code) × (code ≤ logical.UUID))
+logicalListed-cases code e = cases (decLe code logical.TIMESTAMP)
   where
-    cases : Dec (code ≤ timestamp) → (code ≤ timestamp) ⊎ ((integer ≤ code) × (code ≤ uuid))
+    cases : Dec (code ≤ logical.TIMESTAMP) → (code ≤ logical.TIMESTAMP) ⊎ ((logical.INTEGER ≤ code) × (code ≤ logical.UUID))
     cases (yes h) = inl h
     cases (no h) =
-        let both = and-eq-true-iff (leb integer code) (leb code uuid) .0 (sym (logicalListed-upper code (omega arith)) ∙ e) in
-        inr (leb-true integer code (both .0), leb-true code uuid (both .1))
+        let both = and-eq-true-iff (leb logical.INTEGER code) (leb code logical.UUID) .0 (sym (logicalListed-upper code (omega arith)) ∙ e) in
+        inr (leb-true logical.INTEGER code (both .0), leb-true code logical.UUID (both .1))
 
 -- a sound slot, taken apart
 module _ (slot : List ℕ) (sound : slotSound slot ≡ true) where
@@ -90,19 +94,19 @@ module _ (slot : List ℕ) (sound : slotSound slot ≡ true) where
   unfolding nameLengthRight
   name-bounds = and-eq-true-iff (leb 1 (nameLength slot)) (leb (nameLength slot) mostNameLength) .0 (name-front .0)
 
-  pub sound-physical : (physical slot ≤ fixedLenByteArray) ⊎ (physical slot ≡ group)
+  pub sound-physical : (physical slot ≤ physical.FIXED-LEN-BYTE-ARRAY) ⊎ (physical slot ≡ physical.GROUP)
   unfolding physicalListed
-  sound-physical = listed-cases fixedLenByteArray group (physical slot) (listed-one .0)
+  sound-physical = listed-cases physical.FIXED-LEN-BYTE-ARRAY physical.GROUP (physical slot) (listed-one .0)
 
-  pub sound-repetition : (repetition slot ≤ repeated) ⊎ (repetition slot ≡ noRepetition)
+  pub sound-repetition : (repetition slot ≤ repetition.REPEATED) ⊎ (repetition slot ≡ repetition.NONE)
   unfolding repetitionListed
-  sound-repetition = listed-cases repeated noRepetition (repetition slot) (listed-one .1)
+  sound-repetition = listed-cases repetition.REPEATED repetition.NONE (repetition slot) (listed-one .1)
 
-  pub sound-converted : (converted slot ≤ interval) ⊎ (converted slot ≡ noConverted)
+  pub sound-converted : (converted slot ≤ converted.INTERVAL) ⊎ (converted slot ≡ converted.NONE)
   unfolding convertedListed
-  sound-converted = listed-cases interval noConverted (converted slot) (listed-two .1)
+  sound-converted = listed-cases converted.INTERVAL converted.NONE (converted slot) (listed-two .1)
 
-  pub sound-logical : (logical slot ≤ timestamp) ⊎ ((integer ≤ logical slot) × (logical slot ≤ uuid))
+  pub sound-logical : (logical slot ≤ logical.TIMESTAMP) ⊎ ((logical.INTEGER ≤ logical slot) × (logical slot ≤ logical.UUID))
   sound-logical = logicalListed-cases (logical slot) (codes .1)
 
   pub sound-nameLength-least : 1 ≤ nameLength slot

@@ -4,6 +4,10 @@ use mathlib.Core.Bool.{Bool, true, cond, _&&_, _||_}
 use mathlib.Core.List.{List, [], _∷_}
 use lib.Dec.{leb, ltb, eqb}
 use lib.ListN.{take, drop}
+use Rattle.parquet.specs.Physical as physical
+use Rattle.parquet.specs.Repetition as repetition
+use Rattle.parquet.specs.Converted as converted
+use Rattle.parquet.specs.Logical as logical
 use Rattle.sheet.specs.Block.{totalOf}
 use Rattle.sheet.specs.Slot.{physical, repetition, converted, logical, nameLength, reservedAt, nameAt, slotAt}
 
@@ -11,48 +15,21 @@ use Rattle.sheet.specs.Slot.{physical, repetition, converted, logical, n
 unfoldable pub listed : ℕ → ℕ → ℕ → Bool
 listed last beside code = leb code last || eqb code beside
 
--- "BOOLEAN 0, .. FIXED_LEN_BYTE_ARRAY 7, group 255"
-abbrev pub fixedLenByteArray : ℕ
-fixedLenByteArray = 7
-
-abbrev pub group : ℕ
-group = 255
-
+-- "physical (BOOLEAN 0, .. FIXED_LEN_BYTE_ARRAY 7, group 255)"
 unfoldable pub physicalListed : ℕ → Bool
-physicalListed code = listed fixedLenByteArray group code
+physicalListed code = listed physical.FIXED-LEN-BYTE-ARRAY physical.GROUP code
 
 -- "required 0, optional 1, repeated 2, none 255"
-abbrev pub repeated : ℕ
-repeated = 2
-
-abbrev pub noRepetition : ℕ
-noRepetition = 255
-
 unfoldable pub repetitionListed : ℕ → Bool
-repetitionListed code = listed repeated noRepetition code
+repetitionListed code = listed repetition.REPEATED repetition.NONE code
 
 -- "converted (0-21, none 255)", 21 being INTERVAL
-abbrev pub interval : ℕ
-interval = 21
-
-abbrev pub noConverted : ℕ
-noConverted = 255
-
 unfoldable pub convertedListed : ℕ → Bool
-convertedListed code = listed interval noConverted code
+convertedListed code = listed converted.INTERVAL converted.NONE code
 
 -- "logical (1-8, 10-14, none 0)", 8 being TIMESTAMP, 10 INTEGER and 14 UUID
-abbrev pub timestamp : ℕ
-timestamp = 8
-
-abbrev pub integer : ℕ
-integer = 10
-
-abbrev pub uuid : ℕ
-uuid = 14
-
 unfoldable pub logicalListed : ℕ → Bool
-logicalListed code = leb code timestamp || (leb integer code && leb code uuid)
+logicalListed code = leb code logical.TIMESTAMP || (leb logical.INTEGER code && leb code logical.UUID)
 
 -- "name length 1-48"
 abbrev pub mostNameLength : ℕ

@@ -8,24 +8,10 @@ ghost use Rattle.sheet.specs.Sound.{listed as Sound·listed, logicalList
 use crate::layout;
 use crate::number::wide;
 use crate::slots::slot_start;
-
-const FIXED_LEN_BYTE_ARRAY: u8 = 7;
-
-const GROUP: u8 = 255;
-
-const REPEATED: u8 = 2;
-
-const NO_REPETITION: u8 = 255;
-
-const INTERVAL: u8 = 21;
-
-const NO_CONVERTED: u8 = 255;
-
-const TIMESTAMP: u8 = 8;
-
-const INTEGER: u8 = 10;
-
-const UUID: u8 = 14;
+use parquet::converted;
+use parquet::logical;
+use parquet::physical;
+use parquet::repetition;
 
 // Whether the slot of number k is sound where k is a node's, and zero where it is not.
 pub(crate) fn slot_right(sheet: &[u8], k: usize, total: usize) -> bool
@@ -56,13 +42,25 @@ fn codes_listed(slot: &[u8]) -> bool
     requires { ⌜ length (now slot) ≡ slotSize ⌝ }
     ensures { λ r. ⌜ r ≡ codesListed (now (slot .entry)) ⌝ }
 {
-    if !listed(FIXED_LEN_BYTE_ARRAY, GROUP, slot[layout::PHYSICAL]) {
+    if !listed(
+        physical::FIXED_LEN_BYTE_ARRAY,
+        physical::GROUP,
+        slot[layout::PHYSICAL],
+    ) {
         return false;
     }
-    if !listed(REPEATED, NO_REPETITION, slot[layout::REPETITION]) {
+    if !listed(
+        repetition::REPEATED,
+        repetition::NONE,
+        slot[layout::REPETITION],
+    ) {
         return false;
     }
-    if !listed(INTERVAL, NO_CONVERTED, slot[layout::CONVERTED]) {
+    if !listed(
+        converted::INTERVAL,
+        converted::NONE,
+        slot[layout::CONVERTED],
+    ) {
         return false;
     }
     logical_listed(slot[layout::LOGICAL])
@@ -112,11 +110,11 @@ fn listed(last: u8, beside: u8, code: u8) -> bool
 fn logical_listed(code: u8) -> bool
     ensures { λ r. ⌜ r ≡ logicalListed code ⌝ }
 {
-    if code <= TIMESTAMP {
+    if code <= logical::TIMESTAMP {
         return true;
     }
-    if code < INTEGER {
+    if code < logical::INTEGER {
         return false;
     }
-    code <= UUID
+    code <= logical::UUID
 }

@@ -2,14 +2,15 @@
 use Prim.Native.Nat.{ℕ, zero, suc, _+_, _<_, _≤_}
 use native.Mathlib.Omega.{arith}
 use mathlib.Core.Path.{_≡_, refl, sym, ap, subst, _∙_}
-use mathlib.Core.Bool.{Bool, false, not, _&&_, _||_, and-false}
-use borrow.Author.Tests.{le-leb, lt-leb}
-use lib.Dec.{leb}
+use mathlib.Core.Bool.{Bool, true, false, not, _&&_, _||_, and-false, true≢false}
+use borrow.Author.Tests.{le-leb, lt-leb, ltb-true, ltb-false}
+use lib.Dec.{leb, ltb}
 use lib.ListN.{getD}
 use lib.IntN.{ℤ, pos, negsuc, natAbs, subℕ}
 use lib.Signed.{mag}
 use Rattle.timestamp.specs.Calendar.{divides, isLeap, months, monthsPerYear, daysOfMonth, dayOf, dayNumber, isDate}
-use Rattle.timestamp.proofs.DifferenceLaws.{below?, pos-sub, negsuc-sub, sub-eq, sub-inj, sub-above, sub-below}
+use Rattle.laws.proofs.BoolLaws.{by-test, or-rest}
+use Rattle.laws.proofs.DifferenceLaws.{below?, pos-sub, negsuc-sub, sub-eq, sub-inj, sub-above, sub-below}
 use Rattle.timestamp.proofs.DateLaws.{era-day-of, day-of-pos, day-number-era}
 
 -- ---- leap years and months
@@ -24,26 +25,28 @@ common-month b zero h = refl
 common-month b (suc zero) h = absurd (h refl)
 common-month b (suc (suc i)) h = refl
 
--- ---- what a date is
+-- ---- what the code tests of a date
 
-pub no-month-before : (y : ℤ) (m d : ℕ) → m < 1 → isDate y m d ≡ false
+-- there is no such month
+pub no-month : (y : ℤ) (m d : ℕ) → (ltb m 1 || ltb 12 m) ≡ true → isDate y m d ≡ false
 unfolding isDate
-no-month-before y m d h = ap (λ (b : Bool). b && leb m monthsPerYear && (leb 1 d && leb d (daysOfMonth y m))) (lt-leb 1 m h)
+no-month y m d e = by-test (ltb m 1) before λ p. after (or-rest (ltb m 1) (ltb 12 m) p e)
+  where
+    before : ltb m 1 ≡ true → isDate y m d ≡ false
+    before p = ap (λ (b : Bool). b && leb m monthsPerYear && leb 1 d && leb d (daysOfMonth y m)) (lt-leb 1 m (ltb-true m 1 p))
 
-pub no-month-after : (y : ℤ) (m d : ℕ) → 12 < m → isDate y m d ≡ false
-unfolding isDate
-no-month-after y m d h =
-    ap (λ (b : Bool). leb 1 m && b && (leb 1 d && leb d (daysOfMonth y m))) (lt-leb m 12 h) ∙ ap (λ (b : Bool). b && (leb 1 d && leb d (daysOfMonth y m))) (and-false (leb 1 m))
+    after : ltb 12 m ≡ true → isDate y m d ≡ false
+    after p = ap (λ (b : Bool). b && leb 1 d && leb d (daysOfMonth y m)) (ap (λ (b : Bool). leb 1 m && b) (lt-leb m 12 (ltb-true 12 m p)) ∙ and-false (leb 1 m))
 
-pub no-day-before : (y : ℤ) (m d : ℕ) → d < 1 → isDate y m d ≡ false
-unfolding isDate
-no-day-before y m d h =
-    ap (λ (b : Bool). leb 1 m && leb m monthsPerYear && (b && leb d (daysOfMonth y m))) (lt-leb 1 d h) ∙ and-false (leb 1 m && leb m monthsPerYear)
+-- there is one
+pub month-told : (m : ℕ) → (ltb m 1 || ltb 12 m) ≡ false → (1 ≤ m) × (m ≤ 12)
+month-told m e = by-test (ltb m 1) (λ p. absurd (true≢false (sym (ap (λ (b : Bool). b || ltb 12 m) p) ∙ e))) λ p. (ltb-false m 1 p, ltb-false 12 m (sym (ap (λ (b : Bool). b || ltb 12 m) p) ∙ e))
 
-pub day-test : (y : ℤ) (m d : ℕ) → 1 ≤ m → m ≤ 12 → 1 ≤ d → isDate y m d ≡ leb d (daysOfMonth y m)
+-- and then the day is tested
+pub day-test : (y : ℤ) (m d : ℕ) → 1 ≤ m → m ≤ 12 → isDate y m d ≡ (leb 1 d && leb d (daysOfMonth y m))
 unfolding isDate
-day-test y m d h k l =
-    ap (λ (b : Bool). b && leb m monthsPerYear && (leb 1 d && leb d (daysOfMonth y m))) (le-leb 1 m h) ∙ ap (λ (b : Bool). b && (leb 1 d && leb d (daysOfMonth y m))) (le-leb m 12 k) ∙ ap (λ (b : Bool). b && leb d (daysOfMonth y m)) (le-leb 1 d l)
+day-test y m d h k =
+    ap (λ (b : Bool). b && leb m monthsPerYear && leb 1 d && leb d (daysOfMonth y m)) (le-leb 1 m h) ∙ ap (λ (b : Bool). b && leb 1 d && leb d (daysOfMonth y m)) (le-leb m 12 k)
 
 -- ---- day numbers
 

@@ -1,15 +1,15 @@
--- Times of a day and their ticks: within the day, and one time for each tick.
+-- Times of a day and their ticks: within the day, and one time for each tick. Here t is the ticks in a second.
 use Prim.Native.Nat.{ℕ, suc, _+_, _*_, _/_, _%_, _<_, _≤_}
 use native.Mathlib.Omega.{arith}
 use native.Mathlib.Nat.{mul-le-mul-right, mod-lt, div-add-mod', div-lt-iff-lt-mul}
 use mathlib.Core.Path.{_≡_, ap, _∙_}
-use mathlib.Core.Bool.{Bool, true, false, _&&_, and-false}
-use borrow.Author.Tests.{ltb-true, lt-ltb, le-ltb}
+use mathlib.Core.Bool.{true, _&&_}
+use borrow.Author.Tests.{ltb-true, lt-ltb}
 use lib.Dec.{ltb}
 use Rattle.timestamp.specs.Clock.{hoursPerDay, minutesPerHour, secondsPerMinute, isTime, tickOfDay}
 use Rattle.timestamp.specs.Units.{ticksPerDay}
 use Rattle.timestamp.proofs.DivisionLaws.{steps-one, suc-times}
-use Rattle.timestamp.proofs.TestLaws.{and-both, both-and}
+use Rattle.laws.proofs.BoolLaws.{and-both, both-and}
 
 pub record Time (t h m s f : ℕ) : Type 0 where
   pub hour-below : h < 24
@@ -20,42 +20,24 @@ pub record Time (t h m s f : ℕ) : Type 0 where
 pub time-parts : (t h m s f : ℕ) → isTime t h m s f ≡ true → Time t h m s f
 unfolding isTime
 time-parts t h m s f e =
-    let halves = and-both (ltb h hoursPerDay && ltb m minutesPerHour) (ltb s secondsPerMinute && ltb f t) e in
-    let first = and-both (ltb h hoursPerDay) (ltb m minutesPerHour) (halves .0) in
-    let second = and-both (ltb s secondsPerMinute) (ltb f t) (halves .1) in
+    let fraction = and-both (ltb h hoursPerDay && ltb m minutesPerHour && ltb s secondsPerMinute) (ltb f t) e in
+    let second = and-both (ltb h hoursPerDay && ltb m minutesPerHour) (ltb s secondsPerMinute) (fraction .0) in
+    let hour = and-both (ltb h hoursPerDay) (ltb m minutesPerHour) (second .0) in
     record {
-      hour-below = ltb-true h 24 (first .0);
-      minute-below = ltb-true m 60 (first .1);
-      second-below = ltb-true s 60 (second .0);
-      fraction-below = ltb-true f t (second .1);
+      hour-below = ltb-true h 24 (hour .0);
+      minute-below = ltb-true m 60 (hour .1);
+      second-below = ltb-true s 60 (second .1);
+      fraction-below = ltb-true f t (fraction .1);
     }
 
 pub parts-time : (t h m s f : ℕ) → Time t h m s f → isTime t h m s f ≡ true
 unfolding isTime
 parts-time t h m s f p =
-    both-and (ltb h hoursPerDay && ltb m minutesPerHour) (ltb s secondsPerMinute && ltb f t)
+    both-and (ltb h hoursPerDay && ltb m minutesPerHour && ltb s secondsPerMinute) (ltb f t)
+    (both-and (ltb h hoursPerDay && ltb m minutesPerHour) (ltb s secondsPerMinute)
     (both-and (ltb h hoursPerDay) (ltb m minutesPerHour) (lt-ltb h 24 (p .hour-below)) (lt-ltb m 60 (p .minute-below)))
-    (both-and (ltb s secondsPerMinute) (ltb f t) (lt-ltb s 60 (p .second-below)) (lt-ltb f t (p .fraction-below)))
-
--- what the tests of the code decide
-pub no-hour : (t h m s f : ℕ) → 24 ≤ h → isTime t h m s f ≡ false
-unfolding isTime
-no-hour t h m s f k = ap (λ (b : Bool). b && ltb m minutesPerHour && (ltb s secondsPerMinute && ltb f t)) (le-ltb h 24 k)
-
-pub no-minute : (t h m s f : ℕ) → 60 ≤ m → isTime t h m s f ≡ false
-unfolding isTime
-no-minute t h m s f k =
-    ap (λ (b : Bool). ltb h hoursPerDay && b && (ltb s secondsPerMinute && ltb f t)) (le-ltb m 60 k) ∙ ap (λ (b : Bool). b && (ltb s secondsPerMinute && ltb f t)) (and-false (ltb h hoursPerDay))
-
-pub no-second : (t h m s f : ℕ) → 60 ≤ s → isTime t h m s f ≡ false
-unfolding isTime
-no-second t h m s f k =
-    ap (λ (b : Bool). ltb h hoursPerDay && ltb m minutesPerHour && (b && ltb f t)) (le-ltb s 60 k) ∙ and-false (ltb h hoursPerDay && ltb m minutesPerHour)
-
-pub fraction-test : (t h m s f : ℕ) → h < 24 → m < 60 → s < 60 → isTime t h m s f ≡ ltb f t
-unfolding isTime
-fraction-test t h m s f k l n =
-    ap (λ (b : Bool). b && ltb m minutesPerHour && (ltb s secondsPerMinute && ltb f t)) (lt-ltb h 24 k) ∙ ap (λ (b : Bool). b && (ltb s secondsPerMinute && ltb f t)) (lt-ltb m 60 l) ∙ ap (λ (b : Bool). b && ltb f t) (lt-ltb s 60 n)
+    (lt-ltb s 60 (p .second-below)))
+    (lt-ltb f t (p .fraction-below))
 
 -- the second of the day
 abbrev second-of-day : ℕ → ℕ → ℕ → ℕ

@@ -1,8 +1,8 @@
--- What is promised of decoding and encoding, over the ticks in a second and so once for all units.
+-- What is promised of decoding and encoding, over the ticks in a second, t, and so once for all units.
 use Prim.Native.Nat.{ℕ, _<_, _≤_, _^_}
 use native.Mathlib.Omega.{arith}
-use mathlib.Core.Path.{_≡_, refl, sym, ap, subst, _∙_}
-use mathlib.Core.Bool.{Bool, true, false, cond, _&&_, and-false}
+use mathlib.Core.Path.{_≡_, refl, sym, ap, ap₂, subst, _∙_}
+use mathlib.Core.Bool.{Bool, true, false, cond, _&&_}
 use mathlib.Core.Option.{Option, none, some}
 use lib.IntN.{ℤ}
 use lib.Signed.{mag}
@@ -12,7 +12,7 @@ use Rattle.timestamp.specs.Clock.{isTime, tickOfDay}
 use Rattle.timestamp.specs.Units.{TimeUnit, ticksPerSecond, ticksPerDay}
 use Rattle.timestamp.specs.Count.{isDateTime, countOf, FieldsOf}
 use Rattle.timestamp.specs.Outcomes.{Outcome, refused, given, noDateTime, notRepresentable, isSigned64, Decodes, encodingIn, encoding}
-use Rattle.timestamp.proofs.TestLaws.{and-both, both-and}
+use Rattle.laws.proofs.BoolLaws.{and-both}
 use Rattle.timestamp.proofs.DateLaws.{date-one}
 use Rattle.timestamp.proofs.ReachLaws.{count-far}
 use Rattle.timestamp.proofs.ClockLaws.{time-parts, tick-below, time-one}
@@ -23,6 +23,11 @@ use Rattle.timestamp.proofs.SignedLaws.{signed-of, signed-mag}
 pub date-time-parts : (t : ℕ) (f : Fields) → isDateTime t f ≡ true → (isDate (f .year) (f .month) (f .day) ≡ true) × (isTime t (f .hour) (f .minute) (f .second) (f .fraction) ≡ true)
 unfolding isDateTime
 date-time-parts t f e = and-both (isDate (f .year) (f .month) (f .day)) (isTime t (f .hour) (f .minute) (f .second) (f .fraction)) e
+
+-- and both tests tell whether they do
+pub date-time-told : (t : ℕ) (f : Fields) {y : ℤ} {date time : Bool} → y ≡ f .year → date ≡ isDate y (f .month) (f .day) → time ≡ isTime t (f .hour) (f .minute) (f .second) (f .fraction) → (date && time) ≡ isDateTime t f
+unfolding isDateTime
+date-time-told t f e p q = ap₂ _&&_ (p ∙ ap (λ (y : ℤ). isDate y (f .month) (f .day)) e) q
 
 -- fields that have the same count are equal
 pub count-one : (t : ℕ) (f g : Fields) → isDateTime t f ≡ true → isDateTime t g ≡ true → countOf t f ≡ countOf t g → f ≡ g
@@ -64,31 +69,25 @@ decodes-one (some unit) count o o′ p q = p .1 ∙ ap given (fields-one (p .2) 
 
 -- ---- encoding, refusal by refusal
 
-pub encoding-no-date : (t : ℕ) (f : Fields) → isDate (f .year) (f .month) (f .day) ≡ false → encodingIn t f ≡ noDateTime
-unfolding encodingIn isDateTime
-encoding-no-date t f e =
-    ap (λ (b : Bool). cond (b && isTime t (f .hour) (f .minute) (f .second) (f .fraction)) (cond (isSigned64 (countOf t f)) (given (countOf t f)) notRepresentable) noDateTime) e
+pub encoding-none : (t : ℕ) (f : Fields) → isDateTime t f ≡ false → encodingIn t f ≡ noDateTime
+unfolding encodingIn
+encoding-none t f e =
+    ap (λ (b : Bool). cond b (cond (isSigned64 (countOf t f)) (given (countOf t f)) notRepresentable) noDateTime) e
 
-pub encoding-no-time : (t : ℕ) (f : Fields) → isTime t (f .hour) (f .minute) (f .second) (f .fraction) ≡ false → encodingIn t f ≡ noDateTime
-unfolding encodingIn isDateTime
-encoding-no-time t f e =
-    ap (λ (b : Bool). cond b (cond (isSigned64 (countOf t f)) (given (countOf t f)) notRepresentable) noDateTime) (ap (λ (b : Bool). isDate (f .year) (f .month) (f .day) && b) e ∙ and-false (isDate (f .year) (f .month) (f .day)))
+pub encoding-formed : (t : ℕ) (f : Fields) → isDateTime t f ≡ true → encodingIn t f ≡ cond (isSigned64 (countOf t f)) (given (countOf t f)) notRepresentable
+unfolding encodingIn
+encoding-formed t f e =
+    ap (λ (b : Bool). cond b (cond (isSigned64 (countOf t f)) (given (countOf t f)) notRepresentable) noDateTime) e
 
-pub encoding-date-time : (t : ℕ) (f : Fields) → isDate (f .year) (f .month) (f .day) ≡ true → isTime t (f .hour) (f .minute) (f .second) (f .fraction) ≡ true → encodingIn t f ≡ cond (isSigned64 (countOf t f)) (given (countOf t f)) notRepresentable
-unfolding encodingIn isDateTime
-encoding-date-time t f p q =
-    ap (λ (b : Bool). cond b (cond (isSigned64 (countOf t f)) (given (countOf t f)) notRepresentable) noDateTime) (both-and (isDate (f .year) (f .month) (f .day)) (isTime t (f .hour) (f .minute) (f .second) (f .fraction)) p q)
-
-pub encoding-far : (t : ℕ) (f : Fields) → isDate (f .year) (f .month) (f .day) ≡ true → isTime t (f .hour) (f .minute) (f .second) (f .fraction) ≡ true → 300000000 ≤ mag (f .year) → 1000 ≤ t → encodingIn t f ≡ notRepresentable
+pub encoding-far : (t : ℕ) (f : Fields) → isDateTime t f ≡ true → 300000000 ≤ mag (f .year) → 1000 ≤ t → encodingIn t f ≡ notRepresentable
 unfolding countOf
-encoding-far t f p q h k =
-    encoding-date-time t f p q ∙ ap (λ (b : Bool). cond b (given (countOf t f)) notRepresentable) (count-far (f .year) (f .month) (f .day) t (tickOfDay t (f .hour) (f .minute) (f .second) (f .fraction)) p h k (tick-below t (f .hour) (f .minute) (f .second) (f .fraction) (time-parts t (f .hour) (f .minute) (f .second) (f .fraction) q)))
+encoding-far t f e h k =
+    let parts = date-time-parts t f e in
+    encoding-formed t f e ∙ ap (λ (b : Bool). cond b (given (countOf t f)) notRepresentable) (count-far (f .year) (f .month) (f .day) t (tickOfDay t (f .hour) (f .minute) (f .second) (f .fraction)) (parts .0) h k (tick-below t (f .hour) (f .minute) (f .second) (f .fraction) (time-parts t (f .hour) (f .minute) (f .second) (f .fraction) (parts .1))))
 
 -- encoding gives the count exactly where the fields are good and the count fits
 pub encoding-good : (t : ℕ) (f : Fields) → isDateTime t f ≡ true → isSigned64 (countOf t f) ≡ true → encodingIn t f ≡ given (countOf t f)
-unfolding encodingIn
-encoding-good t f p q =
-    ap (λ (b : Bool). cond b (cond (isSigned64 (countOf t f)) (given (countOf t f)) notRepresentable) noDateTime) p ∙ ap (λ (b : Bool). cond b (given (countOf t f)) notRepresentable) q
+encoding-good t f p q = encoding-formed t f p ∙ ap (λ (b : Bool). cond b (given (countOf t f)) notRepresentable) q
 
 refused-given : {A : Type 0} (n p : ℕ) (a : A) → refused n p ≡ given a → ⊥
 refused-given n p a e = let z : _≡_ {A = ℕ} 0 1 = cc in omega arith
@@ -117,7 +116,7 @@ pub decoding-encoded : (u : Option TimeUnit) (f : Fields) (count : ℤ) (o : Out
 decoding-encoded none f count o e p = absurd (refused-given 20 0 count e)
 decoding-encoded (some unit) f count o e p = p .1 ∙ ap given (fields-one (p .2) (encoding-given (ticksPerSecond unit) f count e .0))
 
--- ---- a count by its sign and magnitude, where it is a number of 64 bits and where it is not
+-- ---- a count by its sign and what it folds onto, where it is a number of 64 bits and where it is not
 
 pub counted-fits : (z : ℤ) (b : Bool) (n : ℕ) → z ≡ signed-of b n → n < 2 ^ 63 → cond (isSigned64 z) (given z) notRepresentable ≡ given (signed-of b n)
 counted-fits z b n e h =

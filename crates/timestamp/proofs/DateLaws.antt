@@ -8,9 +8,9 @@ use lib.Dec.{leb}
 use lib.ListN.{getD, take}
 use lib.IntN.{ℤ, pos, negsuc, natAbs, subℕ, _+ℤ_, _-ℤ_}
 use Rattle.timestamp.specs.Calendar.{isLeap, months, sum, monthsPerYear, daysOfMonth, daysBeforeMonth, daysOfYear, daysBeforeYear, dayOf, epoch, dayNumber, isDate}
-use Rattle.timestamp.proofs.DifferenceLaws.{pos-sub, negsuc-sub, sub-eq, sub-inj, sub-add-pos, sub-sub-pos}
+use Rattle.laws.proofs.DifferenceLaws.{pos-sub, negsuc-sub, sub-eq, sub-inj, sub-add-pos, sub-sub-pos}
 use Rattle.timestamp.proofs.DivisionLaws.{steps-one}
-use Rattle.timestamp.proofs.TestLaws.{and-both, both-and}
+use Rattle.laws.proofs.BoolLaws.{and-both, both-and}
 use Rattle.timestamp.proofs.YearLaws.{elapsed, elapsed-suc, elapsed-march, march, leap-era, days-of-year, days-before-year, days-before-era}
 use Rattle.timestamp.proofs.MonthLaws.{march-month, march-month-start, january-start, month-within, month-one}
 
@@ -25,22 +25,24 @@ pub record Date (y : ℤ) (m d : ℕ) : Type 0 where
 pub date-parts : (y : ℤ) (m d : ℕ) → isDate y m d ≡ true → Date y m d
 unfolding isDate
 date-parts y m d e =
-    let halves = and-both (leb 1 m && leb m monthsPerYear) (leb 1 d && leb d (daysOfMonth y m)) e in
-    let month = and-both (leb 1 m) (leb m monthsPerYear) (halves .0) in
-    let day = and-both (leb 1 d) (leb d (daysOfMonth y m)) (halves .1) in
+    let last = and-both (leb 1 m && leb m monthsPerYear && leb 1 d) (leb d (daysOfMonth y m)) e in
+    let first = and-both (leb 1 m && leb m monthsPerYear) (leb 1 d) (last .0) in
+    let month = and-both (leb 1 m) (leb m monthsPerYear) (first .0) in
     record {
       month-first = leb-true 1 m (month .0);
       month-last = leb-true m 12 (month .1);
-      day-first = leb-true 1 d (day .0);
-      day-last = leb-true d (daysOfMonth y m) (day .1);
+      day-first = leb-true 1 d (first .1);
+      day-last = leb-true d (daysOfMonth y m) (last .1);
     }
 
 pub parts-date : (y : ℤ) (m d : ℕ) → Date y m d → isDate y m d ≡ true
 unfolding isDate
 parts-date y m d p =
-    both-and (leb 1 m && leb m monthsPerYear) (leb 1 d && leb d (daysOfMonth y m))
+    both-and (leb 1 m && leb m monthsPerYear && leb 1 d) (leb d (daysOfMonth y m))
+    (both-and (leb 1 m && leb m monthsPerYear) (leb 1 d)
     (both-and (leb 1 m) (leb m monthsPerYear) (le-leb 1 m (p .month-first)) (le-leb m 12 (p .month-last)))
-    (both-and (leb 1 d) (leb d (daysOfMonth y m)) (le-leb 1 d (p .day-first)) (le-leb d (daysOfMonth y m) (p .day-last)))
+    (le-leb 1 d (p .day-first)))
+    (le-leb d (daysOfMonth y m) (p .day-last))
 
 -- ---- the day of a date
 
@@ -61,7 +63,7 @@ day-of-era y n e m d q =
 pub date-era : (y : ℤ) (n e m d : ℕ) → y ≡ subℕ n (400 * e) → isDate y m d ≡ isDate (pos n) m d
 unfolding isDate daysOfMonth
 date-era y n e m d q =
-    ap (λ (b : Bool). leb 1 m && leb m monthsPerYear && (leb 1 d && leb d (getD (months b) (m - 1) 0))) (leap-era y n e q)
+    ap (λ (b : Bool). leb 1 m && leb m monthsPerYear && leb 1 d && leb d (getD (months b) (m - 1) 0)) (leap-era y n e q)
 
 -- from March on, and in January and February of the next year
 pub day-of-march : (n i d : ℕ) → i < 10 → era-day-of n (i + 3) d ≡ march n + march-month i + d + 60

@@ -3,12 +3,12 @@ use Prim.Native.Nat.{ℕ, zero, suc, _+_, _*_, _/_, _%_, _<_, _≤_}
 use native.Mathlib.Omega.{arith}
 use native.Mathlib.Nat.{add-mod, add-comm, mod-mod, mod-lt, div-add-mod', mul-add-div-right, mul-add-mod-self-right, div-eq-of-lt, mod-eq-of-lt, add-mul, le-of-eq}
 use mathlib.Core.Path.{_≡_, sym, ap, _∙_}
-use mathlib.Core.Bool.{Bool, true, false}
+use mathlib.Core.Bool.{Bool, true, false, cond}
 use borrow.Author.Tests.{eq-eqb, ne-eqb, eqb-true, eqb-false}
 use lib.Dec.{eqb}
 use Rattle.timestamp.specs.Calendar.{divides}
-use Rattle.timestamp.proofs.DifferenceLaws.{below?}
-use Rattle.timestamp.proofs.TestLaws.{one-if, by-test}
+use Rattle.laws.proofs.DifferenceLaws.{below?}
+use Rattle.laws.proofs.BoolLaws.{by-test}
 
 -- quotient and rest, from how a number is put together
 pub quotient-is : (n k q r : ℕ) → n ≡ q * k + r → r < k → n / k ≡ q
@@ -19,6 +19,10 @@ rest-is n k q r e h = ap (λ (x : ℕ). x % k) e ∙ mul-add-mod-self-right q k 
 
 pub suc-times : (n k : ℕ) → suc n * k ≡ n * k + k
 suc-times n k = ap (λ (x : ℕ). x * k) (omega arith) ∙ add-mul n 1 k ∙ omega arith
+
+-- 1 where a test holds, else 0
+abbrev pub one-if : Bool → ℕ
+one-if b = cond b 1 0
 
 -- the quotient grows by one at each multiple
 pub quotient-suc : (k n : ℕ) → 0 < k → suc n / k ≡ n / k + one-if (divides k (suc n))

@@ -1,13 +1,14 @@
 -- Days to dates and back, by years that begin in March.
-use Prim.Native.Nat.{ℕ, suc, _+_, _*_, _-_, _/_, _<_, _≤_}
+use Prim.Native.Nat.{ℕ, suc, _+_, _*_, _-_, _/_, _%_, _<_, _≤_}
 use native.Mathlib.Numerals.{add-one}
-use native.Mathlib.Nat.{add-zero}
+use native.Mathlib.Nat.{add-zero, div-eq-of-lt}
 use native.Mathlib.Omega.{arith}
 use mathlib.Core.Path.{_≡_, sym, ap, subst, _∙_}
 use mathlib.Core.Bool.{true}
 use lib.IntN.{pos}
 use Rattle.timestamp.specs.Calendar.{isLeap, daysOfMonth, daysOfYear, dayOf, isDate}
-use Rattle.timestamp.proofs.TestLaws.{one-if}
+use Rattle.laws.proofs.DifferenceLaws.{below?}
+use Rattle.timestamp.proofs.DivisionLaws.{one-if, rest-is}
 use Rattle.timestamp.proofs.YearLaws.{march, days-of-year, days-of-year-most}
 use Rattle.timestamp.proofs.MonthLaws.{month-days, march-month, march-month-of, march-month-end, january-end}
 use Rattle.timestamp.proofs.DateLaws.{parts-date, era-day-of, day-of-pos, day-of-march, day-of-january}
@@ -24,11 +25,14 @@ march-day-told n k day e = let q : march n + k + 61 ≡ day + 61 = pos-inj (sym 
 
 -- a date is told by its year from March on, the month i from March and the days k from 1 March
 module _ (n k i s : ℕ) (i-is : i ≡ (5 * k + 2) / 153) (s-is : s ≡ march-month i) where
+  abbrev Date-in : ℕ → ℕ → Type 0
+  Date-in year month = (isDate (pos year) month (k - s + 1) ≡ true) × (dayOf (pos year) month (k - s + 1) ≡ pos (march n + k + 61))
+
   together : (x y : ℕ) → s ≡ y → y ≤ k → x + y + (k - s + 1) + 60 ≡ x + k + 61
   together x y p q = omega arith
 
   -- from March to December
-  pub march-date : i + 3 ≤ 12 → k ≤ 365 → (isDate (pos n) (i + 3) (k - s + 1) ≡ true) × (dayOf (pos n) (i + 3) (k - s + 1) ≡ pos (march n + k + 61))
+  march-date : i + 3 ≤ 12 → k ≤ 365 → Date-in n (i + 3)
   unfolding daysOfMonth
   march-date h m =
       let at = march-month-of k m in
@@ -43,7 +47,7 @@ module _ (n k i s : ℕ) (i-is : i ≡ (5 * k + 2) / 153) (s-is : s ≡ march-mo
       within x y d p q r t = omega arith
 
   -- and in January and February of the next year
-  pub january-date : 12 < i + 3 → k < daysOfYear (pos (n + 1)) → (isDate (pos (n + 1)) (i + 3 - 12) (k - s + 1) ≡ true) × (dayOf (pos (n + 1)) (i + 3 - 12) (k - s + 1) ≡ pos (march n + k + 61))
+  january-date : 12 < i + 3 → k < daysOfYear (pos (n + 1)) → Date-in (n + 1) (i + 3 - 12)
   unfolding daysOfMonth
   january-date h m =
       let at = march-month-of k (omega (arith, days-of-year-most (pos (n + 1)))) in
@@ -57,8 +61,21 @@ module _ (n k i s : ℕ) (i-is : i ≡ (5 * k + 2) / 153) (s-is : s ≡ march-mo
         day-of-pos (n + 1) (i + 3 - 12) (k - s + 1) ∙ ap pos (ap (λ (y : ℕ). era-day-of y (i + 3 - 12) (k - s + 1)) (add-one n) ∙ day-of-january n (i + 3 - 12) (k - s + 1) (omega arith) (omega arith) ∙ together (march n) (march-month (i + 3 - 12 + 9)) start first),
       )
 
+  -- so the year and the month, as the code works them out: the tenth month from March begins the next year
+  pub date-told : k < daysOfYear (pos (n + 1)) → Date-in (n + i / 10) ((i + 3 - 1) % 12 + 1)
+  date-told m = below? i 10 (λ h. told n (i + 3) (omega arith) (omega arith) (march-date (omega arith) most)) (λ h. told (n + 1) (i + 3 - 12) (omega (arith, last)) (omega (arith, last)) (january-date (omega arith) m))
+    where
+      most : k ≤ 365
+      most = omega (arith, days-of-year-most (pos (n + 1)))
+
+      last : i ≤ 11
+      last = omega (arith, march-month-of k most .2)
+
+      told : (year month : ℕ) → n + i / 10 ≡ year → (i + 3 - 1) % 12 + 1 ≡ month → Date-in year month → Date-in (n + i / 10) ((i + 3 - 1) % 12 + 1)
+      told year month p q t = subst (λ (y : ℕ). Date-in y ((i + 3 - 1) % 12 + 1)) (sym p) (subst (Date-in year) (sym q) t)
+
 -- and the day of a date is told by the days before its year from March on and those before its month
-pub march-date-day : (n m d r s : ℕ) → 3 ≤ m → m ≤ 12 → 1 ≤ d → dayOf (pos n) 3 1 ≡ pos (r + 61) → s ≡ march-month (m - 3) → dayOf (pos n) m d ≡ pos (r + s + (d - 1) + 61)
+march-date-day : (n m d r s : ℕ) → 3 ≤ m → m ≤ 12 → 1 ≤ d → dayOf (pos n) 3 1 ≡ pos (r + 61) → s ≡ march-month (m - 3) → dayOf (pos n) m d ≡ pos (r + s + (d - 1) + 61)
 march-date-day n m d r s h g k e p =
     let first : march n + 0 ≡ r = march-day-told n 0 r e in
     day-of-pos n m d ∙ ap pos (ap (λ (j : ℕ). era-day-of n j d) month ∙ day-of-march n (m - 3) d (omega arith) ∙ together (march n) (march-month (m - 3)) first p)
@@ -69,7 +86,7 @@ march-date-day n m d r s h g k e p =
     together : (x y : ℕ) → x + 0 ≡ r → s ≡ y → x + y + d + 60 ≡ r + s + (d - 1) + 61
     together x y p q = omega arith
 
-pub january-date-day : (n m d r s : ℕ) → 1 ≤ n → 1 ≤ m → m ≤ 2 → 1 ≤ d → dayOf (pos (n - 1)) 3 1 ≡ pos (r + 61) → s ≡ march-month (m + 12 - 3) → dayOf (pos n) m d ≡ pos (r + s + (d - 1) + 61)
+january-date-day : (n m d r s : ℕ) → 1 ≤ n → 1 ≤ m → m ≤ 2 → 1 ≤ d → dayOf (pos (n - 1)) 3 1 ≡ pos (r + 61) → s ≡ march-month (m + 12 - 3) → dayOf (pos n) m d ≡ pos (r + s + (d - 1) + 61)
 january-date-day n m d r s l h g k e p =
     let first : march (n - 1) + 0 ≡ r = march-day-told (n - 1) 0 r e in
     day-of-pos n m d ∙ ap pos (ap (λ (j : ℕ). era-day-of j m d) year ∙ day-of-january (n - 1) m d h g ∙ together (march (n - 1)) (march-month (m + 9)) first (p ∙ ap march-month month))
@@ -82,6 +99,21 @@ january-date-day n m d r s l h g k e p =
 
     together : (x y : ℕ) → x + 0 ≡ r → s ≡ y → x + y + d + 60 ≡ r + s + (d - 1) + 61
     together x y p q = omega arith
+
+-- also as the code works out the month from March and its year
+pub date-day : (n m d r s : ℕ) → 1 ≤ n → 1 ≤ m → m ≤ 12 → 1 ≤ d → dayOf (pos (n - (m + 12 - 3) % 12 / 10)) 3 1 ≡ pos (r + 61) → s ≡ march-month ((m + 12 - 3) % 12) → dayOf (pos n) m d ≡ pos (r + s + (d - 1) + 61)
+date-day n m d r s l h g k e p =
+    below? m 3 (λ b. january-date-day n m d r s l h (omega arith) k (from (m + 12 - 3) (n - 1) (omega arith) (omega arith)) (p ∙ ap march-month (omega arith)))
+    (λ b. march-date-day n m d r s b g k (from (m - 3) n (later b) (omega (arith, quotient b))) (p ∙ ap march-month (later b)))
+  where
+    later : 3 ≤ m → (m + 12 - 3) % 12 ≡ m - 3
+    later b = rest-is (m + 12 - 3) 12 1 (m - 3) (omega arith) (omega arith)
+
+    quotient : 3 ≤ m → (m - 3) / 10 ≡ 0
+    quotient b = div-eq-of-lt (omega arith)
+
+    from : (i year : ℕ) → (m + 12 - 3) % 12 ≡ i → n - i / 10 ≡ year → dayOf (pos year) 3 1 ≡ pos (r + 61)
+    from i year q t = subst (λ (y : ℕ). dayOf (pos y) 3 1 ≡ pos (r + 61)) (ap (λ (j : ℕ). n - j / 10) q ∙ t) e
 
 -- the days before a year, as they are summed from its quotients
 pub march-first : (n : ℕ) → dayOf (pos n) 3 1 ≡ pos (365 * n + n / 4 + n / 400 - n / 100 + 61)

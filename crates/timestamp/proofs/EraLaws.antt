@@ -6,7 +6,7 @@ use native.Mathlib.Omega.{arith}
 use mathlib.Core.Path.{_≡_, refl, sym, ap, subst}
 use lib.IntN.{pos}
 use Rattle.timestamp.specs.Calendar.{daysOfYear}
-use Rattle.timestamp.proofs.DifferenceLaws.{below?}
+use Rattle.laws.proofs.DifferenceLaws.{below?}
 use Rattle.timestamp.proofs.YearLaws.{march, march-sum, march-suc, days-of-year}
 
 -- the days before a year of an era

@@ -1,4 +1,4 @@
--- Floor division of integers: a count from its days and its rest, by the sign, and that both are told by the count.
+-- Floor division of integers: a count from its days and its rest, by the sign, and that both are told by the count. Here t is the ticks in a day.
 use Prim.Native.Nat.{ℕ, suc, _+_, _*_, _-_, _/_, _%_, _<_, _≤_, _^_}
 use native.Mathlib.Omega.{arith}
 use native.Mathlib.Nat.{add-mul, div-add-mod', mod-lt, mul-le-mul-left}
@@ -13,15 +13,15 @@ use mir.ValLaws.{toZ-ofZ}
 use Rattle.timestamp.specs.declared.division.Division.{Division}
 use Rattle.timestamp.specs.FloorDivision.{FloorDivision}
 use Rattle.timestamp.specs.Outcomes.{isSigned64}
-use Rattle.timestamp.proofs.DifferenceLaws.{Difference, difference, negsuc-sub, sub-eq, sub-inj, sub-mul, sub-add-pos}
+use Rattle.laws.proofs.DifferenceLaws.{Difference, difference, negsuc-sub, sub-eq, sub-inj, sub-mul, sub-add-pos}
 use Rattle.timestamp.proofs.SignedLaws.{signed-of}
 use Rattle.timestamp.proofs.DivisionLaws.{steps-one, suc-times}
 
--- so many days of so many ticks and a rest
+-- so many days of t ticks and a rest
 abbrev pub joined : ℤ → ℕ → ℕ → ℤ
-joined day ticks rest = day *ℤ pos ticks +ℤ pos rest
+joined day t rest = day *ℤ pos t +ℤ pos rest
 
--- before 0 the magnitude is that of the days, with the rest counted back from the day's end
+-- before 0 a count folds onto the ticks that its days fold onto, with the rest counted back from the day's end
 pub joined-negative : (q t r : ℕ) → r < t → joined (negsuc q) t r ≡ negsuc (q * t + (t - 1 - r))
 joined-negative q t r h =
     ap (λ (z : ℤ). z *ℤ pos t +ℤ pos r) (negsuc-sub q) ∙ ap (λ (z : ℤ). z +ℤ pos r) (sub-mul 0 (suc q) t) ∙ sub-add-pos (0 * t) (suc q * t) r ∙ sub-eq (0 * t + r) (suc q * t) 0 (suc (q * t + (t - 1 - r))) (crossed (q * t) (suc q * t) (suc-times q t)) ∙ sym (negsuc-sub (q * t + (t - 1 - r)))
@@ -43,7 +43,7 @@ signed-beyond (negsuc n) h = ap (λ (b : Bool). b && true) (lt-leb n (2 ^ 63 - 1
 
 -- ---- a division
 
--- the days times the ticks reach no further than the count
+-- the ticks of the days reach no further than the count
 pub joined-reach : (day : ℤ) (t r : ℕ) → r < t → mag day * t ≤ mag (joined day t r)
 joined-reach (pos q) t r h = omega arith
 joined-reach (negsuc q) t r h = subst (λ (z : ℤ). q * t ≤ mag z) (sym (joined-negative q t r h)) (omega arith)
@@ -84,7 +84,7 @@ pub turned-below : (b : Bool) (r t : ℕ) → r < t → turned-of b r t < t
 turned-below true r t h = omega arith
 turned-below false r t h = h
 
--- a count by its sign and magnitude, from those of its days, and back
+-- a count by its sign and what it folds onto, from those of its days, and back
 pub joined-signed : (b : Bool) (q t r : ℕ) → r < t → joined (signed-of b q) t r ≡ signed-of b (q * t + turned-of b r t)
 joined-signed true q t r h = joined-negative q t r h
 joined-signed false q t r h = refl
@@ -100,6 +100,10 @@ divided-signed b n t h =
 -- what is told of the number that the machine reads back is told of the number
 pub division-told : {count : ℤ} {t : ℕ} {d : Division} → SFits w64 count → FloorDivision (toZ w64 (ofZ w64 count)) t d → FloorDivision count t d
 division-told {count} {t} {d} h p = subst (λ (z : ℤ). FloorDivision z t d) (toZ-ofZ w64 count h) p
+
+-- and whatever divides the number is that division
+pub division-just : {count : ℤ} {t : ℕ} {d : Division} → SFits w64 count → FloorDivision (toZ w64 (ofZ w64 count)) t d → FloorDivision count t d × ((e : Division) → FloorDivision count t e → e ≡ d)
+division-just {count} {t} {d} h p = let is : FloorDivision count t d = division-told h p in (is, λ e q. division-one q is)
 
 -- at a thousand ticks a second or more the days of a count of 64 bits are few
 pub division-days : {count : ℤ} {t : ℕ} {d : Division} → 86400000 ≤ t → SFits w64 count → FloorDivision count t d → mag (d .day) < 2 ^ 37

@@ -1,7 +1,5 @@
 -- The laws that belong to no one function.
 pub mod SignedLaws
-pub mod DifferenceLaws
-pub mod TestLaws
 pub mod DivisionLaws
 pub mod YearLaws
 pub mod MonthLaws
@@ -14,4 +12,3 @@ pub mod ReachLaws
 pub mod ClockLaws
 pub mod CountLaws
 pub mod UnitLaws
-pub mod Points

@@ -8,8 +8,8 @@ use borrow.Author.Tests.{eqb-true}
 use lib.Dec.{eqb}
 use lib.ListN.{getD, take}
 use Rattle.timestamp.specs.Calendar.{months, sum}
-use Rattle.timestamp.proofs.DivisionLaws.{steps-up, steps-one}
-use Rattle.timestamp.proofs.TestLaws.{one-if, at-each}
+use Rattle.timestamp.proofs.DivisionLaws.{steps-up, steps-one, one-if}
+use Rattle.laws.proofs.BoolLaws.{at-each}
 
 -- the days of a month and those before it, in a common year or a leap year
 abbrev pub month-days : Bool → ℕ → ℕ

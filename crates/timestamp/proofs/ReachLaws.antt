@@ -10,7 +10,7 @@ use lib.Dec.{lit≤}
 use Rattle.timestamp.specs.Calendar.{daysBeforeMonth, daysOfYear, daysBeforeYear, dayOf, epoch, dayNumber, isDate}
 use Rattle.timestamp.specs.Outcomes.{isSigned64}
 use Rattle.timestamp.specs.Units.{ticksPerDay}
-use Rattle.timestamp.proofs.DifferenceLaws.{pos-sub, sub-above, sub-below, sub-add-pos, sub-sub-pos}
+use Rattle.laws.proofs.DifferenceLaws.{pos-sub, sub-above, sub-below, sub-add-pos, sub-sub-pos}
 use Rattle.timestamp.proofs.YearLaws.{elapsed, elapsed-suc, elapsed-zero, days-of-year, days-of-year-most}
 use Rattle.timestamp.proofs.DateLaws.{date-parts, place-in-year, era-day-of, day-number-era, epoch-is}
 use Rattle.timestamp.proofs.FloorLaws.{joined, joined-reach, signed-beyond}

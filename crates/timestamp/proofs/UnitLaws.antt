@@ -1,6 +1,6 @@
--- Which unit a number names.
+-- Which unit a number names, and what decoding answers in it.
 use Prim.Native.Nat.{ℕ}
-use mathlib.Core.Path.{_≡_, refl, sym, ap, subst, _∙_}
+use mathlib.Core.Path.{_≡_, sym, ap, subst, _∙_}
 use mathlib.Core.Bool.{Bool, cond}
 use mathlib.Core.Option.{Option, none, some}
 use borrow.Author.Tests.{ne-eqb}
@@ -8,9 +8,9 @@ use lib.Dec.{eqb}
 use lib.IntN.{ℤ}
 use Rattle.timestamp.specs.declared.fields.Fields.{Fields}
 use Rattle.timestamp.specs.declared.units.Named.{Named}
-use Rattle.timestamp.specs.Units.{TimeUnit, millis, micros, nanos, ticksPerSecond, unitOf, unitNamed}
-use Rattle.timestamp.specs.Count.{FieldsOf}
-use Rattle.timestamp.specs.Outcomes.{Decodes, given}
+use Rattle.timestamp.specs.Units.{TimeUnit, millis, micros, nanos, unitOf, unitNamed}
+use Rattle.timestamp.specs.Outcomes.{Outcome, Decodes}
+use Rattle.timestamp.proofs.CountLaws.{decodes-one}
 
 pub unit-none : (n : ℕ) → (n ≡ 1 → ⊥) → (n ≡ 2 → ⊥) → (n ≡ 3 → ⊥) → unitOf n ≡ none
 unit-none n h k l =
@@ -20,6 +20,8 @@ unit-none n h k l =
 pub unit-told : (n : ℕ) (r k : Named) → unitNamed r ≡ unitOf n → r ≡ k → unitOf n ≡ unitNamed k
 unit-told n r k e told = sym e ∙ ap unitNamed told
 
--- what decoding answers in a unit
-pub decodes-in : (unit : TimeUnit) (n : ℕ) (count : ℤ) (f : Fields) → unitOf n ≡ some unit → FieldsOf (ticksPerSecond unit) count f → Decodes (unitOf n) count (given f)
-decodes-in unit n count f e h = subst (λ (u : Option TimeUnit). Decodes u count (given f)) (sym e) (f, refl, h)
+-- what decoding answers in it is what it answers in the unit of the number, and whatever it answers there is that
+pub decodes-told : (n : ℕ) (r k : Named) (count : ℤ) (o : Outcome Fields) → unitNamed r ≡ unitOf n → r ≡ k → Decodes (unitNamed k) count o → Decodes (unitOf n) count o × ((o′ : Outcome Fields) → Decodes (unitOf n) count o′ → o′ ≡ o)
+decodes-told n r k count o e told p =
+    let is : Decodes (unitOf n) count o = subst (λ (u : Option TimeUnit). Decodes u count o) (sym (unit-told n r k e told)) p in
+    (is, λ o′ q. decodes-one (unitOf n) count o′ o q is)

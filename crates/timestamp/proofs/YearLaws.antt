@@ -7,9 +7,8 @@ use mathlib.Core.Bool.{Bool, true, false, not, _&&_, _||_, false≢true}
 use borrow.Author.Tests.{eqb-true, eq-eqb}
 use lib.IntN.{ℤ, pos, negsuc, natAbs, subℕ, _+ℤ_, _-ℤ_}
 use Rattle.timestamp.specs.Calendar.{divides, isLeap, months, sum, daysOfYear, daysBeforeYear}
-use Rattle.timestamp.proofs.DifferenceLaws.{pos-sub, negsuc-sub, sub-eq, sub-inj, sub-sub-pos}
-use Rattle.timestamp.proofs.DivisionLaws.{quotient-suc, divides-add, divides-rest}
-use Rattle.timestamp.proofs.TestLaws.{one-if}
+use Rattle.laws.proofs.DifferenceLaws.{pos-sub, negsuc-sub, sub-eq, sub-inj, sub-sub-pos}
+use Rattle.timestamp.proofs.DivisionLaws.{quotient-suc, divides-add, divides-rest, one-if}
 
 -- a leap year has one day more
 year-days : (b : Bool) → sum (months b) ≡ 365 + one-if b

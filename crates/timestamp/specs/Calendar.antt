@@ -60,4 +60,4 @@ dayNumber year month day = dayOf year month day -ℤ epoch
 
 -- a month 1 to 12, and a day of that month
 unfoldable pub isDate : ℤ → ℕ → ℕ → Bool
-isDate year month day = leb 1 month && leb month monthsPerYear && (leb 1 day && leb day (daysOfMonth year month))
+isDate year month day = leb 1 month && leb month monthsPerYear && leb 1 day && leb day (daysOfMonth year month)

@@ -1,4 +1,4 @@
--- The time of a day, over the ticks in a second.
+-- The time of a day, over the ticks in a second, `perSecond`.
 use Prim.Native.Nat.{ℕ, _+_, _*_}
 use mathlib.Core.Bool.{Bool, _&&_}
 use lib.Dec.{ltb}
@@ -21,10 +21,10 @@ secondsPerDay = hoursPerDay * minutesPerHour * secondsPerMinute
 
 -- an hour, a minute and a second in their ranges, and the fraction, in ticks, below one second
 unfoldable pub isTime : ℕ → ℕ → ℕ → ℕ → ℕ → Bool
-isTime ticks hour minute second fraction =
-    ltb hour hoursPerDay && ltb minute minutesPerHour && (ltb second secondsPerMinute && ltb fraction ticks)
+isTime perSecond hour minute second fraction =
+    ltb hour hoursPerDay && ltb minute minutesPerHour && ltb second secondsPerMinute && ltb fraction perSecond
 
 -- the ticks of the day that have passed
 unfoldable pub tickOfDay : ℕ → ℕ → ℕ → ℕ → ℕ → ℕ
-tickOfDay ticks hour minute second fraction =
-    ((hour * minutesPerHour + minute) * secondsPerMinute + second) * ticks + fraction
+tickOfDay perSecond hour minute second fraction =
+    ((hour * minutesPerHour + minute) * secondsPerMinute + second) * perSecond + fraction

@@ -5,11 +5,15 @@ use mathlib.Core.Bool.{Bool, cond, _&&_}
 use mathlib.Core.Option.{Option, none, some}
 use lib.IntN.{ℤ, pos, negsuc}
 use lib.Signed.{leZ}
+-- a type of the code: the seven fields, as `Count` has them
 use Rattle.timestamp.specs.declared.fields.Fields.{Fields}
+-- what decode answers: `Fields`, which holds them, or `UnknownUnit`
 use Rattle.timestamp.specs.declared.decoding.Decoded
 use Rattle.timestamp.specs.declared.decoding.Decoded.{Decoded}
+-- what encode answers: `Count`, which holds a signed 64-bit number, `NoDateTime`, `NotRepresentable` or `UnknownUnit`
 use Rattle.timestamp.specs.declared.encoding.Encoded
 use Rattle.timestamp.specs.declared.encoding.Encoded.{Encoded}
+-- what ticks_per_day answers: `Ticks`, which holds an unsigned 64-bit number, or `UnknownUnit`
 use Rattle.timestamp.specs.declared.units.DayTicks
 use Rattle.timestamp.specs.declared.units.DayTicks.{DayTicks}
 use Rattle.timestamp.specs.Units.{TimeUnit, ticksPerSecond, ticksPerDay}
@@ -62,15 +66,19 @@ greatest = 2 ^ 63 - 1
 unfoldable pub isSigned64 : ℤ → Bool
 isSigned64 z = leZ (negsuc greatest) z && leZ z (pos greatest)
 
--- what decoding answers: 20 where no unit is named, else the fields that the count stands for
+-- what decoding answers in a unit with so many ticks in a second: the fields that the count stands for
+abbrev pub DecodesIn : ℕ → ℤ → Outcome Fields → Type 0
+DecodesIn perSecond count o = (f : Fields) × (o ≡ given f) × FieldsOf perSecond count f
+
+-- what decoding answers: 20 where no unit is named, else as in that unit
 abbrev pub Decodes : Option TimeUnit → ℤ → Outcome Fields → Type 0
 Decodes none count o = o ≡ unknownUnit
-Decodes (some unit) count o = (f : Fields) × (o ≡ given f) × FieldsOf (ticksPerSecond unit) count f
+Decodes (some unit) count o = DecodesIn (ticksPerSecond unit) count o
 
 -- what encoding answers in a unit with so many ticks in a second: 18, then 19, else the count of the fields
 unfoldable pub encodingIn : ℕ → Fields → Outcome ℤ
-encodingIn ticks f =
-    cond (isDateTime ticks f) (cond (isSigned64 (countOf ticks f)) (given (countOf ticks f)) notRepresentable) noDateTime
+encodingIn perSecond f =
+    cond (isDateTime perSecond f) (cond (isSigned64 (countOf perSecond f)) (given (countOf perSecond f)) notRepresentable) noDateTime
 
 -- what encoding answers: 20 where no unit is named, else as in that unit
 abbrev pub encoding : Option TimeUnit → Fields → Outcome ℤ

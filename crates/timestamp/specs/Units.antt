@@ -3,6 +3,7 @@ use Prim.Native.Nat.{ℕ, _*_}
 use mathlib.Core.Bool.{cond}
 use mathlib.Core.Option.{Option, none, some}
 use lib.Dec.{eqb}
+-- a type of the code: `Millis`, `Micros`, `Nanos` or `Unknown`
 use Rattle.timestamp.specs.declared.units.Named
 use Rattle.timestamp.specs.declared.units.Named.{Named}
 use Rattle.timestamp.specs.Clock.{secondsPerDay}
@@ -11,22 +12,22 @@ use Rattle.timestamp.specs.Clock.{secondsPerDay}
 pub data TimeUnit : Type 0 where
   millis micros nanos : TimeUnit
 
--- the ticks of a unit in a second
+-- each unit knows its ticks in a second
 abbrev pub ticksPerSecond : TimeUnit → ℕ
 ticksPerSecond millis = 1000
 ticksPerSecond micros = 1000000
 ticksPerSecond nanos = 1000000000
 
--- the ticks in a day of a unit with so many in a second
+-- and in a day: those of a unit with so many in a second
 abbrev pub ticksPerDay : ℕ → ℕ
-ticksPerDay ticks = ticks * secondsPerDay
+ticksPerDay perSecond = perSecond * secondsPerDay
 
 -- the unit that a number names: MILLIS 1, MICROS 2, NANOS 3
 abbrev pub unitOf : ℕ → Option TimeUnit
 unitOf number =
     cond (eqb number 1) (some millis) (cond (eqb number 2) (some micros) (cond (eqb number 3) (some nanos) none))
 
--- the unit that each case of the code's answer stands for: one of the three, or none
+-- the unit that each case of `Named` stands for: one of the three, or none. It serves the contract of the private `which` only
 abbrev pub unitNamed : Named → Option TimeUnit
 unitNamed Named.Millis = some millis
 unitNamed Named.Micros = some micros

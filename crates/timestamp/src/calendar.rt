@@ -4,7 +4,7 @@ ghost use mathlib.Core.Path.{_≡_};
 ghost use mathlib.Core.Bool.{true};
 ghost use Prim.Native.Nat.{_+_, _<_, _≤_, _^_};
 ghost use lib.Signed.{mag};
-ghost use Rattle.timestamp.specs.Calendar.{isLeap, divides, daysOfMonth, dayNumber, isDate};
+ghost use Rattle.timestamp.specs.Calendar.{isLeap, daysOfMonth, dayNumber, isDate};
 use crate::eras;
 use crate::eras::DAYS_PER_ERA;
 use crate::eras::EraDate;
@@ -47,16 +47,10 @@ pub(crate) fn is_date(date: Date) -> bool
     ensures { λ r. ⌜ r ≡ isDate (date .year) (date .month) (date .day) ⌝ }
 {
     let month = date.month;
-    if month < 1 {
+    if (month < 1) | (MONTHS_PER_YEAR < month) {
         return false;
     }
-    if MONTHS_PER_YEAR < month {
-        return false;
-    }
-    if date.day < 1 {
-        return false;
-    }
-    date.day <= days_of_month(date.year, month)
+    (1 <= date.day) & (date.day <= days_of_month(date.year, month))
 }
 
 // The date of a day number.
@@ -105,19 +99,6 @@ fn is_leap(year: i64) -> bool
     ensures { λ r. ⌜ r ≡ isLeap year ⌝ }
 {
     let years = absolute(year);
-    if !is_multiple(years, YEARS_PER_FOUR) {
-        return false;
-    }
-    if !is_multiple(years, YEARS_PER_CENTURY) {
-        return true;
-    }
-    is_multiple(years, YEARS_PER_ERA)
-}
-
-// Whether `n` is a multiple of `k`.
-fn is_multiple(n: u64, k: u64) -> bool
-    requires { ⌜ 0 < k ⌝ }
-    ensures { λ r. ⌜ r ≡ divides k n ⌝ }
-{
-    n % k == 0
+    (years % YEARS_PER_FOUR == 0)
+        & ((years % YEARS_PER_CENTURY != 0) | (years % YEARS_PER_ERA == 0))
 }

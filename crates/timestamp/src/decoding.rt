@@ -1,12 +1,13 @@
 // From a count to the fields of its date and time.
 
+ghost use mathlib.Core.Path.{_≡_};
 ghost use Prim.Native.Nat.{_<_, _≤_, _^_};
 ghost use lib.IntN.{ℤ};
 ghost use lib.Signed.{mag};
 ghost use Rattle.timestamp.specs.Units.{nanos, ticksPerSecond, ticksPerDay, unitOf};
 ghost use Rattle.timestamp.specs.FloorDivision.{FloorDivision};
-ghost use Rattle.timestamp.specs.Count.{FieldsOf};
-ghost use Rattle.timestamp.specs.Outcomes.{Decodes, decoded};
+ghost use Rattle.timestamp.specs.Outcomes.{Decodes, DecodesIn, Outcome, decoded};
+ghost use Rattle.timestamp.specs.declared.fields.Fields.{Fields};
 use crate::calendar::date_of;
 use crate::clock::time_of;
 use crate::division::Division;
@@ -24,31 +25,28 @@ pub enum Decoded {
     UnknownUnit,
 }
 
-// The fields of a count of ticks since 1 January 1970, in the unit of that number. Every count has them.
+// The fields of a count of ticks since 1 January 1970, in the unit of that number. Every count has them, and no others.
 pub fn decode(unit: u32, count: i64) -> Decoded
     ensures { λ r. ⌜ Decodes (unitOf unit) count (decoded r) ⌝ }
+    ensures { λ r. ⌜ ((o : Outcome Fields) → Decodes (unitOf unit) count o → o ≡ decoded r) ⌝ }
 {
     let named = which(unit);
     match named {
-        Named::Millis => {
-            Decoded::Fields(fields_of(Millis::TICKS_PER_SECOND, Millis::divide(count)))
-        }
-        Named::Micros => {
-            Decoded::Fields(fields_of(Micros::TICKS_PER_SECOND, Micros::divide(count)))
-        }
-        Named::Nanos => Decoded::Fields(fields_of(Nanos::TICKS_PER_SECOND, Nanos::divide(count))),
+        Named::Millis => decode_in(Millis::TICKS_PER_SECOND, Millis::divide(count)),
+        Named::Micros => decode_in(Micros::TICKS_PER_SECOND, Micros::divide(count)),
+        Named::Nanos => decode_in(Nanos::TICKS_PER_SECOND, Nanos::divide(count)),
         Named::Unknown => Decoded::UnknownUnit,
     }
 }
 
-// The fields of a day number and a tick of that day.
-fn fields_of(ticks: u64, division: Division) -> Fields
-    requires { ⌜ (0 < ticks) × (ticks ≤ ticksPerSecond nanos) × (mag (division .day) < 2 ^ 37) × (division .rest < ticksPerDay ticks) ⌝ }
-    ensures { λ r. ⌜ ((count : ℤ) → FloorDivision count (ticksPerDay ticks) division → FieldsOf ticks count r) ⌝ }
+// The fields of a day number and a tick of that day, at so many ticks in a second.
+fn decode_in(ticks_per_second: u64, division: Division) -> Decoded
+    requires { ⌜ (0 < «ticks_per_second») × («ticks_per_second» ≤ ticksPerSecond nanos) × (mag (division .day) < 2 ^ 37) × (division .rest < ticksPerDay «ticks_per_second») ⌝ }
+    ensures { λ r. ⌜ ((count : ℤ) → FloorDivision count (ticksPerDay «ticks_per_second») division → DecodesIn «ticks_per_second» count (decoded r)) ⌝ }
 {
     let date = date_of(division.day);
-    let time = time_of(ticks, division.rest);
-    Fields {
+    let time = time_of(ticks_per_second, division.rest);
+    Decoded::Fields(Fields {
         year: date.year,
         month: date.month,
         day: date.day,
@@ -56,5 +54,5 @@ fn fields_of(ticks: u64, division: Division) -> Fields
         minute: time.minute,
         second: time.second,
         fraction: time.fraction,
-    }
+    })
 }

@@ -1,14 +1,14 @@
 // The floor division of a count into days and a rest that is never negative.
 //
-// Where the magnitude m of a count before 0 is `q * ticks + r`, the count `-1 - m` is
-// `(-1 - q) * ticks + (ticks - 1 - r)`: the same division, with the rest counted from the day's other end.
+// Where a count before 0 folds onto `q * d + r`, d being the ticks in a day, the count is
+// `(-1 - q) * d + (d - 1 - r)`: the same division, with the rest counted from the day's other end.
 
 ghost use mathlib.Core.Path.{_≡_};
 ghost use mathlib.Core.Bool.{cond};
 ghost use Prim.Native.Nat.{_-_, _<_};
 ghost use Rattle.timestamp.specs.FloorDivision.{FloorDivision};
+use crate::signed::folded;
 use crate::signed::is_negative;
-use crate::signed::magnitude;
 use crate::signed::signed;
 
 // Whole days since 1 January 1970, negative before it, and the ticks of the day that have passed.
@@ -18,25 +18,25 @@ pub struct Division {
 }
 
 // The days of a count, rounded down, and the ticks left, at so many ticks in a day.
-pub(crate) fn floor_divide(count: i64, ticks: u64) -> Division
-    requires { ⌜ 0 < ticks ⌝ }
-    ensures { λ r. ⌜ FloorDivision count ticks r ⌝ }
+pub(crate) fn floor_divide(count: i64, ticks_per_day: u64) -> Division
+    requires { ⌜ 0 < «ticks_per_day» ⌝ }
+    ensures { λ r. ⌜ FloorDivision count «ticks_per_day» r ⌝ }
 {
     let negative = is_negative(count);
-    let size = magnitude(count);
+    let size = folded(count);
     Division {
-        day: signed(negative, size / ticks),
-        rest: turned(negative, size % ticks, ticks),
+        day: signed(negative, size / ticks_per_day),
+        rest: turned(negative, size % ticks_per_day, ticks_per_day),
     }
 }
 
 // The rest itself, or counted from the day's other end.
-pub(crate) fn turned(negative: bool, rest: u64, ticks: u64) -> u64
-    requires { ⌜ rest < ticks ⌝ }
-    ensures { λ r. ⌜ r ≡ cond negative (ticks - 1 - rest) rest ⌝ }
+pub(crate) fn turned(negative: bool, rest: u64, ticks_per_day: u64) -> u64
+    requires { ⌜ rest < «ticks_per_day» ⌝ }
+    ensures { λ r. ⌜ r ≡ cond negative («ticks_per_day» - 1 - rest) rest ⌝ }
 {
     if negative {
-        return ticks - 1 - rest;
+        return ticks_per_day - 1 - rest;
     }
     rest
 }

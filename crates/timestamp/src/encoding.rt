@@ -16,8 +16,8 @@ use crate::clock::tick_of_day;
 use crate::division::Division;
 use crate::division::turned;
 use crate::fields::Fields;
+use crate::signed::folded;
 use crate::signed::is_negative;
-use crate::signed::magnitude;
 use crate::signed::signed;
 use crate::units::Micros;
 use crate::units::Millis;
@@ -25,7 +25,7 @@ use crate::units::Named;
 use crate::units::Nanos;
 use crate::units::which;
 
-// The greatest magnitude of a signed number of 64 bits.
+// The greatest signed number of 64 bits. Each of them folds onto a number that is not above it.
 const GREATEST: u64 = 0x7fff_ffff_ffff_ffff;
 
 // What encoding answers.
@@ -53,9 +53,9 @@ pub fn encode(unit: u32, fields: Fields) -> Encoded
 }
 
 // The count of the fields at so many ticks in a second and in a day.
-fn encode_in(ticks: u64, ticks_per_day: u64, fields: Fields) -> Encoded
-    requires { ⌜ (ticksPerSecond millis ≤ ticks) × (ticks ≤ ticksPerSecond nanos) × («ticks_per_day» ≡ ticksPerDay ticks) ⌝ }
-    ensures { λ r. ⌜ encoded r ≡ encodingIn ticks fields ⌝ }
+fn encode_in(ticks_per_second: u64, ticks_per_day: u64, fields: Fields) -> Encoded
+    requires { ⌜ (ticksPerSecond millis ≤ «ticks_per_second») × («ticks_per_second» ≤ ticksPerSecond nanos) × («ticks_per_day» ≡ ticksPerDay «ticks_per_second») ⌝ }
+    ensures { λ r. ⌜ encoded r ≡ encodingIn «ticks_per_second» fields ⌝ }
 {
     let date = Date {
         year: fields.year,
@@ -68,35 +68,32 @@ fn encode_in(ticks: u64, ticks_per_day: u64, fields: Fields) -> Encoded
         second: fields.second,
         fraction: fields.fraction,
     };
-    if !is_date(date) {
+    if !(is_date(date) & is_time(ticks_per_second, time)) {
         return Encoded::NoDateTime;
     }
-    if !is_time(ticks, time) {
-        return Encoded::NoDateTime;
-    }
-    if magnitude(fields.year) >= YEARS_REACHED {
+    if folded(fields.year) >= YEARS_REACHED {
         return Encoded::NotRepresentable;
     }
     count_of(
         Division {
             day: day_number(date),
-            rest: tick_of_day(ticks, time),
+            rest: tick_of_day(ticks_per_second, time),
         },
         ticks_per_day,
     )
 }
 
-// The count of a day and a rest of so many ticks.
-fn count_of(division: Division, ticks: u64) -> Encoded
-    requires { ⌜ (division .rest < ticks) × (ticks < 2 ^ 63) ⌝ }
-    ensures { λ r. ⌜ encoded r ≡ cond (isSigned64 (division .day *ℤ pos ticks +ℤ pos (division .rest))) (given (division .day *ℤ pos ticks +ℤ pos (division .rest))) notRepresentable ⌝ }
+// The count of a day number and a tick of that day, at so many ticks in a day.
+fn count_of(division: Division, ticks_per_day: u64) -> Encoded
+    requires { ⌜ (division .rest < «ticks_per_day») × («ticks_per_day» < 2 ^ 63) ⌝ }
+    ensures { λ r. ⌜ encoded r ≡ cond (isSigned64 (division .day *ℤ pos «ticks_per_day» +ℤ pos (division .rest))) (given (division .day *ℤ pos «ticks_per_day» +ℤ pos (division .rest))) notRepresentable ⌝ }
 {
     let negative = is_negative(division.day);
-    let days = magnitude(division.day);
-    if GREATEST / ticks < days {
+    let days = folded(division.day);
+    if GREATEST / ticks_per_day < days {
         return Encoded::NotRepresentable;
     }
-    let size = days * ticks + turned(negative, division.rest, ticks);
+    let size = days * ticks_per_day + turned(negative, division.rest, ticks_per_day);
     if GREATEST < size {
         return Encoded::NotRepresentable;
     }

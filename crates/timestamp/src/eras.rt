@@ -5,7 +5,8 @@
 // the last one more; the fours of years in a century have 1,461 days, and the last of a shorter century one less; the
 // years have 365 days, and the fourth mostly one more. So a quotient that is at most 3 tells the century and the year.
 // From March on the months have 31, 30, 31, 30 and 31 days, again and again: 153 days in five of them, and
-// `(153 * m + 2) / 5` days before the m-th.
+// `(153 * m + 2) / 5` days before the m-th. The tenth and the eleventh from March are January and February of the next
+// year.
 
 ghost use mathlib.Core.Path.{_≡_};
 ghost use mathlib.Core.Bool.{true};
@@ -35,6 +36,9 @@ pub(crate) const MONTHS_PER_YEAR: u32 = 12;
 
 const MARCH: u32 = 3;
 
+// The months from March to December.
+const MONTHS_TO_JANUARY: u64 = 10;
+
 // A date of year 0 or later.
 pub(crate) struct EraDate {
     pub(crate) year: u64,
@@ -55,19 +59,10 @@ pub(crate) fn date_of(day: u64) -> EraDate
 {
     let at = year_of(day);
     let from_march = month_of(at.day);
-    let day_of_month = (at.day - days_before_month(from_march) + 1) as u32;
-    let month = from_march as u32 + MARCH;
-    if month <= MONTHS_PER_YEAR {
-        return EraDate {
-            year: at.year,
-            month,
-            day: day_of_month,
-        };
-    }
     EraDate {
-        year: at.year + 1,
-        month: month - MONTHS_PER_YEAR,
-        day: day_of_month,
+        year: at.year + from_march / MONTHS_TO_JANUARY,
+        month: (from_march as u32 + MARCH - 1) % MONTHS_PER_YEAR + 1,
+        day: (at.day - days_before_month(from_march) + 1) as u32,
     }
 }
 
@@ -76,13 +71,9 @@ pub(crate) fn day_of(date: EraDate) -> u64
     requires { ⌜ (1 ≤ date .year) × (date .year < 2 ^ 32) × (isDate (pos (date .year)) (date .month) (date .day) ≡ true) ⌝ }
     ensures { λ r. ⌜ (dayOf (pos (date .year)) (date .month) (date .day) ≡ pos (r + 61)) × (r < 2 ^ 42) ⌝ }
 {
-    let day = (date.day - 1) as u64;
-    if date.month < MARCH {
-        let month = (date.month + MONTHS_PER_YEAR - MARCH) as u64;
-        return days_before_year(date.year - 1) + days_before_month(month) + day;
-    }
-    let month = (date.month - MARCH) as u64;
-    days_before_year(date.year) + days_before_month(month) + day
+    let from_march = ((date.month + MONTHS_PER_YEAR - MARCH) % MONTHS_PER_YEAR) as u64;
+    let year = date.year - from_march / MONTHS_TO_JANUARY;
+    days_before_year(year) + days_before_month(from_march) + (date.day - 1) as u64
 }
 
 // The year and the day of the year that a day is.

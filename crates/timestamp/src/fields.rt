@@ -10,6 +10,6 @@ pub struct Fields {
     pub hour: u32,
     pub minute: u32,
     pub second: u32,
-    // In ticks of the unit.
+    // In ticks of the unit, of which a second has `TICKS_PER_SECOND`.
     pub fraction: u32,
 }

@@ -1,4 +1,4 @@
-// Signed numbers as natural ones: `n` and `-1 - n` are told by their sign and by the one magnitude n, which fits 63 bits.
+// Signed numbers as natural ones: `n` and `-1 - n` both fold onto n, which fits 63 bits, and are told apart by their sign.
 
 ghost use mathlib.Core.Path.{_≡_};
 ghost use mathlib.Core.Bool.{not, cond};
@@ -13,8 +13,9 @@ pub(crate) fn is_negative(x: i64) -> bool
     x < 0
 }
 
-// The n for which `x` is n or `-1 - n`.
-pub(crate) fn magnitude(x: i64) -> u64
+// The number itself, or -1 less it where it is negative, so that -1 folds onto 0 and every signed 64-bit number onto one
+// of 63 bits.
+pub(crate) fn folded(x: i64) -> u64
     ensures { λ r. ⌜ r ≡ mag x ⌝ }
 {
     if is_negative(x) {
@@ -28,9 +29,9 @@ pub(crate) fn absolute(x: i64) -> u64
     ensures { λ r. ⌜ r ≡ natAbs x ⌝ }
 {
     if is_negative(x) {
-        return magnitude(x) + 1;
+        return folded(x) + 1;
     }
-    magnitude(x)
+    folded(x)
 }
 
 // The number `-1 - n` or the number `n`.
@@ -51,9 +52,9 @@ pub(crate) fn raised(x: i64, by: u64) -> u64
     ensures { λ r. ⌜ x ≡ subℕ r by ⌝ }
 {
     if is_negative(x) {
-        return by - 1 - magnitude(x);
+        return by - 1 - folded(x);
     }
-    by + magnitude(x)
+    by + folded(x)
 }
 
 // The number that counted from `-by` is `n`.

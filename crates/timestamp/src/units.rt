@@ -3,6 +3,7 @@
 ghost use mathlib.Core.Path.{_≡_};
 ghost use Rattle.timestamp.specs.Units.{millis, micros, nanos, ticksPerSecond, ticksPerDay, unitOf, unitNamed};
 ghost use Rattle.timestamp.specs.FloorDivision.{FloorDivision};
+ghost use Rattle.timestamp.specs.declared.division.Division.{Division};
 ghost use Rattle.timestamp.specs.Outcomes.{dayTicks, ticksInDay};
 use crate::division::Division;
 use crate::division::floor_divide;
@@ -21,9 +22,10 @@ impl Millis {
 
     pub const TICKS_PER_DAY: u64 = Self::TICKS_PER_SECOND * SECONDS_PER_DAY;
 
-    // The days of a count, rounded down, and the ticks left.
+    // The days of a count, rounded down, and the ticks left. There is one such division.
     pub fn divide(count: i64) -> Division
         ensures { λ r. ⌜ FloorDivision count (ticksPerDay (ticksPerSecond millis)) r ⌝ }
+        ensures { λ r. ⌜ ((d : Division) → FloorDivision count (ticksPerDay (ticksPerSecond millis)) d → d ≡ r) ⌝ }
     {
         floor_divide(count, Self::TICKS_PER_DAY)
     }
@@ -40,9 +42,10 @@ impl Micros {
 
     pub const TICKS_PER_DAY: u64 = Self::TICKS_PER_SECOND * SECONDS_PER_DAY;
 
-    // The days of a count, rounded down, and the ticks left.
+    // The days of a count, rounded down, and the ticks left. There is one such division.
     pub fn divide(count: i64) -> Division
         ensures { λ r. ⌜ FloorDivision count (ticksPerDay (ticksPerSecond micros)) r ⌝ }
+        ensures { λ r. ⌜ ((d : Division) → FloorDivision count (ticksPerDay (ticksPerSecond micros)) d → d ≡ r) ⌝ }
     {
         floor_divide(count, Self::TICKS_PER_DAY)
     }
@@ -59,9 +62,10 @@ impl Nanos {
 
     pub const TICKS_PER_DAY: u64 = Self::TICKS_PER_SECOND * SECONDS_PER_DAY;
 
-    // The days of a count, rounded down, and the ticks left.
+    // The days of a count, rounded down, and the ticks left. There is one such division.
     pub fn divide(count: i64) -> Division
         ensures { λ r. ⌜ FloorDivision count (ticksPerDay (ticksPerSecond nanos)) r ⌝ }
+        ensures { λ r. ⌜ ((d : Division) → FloorDivision count (ticksPerDay (ticksPerSecond nanos)) d → d ≡ r) ⌝ }
     {
         floor_divide(count, Self::TICKS_PER_DAY)
     }

@@ -1,4 +1,4 @@
-// Runs timestamps on vectors and prints the answers, which `reference/vectors.py` works out by itself.
+// Runs timestamps on vectors and prints the answers, which the independent reader works out by itself.
 mod answer;
 mod print;
 
@@ -37,6 +37,7 @@ fn main() {
     years(false, 1999, 2002);
     years(false, 2099, 2102);
     years(false, 2399, 2402);
+    published();
 }
 
 // The ends of the counts, the epoch, and the ends of some days.
@@ -73,7 +74,7 @@ fn ends() {
 }
 
 // Each field at the ends of its range and past them, years that are far, and two faults at once.
-fn fields(unit: u32, ticks: u32) {
+fn fields(unit: u32, ticks_per_second: u32) {
     encoded(unit, moment(1970, 0, 1, 0, 0, 0, 0));
     encoded(unit, moment(1970, 1, 1, 0, 0, 0, 0));
     encoded(unit, moment(1970, 12, 1, 0, 0, 0, 0));
@@ -89,8 +90,8 @@ fn fields(unit: u32, ticks: u32) {
     encoded(unit, moment(1970, 1, 1, 0, 0, 59, 0));
     encoded(unit, moment(1970, 1, 1, 0, 0, 60, 0));
     encoded(unit, moment(1970, 1, 1, 0, 0, MOST, 0));
-    encoded(unit, moment(1970, 1, 1, 0, 0, 0, last_of(ticks)));
-    encoded(unit, moment(1970, 1, 1, 0, 0, 0, ticks));
+    encoded(unit, moment(1970, 1, 1, 0, 0, 0, last_of(ticks_per_second)));
+    encoded(unit, moment(1970, 1, 1, 0, 0, 0, ticks_per_second));
     encoded(unit, moment(1970, 1, 1, 0, 0, 0, MOST));
     far(unit);
 }
@@ -145,11 +146,61 @@ fn around(year: i64) {
     encoded(1, moment(year, 12, 31, 23, 59, 59, 999));
 }
 
-fn last_of(ticks: u32) -> u32 {
-    if ticks < 1 {
+// Counts and days that were published with their dates; the independent reader holds its answers to what was published.
+fn published() {
+    logical_types();
+    low_level_date_algorithms();
+    time_protocol();
+    seconds_since_the_epoch();
+}
+
+// Document 003, "Parquet Logical Type Definitions", TIMESTAMP: its two example counts, and the ends of NANOS.
+fn logical_types() {
+    decoded(1, 172_800_000);
+    decoded(1, 169_200_000);
+    decoded(3, LEAST);
+    decoded(3, GREATEST);
+}
+
+// Howard Hinnant, "chrono-Compatible Low-Level Date Algorithms", days_from_civil and civil_from_days: day 0, the day
+// before it, and the first days of eras, of which era n begins on day 146,097 n - 719,468.
+fn low_level_date_algorithms() {
+    encoded(1, moment(1970, 1, 1, 0, 0, 0, 0));
+    encoded(1, moment(1969, 12, 31, 0, 0, 0, 0));
+    encoded(1, moment(-800, 3, 1, 0, 0, 0, 0));
+    encoded(1, moment(-400, 3, 1, 0, 0, 0, 0));
+    encoded(1, moment(0, 3, 1, 0, 0, 0, 0));
+    encoded(1, moment(400, 3, 1, 0, 0, 0, 0));
+    encoded(1, moment(1600, 3, 1, 0, 0, 0, 0));
+    encoded(1, moment(2000, 3, 1, 0, 0, 0, 0));
+}
+
+// RFC 868, "Time Protocol": the dates of its example seconds since 1900.
+fn time_protocol() {
+    encoded(2, moment(1900, 1, 1, 0, 0, 0, 0));
+    encoded(2, moment(1970, 1, 1, 0, 0, 0, 0));
+    encoded(2, moment(1976, 1, 1, 0, 0, 0, 0));
+    encoded(2, moment(1980, 1, 1, 0, 0, 0, 0));
+    encoded(2, moment(1983, 5, 1, 0, 0, 0, 0));
+    encoded(2, moment(1858, 11, 17, 0, 0, 0, 0));
+}
+
+// The GNU Coreutils manual, "Seconds since the Epoch": its example seconds, and the ends of 32 bits.
+fn seconds_since_the_epoch() {
+    encoded(3, moment(1970, 1, 1, 0, 0, 0, 0));
+    encoded(3, moment(1970, 1, 1, 0, 0, 1, 0));
+    encoded(3, moment(1969, 12, 31, 23, 59, 59, 0));
+    encoded(3, moment(1901, 12, 13, 20, 45, 52, 0));
+    encoded(3, moment(2038, 1, 19, 3, 14, 7, 0));
+    encoded(3, moment(2016, 12, 31, 23, 59, 59, 0));
+    encoded(3, moment(2017, 1, 1, 0, 0, 0, 0));
+}
+
+fn last_of(ticks_per_second: u32) -> u32 {
+    if ticks_per_second < 1 {
         return 0;
     }
-    ticks - 1
+    ticks_per_second - 1
 }
 
 fn moment(

@@ -1,4 +1,3 @@
 -- The laws of the crate's definitions, for its own proofs and for those of the crates above it.
-mod BoolLaws
 pub mod SequenceLaws
 pub mod ValidLaws

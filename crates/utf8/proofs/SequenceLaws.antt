@@ -10,7 +10,7 @@ use lib.Dec.{T, leb, leb→le}
 use lib.Ieee.Fits.{and-l, and-r}
 use lib.ListN.{length, getD, take, drop, replicate, length-take, length-replicate}
 use lib.Seq.{drop-cons}
-use Rattle.utf8.proofs.BoolLaws.{T-false, or-cases}
+use Rattle.laws.proofs.BoolLaws.{T-false, T-or-cases}
 use Rattle.utf8.specs.Sequence.{Range, Rule, tail, inside, spells, derives, utf8-char, utf8-1, utf8-2, utf8-3, utf8-4}
 
 pub inside-true : (range : Range) (b : ℕ) → range .lo ≤ b → b ≤ range .hi → inside range b ≡ true
@@ -98,7 +98,7 @@ unfolding derives spells
 derives-above n b s [] h t = absurd t
 derives-above n b s ([] ∷ rule) h t = absurd h
 derives-above n b s ((range ∷ ranges) ∷ rule) h t =
-    or-cases (spells (range ∷ ranges) (b ∷ s)) (derives rule (b ∷ s)) t
+    T-or-cases (spells (range ∷ ranges) (b ∷ s)) (derives rule (b ∷ s)) t
     (λ here. omega (arith, inside-low range b (and-l (inside range b) (spells ranges s) here)))
     (λ later. derives-above n b s rule (h .1) later)
 

@@ -14,7 +14,7 @@ use lib.Seq.{take-at, take-add, take-length, drop-drop, drop-append-seam, length
 use Rattle.utf8.specs.Sequence.{Range, Rule, inside, spells, derives, sequence, utf8-char}
 use Rattle.utf8.specs.Text.{Text, none, next}
 use Rattle.utf8.specs.Valid.{matched, leading, reading, validUpTo, Stops}
-use Rattle.utf8.proofs.BoolLaws.{T-true, or-left, or-right, or-cases}
+use Rattle.laws.proofs.BoolLaws.{T-true, T-or-left, T-or-right, T-or-cases}
 use Rattle.utf8.proofs.SequenceLaws.{inside-true, inside-below, inside-above, spells-length, Above, Below, Ordered, utf8-char-ordered, derives-above, derives-nil}
 
 -- What a first octet says of a rule
@@ -56,8 +56,8 @@ matched-derives (ranges ∷ rule) s h = go (spells ranges (take (length ranges) 
   where
     go : (t : Bool) → (T t → T (spells ranges (take (length ranges) s))) → (0 < matched rule s → T (derives rule (take (matched rule s) s)))
         → 0 < cond t (length ranges) (matched rule s) → T (derives (ranges ∷ rule) (take (cond t (length ranges) (matched rule s)) s))
-    go true here later h = or-left (spells ranges (take (length ranges) s)) (derives rule (take (length ranges) s)) (here tt)
-    go false here later h = or-right (spells ranges (take (matched rule s) s)) (derives rule (take (matched rule s) s)) (later h)
+    go true here later h = T-or-left (spells ranges (take (length ranges) s)) (derives rule (take (length ranges) s)) (here tt)
+    go false here later h = T-or-right (spells ranges (take (matched rule s) s)) (derives rule (take (matched rule s) s)) (later h)
 
 -- what a rule in order derives is what octets that go on from it begin with
 pub matched-append : (rule : Rule) (s t : List ℕ) → Ordered rule → T (derives rule s) → matched rule (s ++ t) ≡ length s
@@ -66,7 +66,7 @@ matched-append [] s t h d = absurd d
 matched-append ([] ∷ rule) s t h d = absurd h
 matched-append ((range ∷ ranges) ∷ rule) [] t h d = absurd (derives-nil rule (h .1) d)
 matched-append ((range ∷ ranges) ∷ rule) (b ∷ s) t h d =
-    or-cases (spells (range ∷ ranges) (b ∷ s)) (derives rule (b ∷ s)) d
+    T-or-cases (spells (range ∷ ranges) (b ∷ s)) (derives rule (b ∷ s)) d
     (λ here.
     let e : length s ≡ length ranges = spells-length ranges s (and-r (inside range b) (spells ranges s) here) in
     rw (take-at s t (length ranges) e, T-true (spells (range ∷ ranges) (b ∷ s)) here, e))

@@ -34,11 +34,11 @@ fn sequence_at(text: &[u8], at: usize) -> usize
         return 1;
     }
     let rest = rest_after(first);
-    let tails = rest.2;
+    let tails = rest.tails;
     if text.len() - at < tails + 2 {
         return 0;
     }
-    if !within(text[at + 1], rest.0, rest.1) {
+    if !within(text[at + 1], rest.low, rest.high) {
         return 0;
     }
     if !tails_at(text, at + 2, tails) {
@@ -69,47 +69,94 @@ fn within(octet: u8, low: u8, high: u8) -> bool
     low <= octet && octet <= high
 }
 
-// What follows the first octet of a sequence of several: a second octet from .0 to .1, and then .2 octets of UTF8-tail.
-struct Rest(u8, u8, usize);
+// What follows the first octet of a sequence of several.
+struct Rest {
+    // The least second octet ..
+    low: u8,
+    // .. and the greatest.
+    high: u8,
+    // How many octets of UTF8-tail come after that.
+    tails: usize,
+}
 
 // What follows a first octet above UTF8-1. Where no sequence starts with it, no octet is a second one: the range is empty.
 fn rest_after(first: u8) -> Rest
     requires { do ⌜ (← ⟦UTF8_1_LAST⟧) < first ⌝ }
-    ensures { λ r. ⌜ r .2 ≤ 2 ⌝ }
+    ensures { λ r. ⌜ r .tails ≤ 2 ⌝ }
     ensures { λ r. ⌜ (
         (rest : List ℕ)
         → leading (first ∷ rest)
-        ≡ cond (spells (r .0 to r .1 ∷ replicate (r .2) tail) (take (suc (r .2)) rest)) (r .2 + 2) 0
+        ≡ cond (spells (r .low to r .high ∷ replicate (r .tails) tail) (take (suc (r .tails)) rest)) (r .tails + 2) 0
         ) ⌝ }
 {
     if first < UTF8_2_FIRST {
-        return Rest(NONE_LOW, NONE_HIGH, 0);
+        return Rest {
+            low: NONE_LOW,
+            high: NONE_HIGH,
+            tails: 0,
+        };
     }
     if first <= UTF8_2_LAST {
-        return Rest(TAIL_LOW, TAIL_HIGH, 0);
+        return Rest {
+            low: TAIL_LOW,
+            high: TAIL_HIGH,
+            tails: 0,
+        };
     }
     if first == UTF8_3_FIRST {
-        return Rest(UTF8_3_FIRST_LOW, TAIL_HIGH, 1);
+        return Rest {
+            low: UTF8_3_FIRST_LOW,
+            high: TAIL_HIGH,
+            tails: 1,
+        };
     }
     if first < UTF8_3_SURROGATES {
-        return Rest(TAIL_LOW, TAIL_HIGH, 1);
+        return Rest {
+            low: TAIL_LOW,
+            high: TAIL_HIGH,
+            tails: 1,
+        };
     }
     if first == UTF8_3_SURROGATES {
-        return Rest(TAIL_LOW, UTF8_3_SURROGATES_HIGH, 1);
+        return Rest {
+            low: TAIL_LOW,
+            high: UTF8_3_SURROGATES_HIGH,
+            tails: 1,
+        };
     }
     if first <= UTF8_3_LAST {
-        return Rest(TAIL_LOW, TAIL_HIGH, 1);
+        return Rest {
+            low: TAIL_LOW,
+            high: TAIL_HIGH,
+            tails: 1,
+        };
     }
     if first == UTF8_4_FIRST {
-        return Rest(UTF8_4_FIRST_LOW, TAIL_HIGH, 2);
+        return Rest {
+            low: UTF8_4_FIRST_LOW,
+            high: TAIL_HIGH,
+            tails: 2,
+        };
     }
     if first < UTF8_4_LAST {
-        return Rest(TAIL_LOW, TAIL_HIGH, 2);
+        return Rest {
+            low: TAIL_LOW,
+            high: TAIL_HIGH,
+            tails: 2,
+        };
     }
     if first == UTF8_4_LAST {
-        return Rest(TAIL_LOW, UTF8_4_LAST_HIGH, 2);
+        return Rest {
+            low: TAIL_LOW,
+            high: UTF8_4_LAST_HIGH,
+            tails: 2,
+        };
     }
-    Rest(NONE_LOW, NONE_HIGH, 0)
+    Rest {
+        low: NONE_LOW,
+        high: NONE_HIGH,
+        tails: 0,
+    }
 }
 
 // The greatest octet of UTF8-1.

@@ -23,7 +23,7 @@ first-read : (c : tie.After-rest-after)
     → let a = c .before .before .before .before .args in
     let rest = c .rest-after .result in
     leading (drop (a .at) (now (a .text)))
-    ≡ cond (spells (rest .0 to rest .1 ∷ replicate (rest .2) tail) (take (suc (rest .2)) (drop (a .at + 1) (now (a .text))))) (rest .2 + 2) 0
+    ≡ cond (spells (rest .low to rest .high ∷ replicate (rest .tails) tail) (take (suc (rest .tails)) (drop (a .at + 1) (now (a .text))))) (rest .tails + 2) 0
 first-read c =
     let a = c .before .before .before .before .args in
     let h : a .at < length (now (a .text)) = omega arith in
@@ -34,13 +34,13 @@ second-read : (c : tie.After-within)
     → let a = c .before .before .before .before .before .before .before .args in
     let rest = c .before .before .before .rest-after .result in
     leading (drop (a .at) (now (a .text)))
-    ≡ cond (c .within .result && spells (replicate (rest .2) tail) (take (rest .2) (drop (a .at + 2) (now (a .text))))) (rest .2 + 2) 0
+    ≡ cond (c .within .result && spells (replicate (rest .tails) tail) (take (rest .tails) (drop (a .at + 2) (now (a .text))))) (rest .tails + 2) 0
 second-read c =
     let a = c .before .before .before .before .before .before .before .args in
     let rest = c .before .before .before .rest-after .result in
     first-read (c .before .before .before)
-    ∙ ap (λ (t : Bool). cond t (rest .2 + 2) 0)
-    (spells-at (rest .0 to rest .1) (replicate (rest .2) tail) (rest .2) (a .at + 1) (a .at + 2) (now (a .text)) (c .within .result)
+    ∙ ap (λ (t : Bool). cond t (rest .tails + 2) 0)
+    (spells-at (rest .low to rest .high) (replicate (rest .tails) tail) (rest .tails) (a .at + 1) (a .at + 2) (now (a .text)) (c .within .result)
     (omega arith)
     (omega arith)
     (c .within .ensures))
@@ -70,8 +70,8 @@ returns-2 c =
     let rest = c .before .rest-after .result in
     sym
     (first-read (c .before)
-    ∙ ap (λ (t : Bool). cond t (rest .2 + 2) 0)
-    (spells-cut (rest .0 to rest .1) (rest .2) (drop (a .at + 1) (now (a .text))) (simp length-drop (omega arith))))
+    ∙ ap (λ (t : Bool). cond t (rest .tails + 2) 0)
+    (spells-cut (rest .low to rest .high) (rest .tails) (drop (a .at + 1) (now (a .text))) (simp length-drop (omega arith))))
 
 add-within : tie.Need-add-within
 add-within c = search needs

@@ -5,7 +5,7 @@ use Rattle.annotation.proofs.decimals.is_decimal.Statement.{statement}
 use Rattle.annotation.proofs.decimals.is_decimal.Tie as tie
 
 returns-2 : tie.Need-returns-2
-returns-2 c = rw (c .before .before .says .given .1, c .code-of .ensures)
+returns-2 c = rw (c .before .before .before .says .given .1, c .before .spelling-of .ensures)
 
 pub is-decimal-spec : {M : Type 1} → statement M
 is-decimal-spec =

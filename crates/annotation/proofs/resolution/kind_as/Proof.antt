@@ -15,7 +15,7 @@ returns-3 : tie.Need-returns-3
 returns-3 c = let at = c .before .before in rw (c .logical-kind .ensures, at .before .before .says .given .1, sym (at .is-decimal .ensures) ∙ c .before .if1 .left)
 
 returns-4 : tie.Need-returns-4
-returns-4 c = rw (c .before .before .enum-told2 .given .1, c .bare-kind .ensures, c .before .wide .ensures)
+returns-4 c = rw (c .before .enum-told2 .given .1, c .bare-kind .ensures)
 
 returns-5 : tie.Need-returns-5
 returns-5 c = rw (c .before .enum-told3 .given .1, c .plain-kind2 .ensures)
@@ -31,7 +31,7 @@ kind-as-spec =
     (λ c κs. tt)
     (λ c κs. tt)
     (λ c. search needs)
-    (λ c κs. tt)
+    (λ c. search needs)
     (λ c κs. tt)
     (λ c. search needs)
     (λ c κs. tt)

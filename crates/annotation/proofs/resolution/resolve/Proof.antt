@@ -12,29 +12,29 @@ use Rattle.annotation.proofs.resolution.resolve.Tie as tie
 
 -- what the three tests and the kind are, at the places where they have been asked
 
-placed : (c : tie.After-may-stand) → let n = c .before .before .before .before .before .args in c .may-stand .result ≡ rule10 (n .n) (n .under-map)
+placed : (c : tie.After-annotation-on) → let n = c .before .before .before .before .before .args in c .annotation-on .result ≡ rule10 (n .n) (n .under-map)
 unfolding rule10
-placed c = rw (c .may-stand .ensures, c .before .length .ensures, c .before .before .annotation .ensures)
+placed c = rw (c .annotation-on .ensures, c .before .type-length .ensures, c .before .before .annotation-of .ensures)
 
 digits : (c : tie.After-digits-allowed) → let n = c .before .before .before .before .before .before .before .args in c .digits-allowed .result ≡ rule11 (n .n) (n .under-map)
 unfolding rule11
-digits c = rw (c .digits-allowed .ensures, c .before .before .before .before .annotation .ensures)
+digits c = rw (c .digits-allowed .ensures, c .before .before .before .before .annotation-of .ensures)
 
 kind : (c : tie.After-kind-as) → let n = c .before .before .before .before .before .before .before .before .before .args in c .kind-as .result ≡ kindOf (n .n) (n .under-map)
 unfolding kindOf
-kind c = rw (c .kind-as .ensures, c .before .before .before .before .before .before .annotation .ensures)
+kind c = rw (c .kind-as .ensures, c .before .before .before .before .before .before .annotation-of .ensures)
 
 -- rule 9 fails
 returns : tie.Need-returns
 unfolding resolutionOf
-returns c = with-outcome _ _ _ (rw (sym (c .before .agree .ensures) ∙ not-true _ (c .if1 .taken)))
+returns c = with-outcome _ _ _ (rw (sym (c .before .rule9 .ensures) ∙ not-true _ (c .if1 .taken)))
 
 -- 9 holds and 10 fails
 returns-2 : tie.Need-returns-2
 unfolding resolutionOf
 returns-2 c =
     let at = c .before .before .before .before in
-    with-outcome _ _ _ (rw (sym (at .before .agree .ensures) ∙ not-false _ (at .if1 .left), sym (placed (c .before)) ∙ not-true _ (c .if2 .taken)))
+    with-outcome _ _ _ (rw (sym (at .before .rule9 .ensures) ∙ not-false _ (at .if1 .left), sym (placed (c .before)) ∙ not-true _ (c .if2 .taken)))
 
 -- 9 and 10 hold and 11 fails
 returns-3 : tie.Need-returns-3
@@ -43,7 +43,7 @@ returns-3 c =
     let second = c .before .before in
     let first = second .before .before .before .before in
     with-outcome _ _ _ (rw (
-      sym (first .before .agree .ensures) ∙ not-false _ (first .if1 .left),
+      sym (first .before .rule9 .ensures) ∙ not-false _ (first .if1 .left),
       sym (placed (second .before)) ∙ not-false _ (second .if2 .left),
       sym (digits (c .before)) ∙ not-true _ (c .if3 .taken),
     ))
@@ -56,7 +56,7 @@ returns-4 c =
     let second = third .before .before in
     let first = second .before .before .before .before in
     with-outcome _ _ _ (rw (
-      sym (first .before .agree .ensures) ∙ not-false _ (first .if1 .left),
+      sym (first .before .rule9 .ensures) ∙ not-false _ (first .if1 .left),
       sym (placed (second .before)) ∙ not-false _ (second .if2 .left),
       sym (digits (third .before)) ∙ not-false _ (third .if3 .left),
       kind c,

@@ -1,14 +1,14 @@
 -- `annotation::rewriting::rewrite` meets its contract: each arm knows what the slot resolves to, and what its callee ensures.
 -- Assumes nothing.
 use borrow.Author.Needs.{needs}
-use Rattle.annotation.specs.Rewriting.{rewritingOf}
+use Rattle.annotation.specs.Rewriting.{writtenOf, rewritingOf}
 use Rattle.annotation.proofs.RewritingLaws.{with-outcome}
 use Rattle.annotation.proofs.rewriting.rewrite.Statement.{statement}
 use Rattle.annotation.proofs.rewriting.rewrite.Tie as tie
 
 returns : tie.Need-returns
-unfolding rewritingOf
-returns c = with-outcome _ _ _ (rw (c .written-for .ensures, ← c .before .before .before .resolve .ensures .0, c .before .enum-told .given .1))
+unfolding rewritingOf writtenOf
+returns c = with-outcome _ _ _ (rw (c .written-as .ensures, c .before .annotation-of .ensures, ← c .before .before .before .before .resolve .ensures .0, c .before .before .enum-told .given .1))
 
 returns-2 : tie.Need-returns-2
 unfolding rewritingOf
@@ -28,6 +28,7 @@ rewrite-spec =
     (tie.spec
     (λ c κs. tt)
     (λ c. search needs)
+    (λ c κs. tt)
     (λ c κs. tt)
     (λ c. search needs)
     (λ c κs. tt)

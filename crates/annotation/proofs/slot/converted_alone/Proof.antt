@@ -4,7 +4,7 @@ use Rattle.annotation.proofs.slot.converted_alone.Statement.{statement}
 use Rattle.annotation.proofs.slot.converted_alone.Tie as tie
 
 returns : tie.Need-returns
-returns c = rw (← c .before .before .valid-parameters .ensures, c .before .if1 .taken, c .backward .ensures)
+returns c = rw (← c .before .before .valid-parameters .ensures, c .before .if1 .taken, c .backward-of .ensures)
 
 returns-2 : tie.Need-returns-2
 returns-2 c = rw (← c .before .valid-parameters .ensures, c .if1 .left)

@@ -6,10 +6,10 @@ use Rattle.annotation_vectors.proofs.slots.parameters.Statement.{statem
 use Rattle.annotation_vectors.proofs.slots.parameters.Tie as tie
 
 abbrev Inv-loop : tie.InvT-loop
-Inv-loop under-map converted logical refused₀ i₀ refused i = i ≤ 15
+Inv-loop under-map converted logical refused₀ i₀ refused i = i ≤ 19
 
 abbrev μ-loop : tie.MeasureT-loop
-μ-loop under-map converted logical refused₀ i₀ refused i = 15 - i
+μ-loop under-map converted logical refused₀ i₀ refused i = 19 - i
 
 pub parameters-spec : {M : Type 1} → statement M
 parameters-spec =

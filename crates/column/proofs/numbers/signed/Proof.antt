@@ -1,4 +1,4 @@
--- `column::numbers::signed` meets its contract: -1 less the magnitude where the first bit is set, and else the magnitude.
+-- `column::numbers::signed` meets its contract: -1 less the folded where the first bit is set, and else the folded.
 -- Assumes nothing.
 use mathlib.Core.Path.{_≡_, sym, ap, subst, _∙_}
 use Prim.Native.Nat.{ℕ, _^_, _<_}
@@ -14,16 +14,16 @@ use Rattle.column.proofs.NumberLaws.{twos-below, twos-above, twos-mag-<
 use Rattle.column.proofs.numbers.signed.Statement.{statement}
 use Rattle.column.proofs.numbers.signed.Tie as tie
 
-small : (c : tie.After-magnitude) → c .magnitude .result < 2 ^ 63
+small : (c : tie.After-folded) → c .folded .result < 2 ^ 63
 small c =
     let s = c .before in
-    subst (λ (m : ℕ). m < 2 ^ 63) (sym (c .magnitude .ensures)) (lt-of-lt-of-le (twos-mag-< (s .args .weight) (s .args .n) (s .pre .0)) (s .pre .1))
+    subst (λ (m : ℕ). m < 2 ^ 63) (sym (c .folded .ensures)) (lt-of-lt-of-le (twos-mag-< (s .args .weight) (s .args .n) (s .pre .0)) (s .pre .1))
 
-difference : (c : tie.Else1) → negsuc 0 -ℤ toZ w64 (c .before .magnitude .result) ≡ negsuc (c .before .magnitude .result)
-difference c = ap (λ (z : ℤ). negsuc 0 -ℤ z) (toZ-pos w64 _ (small (c .before))) ∙ complement-nonnegative (c .before .magnitude .result)
+difference : (c : tie.Else1) → negsuc 0 -ℤ toZ w64 (c .before .folded .result) ≡ negsuc (c .before .folded .result)
+difference c = ap (λ (z : ℤ). negsuc 0 -ℤ z) (toZ-pos w64 _ (small (c .before))) ∙ complement-nonnegative (c .before .folded .result)
 
-magnitude-requires : tie.Need-magnitude-requires
-magnitude-requires c κs = search needs
+folded-requires : tie.Need-folded-requires
+folded-requires c κs = search needs
 
 cast-size : tie.Need-cast-size
 cast-size c = record { sfits = small c }
@@ -31,7 +31,7 @@ cast-size c = record { sfits = small c }
 returns : tie.Need-returns
 returns c =
     let s = c .before .before in
-    toZ-pos w64 _ (small (c .before)) ∙ ap pos (c .before .magnitude .ensures ∙ ap mag (twos-below _ _ (c .if1 .taken))) ∙ sym (twos-below (s .args .weight) (s .args .n) (c .if1 .taken))
+    toZ-pos w64 _ (small (c .before)) ∙ ap pos (c .before .folded .ensures ∙ ap mag (twos-below _ _ (c .if1 .taken))) ∙ sym (twos-below (s .args .weight) (s .args .n) (c .if1 .taken))
 
 sub-result : tie.Need-sub-result
 sub-result c = subst (SFits w64) (sym (difference c)) (record { sfits = small (c .before) })
@@ -39,7 +39,7 @@ sub-result c = subst (SFits w64) (sym (difference c)) (record { sfits = small (c
 returns-2 : tie.Need-returns-2
 returns-2 c =
     let s = c .before .before in
-    read-back (difference c) (small (c .before)) ∙ ap negsuc (c .before .magnitude .ensures ∙ ap mag (twos-above _ _ (c .if1 .left) (s .pre .0))) ∙ sym (twos-above (s .args .weight) (s .args .n) (c .if1 .left) (s .pre .0))
+    read-back (difference c) (small (c .before)) ∙ ap negsuc (c .before .folded .ensures ∙ ap mag (twos-above _ _ (c .if1 .left) (s .pre .0))) ∙ sym (twos-above (s .args .weight) (s .args .n) (c .if1 .left) (s .pre .0))
 
 pub signed-spec : {M : Type 1} → statement M
-signed-spec = tie.close (tie.spec magnitude-requires cast-size returns sub-result returns-2)
+signed-spec = tie.close (tie.spec folded-requires cast-size returns sub-result returns-2)

@@ -2,7 +2,7 @@
 use mathlib.Core.Path.{sym, _∙_}
 use borrow.Author.Needs.{needs}
 use borrow.Author.Tests.{eq-eqb, ne-eqb}
-use Rattle.schema.specs.Rules.{lengthShape, isNought}
+use Rattle.tree.specs.Rules.{lengthShape, isNought}
 use Rattle.column_type.proofs.lawful.length_right.Statement.{statement}
 use Rattle.column_type.proofs.lawful.length_right.Tie as tie
 

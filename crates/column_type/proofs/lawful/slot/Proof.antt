@@ -2,8 +2,8 @@
 use mathlib.Core.Path.{_≡_, sym, _∙_}
 use native.Mathlib.Omega.{arith}
 use borrow.Author.Needs.{needs}
-use Rattle.annotation.specs.Converted as converted
-use Rattle.annotation.specs.Logical as logical
+use Rattle.parquet.specs.Converted as converted
+use Rattle.parquet.specs.Logical as logical
 use Rattle.column_type.proofs.FitsLaws.{fits-parts, fits-decimal, fits-other}
 use Rattle.column_type.proofs.SlotLaws.{slotOf-decimal, slotOf-interval, slotOf-logical}
 use Rattle.column_type.proofs.lawful.slot.Statement.{statement}

@@ -6,7 +6,7 @@ use Prim.Native.Nat.{ℕ}
 use lib.ListN.{length}
 use borrow.Author.Tests.{not-true, not-false}
 use Rattle.decimal.specs.Precision.{isLength}
-use Rattle.decimal.specs.Number.{significant}
+use Rattle.decimal.specs.Significant.{significant}
 use Rattle.decimal.specs.declared.fit.Fit.{Fit}
 use Rattle.decimal.specs.Fit.{fitOf}
 use Rattle.decimal.specs.Outcome.{fitted}

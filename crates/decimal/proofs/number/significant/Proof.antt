@@ -8,7 +8,7 @@ use native.Mathlib.Omega.{arith}
 use lib.ListN.{length, take, drop, length-drop}
 use lib.Seq.{take-all}
 use borrow.Author.Needs.{needs}
-use Rattle.decimal.specs.Number.{signByte, significant}
+use Rattle.decimal.specs.Significant.{signByte, significant}
 use Rattle.decimal.proofs.NumberLaws.{significant-short, significant-next, significant-stop}
 use Rattle.decimal.proofs.number.significant.Statement.{statement}
 use Rattle.decimal.proofs.number.significant.Tie as tie

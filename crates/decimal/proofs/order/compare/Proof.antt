@@ -10,7 +10,8 @@ use borrow.Author.Needs.{needs}
 use borrow.Author.Tests.{not-true, not-false}
 use Rattle.decimal.specs.declared.order.Order.{Order}
 use Rattle.decimal.specs.Precision.{isLength}
-use Rattle.decimal.specs.Number.{number, signByte}
+use Rattle.decimal.specs.Number.{number}
+use Rattle.decimal.specs.Significant.{signByte}
 use Rattle.decimal.specs.Order.{order, orderOf}
 use Rattle.decimal.specs.Outcome.{compared}
 use Rattle.decimal.proofs.UnsignedLaws.{Bytes, Bytes-getD}

@@ -10,7 +10,8 @@ use native.Mathlib.Omega.{arith}
 use borrow.Author.Needs.{needs}
 use borrow.Author.Tests.{not-true, not-false}
 use Rattle.decimal.specs.Precision.{greatestLength, greatestNumber, greatestPrecision}
-use Rattle.decimal.proofs.Table.{at, every, and-left, and-right}
+use Rattle.laws.proofs.BoolLaws.{T-and-left, T-and-right}
+use Rattle.decimal.proofs.Table.{at, every}
 use Rattle.decimal.proofs.PrecisionLaws.{isLength-bounds, greatestPrecision-unique}
 use Rattle.decimal.proofs.precision.greatest_precision.Statement.{statement}
 use Rattle.decimal.proofs.precision.greatest_precision.Tie as tie
@@ -37,7 +38,7 @@ entry table t n least most h =
     let e : n - 1 + 1 ≡ n = omega arith in
     let r : T (low n d && high n d) = rw e at (at right table t (n - 1) (omega arith)) in
     greatestPrecision-unique n least most d
-    (leb→le _ _ (and-left (low n d) (high n d) r)) (ltb→lt _ _ (and-right (low n d) (high n d) r))
+    (leb→le _ _ (T-and-left (low n d) (high n d) r)) (ltb→lt _ _ (T-and-right (low n d) (high n d) r))
 
 -- the table, as it stands where the code reads an entry
 abbrev table : tie.Else1 → List ℕ

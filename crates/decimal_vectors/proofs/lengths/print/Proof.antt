@@ -1,4 +1,4 @@
--- `decimal_vectors::lengths::print` is safe and ends. Assumes nothing.
+-- `decimal_vectors::lengths::print` is safe and ends.
 use mathlib.Core.Path.{_≡_}
 use Prim.Native.Nat.{_≤_, _-_}
 use lib.ListN.{length}
@@ -14,6 +14,15 @@ abbrev μ-loop : tie.MeasureT-loop
 
 loop-holds : tie.Need-loop-holds Inv-loop μ-loop
 loop-holds c = search needs
+
+cast-greatest-precision : tie.Need-cast-greatest-precision Inv-loop μ-loop
+cast-greatest-precision c = search needs
+
+greatest-precision-requires : tie.Need-greatest-precision-requires Inv-loop μ-loop
+greatest-precision-requires c κs = search needs
+
+cast-write : tie.Need-cast-write Inv-loop μ-loop
+cast-write c = search needs
 
 write-requires : tie.Need-write-requires Inv-loop μ-loop
 write-requires c κs = search needs
@@ -43,6 +52,9 @@ print-spec =
     Inv-loop
     μ-loop
     loop-holds
+    cast-greatest-precision
+    greatest-precision-requires
+    cast-write
     write-requires
     print-line-requires
     add-n

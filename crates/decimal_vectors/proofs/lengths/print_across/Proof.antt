@@ -1,4 +1,4 @@
--- `decimal_vectors::lengths::print_across` is safe and ends. Assumes nothing.
+-- `decimal_vectors::lengths::print_across` is safe and ends.
 use Prim.Native.Nat.{_≤_, _-_}
 use borrow.Author.Needs.{needs}
 use Rattle.decimal_vectors.proofs.lengths.print_across.Statement.{statement}
@@ -10,14 +10,14 @@ Inv-loop numbers n other₀ other = (1 ≤ other) × (other ≤ 512)
 abbrev μ-loop : tie.MeasureT-loop
 μ-loop numbers n other₀ other = 513 - other
 
-space-requires : tie.Need-space-requires Inv-loop μ-loop
-space-requires c κs = search needs
+print-letter-requires : tie.Need-print-letter-requires Inv-loop μ-loop
+print-letter-requires c κs = search needs
 
 loop-holds : tie.Need-loop-holds Inv-loop μ-loop
 loop-holds c = search needs
 
-print-against-requires : tie.Need-print-against-requires Inv-loop μ-loop
-print-against-requires c κs = search needs
+print-orders-requires : tie.Need-print-orders-requires Inv-loop μ-loop
+print-orders-requires c κs = search needs
 
 mul-other : tie.Need-mul-other Inv-loop μ-loop
 mul-other c = search needs
@@ -37,9 +37,9 @@ print-across-spec =
     (tie.spec
     Inv-loop
     μ-loop
-    space-requires
+    print-letter-requires
     loop-holds
-    print-against-requires
+    print-orders-requires
     mul-other
     loop-less
     loop-again

@@ -1,4 +1,4 @@
--- `decimal_vectors::lengths::print_fits` is safe and ends. Assumes nothing.
+-- `decimal_vectors::lengths::print_fits` is safe and ends.
 use Prim.Native.Nat.{_≤_, _-_}
 use borrow.Author.Needs.{needs}
 use Rattle.decimal_vectors.proofs.lengths.print_fits.Statement.{statement}
@@ -10,8 +10,8 @@ Inv-loop numbers n precision before row₀ row = row ≤ 10
 abbrev μ-loop : tie.MeasureT-loop
 μ-loop numbers n precision before row₀ row = 10 - row
 
-space-requires : tie.Need-space-requires Inv-loop μ-loop
-space-requires c κs = search needs
+print-letter-requires : tie.Need-print-letter-requires Inv-loop μ-loop
+print-letter-requires c κs = search needs
 
 loop-holds : tie.Need-loop-holds Inv-loop μ-loop
 loop-holds c = search needs
@@ -40,7 +40,7 @@ print-fits-spec =
     (tie.spec
     Inv-loop
     μ-loop
-    space-requires
+    print-letter-requires
     loop-holds
     number-requires
     print-fit-requires

@@ -1,23 +1,20 @@
--- `decimal_vectors::lengths::print_orders` is safe and ends. Assumes nothing.
+-- `decimal_vectors::lengths::print_orders` is safe and ends.
 use Prim.Native.Nat.{_≤_, _-_}
 use borrow.Author.Needs.{needs}
 use Rattle.decimal_vectors.proofs.lengths.print_orders.Statement.{statement}
 use Rattle.decimal_vectors.proofs.lengths.print_orders.Tie as tie
 
 abbrev Inv-loop : tie.InvT-loop
-Inv-loop numbers n further before row₀ row = row ≤ 10
+Inv-loop numbers n before further other row₀ row = row ≤ 10
 
 abbrev μ-loop : tie.MeasureT-loop
-μ-loop numbers n further before row₀ row = 10 - row
-
-space-requires : tie.Need-space-requires Inv-loop μ-loop
-space-requires c κs = search needs
+μ-loop numbers n before further other row₀ row = 10 - row
 
 loop-holds : tie.Need-loop-holds Inv-loop μ-loop
 loop-holds c = search needs
 
-add-other : tie.Need-add-other Inv-loop μ-loop
-add-other c = search needs
+add-next : tie.Need-add-next Inv-loop μ-loop
+add-next c = search needs
 
 number-requires : tie.Need-number-requires Inv-loop μ-loop
 number-requires c κs = search needs
@@ -46,9 +43,8 @@ print-orders-spec =
     (tie.spec
     Inv-loop
     μ-loop
-    space-requires
     loop-holds
-    add-other
+    add-next
     number-requires
     number-requires-2
     print-order-requires

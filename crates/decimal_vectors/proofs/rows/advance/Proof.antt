@@ -1,18 +1,24 @@
--- `decimal_vectors::rows::advance` is safe and ends. Assumes nothing.
+-- `decimal_vectors::rows::advance` is safe and ends.
 use mathlib.Core.Path.{_≡_}
-use Prim.Native.Nat.{_≤_, _*_}
+use Prim.Native.Nat.{_*_, _≤_, _-_}
 use native.Mathlib.Nat.{mul-le-mul-right}
 use native.Mathlib.Omega.{arith}
-use lib.ListN.{length}
+use lib.ListN.{length, length-set}
 use borrow.Author.Needs.{needs}
 use Rattle.decimal_vectors.proofs.rows.advance.Statement.{statement}
 use Rattle.decimal_vectors.proofs.rows.advance.Tie as tie
 
 abbrev Inv-loop : tie.InvT-loop
-Inv-loop bytes₀ factor amount carry₀ at₀ bytes carry at = (at ≤ length bytes₀) × (length bytes ≡ length bytes₀) × (carry ≤ 255)
+Inv-loop rows₀ row factor amount start at₀ carry₀ rows at carry = (start ≤ at) × (at ≤ length rows) × (length rows ≡ length rows₀) × (carry ≤ 255)
 
 abbrev μ-loop : tie.MeasureT-loop
-μ-loop bytes₀ factor amount carry₀ at₀ bytes carry at = at
+μ-loop rows₀ row factor amount start at₀ carry₀ rows at carry = at - start
+
+mul-start : tie.Need-mul-start Inv-loop μ-loop
+mul-start c = search needs
+
+add-at : tie.Need-add-at Inv-loop μ-loop
+add-at c = search needs
 
 loop-holds : tie.Need-loop-holds Inv-loop μ-loop
 loop-holds c = search needs
@@ -35,17 +41,17 @@ mul-sum c = record { fits = omega (arith, product c) }
 add-sum : tie.Need-add-sum Inv-loop μ-loop
 add-sum c = record { fits = omega (arith, product c) }
 
-cast-bytes : tie.Need-cast-bytes Inv-loop μ-loop
-cast-bytes c = search needs
+cast-rows : tie.Need-cast-rows Inv-loop μ-loop
+cast-rows c = search needs
 
-slice-write-bytes : tie.Need-slice-write-bytes Inv-loop μ-loop
-slice-write-bytes c = search needs
+slice-write-rows : tie.Need-slice-write-rows Inv-loop μ-loop
+slice-write-rows c = search needs
 
 loop-less : tie.Need-loop-less Inv-loop μ-loop
 loop-less c = search needs
 
 loop-again : tie.Need-loop-again Inv-loop μ-loop
-loop-again c = (omega arith, search needs, omega (arith, product c))
+loop-again c = (omega arith, simp length-set (omega arith), simp length-set (omega arith), omega (arith, product c))
 
 same-length : tie.Need-same-length Inv-loop μ-loop
 same-length c = search needs
@@ -59,14 +65,16 @@ advance-spec =
     (tie.spec
     Inv-loop
     μ-loop
+    mul-start
+    add-at
     loop-holds
     sub-at
     slice-read-wide
     wide-requires
     mul-sum
     add-sum
-    cast-bytes
-    slice-write-bytes
+    cast-rows
+    slice-write-rows
     loop-less
     loop-again
     same-length

@@ -1,5 +1,6 @@
 -- `schema::resolving::resolve` meets its contract: refused before anything is written, or the rows of its tree.
-use Rattle.schema.proofs.JudgementLaws.{judged-total, judged-some, judged-claimed, resolve-short, resolve-refused, resolve-rows, written-refused, written-rows}
+use Rattle.tree.proofs.JudgementLaws.{judged-total, judged-some, judged-claimed}
+use Rattle.schema.proofs.ResolvingLaws.{resolve-short, resolve-refused, resolve-rows, written-refused, written-rows}
 use native.Mathlib.Omega.{arith}
 use mathlib.Core.Path.{sym, ap, _∙_}
 use borrow.Author.Needs.{needs}

@@ -1,9 +1,9 @@
 -- The proof of the cycle of calls {write_run, write_tree}. Nodes fall as they do in judging: with r nodes from k on, a tree's measure is 2r and a
 -- run's 2r + 1.
 use Rattle.schema.proofs.RewritingSteps.{Behind, behind-start, behind-end, behind-next, tree-rewritten}
-use Rattle.schema.proofs.JudgingSteps.{later-falls, run-falls}
-use Rattle.schema.proofs.VisitLaws.{run-below, children-claimed, tree-end}
-use Rattle.schema.specs.Steps.{Visited}
+use Rattle.tree.proofs.JudgingSteps.{later-falls, run-falls}
+use Rattle.tree.proofs.VisitLaws.{run-below, children-claimed, tree-end}
+use Rattle.tree.specs.Steps.{Visited}
 use Rattle.sheet.specs.Block.{totalOf}
 use borrow.Author.Needs.{needs}
 use native.Mathlib.Omega.{arith}
@@ -19,9 +19,9 @@ use Rattle.schema.proofs.rewriting.write_tree.Kinds as write-tree-kinds
 use Rattle.schema.proofs.rewriting.+write_run+write_tree.Lts-write_tree as write-tree-lts
 use Rattle.annotation.proofs.resolved_kind.Reads as resolved-kind-reads
 use Rattle.annotation.proofs.rewrite.Reads as rewrite-reads
-use Rattle.schema.proofs.faults.annotated.Reads as annotated-reads
-use Rattle.schema.proofs.place.place_under.Reads as place-under-reads
-use Rattle.schema.proofs.place.under_map.Reads as under-map-reads
+use Rattle.tree.proofs.annotated.Reads as annotated-reads
+use Rattle.tree.proofs.place_under.Reads as place-under-reads
+use Rattle.tree.proofs.under_map.Reads as under-map-reads
 use Rattle.schema.proofs.rewriting.write_slot.Reads as write-slot-reads
 use Rattle.sheet.proofs.slot_at.Reads as slot-at-reads
 use Rattle.schema.proofs.rewriting.+write_run+write_tree.{statement}

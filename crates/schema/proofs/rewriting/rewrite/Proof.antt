@@ -3,7 +3,7 @@ use native.Mathlib.Omega.{arith}
 use mathlib.Core.Path.{sym, ap, _∙_}
 use lib.ListN.{length-take, length-drop}
 use Rattle.schema.specs.declared.rewriting.Rewritten.{Rewritten}
-use Rattle.schema.proofs.JudgementLaws.{judged-some, judged-claimed}
+use Rattle.tree.proofs.JudgementLaws.{judged-some, judged-claimed}
 use Rattle.schema.proofs.RewriteLaws.{rewrite-refused, rewrite-kept, rewrite-short, rewrite-bytes, rewrite-written}
 use borrow.Author.Needs.{needs}
 use Rattle.schema.proofs.rewriting.rewrite.Statement.{statement}

@@ -7,10 +7,10 @@ use lib.ListN.{length, take, drop, drop-of-length-le}
 use lib.Seq.{take-length}
 use Rattle.sheet.specs.Check.{renewed}
 use Rattle.sheet.specs.Slot.{slots}
-use Rattle.schema.specs.Tree.{Tree}
+use Rattle.tree.specs.Tree.{Tree}
 use Rattle.schema.specs.Rewriting.{rewritings, withRewritings, rewritten}
-use Rattle.schema.specs.declared.place.Place.the-variants.{Root}
-use Rattle.schema.proofs.StandingLaws.{treeAt-zero}
+use Rattle.tree.specs.declared.place.Place.the-variants.{Root}
+use Rattle.tree.proofs.StandingLaws.{treeAt-zero}
 use borrow.Author.Needs.{needs}
 use Rattle.schema.proofs.rewriting.write_sheet.Statement.{statement}
 use Rattle.schema.proofs.rewriting.write_sheet.Tie as tie

@@ -1,5 +1,5 @@
 -- `schema::roles::role` meets its contract, case by case.
-use Rattle.schema.proofs.VisitLaws.{repetition-at}
+use Rattle.tree.proofs.VisitLaws.{repetition-at}
 use Rattle.schema.specs.Rows.{role, ownRole}
 use mathlib.Core.Path.{ap, _∙_}
 use borrow.Author.Needs.{needs}

@@ -1,9 +1,10 @@
 -- The proof of the cycle of calls {write_run, write_tree}. Nodes fall as they do in judging: with r nodes from k on, a tree's measure is 2r and a
 -- run's 2r + 1.
 use Rattle.schema.proofs.RowsSteps.{Behind, behind-start, behind-end, behind-next, tree-rows, parent-is, row-is, long-enough, row-fits}
-use Rattle.schema.proofs.JudgingSteps.{later-falls, run-falls}
-use Rattle.schema.proofs.VisitLaws.{run-below, children-claimed, tree-end, tree-within}
-use Rattle.schema.specs.Steps.{Visited, rowNumbers}
+use Rattle.tree.proofs.JudgingSteps.{later-falls, run-falls}
+use Rattle.tree.proofs.VisitLaws.{run-below, children-claimed, tree-end, tree-within}
+use Rattle.tree.specs.Steps.{Visited}
+use Rattle.schema.specs.Steps.{rowNumbers}
 use Rattle.sheet.specs.Slot.{slotAt}
 use Rattle.sheet.specs.Block.{totalOf}
 use borrow.Author.Needs.{needs}
@@ -19,8 +20,8 @@ use Rattle.schema.proofs.rows.write_tree.Reads as write-tree
 use Rattle.schema.proofs.rows.write_tree.Kinds as write-tree-kinds
 use Rattle.schema.proofs.rows.+write_run+write_tree.Lts-write_tree as write-tree-lts
 use Rattle.annotation.proofs.resolved_kind.Reads as resolved-kind-reads
-use Rattle.annotation.proofs.length.Reads as length-reads
-use Rattle.schema.proofs.faults.annotated.Reads as annotated-reads
+use Rattle.annotation.proofs.type_length.Reads as length-reads
+use Rattle.tree.proofs.annotated.Reads as annotated-reads
 use Rattle.schema.proofs.roles.after_first.Reads as after-first-reads
 use Rattle.schema.proofs.roles.is_map_parent.Reads as is-map-parent-reads
 use Rattle.schema.proofs.roles.parent_by.Reads as parent-by-reads
@@ -376,7 +377,7 @@ write-tree-cast-t20 : (t : ℕ) → write-tree-lts.Need-cast-t20 (
 ) (write-tree-at t) write-tree.Post
 write-tree-cast-t20 t c = search needs
 
-write-tree-length-requires : (t : ℕ) → write-tree-lts.Need-length-requires (
+write-tree-length-requires : (t : ℕ) → write-tree-lts.Need-type-length-requires (
   slot-at-reads.Asked,
   slot-at-reads.Learnt,
   annotated-reads.Asked,
@@ -540,7 +541,7 @@ write-tree-returns t c =
     let end = tree-end (start .args .sheet .now) (start .args .at) _ visited _ (run .ensures .0) in
     let own = c .before .before .before .before .before .before .before .before .before .before .before .before .before .role .ensures in
     let above = parent-is (start .args .sheet .now) (start .args .rows .now) (start .args .at) (start .args .up) _ (start .args .parent) (slotAt (start .args .sheet .now) (start .args .up)) visited _ _ _ _ _ (c .before .before .before .before .before .before .before .before .before .before .before .before .before .before .before .before .annotated .ensures) (c .before .before .before .before .before .before .before .before .before .before .before .before .before .before .before .is-map-parent .ensures) (c .before .before .before .before .before .before .before .before .before .before .before .before .before .before .resolved-kind .ensures) own (c .before .before .before .before .before .before .before .before .before .before .parent-by .ensures) in
-    let numbers = row-is (start .args .sheet .now) (start .args .rows .now) (start .args .at) (start .args .up) _ (start .args .parent) (slotAt (start .args .sheet .now) (start .args .up)) visited _ _ _ _ _ _ (c .before .before .before .before .before .before .before .before .before .before .before .before .before .before .before .before .annotated .ensures) (c .before .before .before .before .before .before .before .before .before .before .before .before .before .before .before .is-map-parent .ensures) (c .before .before .before .before .before .before .before .before .before .before .before .before .before .before .resolved-kind .ensures) own end (c .before .before .before .before .length .ensures) in
+    let numbers = row-is (start .args .sheet .now) (start .args .rows .now) (start .args .at) (start .args .up) _ (start .args .parent) (slotAt (start .args .sheet .now) (start .args .up)) visited _ _ _ _ _ _ (c .before .before .before .before .before .before .before .before .before .before .before .before .before .before .before .before .annotated .ensures) (c .before .before .before .before .before .before .before .before .before .before .before .before .before .before .before .is-map-parent .ensures) (c .before .before .before .before .before .before .before .before .before .before .before .before .before .before .resolved-kind .ensures) own end (c .before .before .before .before .type-length .ensures) in
     (end, tree-rows (start .args .sheet .now) (start .args .rows .now) (start .args .at) (start .args .up) _ (start .args .parent) (slotAt (start .args .sheet .now) (start .args .up)) visited (start .pre .1 .1 .1 .1) _ above _ (run .ensures .1) _ _ numbers (c .before .before .write-row .ensures))
 
 pub +write-run+write-tree-spec : {M : Type 1} → statement M

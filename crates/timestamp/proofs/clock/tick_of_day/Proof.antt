@@ -10,11 +10,11 @@ use Rattle.timestamp.proofs.clock.tick_of_day.Statement.{statement}
 use Rattle.timestamp.proofs.clock.tick_of_day.Tie as tie
 
 -- what the contract asks of the time
-time : (s : tie.Start) → Time (s .args .ticks) (s .args .time .hour) (s .args .time .minute) (s .args .time .second) (s .args .time .fraction)
-time s = time-parts (s .args .ticks) (s .args .time .hour) (s .args .time .minute) (s .args .time .second) (s .args .time .fraction) (s .pre .1)
+time : (s : tie.Start) → Time (s .args .ticks-per-second) (s .args .time .hour) (s .args .time .minute) (s .args .time .second) (s .args .time .fraction)
+time s = time-parts (s .args .ticks-per-second) (s .args .time .hour) (s .args .time .minute) (s .args .time .second) (s .args .time .fraction) (s .pre .1)
 
-below : (s : tie.Start) → tickOfDay (s .args .ticks) (s .args .time .hour) (s .args .time .minute) (s .args .time .second) (s .args .time .fraction) < ticksPerDay (s .args .ticks)
-below s = tick-below (s .args .ticks) (s .args .time .hour) (s .args .time .minute) (s .args .time .second) (s .args .time .fraction) (time s)
+below : (s : tie.Start) → tickOfDay (s .args .ticks-per-second) (s .args .time .hour) (s .args .time .minute) (s .args .time .second) (s .args .time .fraction) < ticksPerDay (s .args .ticks-per-second)
+below s = tick-below (s .args .ticks-per-second) (s .args .time .hour) (s .args .time .minute) (s .args .time .second) (s .args .time .fraction) (time s)
 
 mul-minutes : tie.Need-mul-minutes
 mul-minutes c = let t = time (c .before) in omega (arith, t .hour-below)

@@ -11,7 +11,7 @@ div-seconds : tie.Need-div-seconds
 div-seconds c = search needs
 
 cast-seconds : tie.Need-cast-seconds
-cast-seconds c = omega (arith, seconds-below (c .args .ticks) (c .args .tick) (c .pre .0) (c .pre .2))
+cast-seconds c = omega (arith, seconds-below (c .args .ticks-per-second) (c .args .tick) (c .pre .0) (c .pre .2))
 
 rem-t5 : tie.Need-rem-t5
 rem-t5 c = search needs
@@ -21,9 +21,9 @@ cast-t9 c = omega (arith, mod-lt (c .args .tick) (c .pre .0), c .pre .1)
 
 returns : tie.Need-returns
 returns c =
-    let ticks = c .args .ticks in
+    let t = c .args .ticks-per-second in
     let tick = c .args .tick in
-    (parts-time ticks (tick / ticks / 60 / 60) (tick / ticks / 60 % 60) (tick / ticks % 60) (tick % ticks) (tick-time ticks tick (c .pre .0) (c .pre .2)), tick-back ticks tick)
+    (parts-time t (tick / t / 60 / 60) (tick / t / 60 % 60) (tick / t % 60) (tick % t) (tick-time t tick (c .pre .0) (c .pre .2)), tick-back t tick)
 
 pub time-of-spec : {M : Type 1} → statement M
 time-of-spec = tie.close (tie.spec div-seconds cast-seconds rem-t5 cast-t9 returns)

@@ -13,10 +13,10 @@ sub-result-2 : tie.Need-sub-result-2
 sub-result-2 c = search needs
 
 returns : tie.Need-returns
-returns c = ap (λ (b : Bool). turned-of b (c .before .args .rest) (c .before .args .ticks)) (sym (c .if1 .taken))
+returns c = ap (λ (b : Bool). turned-of b (c .before .args .rest) (c .before .args .ticks-per-day)) (sym (c .if1 .taken))
 
 returns-2 : tie.Need-returns-2
-returns-2 c = ap (λ (b : Bool). turned-of b (c .before .args .rest) (c .before .args .ticks)) (sym (c .if1 .left))
+returns-2 c = ap (λ (b : Bool). turned-of b (c .before .args .rest) (c .before .args .ticks-per-day)) (sym (c .if1 .left))
 
 pub turned-spec : {M : Type 1} → statement M
 turned-spec = tie.close (tie.spec sub-result sub-result-2 returns returns-2)

@@ -1,4 +1,4 @@
--- `timestamp::encoding::count_of` meets its contract: the count's magnitude is that of its days, with the rest turned before 0.
+-- `timestamp::encoding::count_of` meets its contract: the count folds onto the ticks that its days fold onto, with the rest turned before 0.
 use Prim.Native.Nat.{ℕ, _+_, _*_, _-_, _<_, _≤_, _^_}
 use native.Mathlib.Nat.{le-div-iff-mul-le, div-lt-iff-lt-mul}
 use native.Mathlib.Omega.{arith}
@@ -16,36 +16,36 @@ use Rattle.timestamp.proofs.encoding.count_of.Tie as tie
 is-negative-requires : tie.Need-is-negative-requires
 is-negative-requires c κs = search needs
 
-magnitude-requires : tie.Need-magnitude-requires
-magnitude-requires c κs = search needs
+folded-requires : tie.Need-folded-requires
+folded-requires c κs = search needs
 
 div-if1 : tie.Need-div-if1
 div-if1 c = search needs
 
--- what is passed in, the sign, and the count's magnitude
-abbrev start : tie.After-magnitude → tie.Start
+-- what is passed in, the sign, and what the count folds onto
+abbrev start : tie.After-folded → tie.Start
 start m = m .before .before .before .before
 
-abbrev negative : tie.After-magnitude → Bool
+abbrev negative : tie.After-folded → Bool
 negative m = m .before .before .is-negative .result
 
-abbrev size : tie.After-magnitude → ℕ
-size m = m .magnitude .result * start m .args .ticks + turned-of (negative m) (start m .args .division .rest) (start m .args .ticks)
+abbrev size : tie.After-folded → ℕ
+size m = m .folded .result * start m .args .ticks-per-day + turned-of (negative m) (start m .args .division .rest) (start m .args .ticks-per-day)
 
-count-is : (m : tie.After-magnitude) → joined (start m .args .division .day) (start m .args .ticks) (start m .args .division .rest) ≡ signed-of (negative m) (size m)
+count-is : (m : tie.After-folded) → joined (start m .args .division .day) (start m .args .ticks-per-day) (start m .args .division .rest) ≡ signed-of (negative m) (size m)
 count-is m =
     let s = start m in
-    ap (λ (z : ℤ). joined z (s .args .ticks) (s .args .division .rest)) (signed-told {x = s .args .division .day} (record { sfits = m .before .before .before .struct-told .given .0 .1 }) (m .before .before .is-negative .ensures) (m .magnitude .ensures)) ∙ joined-signed (negative m) (m .magnitude .result) (s .args .ticks) (s .args .division .rest) (s .pre .0)
+    ap (λ (z : ℤ). joined z (s .args .ticks-per-day) (s .args .division .rest)) (signed-told {x = s .args .division .day} (record { sfits = m .before .before .before .struct-told .given .0 .1 }) (m .before .before .is-negative .ensures) (m .folded .ensures)) ∙ joined-signed (negative m) (m .folded .result) (s .args .ticks-per-day) (s .args .division .rest) (s .pre .0)
 
 returns : tie.Need-returns
 returns c =
     let m = c .before in
-    let beyond = div-lt-iff-lt-mul {k = start m .args .ticks} {x = 2 ^ 63 - 1} {y = m .magnitude .result} (omega arith) .0 (c .if1 .taken) in
+    let beyond = div-lt-iff-lt-mul {k = start m .args .ticks-per-day} {x = 2 ^ 63 - 1} {y = m .folded .result} (omega arith) .0 (c .if1 .taken) in
     sym (counted-beyond _ (negative m) (size m) (count-is m) (omega (arith, beyond)))
 
--- the days' ticks are not above the greatest magnitude
-days-fit : (c : tie.Else1) → c .before .magnitude .result * start (c .before) .args .ticks ≤ 2 ^ 63 - 1
-days-fit c = le-div-iff-mul-le {k = start (c .before) .args .ticks} (omega arith) .0 (c .if1 .left)
+-- the days' ticks are not above the greatest number
+days-fit : (c : tie.Else1) → c .before .folded .result * start (c .before) .args .ticks-per-day ≤ 2 ^ 63 - 1
+days-fit c = le-div-iff-mul-le {k = start (c .before) .args .ticks-per-day} (omega arith) .0 (c .if1 .left)
 
 mul-size : tie.Need-mul-size
 mul-size c = omega (arith, days-fit c)
@@ -56,11 +56,11 @@ turned-requires c κs = search needs
 add-size : tie.Need-add-size
 add-size c =
     let m = c .before .before in
-    omega (arith, days-fit (c .before), c .turned .ensures, turned-below (negative m) (start m .args .division .rest) (start m .args .ticks) (start m .pre .0), start m .pre .1)
+    omega (arith, days-fit (c .before), c .turned .ensures, turned-below (negative m) (start m .args .division .rest) (start m .args .ticks-per-day) (start m .pre .0), start m .pre .1)
 
--- the sum of the code is that magnitude
-size-is : (c : tie.After-turned) → c .before .before .magnitude .result * start (c .before .before) .args .ticks + c .turned .result ≡ size (c .before .before)
-size-is c = ap (λ (r : ℕ). c .before .before .magnitude .result * start (c .before .before) .args .ticks + r) (c .turned .ensures)
+-- the sum of the code is what the count folds onto
+size-is : (c : tie.After-turned) → c .before .before .folded .result * start (c .before .before) .args .ticks-per-day + c .turned .result ≡ size (c .before .before)
+size-is c = ap (λ (r : ℕ). c .before .before .folded .result * start (c .before .before) .args .ticks-per-day + r) (c .turned .ensures)
 
 returns-2 : tie.Need-returns-2
 returns-2 c =
@@ -82,7 +82,7 @@ count-of-spec =
     tie.close
     (tie.spec
     is-negative-requires
-    magnitude-requires
+    folded-requires
     div-if1
     returns
     mul-size

@@ -4,7 +4,7 @@ use native.Mathlib.Omega.{arith}
 use borrow.Author.Needs.{needs}
 use lib.IntN.{pos}
 use Rattle.timestamp.proofs.DateLaws.{Date, date-parts, place-in-year}
-use Rattle.timestamp.proofs.EraDateLaws.{march-date-day, january-date-day}
+use Rattle.timestamp.proofs.EraDateLaws.{date-day}
 use Rattle.timestamp.proofs.YearLaws.{days-of-year-most}
 use Rattle.timestamp.proofs.eras.day_of.Statement.{statement}
 use Rattle.timestamp.proofs.eras.day_of.Tie as tie
@@ -17,23 +17,17 @@ day-most : (s : tie.Start) → s .args .date .day ≤ 366
 day-most s =
     omega (arith, place-in-year (pos (s .args .date .year)) (s .args .date .month) (s .args .date .day) (date s), days-of-year-most (pos (s .args .date .year)))
 
-sub-day : tie.Need-sub-day
-sub-day c = date (c .before) .day-first
+add-from-march : tie.Need-add-from-march
+add-from-march c = omega (arith, date (c .before) .month-last)
 
-cast-day : tie.Need-cast-day
-cast-day c = search needs
+sub-from-march : tie.Need-sub-from-march
+sub-from-march c = search needs
 
-add-month : tie.Need-add-month
-add-month c = search needs
+cast-from-march : tie.Need-cast-from-march
+cast-from-march c = search needs
 
-sub-month : tie.Need-sub-month
-sub-month c = search needs
-
-cast-month : tie.Need-cast-month
-cast-month c = search needs
-
-sub-days-before-year : tie.Need-sub-days-before-year
-sub-days-before-year c = search needs
+sub-year : tie.Need-sub-year
+sub-year c = search needs
 
 days-before-year-requires : tie.Need-days-before-year-requires
 days-before-year-requires c κs = search needs
@@ -44,58 +38,37 @@ days-before-month-requires c κs = search needs
 add-result : tie.Need-add-result
 add-result c = search needs
 
+sub-result : tie.Need-sub-result
+sub-result c = date (c .before .before .before .before .before) .day-first
+
+cast-result : tie.Need-cast-result
+cast-result c = search needs
+
 add-result-2 : tie.Need-add-result-2
 add-result-2 c = search needs
 
 returns : tie.Need-returns
 returns c =
-    let s = c .before .before .before .before .before .before .before in
+    let m = c .before in
+    let y = m .before in
+    let s = y .before .before .before in
     let d = date s in (
-      january-date-day (s .args .date .year) (s .args .date .month) (s .args .date .day) (c .before .days-before-year .result) (c .days-before-month .result) (s .pre .0) (d .month-first) (omega arith) (d .day-first) (c .before .days-before-year .ensures .0) (c .days-before-month .ensures),
-      omega (arith, c .before .days-before-year .ensures .1, c .days-before-month .ensures, day-most s, d .month-last),
-    )
-
-cast-month-2 : tie.Need-cast-month-2
-cast-month-2 c = search needs
-
-days-before-year-requires-2 : tie.Need-days-before-year-requires-2
-days-before-year-requires-2 c κs = search needs
-
-days-before-month-requires-2 : tie.Need-days-before-month-requires-2
-days-before-month-requires-2 c κs = omega (arith, date (c .before .before .before .before .before) .month-last)
-
-add-result-3 : tie.Need-add-result-3
-add-result-3 c = search needs
-
-add-result-4 : tie.Need-add-result-4
-add-result-4 c = search needs
-
-returns-2 : tie.Need-returns-2
-returns-2 c =
-    let s = c .before .before .before .before .before .before in
-    let d = date s in (
-      march-date-day (s .args .date .year) (s .args .date .month) (s .args .date .day) (c .before .days-before-year2 .result) (c .days-before-month2 .result) (omega arith) (d .month-last) (d .day-first) (c .before .days-before-year2 .ensures .0) (c .days-before-month2 .ensures),
-      omega (arith, c .before .days-before-year2 .ensures .1, c .days-before-month2 .ensures, day-most s, d .month-last),
+      date-day (s .args .date .year) (s .args .date .month) (s .args .date .day) (y .days-before-year .result) (m .days-before-month .result) (s .pre .0) (d .month-first) (d .month-last) (d .day-first) (y .days-before-year .ensures .0) (m .days-before-month .ensures),
+      omega (arith, y .days-before-year .ensures .1, m .days-before-month .ensures, day-most s),
     )
 
 pub day-of-spec : {M : Type 1} → statement M
 day-of-spec =
     tie.close
     (tie.spec
-    sub-day
-    cast-day
-    add-month
-    sub-month
-    cast-month
-    sub-days-before-year
+    add-from-march
+    sub-from-march
+    cast-from-march
+    sub-year
     days-before-year-requires
     days-before-month-requires
     add-result
+    sub-result
+    cast-result
     add-result-2
-    returns
-    cast-month-2
-    days-before-year-requires-2
-    days-before-month-requires-2
-    add-result-3
-    add-result-4
-    returns-2)
+    returns)

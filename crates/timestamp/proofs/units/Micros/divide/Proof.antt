@@ -1,6 +1,6 @@
 -- `timestamp::units::Micros::divide` meets its contract.
 use borrow.Author.Needs.{needs}
-use Rattle.timestamp.proofs.FloorLaws.{division-told}
+use Rattle.timestamp.proofs.FloorLaws.{division-just}
 use Rattle.timestamp.proofs.units.Micros.divide.Statement.{statement}
 use Rattle.timestamp.proofs.units.Micros.divide.Tie as tie
 
@@ -8,7 +8,7 @@ floor-divide-requires : tie.Need-floor-divide-requires
 floor-divide-requires c κs = search needs
 
 returns : tie.Need-returns
-returns c = division-told (c .before .fits .count) (c .floor-divide .ensures)
+returns c = division-just (c .before .fits .count) (c .floor-divide .ensures)
 
 pub divide-spec : {M : Type 1} → statement M
 divide-spec = tie.close (tie.spec floor-divide-requires returns)

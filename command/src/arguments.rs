@@ -1,0 +1,98 @@
+//! The words and options behind a command's name.
+
+use std::ffi::{OsStr, OsString};
+use std::str::FromStr;
+use std::vec;
+
+use crate::failure::Failure;
+
+/// Answers as JSON.
+pub const JSON: &str = "--json";
+/// Where the answer goes; takes a word.
+pub const OUTPUT: &str = "-o";
+/// A value in hexadecimal; takes a word.
+pub const HEX: &str = "--hex";
+
+/// Words in order, and options with the word that they take.
+pub struct Arguments {
+    words: vec::IntoIter<OsString>,
+    options: Vec<(&'static str, OsString)>,
+}
+
+impl Arguments {
+    /// Sorts words from options; none where help is asked for. A number below zero is a word, and so is all behind `--`.
+    pub fn parse(mut given: impl Iterator<Item = OsString>, known: &[&'static str]) -> Result<Option<Self>, Failure> {
+        let mut words = Vec::new();
+        let mut options: Vec<(&str, OsString)> = Vec::new();
+        while let Some(word) = given.next() {
+            if is_help(&word) {
+                return Ok(None);
+            } else if word == "--" {
+                words.extend(given.by_ref());
+            } else if !is_option(&word) {
+                words.push(word);
+            } else {
+                let option = known
+                    .iter()
+                    .find(|&option| word == *option)
+                    .ok_or_else(|| Failure::arguments(format!("there is no option {word:?} here")))?;
+                if options.iter().any(|(name, _)| name == option) {
+                    return Err(Failure::arguments(format!("{option} is given twice")));
+                }
+                let operand = match *option {
+                    JSON => OsString::new(),
+                    _ => given.next().ok_or_else(|| Failure::arguments(format!("{option} needs a word behind it")))?,
+                };
+                options.push((option, operand));
+            }
+        }
+        Ok(Some(Arguments { words: words.into_iter(), options }))
+    }
+
+    /// Whether an option is given.
+    pub fn has(&self, option: &str) -> bool {
+        self.option(option).is_some()
+    }
+
+    /// The word that an option takes, if it is given.
+    pub fn option(&self, option: &str) -> Option<&OsStr> {
+        self.options.iter().find(|(name, _)| *name == option).map(|(_, operand)| operand.as_os_str())
+    }
+
+    /// The next word, which must be there.
+    pub fn word(&mut self, name: &str) -> Result<OsString, Failure> {
+        self.words.next().ok_or_else(|| Failure::arguments(format!("{name} is missing")))
+    }
+
+    /// The next word as text.
+    pub fn text(&mut self, name: &str) -> Result<String, Failure> {
+        self.word(name)?.into_string().map_err(|word| Failure::arguments(format!("{name} cannot be {word:?}")))
+    }
+
+    /// The next word as a number that its type holds.
+    pub fn number<N: FromStr>(&mut self, name: &str) -> Result<N, Failure> {
+        let text = self.text(name)?;
+        text.parse().map_err(|_| Failure::arguments(format!("{name} cannot be {text:?}: it is a whole number")))
+    }
+
+    /// Holds the words to those that were taken.
+    pub fn end(mut self) -> Result<(), Failure> {
+        match self.words.next() {
+            None => Ok(()),
+            Some(word) => Err(Failure::arguments(format!("{word:?} is one word too many"))),
+        }
+    }
+}
+
+/// Whether a word asks for help.
+pub fn is_help(word: &OsStr) -> bool {
+    word == "--help" || word == "-h"
+}
+
+/// Whether a word is an option: a dash and more, but no number.
+fn is_option(word: &OsStr) -> bool {
+    match word.as_encoded_bytes() {
+        [b'-', next, ..] => !next.is_ascii_digit(),
+        _ => false,
+    }
+}

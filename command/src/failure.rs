@@ -1,0 +1,78 @@
+//! What can go wrong, how it is told, and the exit status of each.
+
+use std::ffi::OsStr;
+use std::fmt::Display;
+use std::io::{self, ErrorKind, Write};
+use std::process::ExitCode;
+
+use griffeljol::Refusal;
+
+use crate::files::STANDARD;
+
+/// Why the command does not end with status 0.
+pub enum Failure {
+    /// The library refused: status 1.
+    Refused(Refusal),
+    /// The arguments are wrong, or a file cannot be read or written: status 2 and one line.
+    Message(String),
+    /// Whoever read standard output stopped reading: status 141, as of a command that SIGPIPE ended, and no word.
+    ClosedPipe,
+}
+
+const REFUSED: u8 = 1;
+const MESSAGE: u8 = 2;
+const CLOSED_PIPE: u8 = 128 + 13;
+
+impl Failure {
+    /// Wrong arguments.
+    pub fn arguments(what: impl Display) -> Self {
+        Failure::Message(format!("{what}; see griffeljol --help"))
+    }
+
+    /// A file that cannot be read.
+    pub fn read(name: &OsStr, error: io::Error) -> Self {
+        Failure::Message(format!("cannot read {}: {error}", shown(name, "standard input")))
+    }
+
+    /// A file that cannot be written.
+    pub fn write(name: &OsStr, error: io::Error) -> Self {
+        match error.kind() {
+            ErrorKind::BrokenPipe => Failure::ClosedPipe,
+            _ => Failure::Message(format!("cannot write {}: {error}", shown(name, "standard output"))),
+        }
+    }
+
+    /// Tells it on standard error, and gives the exit status. A standard error that takes no word changes nothing.
+    pub fn report(&self) -> ExitCode {
+        let (text, status) = match self {
+            Failure::Refused(refusal) => (format!("{refusal}\n{}\n", explained(*refusal)), REFUSED),
+            Failure::Message(message) => (format!("griffeljol: {message}\n"), MESSAGE),
+            Failure::ClosedPipe => (String::new(), CLOSED_PIPE),
+        };
+        let _ = io::stderr().write_all(text.as_bytes());
+        ExitCode::from(status)
+    }
+}
+
+impl From<Refusal> for Failure {
+    fn from(refusal: Refusal) -> Self {
+        Failure::Refused(refusal)
+    }
+}
+
+/// A refusal's meaning in words, with that of its place if it has one.
+fn explained(refusal: Refusal) -> String {
+    match refusal.place_meaning() {
+        None => refusal.meaning().to_owned(),
+        Some(place) => format!("{}; place {} is {place}", refusal.meaning(), refusal.place),
+    }
+}
+
+/// A file's name as a message has it.
+fn shown(name: &OsStr, standard: &str) -> String {
+    if name == STANDARD {
+        standard.to_owned()
+    } else {
+        format!("{name:?}")
+    }
+}

@@ -1,0 +1,93 @@
+//! The help of the command and of each of its parts.
+
+pub const ALL: &str = "\
+griffeljol reads Parquet schema sheets. Every answer is the proved library's.
+
+  griffeljol rows FILE [--json]            the sheet's rows
+  griffeljol tree FILE [--json]            the schema as an indented tree
+  griffeljol rewrite FILE -o OUT           the sheet anew, with both annotations at every node
+  griffeljol value PHYSICAL LENGTH KIND P1 P2 (FILE | --hex HEX) [--json]
+                                           one value of a column
+  griffeljol timestamp decode UNIT COUNT [--json]
+  griffeljol timestamp encode UNIT DATE TIME [--json]
+                                           a count as a date and time, and back
+  griffeljol COMMAND --help                more on one of them
+
+FILE and OUT may be - for standard input and standard output. Behind -- every word is taken as it stands.
+
+Exit status
+    0  done
+    1  refused: standard error has the line 'refused N at P', then its meaning in words
+    2  wrong arguments, or a file that cannot be read or written: standard error has one line
+  141  whoever read standard output stopped reading; nothing is said
+";
+
+pub const ROWS: &str = "\
+griffeljol rows FILE [--json]
+
+Judges the sheet in FILE, or on standard input for -, and prints 'nodes T' and then a line for each of its T nodes:
+physical, type length, repetition, kind, p1, p2, parent, end and role.
+
+  --json   prints an object with the number of nodes and the rows, each with its numbers by name. A refusal is
+           printed as an object, besides its words on standard error
+";
+
+pub const REWRITE: &str = "\
+griffeljol rewrite FILE -o OUT
+
+Judges the sheet in FILE, or on standard input for -, and writes it to OUT with both annotations at every node.
+OUT may be FILE itself, or - for standard output.
+
+OUT is replaced whole once the sheet is accepted and written beside it. On a refusal or any other failure an existing
+OUT stays as it was.
+";
+
+pub const TREE: &str = "\
+griffeljol tree FILE [--json]
+
+Judges the sheet in FILE, or on standard input for -, and draws its schema, a line for each node: its number, its level
+below the root, its name under its parent's, its type, annotation, repetition and role. A TIME or TIMESTAMP is
+adjusted to UTC, or local.
+
+A name with a space, with characters that do not print by themselves or with bytes that are no UTF-8 stands in quotes,
+with escapes. Names are read from the accepted sheet's bytes; all else is the library's answer.
+
+  --json   prints an object with the nodes in order, each with these and its row. A name that is no UTF-8 is null;
+           name_hex has its bytes. A refusal is printed as an object, besides its words on standard error
+";
+
+pub const VALUE: &str = "\
+griffeljol value PHYSICAL LENGTH KIND P1 P2 (FILE | --hex HEX) [--json]
+
+Reads one value of the column type of these five numbers, which a leaf's row has. The value's bytes are those of FILE,
+of standard input for -, or of HEX, pairs of hexadecimal digits. Prints true or false, a whole number, 'float' or
+'double' and its decimal, or for INT96 and all byte forms 'bytes', where they start and how many they are.
+
+  --json   prints an object with the case and the value, for floats also the bits. A refusal is printed as an object,
+           besides its words on standard error
+
+  PHYSICAL   0 BOOLEAN  1 INT32  2 INT64  3 INT96  4 FLOAT  5 DOUBLE  6 BYTE_ARRAY  7 FIXED_LEN_BYTE_ARRAY
+  LENGTH     bytes of a FIXED_LEN_BYTE_ARRAY, else 0
+  KIND       0 none  1 STRING  4 ENUM  5 DECIMAL  6 DATE  7 TIME  8 TIMESTAMP  10 INTEGER  11 UNKNOWN  12 JSON
+             13 BSON  14 UUID  21 INTERVAL
+  P1 P2      DECIMAL: precision and scale. TIME, TIMESTAMP: unit (1 millis, 2 micros, 3 nanos) and UTC (1 or 0).
+             INTEGER: bit width and signed (1 or 0). Else 0 0
+
+For example, a DECIMAL of precision 3 and scale 2 on BYTE_ARRAY: griffeljol value 6 0 5 3 2 --hex FF
+";
+
+pub const TIMESTAMP: &str = "\
+griffeljol timestamp decode UNIT COUNT [--json]
+griffeljol timestamp encode UNIT DATE TIME [--json]
+
+Turns a count of ticks since 1970-01-01 00:00:00 into its date and time, by the Gregorian calendar carried both ways,
+and back. UNIT is millis, micros or nanos, or its number, 1 to 3. DATE is YEAR-MONTH-DAY, TIME is HOUR:MINUTE:SECOND
+with at most the unit's digits behind a point.
+
+  --json   prints an object with the unit, the count and the fields, the fraction in ticks. A refusal is printed as an
+           object, besides its words on standard error
+
+For example:
+  griffeljol timestamp decode millis -1
+  griffeljol timestamp encode nanos 1677-09-21 00:12:43.145224192
+";

@@ -1,0 +1,86 @@
+//! Answers as JSON, a line for each.
+
+use std::fmt::{self, Display};
+
+use griffeljol::Refusal;
+
+/// A JSON value.
+pub enum Json {
+    Null,
+    Truth(bool),
+    /// A number, as it is spelled.
+    Number(String),
+    Text(String),
+    List(Vec<Json>),
+    Object(Vec<(&'static str, Json)>),
+}
+
+impl Json {
+    /// A number.
+    pub fn number(number: impl Display) -> Self {
+        Json::Number(number.to_string())
+    }
+
+    /// A text.
+    pub fn text(text: impl Into<String>) -> Self {
+        Json::Text(text.into())
+    }
+
+    /// A text, or null.
+    pub fn maybe(text: Option<impl Into<String>>) -> Self {
+        text.map_or(Json::Null, Json::text)
+    }
+
+    /// The value with its line's end.
+    pub fn line(&self) -> String {
+        format!("{self}\n")
+    }
+}
+
+impl Display for Json {
+    fn fmt(&self, f: &mut fmt::Formatter<'_>) -> fmt::Result {
+        match self {
+            Json::Null => f.write_str("null"),
+            Json::Truth(truth) => truth.fmt(f),
+            Json::Number(number) => f.write_str(number),
+            Json::Text(text) => write_text(f, text),
+            Json::List(values) => {
+                f.write_str("[")?;
+                for (at, value) in values.iter().enumerate() {
+                    write!(f, "{}{value}", if at == 0 { "" } else { ", " })?;
+                }
+                f.write_str("]")
+            }
+            Json::Object(members) => {
+                f.write_str("{")?;
+                for (at, (name, value)) in members.iter().enumerate() {
+                    write!(f, "{}\"{name}\": {value}", if at == 0 { "" } else { ", " })?;
+                }
+                f.write_str("}")
+            }
+        }
+    }
+}
+
+/// A text in quotes, with the escapes that RFC 8259 asks for.
+fn write_text(f: &mut fmt::Formatter<'_>, text: &str) -> fmt::Result {
+    f.write_str("\"")?;
+    for c in text.chars() {
+        match c {
+            '"' | '\\' => write!(f, "\\{c}")?,
+            '\0'..='\x1F' => write!(f, "\\u{:04x}", u32::from(c))?,
+            _ => write!(f, "{c}")?,
+        }
+    }
+    f.write_str("\"")
+}
+
+/// A refusal.
+pub fn refusal(refusal: Refusal) -> Json {
+    Json::Object(vec![
+        ("refused", Json::number(refusal.number)),
+        ("at", Json::number(refusal.place)),
+        ("meaning", Json::text(refusal.meaning())),
+        ("place", Json::maybe(refusal.place_meaning())),
+    ])
+}

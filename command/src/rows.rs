@@ -1,0 +1,49 @@
+//! `griffeljol rows`: the rows of a sheet, as document 01 prints them.
+
+use griffeljol::{Row, MAX_SHEET};
+
+use crate::arguments::{Arguments, JSON};
+use crate::failure::Failure;
+use crate::files;
+use crate::json::Json;
+
+pub fn run(mut arguments: Arguments) -> Result<Vec<u8>, Failure> {
+    let file = arguments.word("FILE")?;
+    let wants_json = arguments.has(JSON);
+    arguments.end()?;
+    let rows = griffeljol::rows(&files::read(&file, MAX_SHEET)?)?;
+    let text = if wants_json {
+        let nodes = ("nodes", Json::number(rows.len()));
+        let rows = ("rows", Json::List(rows.iter().map(object).collect()));
+        Json::Object(vec![nodes, rows]).line()
+    } else {
+        lines(&rows)
+    };
+    Ok(text.into_bytes())
+}
+
+/// `nodes T`, then a line for each row.
+fn lines(rows: &[Row]) -> String {
+    let mut text = format!("nodes {}\n", rows.len());
+    for row in rows {
+        text += &row.numbers().map(|number| number.to_string()).join(" ");
+        text.push('\n');
+    }
+    text
+}
+
+/// A row's numbers by their names.
+pub fn object(row: &Row) -> Json {
+    let Row { physical, type_length, repetition, kind, p1, p2, parent, end, role } = *row;
+    Json::Object(vec![
+        ("physical", Json::number(physical)),
+        ("type_length", Json::number(type_length)),
+        ("repetition", Json::number(repetition)),
+        ("kind", Json::number(kind)),
+        ("p1", Json::number(p1)),
+        ("p2", Json::number(p2)),
+        ("parent", Json::number(parent)),
+        ("end", Json::number(end)),
+        ("role", Json::number(role)),
+    ])
+}

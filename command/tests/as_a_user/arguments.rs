@@ -1,0 +1,67 @@
+//! Arguments that the command cannot take.
+
+use std::ffi::OsString;
+use std::os::unix::ffi::OsStringExt;
+
+use crate::{failed, run, SAMPLE};
+
+#[test]
+fn wrong_arguments_are_one_line_and_status_2() {
+    let cases: &[(&[&str], &str)] = &[
+        (&[], "no command"),
+        (&[""], "no command \"\""),
+        (&["row", SAMPLE], "no command \"row\""),
+        (&["--json", "rows", SAMPLE], "no command \"--json\""),
+        (&["rows"], "FILE is missing"),
+        (&["rows", "--"], "FILE is missing"),
+        (&["rows", SAMPLE, SAMPLE], "one word too many"),
+        (&["rows", SAMPLE, "--jsn"], "no option \"--jsn\""),
+        (&["rows", SAMPLE, "-o", "out"], "no option \"-o\""),
+        (&["rows", "--json", "--json", SAMPLE], "--json is given twice"),
+        (&["tree"], "FILE is missing"),
+        (&["tree", SAMPLE, "two\nlines"], "\"two\\nlines\" is one word too many"),
+        (&["rewrite", SAMPLE], "-o OUT is missing"),
+        (&["rewrite", "-o", "out"], "FILE is missing"),
+        (&["rewrite", SAMPLE, "-o"], "-o needs a word"),
+        (&["rewrite", SAMPLE, "-o", "a", "-o", "b"], "-o is given twice"),
+        (&["rewrite", SAMPLE, "--json", "-o", "-"], "no option \"--json\""),
+        (&["value"], "PHYSICAL is missing"),
+        (&["value", "1", "0", "0", "0"], "P2 is missing"),
+        (&["value", "1", "0", "0", "0", "0"], "FILE or --hex HEX is missing"),
+        (&["value", "INT32", "0", "0", "0", "0", "--hex", "00"], "PHYSICAL cannot be \"INT32\""),
+        (&["value", "1", "-1", "0", "0", "0", "--hex", "00"], "LENGTH cannot be \"-1\""),
+        (&["value", "1", "0", "4294967296", "0", "0", "--hex", "00"], "KIND cannot be"),
+        (&["value", "1", "0", "0", "", "0", "--hex", "00"], "P1 cannot be"),
+        (&["value", "1", "0", "0", "0", "0", "--hex", "0"], "HEX cannot be"),
+        (&["value", "1", "0", "0", "0", "0", "--hex", "0G"], "HEX cannot be"),
+        (&["value", "1", "0", "0", "0", "0", "--hex", "\u{ff}"], "HEX cannot be"),
+        (&["value", "1", "0", "0", "0", "0", "--hex", "00", SAMPLE], "one word too many"),
+        (&["timestamp"], "decode or encode is missing"),
+        (&["timestamp", "parse"], "not \"parse\""),
+        (&["timestamp", "decode"], "UNIT is missing"),
+        (&["timestamp", "decode", "seconds", "0"], "UNIT cannot be"),
+        (&["timestamp", "decode", "-1", "0"], "UNIT cannot be"),
+        (&["timestamp", "decode", "millis"], "COUNT is missing"),
+        (&["timestamp", "decode", "millis", "1.5"], "COUNT cannot be"),
+        (&["timestamp", "decode", "millis", "9223372036854775808"], "COUNT cannot be"),
+        (&["timestamp", "decode", "4", "0", "0"], "one word too many"),
+        (&["timestamp", "encode", "millis", "1970-01-01"], "TIME is missing"),
+        (&["timestamp", "encode", "millis", "1970-01", "00:00:00"], "DATE cannot be"),
+        (&["timestamp", "encode", "millis", "1970-01--1", "00:00:00"], "DATE cannot be"),
+        (&["timestamp", "encode", "millis", "1970-01-01", "00:00"], "TIME cannot be"),
+        (&["timestamp", "encode", "millis", "1970-01-01", "00:00:-1"], "TIME cannot be"),
+        (&["timestamp", "encode", "millis", "1970-01-01", "00:00:00."], "TIME cannot be"),
+        (&["timestamp", "encode", "millis", "1970-01-01", "00:00:00.0001"], "at most 3 digits"),
+    ];
+    for (words, message) in cases {
+        failed(&run(*words), message);
+    }
+}
+
+#[test]
+fn words_that_are_no_text() {
+    let word = OsString::from_vec(vec![b'x', 0xFF]);
+    failed(&run([word.clone()]), "no command");
+    failed(&run(["rows".into(), word.clone()]), "cannot read");
+    failed(&run(["timestamp".into(), word]), "cannot be");
+}

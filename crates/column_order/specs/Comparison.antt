@@ -1,0 +1,42 @@
+-- What the promises on order speak of: valid values, NaNs, an answer turned round, and answers that say at most.
+use mathlib.Core.Path.{_≡_}
+use mathlib.Core.Bool.{Bool, true, false}
+use mathlib.Core.List.{List}
+use Prim.Native.Nat.{ℕ}
+use Rattle.column.specs.Reading.{readOf}
+use Rattle.column.specs.declared.value.Read.{Read}
+use Rattle.column.specs.declared.value.Value.{Value}
+use Rattle.column_type.specs.declared.types.ColumnType.{ColumnType}
+use Rattle.column_order.specs.Keys.{none, keyOf}
+use Rattle.column_order.specs.declared.answer.Order.{Order}
+use Rattle.column_order.specs.declared.answer.Order.the-variants.{Less, Equal, Greater, Unordered, Unlawful, NoOrder, WrongLength, BreaksAnnotation}
+
+-- bytes that a value is read of
+abbrev pub Valid : ColumnType → List ℕ → Type 0
+Valid c bs = (x : Value) × (readOf c bs ≡ Read.Value x)
+
+-- a FLOAT or a DOUBLE that is a NaN
+abbrev pub NotANumber : ColumnType → List ℕ → Type 0
+NotANumber c bs = keyOf c bs ≡ none
+
+-- the answer with the values exchanged
+abbrev pub turned : Order → Order
+turned Less = Greater
+turned Equal = Equal
+turned Greater = Less
+turned Unordered = Unordered
+turned Unlawful = Unlawful
+turned NoOrder = NoOrder
+turned WrongLength = WrongLength
+turned BreaksAnnotation = BreaksAnnotation
+
+-- the first value is at most the second
+abbrev pub atMost : Order → Bool
+atMost Less = true
+atMost Equal = true
+atMost Greater = false
+atMost Unordered = false
+atMost Unlawful = false
+atMost NoOrder = false
+atMost WrongLength = false
+atMost BreaksAnnotation = false

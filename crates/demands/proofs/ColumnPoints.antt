@@ -1,0 +1,72 @@
+-- Points on single values and their order, which the definitions compute.
+use mathlib.Core.Path.{_≡_, refl}
+use mathlib.Core.List.{List, [], _∷_}
+use Prim.Native.Nat.{ℕ}
+use Rattle.annotation.specs.Backward.{backwardOf}
+use Rattle.annotation.specs.Meaning.{annotationOf}
+use Rattle.annotation.specs.Parameters.{unitOf, bitWidthOf, validParameters}
+use Rattle.annotation.specs.Rule9.{rule9}
+use Rattle.annotation.specs.Rule10.{rule10}
+use Rattle.annotation.specs.Rule11.{ordered, physicalHolds, decimalHolds, rule11}
+use Rattle.annotation.specs.Signed.{natural}
+use Rattle.annotation.specs.Spelling.{namedOf, statedOf}
+use Rattle.column.specs.Annotations.{inSignedBits, wholeKeeps, bytesKeep, keeps}
+use Rattle.parquet.specs.Physical.{INT32, BYTE-ARRAY}
+use Rattle.parquet.specs.Logical.{DECIMAL, INTEGER}
+use Rattle.column.specs.Annotations.{UNSIGNED}
+use Rattle.column.specs.Lengths.{lengthRight}
+use Rattle.column.specs.Numbers.{little, twosComplement}
+use Rattle.column.specs.Outcome.{Outcome, refused, given}
+use Rattle.column.specs.Outcome as reading
+use Rattle.column.specs.Reading.{valueOf, readOf}
+use Rattle.column.specs.declared.value.Value.{Value}
+use Rattle.column.specs.declared.value.Value.the-variants.{Unsigned, Bytes}
+use Rattle.column_type.specs.Lawful.{slotOf, fits, isLeaf, isLawful}
+use Rattle.column_type.specs.declared.types.ColumnType.{ColumnType}
+use Rattle.decimal.specs.Number.{number}
+use Rattle.tree.specs.Rules.{isNought, lengthShape}
+use Rattle.sheet.specs.Sound.{listed, physicalListed}
+use Rattle.column_order.specs.Keys.{numberOf, keyOf, wholeOrder, keyOrder}
+use Rattle.column_order.specs.Order.{orderOf}
+use Rattle.column_order.specs.Outcome.{Relation, less, equal, greater, outcomeOf, outcome}
+use Rattle.demands.specs.Points.{uint8, decimals}
+
+-- what reading and ordering compute with, opened
+read : ColumnType → List ℕ → Outcome Value
+unfolding reading.outcome readOf valueOf keeps wholeKeeps bytesKeep inSignedBits lengthRight little twosComplement number isLawful fits isLeaf physicalListed listed lengthShape isNought slotOf rule9 rule10 rule11 decimalHolds ordered physicalHolds annotationOf backwardOf statedOf namedOf validParameters unitOf bitWidthOf natural
+read = reading.outcome
+
+order : ColumnType → List ℕ → List ℕ → Outcome Relation
+unfolding read outcome outcomeOf orderOf keyOrder keyOf wholeOrder numberOf
+order = outcome
+
+-- "*INT(8, false): 255 valid, 256: 16"
+pub uint8-255 : reading.outcome uint8 (255 ∷ 0 ∷ 0 ∷ 0 ∷ []) ≡ given (Unsigned 255)
+unfolding read
+uint8-255 = refl
+
+pub uint8-256 : reading.outcome uint8 (0 ∷ 1 ∷ 0 ∷ 0 ∷ []) ≡ refused 16 0
+unfolding read
+uint8-256 = refl
+
+-- "*Precision 2: 63 hex valid, 64 hex 16"
+pub two-digits : reading.outcome (decimals 2) (0x63 ∷ []) ≡ given (Bytes 0 1)
+unfolding read
+two-digits = refl
+
+pub three-digits : reading.outcome (decimals 2) (0x64 ∷ []) ≡ refused 16 0
+unfolding read
+three-digits = refl
+
+-- "BYTE_ARRAY decimals of precision 3: *FF and FFFF equal; *80 below 7F; *00FF above 7F"
+pub ff-ffff : outcome (decimals 3) (0xFF ∷ []) (0xFF ∷ 0xFF ∷ []) ≡ given equal
+unfolding order
+ff-ffff = refl
+
+pub minus-below-plus : outcome (decimals 3) (0x80 ∷ []) (0x7F ∷ []) ≡ given less
+unfolding order
+minus-below-plus = refl
+
+pub longer-above : outcome (decimals 3) (0x00 ∷ 0xFF ∷ []) (0x7F ∷ []) ≡ given greater
+unfolding order
+longer-above = refl

@@ -1,0 +1,7 @@
+-- The proofs of what `specs/` states, each a citation or a computation.
+pub mod Entries
+pub mod Demands
+pub mod TimePoints
+pub mod ColumnPoints
+pub mod SheetPoints
+pub mod Points

@@ -1,0 +1,79 @@
+-- Points on sheets of one block, and the example of four nodes, which the definitions compute.
+use Prim.Native.Nat.{ℕ, _*_, _-_, _/_, _%_}
+use mathlib.Core.Path.{_≡_, refl}
+use mathlib.Core.Bool.{true}
+use mathlib.Core.List.{List, [], _∷_, _++_}
+use lib.ListN.{length, replicate}
+use Rattle.sheet.specs.Number.{numberAt, signed32}
+use Rattle.sheet.specs.Block.{firstSlotAt, checkAt, slotSize, versionNow, blockCount, blockAt, blockNumber, nodesHere, version, total, storedCheck, totalOf}
+use Rattle.sheet.specs.Check.{sumBelow, weighted, check, checkRight}
+use Rattle.sheet.specs.Slot.{nameAt, physical, repetition, converted, logical, parameterA, parameterB, childCount, typeLength, scale, precision, nameLength, name, numbersOf, slotStart, reaches, slotAt, slotsFrom, slots}
+use Rattle.sheet.specs.Sound.{listed, physicalListed, repetitionListed, convertedListed, logicalListed, nameLengthRight, allZero, reservedZero, tailZero, codesListed, nameRight, slotSound, slotRight}
+use Rattle.sheet.specs.Header.{lengthRight, blocksFor, nodesIn, totalRight, fieldsRight, headerRight}
+use Rattle.sheet.specs.First.{firstWrongFrom, firstWrong}
+use Rattle.sheet.specs.Name.{sameBytes}
+use Rattle.sheet.specs.Opening as sheet
+use Rattle.decimal.specs.Precision.{greatestPrecision, greatest}
+use Rattle.parquet.specs.Repetition.{REQUIRED, OPTIONAL, REPEATED}
+use Rattle.parquet.specs.Repetition as repetition
+use Rattle.parquet.specs.Physical as physical
+use Rattle.parquet.specs.Converted as converted
+use Rattle.parquet.specs.Logical as logical
+use Rattle.annotation.specs.Signed.{natural}
+use Rattle.annotation.specs.Parameters.{UNUSED, unitCode, flagCode, unitOf, validParameters}
+use Rattle.annotation.specs.Spelling.{namedOf, statedOf}
+use Rattle.annotation.specs.Backward.{backwardOf}
+use Rattle.annotation.specs.Meaning.{annotationOf}
+use Rattle.annotation.specs.Kinds.{kindOf}
+use Rattle.annotation.specs.Rule9 as nine
+use Rattle.annotation.specs.Rule10 as ten
+use Rattle.annotation.specs.Rule11 as eleven
+use Rattle.annotation.specs.declared.types.TimeUnit.{TimeUnit}
+use Rattle.tree.specs.Annotated.{annotated, kind, rule9, rule10, rule11}
+use Rattle.tree.specs.Tree.{listing, count, size, depths}
+use Rattle.tree.specs.Rules.{isList, isMap, placeBelow, isNought, lengthShape, decimalShape, shape, rule8, namedElement, isElementGroup, holdsElement, listChild, listRun, listKept, rule12, rule13}
+use Rattle.tree.specs.Faults.{broken, faults}
+use Rattle.schema.specs.Rows.{listRole, role, parentBy, row, parentOf, rowsFrom, rows, rowWidth}
+use Rattle.tree.specs.Reading.{takeFields, dropFields, trees, firstTree, treeOf}
+use Rattle.tree.specs.OpenPlaces.{sum, openPlaces, isNoPlace}
+use Rattle.tree.specs.Judgement.{refusal, orElse, leftOver, missing, firstFault, deepness, tooDeep, unlawful, treeRefusal, judgedAs, judgement}
+use Rattle.schema.specs.Outcome.{answer, outcome, written}
+use Rattle.schema.specs.declared.resolving.Resolved.{Resolved}
+use Rattle.demands.specs.Sheets.{sheetOf, rootSlot, leafSheet, exampleSheet}
+
+-- `outcome`, with all that it is made of open: what names it on its line computes
+opened : List ℕ → ℕ → Resolved
+unfolding outcome answer judgement judgedAs treeRefusal orElse leftOver missing openPlaces sum isNoPlace tooDeep deepness firstFault unlawful faults broken treeOf firstTree trees takeFields dropFields depths count sheet.outcome sheet.outcomeOf sheet.openOf sheet.atFirst firstWrong firstWrongFrom lengthRight headerRight fieldsRight totalRight blocksFor nodesIn blockCount blockAt blockNumber nodesHere version total totalOf checkRight check sumBelow weighted storedCheck slotRight slotSound codesListed listed physicalListed repetitionListed convertedListed logicalListed nameRight nameLengthRight reservedZero tailZero allZero slots slotsFrom slotAt slotStart reaches numbersOf numberAt signed32 physical repetition converted logical parameterA parameterB childCount typeLength scale precision nameLength name sameBytes rule8 shape lengthShape decimalShape isNought rule9 rule10 rule11 rule12 rule13 isList isMap placeBelow listKept listRun listChild isElementGroup namedElement holdsElement kind annotated kindOf annotationOf backwardOf statedOf namedOf unitOf validParameters natural nine.rule9 ten.rule10 eleven.rule11 eleven.decimalHolds eleven.ordered eleven.physicalHolds sheetOf
+opened = outcome
+
+-- "One root alone: accepted"
+pub root-alone : outcome (sheetOf 1 (rootSlot 0)) rowWidth ≡ Resolved.Rows 1
+unfolding opened
+root-alone = refl
+
+-- "Scale = precision: 11"
+pub scale-is-precision : outcome (leafSheet physical.INT32 converted.NONE logical.DECIMAL UNUSED UNUSED 0 3 3) (rowWidth * 2) ≡ Resolved.Refused (refusal 11 1)
+unfolding opened
+scale-is-precision = refl
+
+-- "TIME_MILLIS with TIME(NANOS): 9"
+pub time-millis-with-nanos : outcome (leafSheet physical.INT64 converted.TIME-MILLIS logical.TIME (unitCode TimeUnit.Nanos) (flagCode true) 0 0 0) (rowWidth * 2) ≡ Resolved.Refused (refusal 9 1)
+unfolding opened
+time-millis-with-nanos = refl
+
+pub example-accepted : outcome exampleSheet (rowWidth * 4) ≡ Resolved.Rows 4
+unfolding opened
+example-accepted = refl
+
+pub example-rows : written (outcome exampleSheet (rowWidth * 4)) exampleSheet (replicate (rowWidth * 4) 0) ≡
+    (255 ∷ 0 ∷ 255 ∷ 30 ∷ 0 ∷ 0 ∷ 0 ∷ 4 ∷ 0 ∷ [])
+    ++ (255 ∷ 0 ∷ 0 ∷ 3 ∷ 0 ∷ 0 ∷ 0 ∷ 4 ∷ 0 ∷ [])
+    ++ (255 ∷ 0 ∷ 2 ∷ 30 ∷ 0 ∷ 0 ∷ 1 ∷ 4 ∷ 1 ∷ [])
+    ++ (6 ∷ 0 ∷ 1 ∷ 1 ∷ 0 ∷ 0 ∷ 2 ∷ 4 ∷ 2 ∷ [])
+unfolding opened written rows rowsFrom row parentOf parentBy role listRole size listing
+example-rows = refl
+
+-- "FIXED 1 precision 3: 11"
+pub fixed-1-precision-3 : outcome (leafSheet physical.FIXED-LEN-BYTE-ARRAY converted.NONE logical.DECIMAL UNUSED UNUSED 1 0 3) (rowWidth * 2) ≡ Resolved.Refused (refusal 11 1)
+unfolding opened greatestPrecision greatest
+fixed-1-precision-3 = refl

@@ -1,0 +1,4 @@
+-- Laws that speak of no crate's own subject.
+pub mod BoolLaws
+pub mod DifferenceLaws
+pub mod SignedLaws

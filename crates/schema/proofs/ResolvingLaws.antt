@@ -1,0 +1,57 @@
+-- A sheet resolved, by what judging answers.
+use Prim.Native.Nat.{ℕ, _+_, _*_, _≤_, _<_}
+use mathlib.Core.Path.{_≡_, refl, sym, ap, _∙_}
+use mathlib.Core.List.{List, [], _++_}
+use native.Mathlib.Omega.{arith}
+use native.Mathlib.Nat.{zero-add}
+use borrow.Author.Tests.{lt-ltb, le-ltb}
+use lib.ListN.{length, drop}
+use Rattle.sheet.specs.Block.{totalOf}
+use Rattle.sheet.specs.Opening as sheet
+use Rattle.sheet.specs.Slot.{slots, slotAt}
+use Rattle.tree.specs.Tree.{SlotBytes, Tree, node}
+use Rattle.schema.specs.Rows.{rowsFrom, row, parentOf, role, rows, rowWidth}
+use Rattle.tree.specs.Reading.{treeOf}
+use Rattle.tree.specs.Judgement.{refusal}
+use Rattle.schema.specs.Outcome.{answer, outcome, written}
+use Rattle.tree.specs.Steps.{treeAt, judgementOf}
+use Rattle.schema.specs.Steps.{placed}
+use Rattle.schema.specs.declared.roles.Parent.{Parent}
+use Rattle.tree.specs.declared.refusal.Refusal.{Refusal}
+use Rattle.tree.specs.declared.judgement.Judgement.{Judgement}
+use Rattle.schema.specs.declared.resolving.Resolved.{Resolved}
+use Rattle.tree.proofs.JudgementLaws.{judged-refused, judged-lawful, judged-total, tree-size}
+use Rattle.tree.proofs.StandingLaws.{treeAt-zero}
+use Rattle.schema.proofs.RowsLaws.{length-rowsFrom}
+
+-- what stands above the root does not matter
+other-above : (t : Tree) (a b : SlotBytes) → rowsFrom 0 0 Parent.Other a t ≡ rowsFrom 0 0 Parent.Other b t
+unfolding rowsFrom row parentOf role
+other-above (node s fs) a b = refl
+
+module _ (b : List ℕ) where
+  pub resolve-refused : (r : Refusal) (lent : List ℕ) → judgementOf b ≡ Judgement.Refused r → outcome b (length lent) ≡ Resolved.Refused r
+  unfolding outcome answer
+  resolve-refused r lent e = rw (judged-refused b r e)
+
+  pub written-refused : (r : Refusal) (lent : List ℕ) → outcome b (length lent) ≡ Resolved.Refused r → lent ≡ written (outcome b (length lent)) b lent
+  unfolding written
+  written-refused r lent e = rw e
+
+  module _ (n : ℕ) (e : judgementOf b ≡ Judgement.Nodes n) where
+    pub resolve-short : (lent : List ℕ) → length lent < rowWidth * n → outcome b (length lent) ≡ Resolved.Refused (refusal 14 0)
+    unfolding outcome answer
+    resolve-short lent h = rw (judged-lawful b n e .0, lt-ltb (length lent) (rowWidth * totalOf b) (omega (arith, judged-total b n e)))
+
+    pub resolve-rows : (lent : List ℕ) → rowWidth * n ≤ length lent → outcome b (length lent) ≡ Resolved.Rows n
+    unfolding outcome answer
+    resolve-rows lent h = rw (judged-lawful b n e .0, le-ltb (length lent) (rowWidth * totalOf b) (omega (arith, judged-total b n e))) (ap Resolved.Rows (sym (judged-total b n e)))
+
+    pub written-rows : (lent r : List ℕ) → rowWidth * n ≤ length lent → r ≡ placed lent (rowWidth * 0) (rowsFrom 0 0 Parent.Other (slotAt b 0) (treeAt (slots b) 0)) → r ≡ written (outcome b (length lent)) b lent
+    unfolding written placed rows
+    written-rows lent r h q =
+        q
+        ∙ ap (λ (t : Tree). placed lent (rowWidth * 0) (rowsFrom 0 0 Parent.Other (slotAt b 0) t)) (treeAt-zero (slots b))
+        ∙ ap (placed lent (rowWidth * 0)) (other-above (treeOf (slots b)) (slotAt b 0) [])
+        ∙ ap (λ (k : ℕ). rows (treeOf (slots b)) ++ drop k lent) (zero-add _ ∙ length-rowsFrom (treeOf (slots b)) 0 0 Parent.Other [] ∙ ap (λ (k : ℕ). rowWidth * k) (tree-size b n e))
+        ∙ sym (rw (resolve-rows lent h))

@@ -1,0 +1,103 @@
+-- `schema_text::answers::refusal_text` meets its contract.
+use Prim.Native.Nat.{_≤_}
+use mathlib.Core.List.{[], _∷_}
+use mathlib.Core.Path.{sym, ap, _∙_, refl}
+use native.Mathlib.Omega.{arith}
+use lib.ListN.{length, replicate, length-append}
+use lib.Seq.{length-take-le}
+use Rattle.text.specs.Placing.{positionAfter, placedText}
+use Rattle.text.specs.Refusals.{refusalText}
+use Rattle.text.specs.Characters.{LF}
+use Rattle.text.proofs.RefusalLaws.{refusal-most}
+use Rattle.text.proofs.PlacingLaws.{Holds, holds-none, holds-more, holds-front, holds-within}
+use Rattle.schema_text.specs.Making.{made, madeIn}
+use Rattle.schema_text.specs.Rows.{refusalLine}
+use Rattle.schema_text.proofs.MakingLaws.{made-within, made-beyond}
+use borrow.Author.Needs.{needs}
+use Rattle.schema_text.proofs.answers.refusal_text.Statement.{statement}
+use Rattle.schema_text.proofs.answers.refusal_text.Tie as tie
+
+-- a refusal is short
+short : (c : tie.After-struct-known) → length (refusalText (c .before .before .before .args .refusal .number) (c .before .before .before .args .refusal .place)) ≤ 52
+short c = refusal-most _ _ (record { fits = search needs }) (record { fits = search needs })
+
+most : (c : tie.After-struct-known) → length (refusalLine (c .before .before .before .args .refusal)) ≤ 53
+unfolding refusalLine
+most c = omega (arith, short c, length-append (refusalText (c .before .before .before .args .refusal .number) (c .before .before .before .args .refusal .place)) (LF ∷ []))
+
+-- what the room holds
+held : (c : tie.After-put) → Holds (replicate 64 0) (c .put .last .0) 0 (c .put .result) (refusalLine (c .before .before .before .before .before .before .before .before .args .refusal))
+unfolding refusalLine
+held c =
+    let start = c .before .before .before .before .before .before .before .before in
+    let refusal = start .args .refusal in
+    let most = short (c .before .before .before .before .before) in
+    let text = holds-more (holds-none (replicate 64 0) 0 (omega arith)) (refusalText (refusal .number) (refusal .place)) (omega (arith, most)) (c .before .before .before .before .put-refusal .ensures) in
+    holds-more text (LF ∷ []) (omega (arith, most)) (c .put .ensures)
+
+slice-aggregate-put-refusal : tie.Need-slice-aggregate-put-refusal
+slice-aggregate-put-refusal c = search needs
+
+cast-put-refusal : tie.Need-cast-put-refusal
+cast-put-refusal c = search needs
+
+put-refusal-requires : tie.Need-put-refusal-requires
+put-refusal-requires c κs = search needs
+
+slice-aggregate-put : tie.Need-slice-aggregate-put
+slice-aggregate-put c = search needs
+
+slice-aggregate-put-2 : tie.Need-slice-aggregate-put-2
+slice-aggregate-put-2 c = search needs
+
+put-requires : tie.Need-put-requires
+put-requires c κs = search needs
+
+array-share-prefix-line : tie.Need-array-share-prefix-line
+array-share-prefix-line c = holds-within (held (c .before .before))
+
+slice-aggregate-put-3 : tie.Need-slice-aggregate-put-3
+slice-aggregate-put-3 c = sym (length-take-le _ _ (holds-within (held (c .before .before .before))))
+
+put-requires-2 : tie.Need-put-requires-2
+put-requires-2 c κs = search needs
+
+same-length : tie.Need-same-length
+same-length c = search needs
+
+returns : tie.Need-returns
+unfolding madeIn
+returns c =
+    let text = holds-front (held (c .before .before .before .before .before .before .before)) in
+    let put = c .before .before .before .put2 .ensures in
+    let made = made-beyond _ _ _ _ _ refl (put .0 ∙ ap (positionAfter _ _) text) (put .1 ∙ ap (placedText _ _) text) (omega (arith, c .if1 .taken, c .before .before .before .put2 .kept .0)) in
+    (made .0, (made .1, most (c .before .before .before .before .before .before .before .before .before .before .before .before)))
+
+same-length-2 : tie.Need-same-length-2
+same-length-2 c = search needs
+
+returns-2 : tie.Need-returns-2
+unfolding madeIn
+returns-2 c =
+    let text = holds-front (held (c .before .before .before .before .before .before .before)) in
+    let put = c .before .before .before .put2 .ensures in
+    let made = made-within _ _ _ _ _ refl (put .0 ∙ ap (positionAfter _ _) text) (put .1 ∙ ap (placedText _ _) text) (omega (arith, c .if1 .left, c .before .before .before .put2 .kept .0)) in
+    (made .0, (made .1, most (c .before .before .before .before .before .before .before .before .before .before .before .before)))
+
+pub refusal-text-spec : {M : Type 1} → statement M
+refusal-text-spec =
+    tie.close
+    (tie.spec
+    slice-aggregate-put-refusal
+    cast-put-refusal
+    put-refusal-requires
+    slice-aggregate-put
+    slice-aggregate-put-2
+    put-requires
+    array-share-prefix-line
+    slice-aggregate-put-3
+    put-requires-2
+    same-length
+    returns
+    same-length-2
+    returns-2)

@@ -1,0 +1,23 @@
+-- What document 01's program prints, for any bytes that it reads: "The program reads a sheet and prints rows, or `refused N at P`".
+use Prim.Native.Nat.{ℕ, _*_}
+use mathlib.Core.List.{List}
+use Rattle.sheet.specs.Block.{mostNodes}
+use Rattle.sheet.specs.Slot.{slots}
+use Rattle.schema.specs.Rows.{rows, rowWidth}
+use Rattle.tree.specs.Reading.{treeOf}
+use Rattle.schema.specs.Outcome.{outcome}
+use Rattle.schema.specs.declared.resolving.Resolved.{Resolved}
+use Rattle.schema_text.specs.Rows.{rowsText, refusalLine}
+
+-- as many numbers as the rows of any sheet have
+abbrev pub mostNumbers : ℕ
+mostNumbers = rowWidth * mostNodes
+
+-- the text of an answer: the rows of the sheet's tree, or the refusal
+unfoldable pub printedAs : Resolved → List ℕ → List ℕ
+printedAs (Resolved.Rows total) bytes = rowsText total (rows (treeOf (slots bytes)))
+printedAs (Resolved.Refused r) bytes = refusalLine r
+
+-- what is printed of any bytes; there is output enough for any sheet
+unfoldable pub printed : List ℕ → List ℕ
+printed bytes = printedAs (outcome bytes mostNumbers) bytes

@@ -1,0 +1,170 @@
+-- A sheet judged, from its parts.
+use Prim.Native.Nat.{ℕ, suc, _+_, _≤_, _<_}
+use mathlib.Core.Path.{_≡_, refl, sym, ap, _∙_, subst}
+use mathlib.Core.Bool.{Bool, true, false}
+use mathlib.Core.List.{List, [], _∷_, map}
+use native.Mathlib.Omega.{arith}
+use lib.Dec.{leb}
+use lib.ListN.{length}
+use Rattle.sheet.specs.Block.{totalOf, mostNodes}
+use Rattle.sheet.specs.Opening as sheet
+use Rattle.sheet.specs.Slot.{slots}
+use Rattle.sheet.specs.declared.opening.Opened.{Opened}
+use Rattle.sheet.proofs.OpeningLaws.{openOf-total, openOf-least, openOf-most}
+use Rattle.tree.specs.Tree.{SlotBytes, Tree, size, depths, mostDepth}
+use Rattle.tree.specs.Faults.{faults}
+use Rattle.tree.specs.Reading.{treeOf}
+use Rattle.tree.specs.Judgement.{orElse, refusal, leftOver, missing, firstFault, deepness, tooDeep, unlawful, treeRefusal, judgedAs, judgement}
+use Rattle.tree.specs.Steps.{Claimed, treeAt, secondOf, treeOrDeep, judgedTree, depthAt, judgedNodes, judgementOf}
+use Rattle.tree.specs.declared.place.Place.{Place}
+use Rattle.tree.specs.declared.refusal.Refusal.{Refusal}
+use Rattle.tree.specs.declared.refusal.Verdict.{Verdict}
+use Rattle.tree.specs.declared.judging.TreeJudged.{TreeJudged}
+use Rattle.tree.specs.declared.judgement.Judgement.{Judgement}
+use Rattle.tree.proofs.FaultLaws.{none-orElse, orElse-assoc}
+use Rattle.tree.proofs.OpenPlacesLaws.{fills-trees}
+use Rattle.tree.proofs.TreeOfLaws.{accepted-fills, fills-listing}
+use Rattle.tree.proofs.StandingLaws.{treeAt-zero}
+use Rattle.sheet.proofs.SlotLaws.{slots-length}
+
+-- the first depth that is too great is refused by 7
+deep-refusal : (ds : List ℕ) (k : ℕ) (r : Refusal) → firstFault k (map deepness ds) ≡ Verdict.Refused r → Verdict.Refused (refusal 7 (r .place)) ≡ Verdict.Refused r
+unfolding firstFault
+deep-refusal [] k r e = absurd (let z : _≡_ {A = ℕ} 0 1 = cc in omega arith)
+deep-refusal (d ∷ ds) k r e = on (leb d mostDepth) refl (deep-refusal ds (suc k) r)
+  where
+    shallow : leb d mostDepth ≡ true → deepness d ≡ 0
+    shallow q = unfold deepness in rw q
+
+    deep : leb d mostDepth ≡ false → deepness d ≡ 7
+    deep q = unfold deepness in rw q
+
+    on : (t : Bool) → leb d mostDepth ≡ t → (firstFault (suc k) (map deepness ds) ≡ Verdict.Refused r → Verdict.Refused (refusal 7 (r .place)) ≡ Verdict.Refused r) → Verdict.Refused (refusal 7 (r .place)) ≡ Verdict.Refused r
+    on true q ih = ih (subst (λ (n : ℕ). firstFault k (n ∷ map deepness ds) ≡ Verdict.Refused r) (shallow q) e)
+    on false q ih =
+        let f : Verdict.Refused (refusal 7 k) ≡ Verdict.Refused r = subst (λ (n : ℕ). firstFault k (n ∷ map deepness ds) ≡ Verdict.Refused r) (deep q) e in
+        cc
+
+-- the whole tree judged
+module _ (t : Tree) where
+  pub root-deep : (k : ℕ) → judgedTree 0 (suc mostDepth) Place.Root t ≡ TreeJudged.Deep k → Verdict.Refused (refusal 7 k) ≡ orElse (tooDeep t) (unlawful t)
+  unfolding judgedTree depthAt tooDeep
+  root-deep k e = on (firstFault 0 (map deepness (depths 0 t))) refl e
+    where
+      on : (v : Verdict) → firstFault 0 (map deepness (depths 0 t)) ≡ v → treeOrDeep v (TreeJudged.Judged (0 + size t) (secondOf 0 t) (firstFault 0 (faults Place.Root t))) ≡ TreeJudged.Deep k → Verdict.Refused (refusal 7 k) ≡ orElse (firstFault 0 (map deepness (depths 0 t))) (unlawful t)
+      on Verdict.Lawful q w = absurd (unfold treeOrDeep in let z : _≡_ {A = ℕ} 0 1 = cc in omega arith)
+      on (Verdict.Refused r) q w = unfold treeOrDeep orElse in rw q (let p : r .place ≡ k = cc in rw (← p) (deep-refusal (depths 0 t) 0 r q))
+
+  pub root-judged : (next second : ℕ) (v : Verdict) → judgedTree 0 (suc mostDepth) Place.Root t ≡ TreeJudged.Judged next second v → v ≡ orElse (tooDeep t) (unlawful t)
+  unfolding judgedTree depthAt tooDeep
+  root-judged next second v e = on (firstFault 0 (map deepness (depths 0 t))) refl e
+    where
+      on : (u : Verdict) → firstFault 0 (map deepness (depths 0 t)) ≡ u → treeOrDeep u (TreeJudged.Judged (0 + size t) (secondOf 0 t) (firstFault 0 (faults Place.Root t))) ≡ TreeJudged.Judged next second v → v ≡ orElse (firstFault 0 (map deepness (depths 0 t))) (unlawful t)
+      on Verdict.Lawful q w = unfold treeOrDeep orElse unlawful in rw q (let p : firstFault 0 (faults Place.Root t) ≡ v = cc in sym p)
+      on (Verdict.Refused r) q w = absurd (unfold treeOrDeep in let z : _≡_ {A = ℕ} 0 1 = cc in omega arith)
+
+pub root-at : (ss : List SlotBytes) {v : Verdict} → v ≡ orElse (tooDeep (treeAt ss 0)) (unlawful (treeAt ss 0)) → v ≡ orElse (tooDeep (treeOf ss)) (unlawful (treeOf ss))
+root-at ss e = rw treeAt-zero at e
+
+-- refusals 5 and 6, then 7 to 13
+pub treeRefusal-places : (ss : List SlotBytes) → treeRefusal ss ≡ orElse (orElse (leftOver ss) (missing ss)) (orElse (tooDeep (treeOf ss)) (unlawful (treeOf ss)))
+unfolding treeRefusal
+treeRefusal-places ss = sym (orElse-assoc (leftOver ss) (missing ss) (orElse (tooDeep (treeOf ss)) (unlawful (treeOf ss))))
+
+-- a sheet that neither 5 nor 6 refuses claims rightly
+module _ (b : List ℕ) (t : ℕ) (o : sheet.openOf b ≡ Opened.Nodes t) where
+  pub nodes-total : t ≡ totalOf b
+  nodes-total = openOf-total b t o
+
+  pub nodes-most : t ≤ mostNodes
+  nodes-most = openOf-most b t o
+
+  pub nodes-some : 0 < totalOf b
+  nodes-some = omega (arith, nodes-total, openOf-least b t o)
+
+  pub places-claimed : orElse (leftOver (slots b)) (missing (slots b)) ≡ Verdict.Lawful → Claimed b
+  places-claimed e =
+      let q = none-orElse _ _ e in
+      record {
+        total = slots-length b;
+        most = omega (arith, nodes-total, nodes-most);
+        claims = fills-trees (accepted-fills (slots b) (q .0) (q .1)) .1;
+      }
+
+  pub judgement-nodes : judgement b ≡ treeRefusal (slots b)
+  unfolding judgement judgedAs sheet.outcome sheet.outcomeOf
+  judgement-nodes = rw o
+
+-- what each way of refusing to open is judged
+module _ (b : List ℕ) where
+  pub judgement-length : sheet.openOf b ≡ Opened.BadLength → judgement b ≡ Verdict.Refused (refusal 1 0)
+  unfolding judgement judgedAs sheet.outcome sheet.outcomeOf
+  judgement-length o = rw o
+
+  pub judgement-check : (k : ℕ) → sheet.openOf b ≡ Opened.BadCheck k → judgement b ≡ Verdict.Refused (refusal 2 k)
+  unfolding judgement judgedAs sheet.outcome sheet.outcomeOf
+  judgement-check k o = rw o
+
+  pub judgement-header : (k : ℕ) → sheet.openOf b ≡ Opened.BadHeader k → judgement b ≡ Verdict.Refused (refusal 3 k)
+  unfolding judgement judgedAs sheet.outcome sheet.outcomeOf
+  judgement-header k o = rw o
+
+  pub judgement-slot : (k : ℕ) → sheet.openOf b ≡ Opened.BadSlot k → judgement b ≡ Verdict.Refused (refusal 4 k)
+  unfolding judgement judgedAs sheet.outcome sheet.outcomeOf
+  judgement-slot k o = rw o
+
+  -- an opened sheet that is lawful
+  pub lawful-opened : judgement b ≡ Verdict.Lawful → (t : ℕ) × (sheet.openOf b ≡ Opened.Nodes t)
+  lawful-opened e = on (sheet.openOf b) refl
+    where
+      no : (r : Refusal) → judgement b ≡ Verdict.Refused r → ⊥
+      no r q = let z : _≡_ {A = ℕ} 0 1 = cc in omega arith
+
+      on : (o : Opened) → sheet.openOf b ≡ o → (t : ℕ) × (sheet.openOf b ≡ Opened.Nodes t)
+      on (Opened.Nodes t) q = (t, q)
+      on Opened.BadLength q = absurd (no _ (judgement-length q))
+      on (Opened.BadCheck k) q = absurd (no _ (judgement-check k q))
+      on (Opened.BadHeader k) q = absurd (no _ (judgement-header k q))
+      on (Opened.BadSlot k) q = absurd (no _ (judgement-slot k q))
+
+  judgedNodes-lawful : (v : Verdict) (t n : ℕ) → judgedNodes v t ≡ Judgement.Nodes n → (v ≡ Verdict.Lawful) × (n ≡ t)
+  unfolding judgedNodes
+  judgedNodes-lawful Verdict.Lawful t n e = (refl, cc)
+  judgedNodes-lawful (Verdict.Refused r) t n e = absurd (let z : _≡_ {A = ℕ} 0 1 = cc in omega arith)
+
+  judgedNodes-refused : (v : Verdict) (t : ℕ) (r : Refusal) → judgedNodes v t ≡ Judgement.Refused r → v ≡ Verdict.Refused r
+  unfolding judgedNodes
+  judgedNodes-refused Verdict.Lawful t r e = absurd (let z : _≡_ {A = ℕ} 0 1 = cc in omega arith)
+  judgedNodes-refused (Verdict.Refused s) t r e = cc
+
+  -- a refused sheet
+  pub judged-refused : (r : Refusal) → judgementOf b ≡ Judgement.Refused r → judgement b ≡ Verdict.Refused r
+  unfolding judgementOf
+  judged-refused r e = judgedNodes-refused (judgement b) (totalOf b) r e
+
+  module _ (n : ℕ) (e : judgementOf b ≡ Judgement.Nodes n) where
+    pub judged-lawful : (judgement b ≡ Verdict.Lawful) × (n ≡ totalOf b)
+    unfolding judgementOf
+    judged-lawful = judgedNodes-lawful (judgement b) (totalOf b) n e
+
+    opened : (t : ℕ) × (sheet.openOf b ≡ Opened.Nodes t)
+    opened = lawful-opened (judged-lawful .0)
+
+    pub judged-total : n ≡ totalOf b
+    judged-total = judged-lawful .1
+
+    pub judged-some : 0 < totalOf b
+    judged-some = nodes-some b (opened .0) (opened .1)
+
+    no-places : orElse (leftOver (slots b)) (missing (slots b)) ≡ Verdict.Lawful
+    no-places =
+        none-orElse _ _ (sym (treeRefusal-places (slots b)) ∙ sym (judgement-nodes b (opened .0) (opened .1)) ∙ judged-lawful .0) .0
+
+    pub judged-claimed : Claimed b
+    judged-claimed = places-claimed b (opened .0) (opened .1) no-places
+
+    pub tree-size : size (treeOf (slots b)) ≡ n
+    unfolding size
+    tree-size =
+        let q = none-orElse _ _ no-places in
+        ap length (fills-listing (slots b) (accepted-fills (slots b) (q .0) (q .1))) ∙ slots-length b ∙ sym judged-total

@@ -1,0 +1,304 @@
+-- Rules 12 and 13 by a node's numbers, those of the nodes behind it, and how many fields these have.
+use Prim.Native.Nat.{ℕ, suc, _+_, _≤_, _<_, zero-le}
+use mathlib.Core.Path.{_≡_, refl, sym, ap, _∙_}
+use mathlib.Core.Bool.{Bool, true, false, and-false}
+use mathlib.Core.Logic.{_⊎_, inl, inr}
+use native.Mathlib.Nat.{eq-or-lt-of-le}
+use native.Mathlib.Numerals.{add-one}
+use mathlib.Core.List.{List}
+use native.Mathlib.Omega.{arith}
+use borrow.Author.Tests.{eq-eqb, ne-eqb}
+use lib.ListN.{drop}
+use lib.Dec.{eqb}
+use Rattle.sheet.specs.Block.{totalOf}
+use Rattle.sheet.specs.Slot.{physical, repetition, childCount, slots, slotAt, numbersOf}
+use Rattle.sheet.specs.declared.slots.Slot.{Slot as Numbers}
+use Rattle.parquet.specs.Repetition.{REQUIRED, REPEATED}
+use Rattle.parquet.specs.Physical as physical
+use Rattle.tree.specs.Reading.{trees}
+use Rattle.tree.specs.Steps.{Claimed, Visited, treeAt, runAt, fieldsAt, secondIn, secondOf, innerIn}
+use Rattle.tree.proofs.StandingLaws.{runAt-suc, runAt-zero, runAt-end, size-positive}
+use Rattle.tree.proofs.VisitLaws.{treeAt-slot, count-fieldsAt, fieldsAt-first, first-below, rest-claimed, repetition-at, physical-at, children-at}
+use Rattle.tree.specs.Tree.{SlotBytes, Tree, Fields, node, empty, field, count, size}
+use Rattle.tree.specs.Rules.{isGroup, isRequiredOrOptional, namedElement, isElementGroup, holdsElement, listChild, listRun, listKept, keyValue, mapRun, mapKept}
+
+-- a run by how many fields it has
+pub run-none : (fs : Fields) → count fs ≡ 0 → fs ≡ empty
+unfolding count
+run-none empty e = refl
+run-none (field t fs) e = absurd (omega arith)
+
+pub run-one : (fs : Fields) → count fs ≡ 1 → (t : Tree) × (fs ≡ field t empty)
+unfolding count
+run-one empty e = absurd (omega arith)
+run-one (field t fs) e = (t, ap (field t) (run-none fs (omega arith)))
+
+pub run-many : (fs : Fields) → 2 ≤ count fs → (t : Tree) × (u : Tree) × (gs : Fields) × (fs ≡ field t (field u gs))
+unfolding count
+run-many empty h = absurd (omega arith)
+run-many (field t empty) h = absurd (omega arith)
+run-many (field t (field u gs)) h = (t, u, gs, refl)
+
+-- a LIST has one child
+pub listRun-none : (list : SlotBytes) (fs : Fields) → count fs ≡ 0 → listRun list fs ≡ false
+unfolding listRun
+listRun-none list fs e = rw (run-none fs e)
+
+pub listRun-many : (list : SlotBytes) (fs : Fields) → 2 ≤ count fs → listRun list fs ≡ false
+unfolding listRun
+listRun-many list fs h = rw (run-many fs h .3)
+
+pub listRun-one : (list : SlotBytes) (t : Tree) → listRun list (field t empty) ≡ listChild list t
+unfolding listRun
+listRun-one list t = refl
+
+module _ (list s : SlotBytes) (fs : Fields) where
+  pub listChild-single : eqb (repetition s) REPEATED ≡ false → listChild list (node s fs) ≡ false
+  unfolding listChild
+  listChild-single r = rw r
+
+  module _ (r : eqb (repetition s) REPEATED ≡ true) where
+    pub listChild-leaf : isGroup (physical s) ≡ false → listChild list (node s fs) ≡ true
+    unfolding listChild
+    listChild-leaf g = rw (r, g)
+
+    module _ (g : isGroup (physical s) ≡ true) where
+      pub listChild-none : count fs ≡ 0 → listChild list (node s fs) ≡ false
+      unfolding listChild isElementGroup holdsElement
+      listChild-none e = rw (r, g, run-none fs e)
+
+      pub listChild-many : 2 ≤ count fs → listChild list (node s fs) ≡ true
+      unfolding listChild isElementGroup
+      listChild-many h = rw (r, g, run-many fs h .3)
+
+      pub listChild-named : count fs ≡ 1 → namedElement list s ≡ true → listChild list (node s fs) ≡ true
+      unfolding listChild isElementGroup
+      listChild-named e n = rw (r, g, run-one fs e .1, n)
+
+      pub listChild-held : (t : SlotBytes) (gs : Fields) → fs ≡ field (node t gs) empty → namedElement list s ≡ false → listChild list (node s fs) ≡ isRequiredOrOptional (repetition t)
+      unfolding listChild isElementGroup holdsElement
+      listChild-held t gs e n = rw (r, g, e, n)
+
+-- a MAP has one child
+pub mapRun-none : (fs : Fields) → count fs ≡ 0 → mapRun fs ≡ false
+unfolding mapRun
+mapRun-none fs e = rw (run-none fs e)
+
+node-parts : (t : Tree) → (s : SlotBytes) × (fs : Fields) × (t ≡ node s fs)
+node-parts (node s fs) = (s, fs, refl)
+
+pub mapRun-many : (fs : Fields) → 2 ≤ count fs → mapRun fs ≡ false
+unfolding mapRun
+mapRun-many fs h = rw (run-many fs h .3, node-parts (run-many fs h .0) .2)
+
+-- a repeated group
+module _ (s : SlotBytes) (fs : Fields) where
+  pub mapRun-single : eqb (repetition s) REPEATED ≡ false → mapRun (field (node s fs) empty) ≡ false
+  unfolding mapRun
+  mapRun-single r = rw r
+
+  pub mapRun-leaf : eqb (repetition s) REPEATED ≡ true → isGroup (physical s) ≡ false → mapRun (field (node s fs) empty) ≡ false
+  unfolding mapRun
+  mapRun-leaf r g = rw (r, g)
+
+  pub mapRun-group : eqb (repetition s) REPEATED ≡ true → isGroup (physical s) ≡ true → mapRun (field (node s fs) empty) ≡ keyValue fs
+  unfolding mapRun
+  mapRun-group r g = rw (r, g)
+
+-- of one or two fields
+pub keyValue-none : (fs : Fields) → count fs ≡ 0 → keyValue fs ≡ false
+unfolding keyValue
+keyValue-none fs e = rw (run-none fs e)
+
+pub keyValue-many : (fs : Fields) → 3 ≤ count fs → keyValue fs ≡ false
+unfolding keyValue count
+keyValue-many empty h = absurd (omega arith)
+keyValue-many (field t empty) h = absurd (omega arith)
+keyValue-many (field t (field u empty)) h = absurd (omega arith)
+keyValue-many (field (node k ks) (field (node v vs) (field u fs))) h = refl
+
+pub keyValue-key : (k : SlotBytes) (ks : Fields) → keyValue (field (node k ks) empty) ≡ eqb (repetition k) REQUIRED
+unfolding keyValue
+keyValue-key k ks = refl
+
+pub keyValue-both : (k v : SlotBytes) (ks vs : Fields) → eqb (repetition k) REQUIRED ≡ true → keyValue (field (node k ks) (field (node v vs) empty)) ≡ isRequiredOrOptional (repetition v)
+unfolding keyValue
+keyValue-both k v ks vs r = rw r
+
+pub keyValue-optional : (k v : SlotBytes) (ks vs : Fields) → eqb (repetition k) REQUIRED ≡ false → keyValue (field (node k ks) (field (node v vs) empty)) ≡ false
+unfolding keyValue
+keyValue-optional k v ks vs r = rw r
+
+-- rule 12 at the child of a LIST, and rule 13 at the child of a MAP, by the numbers that are read there
+module _ (b : List ℕ) (layer : ℕ) (s : Numbers) (h : Claimed b) (l : layer < totalOf b) (e : s ≡ numbersOf (slotAt b layer)) where
+  fields : Fields
+  fields = fieldsAt b layer
+
+  count-is : count fields ≡ s .children
+  unfolding fields
+  count-is = count-fieldsAt b layer h l ∙ sym (children-at b layer s e)
+
+  tree-is : treeAt (slots b) layer ≡ node (slotAt b layer) fields
+  unfolding fields
+  tree-is = treeAt-slot b layer h l
+
+  single : (s .repetition ≡ REPEATED → ⊥) → eqb (repetition (slotAt b layer)) REPEATED ≡ false
+  single n = ne-eqb _ _ (λ q. n (repetition-at b layer s e ∙ q))
+
+  repeats : s .repetition ≡ REPEATED → eqb (repetition (slotAt b layer)) REPEATED ≡ true
+  repeats q = eq-eqb _ _ (sym (repetition-at b layer s e) ∙ q)
+
+  pub leaf : (s .physical ≡ physical.GROUP → ⊥) → isGroup (physical (slotAt b layer)) ≡ false
+  leaf n = ne-eqb _ _ (λ q. n (physical-at b layer s e ∙ q))
+
+  pub group : s .physical ≡ physical.GROUP → isGroup (physical (slotAt b layer)) ≡ true
+  group q = eq-eqb _ _ (sym (physical-at b layer s e) ∙ q)
+
+  -- the one field of a group that has one
+  only-field : s .children ≡ 1 → fields ≡ field (node (slotAt b (suc layer)) (fieldsAt b (suc layer))) empty
+  unfolding fields
+  only-field q =
+      let claim : childCount (slotAt b layer) ≡ 1 = sym (children-at b layer s e) ∙ q in
+      fieldsAt-first b layer h l 0 claim
+      ∙ rw (treeAt-slot b (suc layer) h (first-below b layer h l 0 claim), runAt-zero)
+
+  module _ (list : SlotBytes) where
+    pub child-single : (s .repetition ≡ REPEATED → ⊥) → false ≡ listChild list (treeAt (slots b) layer)
+    child-single r = sym (rw tree-is (listChild-single list (slotAt b layer) fields (single r)))
+
+    module _ (r : s .repetition ≡ REPEATED) where
+      pub child-leaf : (s .physical ≡ physical.GROUP → ⊥) → true ≡ listChild list (treeAt (slots b) layer)
+      child-leaf g = sym (rw tree-is (listChild-leaf list (slotAt b layer) fields (repeats r) (leaf g)))
+
+      module _ (g : s .physical ≡ physical.GROUP) where
+        pub child-none : s .children ≡ 0 → false ≡ listChild list (treeAt (slots b) layer)
+        child-none q = sym (rw tree-is (listChild-none list (slotAt b layer) fields (repeats r) (group g) (count-is ∙ q)))
+
+        pub child-many : (s .children ≡ 0 → ⊥) → (s .children ≡ 1 → ⊥) → true ≡ listChild list (treeAt (slots b) layer)
+        child-many p q = sym (rw tree-is (listChild-many list (slotAt b layer) fields (repeats r) (group g) (omega (arith, count-is))))
+
+        pub child-named : s .children ≡ 1 → namedElement list (slotAt b layer) ≡ true → true ≡ listChild list (treeAt (slots b) layer)
+        child-named q n = sym (rw tree-is (listChild-named list (slotAt b layer) fields (repeats r) (group g) (count-is ∙ q) n))
+
+        pub child-held : s .children ≡ 1 → namedElement list (slotAt b layer) ≡ false → listChild list (treeAt (slots b) layer) ≡ isRequiredOrOptional (repetition (slotAt b (suc layer)))
+        child-held q n = rw tree-is (listChild-held list (slotAt b layer) fields (repeats r) (group g) (slotAt b (suc layer)) (fieldsAt b (suc layer)) (only-field q) n)
+
+  pub layer-single : (s .repetition ≡ REPEATED → ⊥) → false ≡ mapRun (field (treeAt (slots b) layer) empty)
+  layer-single r = sym (rw tree-is (mapRun-single (slotAt b layer) fields (single r)))
+
+  module _ (r : s .repetition ≡ REPEATED) where
+    pub layer-leaf : (s .physical ≡ physical.GROUP → ⊥) → false ≡ mapRun (field (treeAt (slots b) layer) empty)
+    layer-leaf g = sym (rw tree-is (mapRun-leaf (slotAt b layer) fields (repeats r) (leaf g)))
+
+    module _ (g : s .physical ≡ physical.GROUP) where
+      layer-group : mapRun (field (treeAt (slots b) layer) empty) ≡ keyValue fields
+      layer-group = rw tree-is (mapRun-group (slotAt b layer) fields (repeats r) (group g))
+
+      pub layer-none : s .children ≡ 0 → false ≡ mapRun (field (treeAt (slots b) layer) empty)
+      layer-none q = sym (layer-group ∙ keyValue-none fields (count-is ∙ q))
+
+      pub layer-many : 2 < s .children → false ≡ mapRun (field (treeAt (slots b) layer) empty)
+      layer-many q = sym (layer-group ∙ keyValue-many fields (omega (arith, count-is)))
+
+      -- a key alone
+      pub layer-key : s .children ≡ 1 → mapRun (field (treeAt (slots b) layer) empty) ≡ eqb (repetition (slotAt b (suc layer))) REQUIRED
+      layer-key q = layer-group ∙ rw (only-field q) (keyValue-key (slotAt b (suc layer)) (fieldsAt b (suc layer)))
+
+      module _ (q : s .children ≡ 2) where
+        claim : childCount (slotAt b layer) ≡ 2
+        claim = sym (children-at b layer s e) ∙ q
+
+        value : ℕ
+        value = suc layer + size (treeAt (slots b) (suc layer))
+
+        value-second : secondOf layer (treeAt (slots b) layer) ≡ value
+        unfolding secondOf secondIn value fields
+        value-second = rw (tree-is, fieldsAt-first b layer h l 1 claim)
+
+        value-claimed : 1 ≤ count (trees (drop value (slots b)))
+        unfolding value
+        value-claimed = rest-claimed b layer h l 1 claim
+
+        value-below : value < totalOf b
+        value-below =
+            let p = size-positive (treeAt (slots b) value) in
+            omega (arith, h .total, runAt-end (slots b) value 0 (h .claims) value-claimed)
+
+        two-fields : fields ≡ field (node (slotAt b (suc layer)) (fieldsAt b (suc layer))) (field (node (slotAt b value) (fieldsAt b value)) empty)
+        unfolding fields value
+        two-fields =
+            fieldsAt-first b layer h l 1 claim
+            ∙ ap (λ (t : Tree). field t (runAt (slots b) value 1)) (treeAt-slot b (suc layer) h (first-below b layer h l 1 claim))
+            ∙ ap (field (node (slotAt b (suc layer)) (fieldsAt b (suc layer))))
+            (runAt-suc (slots b) value 0 (h .claims) value-claimed
+            ∙ rw (treeAt-slot b value h value-below, runAt-zero))
+
+        pub layer-optional : eqb (repetition (slotAt b (suc layer))) REQUIRED ≡ false → false ≡ mapRun (field (treeAt (slots b) layer) empty)
+        layer-optional k = sym (layer-group ∙ rw two-fields (keyValue-optional (slotAt b (suc layer)) (slotAt b value) (fieldsAt b (suc layer)) (fieldsAt b value) k))
+
+        pub layer-both : eqb (repetition (slotAt b (suc layer))) REQUIRED ≡ true → mapRun (field (treeAt (slots b) layer) empty) ≡ isRequiredOrOptional (repetition (slotAt b (secondOf layer (treeAt (slots b) layer))))
+        layer-both k =
+            layer-group
+            ∙ rw two-fields (keyValue-both (slotAt b (suc layer)) (slotAt b value) (fieldsAt b (suc layer)) (fieldsAt b value) k)
+            ∙ ap (λ (i : ℕ). isRequiredOrOptional (repetition (slotAt b i))) (sym value-second)
+
+      -- a key that is not required, alone or beside a value
+      pub layer-key-optional : (s .children ≡ 0 → ⊥) → s .children ≤ 2 → (repetition (slotAt b (suc layer)) ≡ REQUIRED → ⊥) → false ≡ mapRun (field (treeAt (slots b) layer) empty)
+      layer-key-optional p q k = on (eq-or-lt-of-le q)
+        where
+          on : (s .children ≡ 2) ⊎ (s .children < 2) → false ≡ mapRun (field (treeAt (slots b) layer) empty)
+          on (inl two) = layer-optional two (ne-eqb _ _ k)
+          on (inr less) = sym (layer-key (omega arith) ∙ ne-eqb _ _ k)
+
+-- rules 12 and 13 at the LIST or the MAP itself, which has one child
+module _ (b : List ℕ) (at : ℕ) (s : Numbers) (v : Visited b at s) where
+  pub own-count : count (fieldsAt b at) ≡ s .children
+  own-count = count-fieldsAt b at (v .claimed) (v .below) ∙ sym (children-at b at s (v .numbers))
+
+  pub one-below : s .children ≡ 1 → at + 1 < totalOf b
+  one-below q = omega (arith, first-below b at (v .claimed) (v .below) 0 (sym (children-at b at s (v .numbers)) ∙ q))
+
+  one-field : s .children ≡ 1 → fieldsAt b at ≡ field (treeAt (slots b) (suc at)) empty
+  one-field q = fieldsAt-first b at (v .claimed) (v .below) 0 (sym (children-at b at s (v .numbers)) ∙ q) ∙ rw runAt-zero
+
+  neither : isRequiredOrOptional (s .repetition) ≡ false → isRequiredOrOptional (repetition (slotAt b at)) ≡ false
+  neither n = ap isRequiredOrOptional (sym (repetition-at b at s (v .numbers))) ∙ n
+
+  either : isRequiredOrOptional (s .repetition) ≡ true → isRequiredOrOptional (repetition (slotAt b at)) ≡ true
+  either n = ap isRequiredOrOptional (sym (repetition-at b at s (v .numbers))) ∙ n
+
+  not-one : (p : Fields → Bool) → ((fs : Fields) → count fs ≡ 0 → p fs ≡ false) → ((fs : Fields) → 2 ≤ count fs → p fs ≡ false) → (s .children ≡ 1 → ⊥) → p (fieldsAt b at) ≡ false
+  not-one p none many q = on (eq-or-lt-of-le (zero-le {n = s .children}))
+    where
+      on : (0 ≡ s .children) ⊎ (0 < s .children) → p (fieldsAt b at) ≡ false
+      on (inl z) = none (fieldsAt b at) (own-count ∙ sym z)
+      on (inr m) = many (fieldsAt b at) (omega (arith, own-count))
+
+  pub list-neither : isRequiredOrOptional (s .repetition) ≡ false → false ≡ listKept (slotAt b at) (fieldsAt b at)
+  unfolding listKept
+  list-neither n = rw (neither n)
+
+  pub list-not-one : (s .children ≡ 1 → ⊥) → false ≡ listKept (slotAt b at) (fieldsAt b at)
+  unfolding listKept
+  list-not-one q = sym (rw (not-one (listRun (slotAt b at)) (listRun-none (slotAt b at)) (listRun-many (slotAt b at)) q) (and-false (isRequiredOrOptional (repetition (slotAt b at)))))
+
+  pub list-one : isRequiredOrOptional (s .repetition) ≡ true → s .children ≡ 1 → listKept (slotAt b at) (fieldsAt b at) ≡ listChild (slotAt b at) (treeAt (slots b) (at + 1))
+  unfolding listKept
+  list-one n q = rw (either n, one-field q, add-one) (listRun-one (slotAt b at) (treeAt (slots b) (suc at)))
+
+  pub map-neither : isRequiredOrOptional (s .repetition) ≡ false → false ≡ mapKept (slotAt b at) (fieldsAt b at)
+  unfolding mapKept
+  map-neither n = rw (neither n)
+
+  pub map-not-one : (s .children ≡ 1 → ⊥) → false ≡ mapKept (slotAt b at) (fieldsAt b at)
+  unfolding mapKept
+  map-not-one q = sym (rw (not-one mapRun mapRun-none mapRun-many q) (and-false (isRequiredOrOptional (repetition (slotAt b at)))))
+
+  pub map-one : isRequiredOrOptional (s .repetition) ≡ true → s .children ≡ 1 → mapKept (slotAt b at) (fieldsAt b at) ≡ mapRun (field (treeAt (slots b) (at + 1)) empty)
+  unfolding mapKept
+  map-one n q = rw (either n, one-field q, add-one)
+
+  -- where the second field of the one child stands
+  pub map-inner : s .children ≡ 1 → innerIn (suc at) (fieldsAt b at) ≡ secondOf (at + 1) (treeAt (slots b) (at + 1))
+  unfolding innerIn
+  map-inner q = rw (one-field q, add-one)

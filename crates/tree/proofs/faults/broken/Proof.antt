@@ -1,0 +1,85 @@
+-- `schema::faults::broken` meets its contract, answer by answer.
+use Rattle.tree.proofs.NodeLaws.{brokenBy, broken-shape, broken-resolved}
+use Rattle.annotation.specs.Outcome.{refusalOf}
+use borrow.Author.Tests.{not-true, not-false}
+use mathlib.Core.Path.{sym, ap, _∙_}
+use borrow.Author.Needs.{needs}
+use Rattle.tree.proofs.faults.broken.Statement.{statement}
+use Rattle.tree.proofs.faults.broken.Tie as tie
+
+shape-kept-requires : tie.Need-shape-kept-requires
+shape-kept-requires c κs = search needs
+
+returns : tie.Need-returns
+returns c = broken-shape _ _ _ _ (c .before .before .before .pre .0) (sym (c .before .shape-kept .ensures) ∙ not-true _ (c .if1 .taken))
+
+annotated-requires : tie.Need-annotated-requires
+annotated-requires c κs = search needs
+
+under-map-requires : tie.Need-under-map-requires
+under-map-requires c κs = search needs
+
+resolve-requires : tie.Need-resolve-requires
+resolve-requires c κs = search needs
+
+enum-known-resolution : tie.Need-enum-known-resolution
+enum-known-resolution c = search needs
+
+structure-broken-requires : tie.Need-structure-broken-requires
+structure-broken-requires c κs = search needs
+
+enum-told : tie.Need-enum-told
+enum-told c = search needs
+
+refusal-requires : tie.Need-refusal-requires
+refusal-requires c κs = search needs
+
+enum-told-2 : tie.Need-enum-told-2
+enum-told-2 c = search needs
+
+refusal-requires-2 : tie.Need-refusal-requires-2
+refusal-requires-2 c κs = search needs
+
+enum-told-3 : tie.Need-enum-told-3
+enum-told-3 c = search needs
+
+refusal-requires-3 : tie.Need-refusal-requires-3
+refusal-requires-3 c κs = search needs
+
+returns-2 : tie.Need-returns-2
+unfolding brokenBy
+returns-2 c = c .structure-broken .ensures ∙ sym (broken-resolved _ _ _ _ (c .before .before .before .before .before .before .before .before .before .before .pre .0) _ _ _ (sym (c .before .before .before .before .before .before .before .before .shape-kept .ensures) ∙ not-false _ (c .before .before .before .before .before .before .before .if1 .left)) (c .before .before .before .before .before .before .annotated .ensures) (c .before .before .before .before .before .under-map .ensures) (c .before .before .before .before .resolve .ensures .0) ∙ rw (c .before .before .resolution .given .1))
+
+returns-3 : tie.Need-returns-3
+unfolding brokenBy
+returns-3 c = c .refusal .ensures ∙ ap refusalOf (c .before .enum-told .given .1) ∙ sym (broken-resolved _ _ _ _ (c .before .before .before .before .before .before .before .before .before .pre .0) _ _ _ (sym (c .before .before .before .before .before .before .before .shape-kept .ensures) ∙ not-false _ (c .before .before .before .before .before .before .if1 .left)) (c .before .before .before .before .before .annotated .ensures) (c .before .before .before .before .under-map .ensures) (c .before .before .before .resolve .ensures .0) ∙ rw (c .before .enum-told .given .1))
+
+returns-4 : tie.Need-returns-4
+unfolding brokenBy
+returns-4 c = c .refusal2 .ensures ∙ ap refusalOf (c .before .enum-told2 .given .1) ∙ sym (broken-resolved _ _ _ _ (c .before .before .before .before .before .before .before .before .before .pre .0) _ _ _ (sym (c .before .before .before .before .before .before .before .shape-kept .ensures) ∙ not-false _ (c .before .before .before .before .before .before .if1 .left)) (c .before .before .before .before .before .annotated .ensures) (c .before .before .before .before .under-map .ensures) (c .before .before .before .resolve .ensures .0) ∙ rw (c .before .enum-told2 .given .1))
+
+returns-5 : tie.Need-returns-5
+unfolding brokenBy
+returns-5 c = c .refusal3 .ensures ∙ ap refusalOf (c .before .enum-told3 .given .1) ∙ sym (broken-resolved _ _ _ _ (c .before .before .before .before .before .before .before .before .before .pre .0) _ _ _ (sym (c .before .before .before .before .before .before .before .shape-kept .ensures) ∙ not-false _ (c .before .before .before .before .before .before .if1 .left)) (c .before .before .before .before .before .annotated .ensures) (c .before .before .before .before .under-map .ensures) (c .before .before .before .resolve .ensures .0) ∙ rw (c .before .enum-told3 .given .1))
+
+pub broken-spec : {M : Type 1} → statement M
+broken-spec =
+    tie.close
+    (tie.spec
+    shape-kept-requires
+    returns
+    annotated-requires
+    under-map-requires
+    resolve-requires
+    enum-known-resolution
+    structure-broken-requires
+    enum-told
+    refusal-requires
+    enum-told-2
+    refusal-requires-2
+    enum-told-3
+    refusal-requires-3
+    returns-2
+    returns-3
+    returns-4
+    returns-5)

@@ -1,0 +1,13 @@
+-- `schema::place::place_under` meets its contract.
+use borrow.Author.Tests.{eq-eqb, ne-eqb}
+use Rattle.tree.proofs.place.place_under.Statement.{statement}
+use Rattle.tree.proofs.place.place_under.Tie as tie
+
+returns : tie.Need-returns
+returns c = rw (eq-eqb _ _ (c .if1 .taken))
+
+returns-2 : tie.Need-returns-2
+returns-2 c = rw (ne-eqb _ _ (c .if1 .left))
+
+pub place-under-spec : {M : Type 1} → statement M
+place-under-spec = tie.close (tie.spec returns returns-2)

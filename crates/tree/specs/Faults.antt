@@ -1,0 +1,27 @@
+-- The rule of 8 to 13 that each node of a tree breaks: "at one node in number order".
+use Prim.Native.Nat.{ℕ}
+use mathlib.Core.Bool.{cond}
+use mathlib.Core.List.{List, [], _∷_, _++_}
+use Rattle.tree.specs.Annotated.{rule9, rule10, rule11}
+use Rattle.tree.specs.Tree.{SlotBytes, Tree, Fields, node, empty, field}
+use Rattle.tree.specs.Rules.{underMap, placeBelow, rule8, rule12, rule13}
+use Rattle.tree.specs.declared.place.Place.{Place}
+
+-- the least number of a rule that a node breaks, and 0 where it keeps them all
+unfoldable pub broken : Place → SlotBytes → Fields → ℕ
+broken p s fs =
+    cond (rule8 p s fs)
+    (cond (rule9 s)
+    (cond (rule10 (underMap p) s)
+    (cond (rule11 (underMap p) s)
+    (cond (rule12 p s fs)
+    (cond (rule13 p s fs) 0 13) 12) 11) 10) 9) 8
+
+-- what each node breaks, in listing order
+unfoldable mutual
+  pub faults : Place → Tree → List ℕ
+  faults p (node s fs) = broken p s fs ∷ runFaults (placeBelow p s) fs
+
+  pub runFaults : Place → Fields → List ℕ
+  runFaults p empty = []
+  runFaults p (field t fs) = faults p t ++ runFaults p fs

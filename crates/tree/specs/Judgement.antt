@@ -1,0 +1,63 @@
+-- What judging a sheet answers: refusals 1 to 13 in their order, with their places, or none.
+use Prim.Native.Nat.{ℕ, zero, suc}
+use mathlib.Core.Bool.{cond, not}
+use mathlib.Core.List.{List, [], _∷_, map}
+use lib.Dec.{leb, ltb}
+use lib.ListN.{length}
+use Rattle.sheet.specs.First.{firstWrong}
+use Rattle.sheet.specs.Opening as sheet
+use Rattle.tree.specs.Tree.{SlotBytes, Tree, depths, mostDepth}
+use Rattle.tree.specs.Faults.{faults}
+use Rattle.tree.specs.Reading.{treeOf}
+use Rattle.tree.specs.OpenPlaces.{openPlaces, isNoPlace}
+use Rattle.tree.specs.declared.place.Place.the-variants.{Root}
+use Rattle.tree.specs.declared.refusal.Refusal.{Refusal}
+use Rattle.tree.specs.declared.refusal.Verdict.{Verdict}
+
+-- a numbered refusal at its place
+abbrev pub refusal : ℕ → ℕ → Refusal
+refusal n p = record { number = n; place = p }
+
+-- the first refusal of two
+unfoldable pub orElse : Verdict → Verdict → Verdict
+orElse Verdict.Lawful next = next
+orElse (Verdict.Refused r) next = Verdict.Refused r
+
+-- "Refusal 6: zero open places at some k below T, place the least such k"
+unfoldable pub leftOver : List SlotBytes → Verdict
+leftOver ss =
+    let k = firstWrong (λ j. not (isNoPlace (openPlaces ss j))) (length ss) in
+    cond (ltb k (length ss)) (Verdict.Refused (refusal 6 k)) Verdict.Lawful
+
+-- "Refusal 5: otherwise, open places left after T"
+unfoldable pub missing : List SlotBytes → Verdict
+missing ss = cond (isNoPlace (openPlaces ss (length ss))) Verdict.Lawful (Verdict.Refused (refusal 5 (length ss)))
+
+-- the first number of a list that is not 0, at its place, the first place being k
+unfoldable pub firstFault : ℕ → List ℕ → Verdict
+firstFault k [] = Verdict.Lawful
+firstFault k (zero ∷ ns) = firstFault (suc k) ns
+firstFault k (suc n ∷ ns) = Verdict.Refused (refusal (suc n) k)
+
+-- refusal 7 at a depth, 0 where it is not too deep
+unfoldable pub deepness : ℕ → ℕ
+deepness d = cond (leb d mostDepth) 0 7
+
+unfoldable pub tooDeep : Tree → Verdict
+tooDeep t = firstFault 0 (map deepness (depths 0 t))
+
+-- refusals 8 to 13, "node by node, at one node in number order"
+unfoldable pub unlawful : Tree → Verdict
+unlawful t = firstFault 0 (faults Root t)
+
+-- refusals 6, then 5 ("otherwise"), then 7, then 8 to 13, each judged over the whole sheet
+unfoldable pub treeRefusal : List SlotBytes → Verdict
+treeRefusal ss = orElse (leftOver ss) (orElse (missing ss) (orElse (tooDeep (treeOf ss)) (unlawful (treeOf ss))))
+
+-- refusals 1 to 13
+unfoldable pub judgedAs : sheet.Outcome → Verdict
+judgedAs (sheet.refused n p) = Verdict.Refused (refusal n p)
+judgedAs (sheet.accepted t ss) = treeRefusal ss
+
+unfoldable pub judgement : List ℕ → Verdict
+judgement bytes = judgedAs (sheet.outcome bytes)

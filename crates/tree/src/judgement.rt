@@ -1,0 +1,98 @@
+// A sheet judged by refusals 1 to 13.
+ghost use mathlib.Core.Path.{_≡_};
+ghost use Prim.Native.Nat.{_<_};
+ghost use Rattle.sheet.specs.Block.{totalOf};
+ghost use Rattle.sheet.specs.Opening.{openOf};
+ghost use Rattle.sheet.specs.Slot.{slots};
+ghost use Rattle.sheet.specs.declared.opening.Opened.the-variants.{Nodes};
+ghost use Rattle.tree.specs.Reading.{treeOf};
+ghost use Rattle.tree.specs.Judgement.{orElse, tooDeep, unlawful, treeRefusal};
+ghost use Rattle.tree.specs.Steps.{Claimed, judgementOf, judgedNodes};
+use crate::judging::LEVELS;
+use crate::judging::TreeJudged;
+use crate::judging::judge_tree;
+use crate::place::Place;
+use crate::places::places_filled;
+use crate::refusal::Refusal;
+use crate::refusal::Verdict;
+use sheet::Opened;
+
+// What judging a sheet answers: its number of nodes, or the first of refusals 1 to 13.
+pub enum Judgement {
+    Nodes(usize),
+    Refused(Refusal),
+}
+
+const LENGTH: u32 = 1;
+
+const CHECK: u32 = 2;
+
+const HEADER: u32 = 3;
+
+const SLOT: u32 = 4;
+
+const DEEP: u32 = 7;
+
+// Judges a sheet.
+pub fn judge(sheet: &[u8]) -> Judgement
+    ensures { λ r. ⌜ r ≡ judgementOf (now (sheet .entry)) ⌝ }
+{
+    let opened = sheet::open(sheet);
+    match opened {
+        Opened::Nodes(total) => nodes_or(judge_slots(sheet, total), total),
+        Opened::BadLength => refused(LENGTH, 0),
+        Opened::BadCheck(block) => refused(CHECK, block),
+        Opened::BadHeader(block) => refused(HEADER, block),
+        Opened::BadSlot(node) => refused(SLOT, node),
+    }
+}
+
+fn refused(number: u32, place: usize) -> Judgement
+    ensures { λ r. ⌜ r ≡ Judgement.Refused (record { number = number; place = place }) ⌝ }
+{
+    Judgement::Refused(Refusal {
+        number: number,
+        place: place,
+    })
+}
+
+fn nodes_or(verdict: Verdict, total: usize) -> Judgement
+    ensures { λ r. ⌜ r ≡ judgedNodes verdict total ⌝ }
+{
+    match verdict {
+        Verdict::Lawful => Judgement::Nodes(total),
+        Verdict::Refused(r) => Judgement::Refused(r),
+    }
+}
+
+// Refusals 5 to 13 of an open sheet.
+fn judge_slots(sheet: &[u8], total: usize) -> Verdict
+    requires { ⌜ openOf (now sheet) ≡ Nodes total ⌝ }
+    ensures { λ r. ⌜ r ≡ treeRefusal (slots (now (sheet .entry))) ⌝ }
+{
+    let places = places_filled(sheet, total);
+    match places {
+        Verdict::Refused(r) => Verdict::Refused(r),
+        Verdict::Lawful => judge_root(sheet),
+    }
+}
+
+// Refusals 7 to 13 of a sheet whose slots claim rightly.
+fn judge_root(sheet: &[u8]) -> Verdict
+    requires { ⌜ Claimed (now sheet) ⌝ }
+    requires { ⌜ 0 < totalOf (now sheet) ⌝ }
+    ensures { λ r. ⌜ r ≡ orElse (tooDeep (treeOf (slots (now (sheet .entry))))) (unlawful (treeOf (slots (now (sheet .entry))))) ⌝ }
+{
+    let judged = judge_tree(sheet, 0, LEVELS, Place::Root);
+    match judged {
+        TreeJudged::Deep(node) => Verdict::Refused(Refusal {
+            number: DEEP,
+            place: node,
+        }),
+        TreeJudged::Judged {
+            next: _,
+            second: _,
+            verdict,
+        } => verdict,
+    }
+}

@@ -1,0 +1,20 @@
+// The tree of a sheet, judged by refusals 5 to 13 behind 1 to 4.
+mod faults; // faults.rt: the least rule that a node breaks
+mod judgement; // judgement.rt: a sheet judged by refusals 1 to 13
+mod judging; // judging.rt: a tree and its run judged, too deep or at fault
+mod place; // place.rt: where a node stands for the rules
+mod places; // places.rt: refusals 5 and 6
+mod refusal; // refusal.rt: numbered refusals
+mod repetitions; // repetitions.rt: repetitions that rules 12 and 13 ask for
+mod shape; // shape.rt: rule 8
+mod structure; // structure.rt: rules 12 and 13
+
+pub use faults::annotated;
+pub use judgement::Judgement;
+pub use judgement::judge;
+pub use place::Place;
+pub use place::place_under;
+pub use place::under_map;
+pub use refusal::Refusal;
+pub use refusal::Verdict;
+pub use structure::named_element;

@@ -1,0 +1,36 @@
+// Where a node stands, as far as rules 8 to 13 look above it.
+ghost use mathlib.Core.Path.{_≡_};
+ghost use Rattle.tree.specs.Rules.{underMap, placeUnder};
+use parquet::logical;
+
+pub enum Place {
+    Root,
+    // A field of a node that is no resolved MAP.
+    Field,
+    // A field of a resolved MAP.
+    MapField,
+}
+
+const MAP: u32 = logical::MAP as u32;
+
+// Whether a node's parent is a resolved MAP.
+pub fn under_map(place: Place) -> bool
+    ensures { λ r. ⌜ r ≡ underMap place ⌝ }
+{
+    match place {
+        Place::Root => false,
+        Place::Field => false,
+        Place::MapField => true,
+    }
+}
+
+// The place of the fields of a node of some kind.
+pub fn place_under(kind: u32) -> Place
+    ensures { λ r. ⌜ r ≡ placeUnder kind ⌝ }
+{
+    if kind == MAP {
+        Place::MapField
+    } else {
+        Place::Field
+    }
+}

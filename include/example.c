@@ -1,0 +1,96 @@
+/* Each function of griffeljol.h once, on the sheet in the file that is the argument. From the repository's root:
+ *   cc -std=c99 -Iinclude include/example.c target/staticlib/libc_api.a -o example && ./example crates/schema_rows/stdin
+ */
+#include "griffeljol.h"
+
+#include <inttypes.h>
+#include <stdio.h>
+
+/* Whether an answer is a result; a refusal is told. */
+static int accepted(uint64_t answer)
+{
+    if (griffeljol_refusal(answer) == GRIFFELJOL_REFUSAL_NONE)
+        return 1;
+    printf("refused %" PRIu32 " at %" PRIu32 "\n", griffeljol_refusal(answer), griffeljol_place(answer));
+    return 0;
+}
+
+/* The rows of a sheet. */
+static void resolve(const uint8_t *sheet, size_t length)
+{
+    static uint32_t rows[GRIFFELJOL_MAX_ROWS];
+    uint64_t answer = griffeljol_resolve(sheet, length, rows, GRIFFELJOL_MAX_ROWS);
+    if (!accepted(answer))
+        return;
+    printf("nodes %" PRIu32 "\n", griffeljol_value(answer));
+    for (uint32_t node = 0; node < griffeljol_value(answer); node++) {
+        const uint32_t *row = &rows[node * GRIFFELJOL_ROW_WIDTH];
+        for (int i = 0; i < GRIFFELJOL_ROW_WIDTH; i++)
+            printf("%s%" PRIu32, i == 0 ? "" : " ", row[i]);
+        printf("\n");
+    }
+}
+
+/* The sheet anew, with both annotations at every node. */
+static void rewrite(const uint8_t *sheet, size_t length)
+{
+    static uint8_t out[GRIFFELJOL_MAX_SHEET];
+    uint64_t answer = griffeljol_rewrite(sheet, length, out, sizeof out, 0);
+    if (accepted(answer))
+        printf("rewritten: %" PRIu32 " bytes\n", griffeljol_value(answer));
+}
+
+/* A value of INT(8, false) on INT32: 255, little-endian. */
+static void read_value(void)
+{
+    const uint8_t value[4] = {255, 0, 0, 0};
+    uint64_t out[GRIFFELJOL_READ_WIDTH];
+    uint64_t answer = griffeljol_read(GRIFFELJOL_PHYSICAL_INT32, 0, GRIFFELJOL_KIND_INTEGER, 8, 0,
+                                      value, sizeof value, out, GRIFFELJOL_READ_WIDTH);
+    if (accepted(answer) && griffeljol_value(answer) == GRIFFELJOL_CASE_UNSIGNED)
+        printf("unsigned %" PRIu64 "\n", out[0]);
+}
+
+/* Two decimals of precision 3 on BYTE_ARRAY, big-endian two's complement: -128 is below 127. */
+static void order_values(void)
+{
+    const uint8_t a[1] = {0x80};
+    const uint8_t b[1] = {0x7F};
+    uint64_t answer = griffeljol_order(GRIFFELJOL_PHYSICAL_BYTE_ARRAY, 0, GRIFFELJOL_KIND_DECIMAL, 3, 0,
+                                       a, sizeof a, b, sizeof b);
+    if (accepted(answer) && griffeljol_value(answer) == GRIFFELJOL_ORDER_LESS)
+        printf("less\n");
+}
+
+/* A timestamp as its date and time, and back. */
+static void timestamp(void)
+{
+    int64_t fields[GRIFFELJOL_FIELDS_WIDTH];
+    int64_t count = 0;
+    if (accepted(griffeljol_decode(GRIFFELJOL_UNIT_MILLIS, -1, fields, GRIFFELJOL_FIELDS_WIDTH)))
+        printf("%04" PRId64 "-%02" PRId64 "-%02" PRId64 " %02" PRId64 ":%02" PRId64 ":%02" PRId64 ".%03" PRId64 "\n",
+               fields[GRIFFELJOL_FIELD_YEAR], fields[GRIFFELJOL_FIELD_MONTH], fields[GRIFFELJOL_FIELD_DAY],
+               fields[GRIFFELJOL_FIELD_HOUR], fields[GRIFFELJOL_FIELD_MINUTE], fields[GRIFFELJOL_FIELD_SECOND],
+               fields[GRIFFELJOL_FIELD_FRACTION]);
+    if (accepted(griffeljol_encode(GRIFFELJOL_UNIT_MILLIS, fields, GRIFFELJOL_FIELDS_WIDTH, &count, 1)))
+        printf("%" PRId64 " ms\n", count);
+}
+
+int main(int argc, char **argv)
+{
+    /* One byte more than the longest sheet, so that a longer file is refused. */
+    static uint8_t sheet[GRIFFELJOL_MAX_SHEET + 1];
+    FILE *file = argc == 2 ? fopen(argv[1], "rb") : NULL;
+    if (file == NULL) {
+        fprintf(stderr, "usage: example SHEET\n");
+        return 2;
+    }
+    size_t length = fread(sheet, 1, sizeof sheet, file);
+    fclose(file);
+    resolve(sheet, length);
+    rewrite(sheet, length);
+    read_value();
+    order_values();
+    timestamp();
+    return 0;
+}

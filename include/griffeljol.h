@@ -1,0 +1,237 @@
+/* griffeljol.h: the proved reader of Parquet schema sheets, for C99 and C++.
+ *
+ * Link the archive libc_api.a, which `rt staticlib c_api` proves and writes to target/staticlib; it links into x86-64 Linux
+ * programs. "Document 01" is the paper that defines the sheet, the rows and the refusals.
+ *
+ * Answers
+ *   Each function answers one uint64_t. Bits 32 to 39 are the number of a refusal, 1 to 20, or 0 for a result. Bits 0 to 31
+ *   are the place of the refusal, or for a result the value that the function names. Bits 40 to 63 are 0 and kept for later:
+ *   take an answer apart by griffeljol_refusal, griffeljol_place and griffeljol_value, and never compare it whole.
+ *
+ * Memory
+ *   An array is a pointer and a length, which counts elements and not bytes. The pointer is aligned for its type; that many
+ *   elements can be read, and behind a pointer that is not const also written, until the call returns; and nothing else writes
+ *   them meanwhile. What a call may write overlaps no other argument of it; arrays that it only reads may overlap. Where the
+ *   length is 0 the pointer is not followed and may be NULL; where it is not 0, NULL is not valid. Nothing else is asked: any
+ *   bytes and any numbers may be offered.
+ *   A refusal writes nothing. A result writes what its function names, and the elements behind it stay as they were.
+ *   Nothing is allocated, kept or shared between calls, so any number of threads may call at a time.
+ *
+ * What is proved
+ *   Each function is proved, for all bytes and numbers, to answer and to write what its contract in crates/c_api says. This
+ *   header is not: no prover sees that these declarations are those of the archive, that a caller's pointers and lengths are
+ *   valid, or that its compiler passes them as the archive takes them.
+ */
+#ifndef GRIFFELJOL_H
+#define GRIFFELJOL_H
+
+#include <stddef.h>
+#include <stdint.h>
+
+#ifdef __cplusplus
+extern "C" {
+#endif
+
+/* The most bytes of a sheet, its most nodes, and the most bytes of a value. */
+#define GRIFFELJOL_MAX_SHEET 65536
+#define GRIFFELJOL_MAX_NODES 896
+#define GRIFFELJOL_MAX_VALUE 65536
+
+/* The numbers of a row, and which stands where in it. Rows of every sheet fit into GRIFFELJOL_MAX_ROWS numbers. */
+#define GRIFFELJOL_ROW_WIDTH 9
+#define GRIFFELJOL_MAX_ROWS (GRIFFELJOL_ROW_WIDTH * GRIFFELJOL_MAX_NODES)
+#define GRIFFELJOL_ROW_PHYSICAL 0
+#define GRIFFELJOL_ROW_TYPE_LENGTH 1
+#define GRIFFELJOL_ROW_REPETITION 2
+#define GRIFFELJOL_ROW_KIND 3
+#define GRIFFELJOL_ROW_P1 4
+#define GRIFFELJOL_ROW_P2 5
+#define GRIFFELJOL_ROW_PARENT 6 /* the parent's node number; the root's is 0 */
+#define GRIFFELJOL_ROW_END 7    /* one past the last descendant */
+#define GRIFFELJOL_ROW_ROLE 8
+
+/* The numbers that griffeljol_read writes. */
+#define GRIFFELJOL_READ_WIDTH 2
+
+/* The fields of a date and time, and which stands where. */
+#define GRIFFELJOL_FIELDS_WIDTH 7
+#define GRIFFELJOL_FIELD_YEAR 0
+#define GRIFFELJOL_FIELD_MONTH 1
+#define GRIFFELJOL_FIELD_DAY 2
+#define GRIFFELJOL_FIELD_HOUR 3
+#define GRIFFELJOL_FIELD_MINUTE 4
+#define GRIFFELJOL_FIELD_SECOND 5
+#define GRIFFELJOL_FIELD_FRACTION 6 /* in ticks of the unit, below one second */
+
+/* Physical types. */
+#define GRIFFELJOL_PHYSICAL_BOOLEAN 0
+#define GRIFFELJOL_PHYSICAL_INT32 1
+#define GRIFFELJOL_PHYSICAL_INT64 2
+#define GRIFFELJOL_PHYSICAL_INT96 3
+#define GRIFFELJOL_PHYSICAL_FLOAT 4
+#define GRIFFELJOL_PHYSICAL_DOUBLE 5
+#define GRIFFELJOL_PHYSICAL_BYTE_ARRAY 6
+#define GRIFFELJOL_PHYSICAL_FIXED_LEN_BYTE_ARRAY 7
+#define GRIFFELJOL_PHYSICAL_GROUP 255
+
+/* Repetitions. Only the root has none. */
+#define GRIFFELJOL_REPETITION_REQUIRED 0
+#define GRIFFELJOL_REPETITION_OPTIONAL 1
+#define GRIFFELJOL_REPETITION_REPEATED 2
+#define GRIFFELJOL_REPETITION_NONE 255
+
+/* Kinds. p1 and p2 are precision and scale of a DECIMAL; unit and UTC (1 or 0) of a TIME or TIMESTAMP; bit width and signed
+ * (1 or 0) of an INTEGER; else 0. */
+#define GRIFFELJOL_KIND_PLAIN_LEAF 0
+#define GRIFFELJOL_KIND_STRING 1
+#define GRIFFELJOL_KIND_MAP 2
+#define GRIFFELJOL_KIND_LIST 3
+#define GRIFFELJOL_KIND_ENUM 4
+#define GRIFFELJOL_KIND_DECIMAL 5
+#define GRIFFELJOL_KIND_DATE 6
+#define GRIFFELJOL_KIND_TIME 7
+#define GRIFFELJOL_KIND_TIMESTAMP 8
+#define GRIFFELJOL_KIND_INTEGER 10
+#define GRIFFELJOL_KIND_UNKNOWN 11
+#define GRIFFELJOL_KIND_JSON 12
+#define GRIFFELJOL_KIND_BSON 13
+#define GRIFFELJOL_KIND_UUID 14
+#define GRIFFELJOL_KIND_INTERVAL 21
+#define GRIFFELJOL_KIND_PLAIN_GROUP 30
+
+/* Roles. */
+#define GRIFFELJOL_ROLE_FIELD 0
+#define GRIFFELJOL_ROLE_LIST_LAYER 1
+#define GRIFFELJOL_ROLE_ELEMENT 2
+#define GRIFFELJOL_ROLE_ELEMENT_LAYER 3 /* a group layer that is the element */
+#define GRIFFELJOL_ROLE_KEY_VALUE_LAYER 4
+#define GRIFFELJOL_ROLE_KEY 5
+#define GRIFFELJOL_ROLE_VALUE 6
+#define GRIFFELJOL_ROLE_BARE_REPEATED 7
+
+/* Time units. */
+#define GRIFFELJOL_UNIT_MILLIS 1
+#define GRIFFELJOL_UNIT_MICROS 2
+#define GRIFFELJOL_UNIT_NANOS 3
+
+/* The cases of a read value. */
+#define GRIFFELJOL_CASE_TRUTH 0
+#define GRIFFELJOL_CASE_SIGNED 1
+#define GRIFFELJOL_CASE_UNSIGNED 2
+#define GRIFFELJOL_CASE_FLOAT 3
+#define GRIFFELJOL_CASE_DOUBLE 4
+#define GRIFFELJOL_CASE_BYTES 5
+
+/* How the first of two values stands to the second. */
+#define GRIFFELJOL_ORDER_LESS 0
+#define GRIFFELJOL_ORDER_EQUAL 1
+#define GRIFFELJOL_ORDER_GREATER 2
+#define GRIFFELJOL_ORDER_UNORDERED 3 /* one of them is a NaN */
+
+/* Refusals, each with what it is given for and its place. */
+#define GRIFFELJOL_REFUSAL_NONE 0            /* a result */
+#define GRIFFELJOL_REFUSAL_SHEET_LENGTH 1    /* sheet length 0, not a multiple of 512, or over 65,536: 0 */
+#define GRIFFELJOL_REFUSAL_BLOCK_CHECK 2     /* block check differs: the first such block */
+#define GRIFFELJOL_REFUSAL_BLOCK_HEADER 3    /* block header wrong: the first such block */
+#define GRIFFELJOL_REFUSAL_SLOT 4            /* slot code outside the lists, name length or zero bytes wrong, unused slot not
+                                                zero: the first such node */
+#define GRIFFELJOL_REFUSAL_NODES_MISSING 5   /* more children are claimed than nodes exist: T, the number of nodes */
+#define GRIFFELJOL_REFUSAL_NODES_LEFT 6      /* nodes remain after the root's tree: the first node left over */
+#define GRIFFELJOL_REFUSAL_DEPTH 7           /* a node deeper than 32: the first such node */
+#define GRIFFELJOL_REFUSAL_SHAPE 8           /* shape: the node */
+#define GRIFFELJOL_REFUSAL_DISAGREEMENT 9    /* converted and logical disagree: the node */
+#define GRIFFELJOL_REFUSAL_ANNOTATION 10     /* annotation on the wrong physical type, length or parameters: the node */
+#define GRIFFELJOL_REFUSAL_DECIMAL 11        /* DECIMAL scale or precision: the node */
+#define GRIFFELJOL_REFUSAL_LIST 12           /* LIST structure: the LIST */
+#define GRIFFELJOL_REFUSAL_MAP 13            /* MAP structure: the MAP */
+#define GRIFFELJOL_REFUSAL_OUTPUT 14         /* output too short, or its start lies beyond its end: 0 */
+#define GRIFFELJOL_REFUSAL_VALUE_LENGTH 15   /* value of wrong length, or over 65,536 bytes: 0 */
+#define GRIFFELJOL_REFUSAL_VALUE 16          /* value breaks its annotation: 0 */
+#define GRIFFELJOL_REFUSAL_NO_ORDER 17       /* this column has no order: 0 */
+#define GRIFFELJOL_REFUSAL_NO_DATE 18        /* fields form no date or time: 0 */
+#define GRIFFELJOL_REFUSAL_NO_COUNT 19       /* fields not representable in a signed 64-bit count: 0 */
+#define GRIFFELJOL_REFUSAL_COLUMN_TYPE 20    /* no accepted sheet has a leaf of this column type, or a time unit is not
+                                                1 to 3: 0 */
+
+/* The number of an answer's refusal, or GRIFFELJOL_REFUSAL_NONE for a result. */
+static inline uint32_t griffeljol_refusal(uint64_t answer)
+{
+    return (uint32_t)(answer >> 32) & 0xFF;
+}
+
+/* The place of a refusal: a block, a node, T or 0, as the list of refusals says. */
+static inline uint32_t griffeljol_place(uint64_t answer)
+{
+    return (uint32_t)(answer & 0xFFFFFFFF);
+}
+
+/* The value of a result, as each function names it. */
+static inline uint32_t griffeljol_value(uint64_t answer)
+{
+    return (uint32_t)(answer & 0xFFFFFFFF);
+}
+
+/* Judges a sheet and resolves it into rows.
+ *   sheet   the sheet's bytes
+ *   rows    where the rows go, GRIFFELJOL_ROW_WIDTH numbers for each node
+ * Result: T, the number of nodes, 1 to GRIFFELJOL_MAX_NODES. The rows stand in the first GRIFFELJOL_ROW_WIDTH * T numbers of
+ * rows, in listing order; the numbers behind them stay.
+ * Refusals: 1 to 7, each judged over the whole sheet before the next; then 8 to 13 node by node, at one node in number order;
+ * then 14, where rows_len is below GRIFFELJOL_ROW_WIDTH * T. rows stays as it was. */
+uint64_t griffeljol_resolve(const uint8_t *sheet, size_t sheet_len, uint32_t *rows, size_t rows_len);
+
+/* Judges a sheet and writes it anew with both annotations at every node.
+ *   sheet   the sheet's bytes
+ *   out     where the rewritten sheet goes
+ *   start   the index in out of its first byte
+ * Result: the number of bytes written, which is sheet_len. They stand in out from start on; the bytes before and behind stay.
+ * Refusals: 1 to 13 as griffeljol_resolve judges them; then 14, where start is above out_len or fewer than sheet_len bytes stand
+ * from start on. out stays as it was. */
+uint64_t griffeljol_rewrite(const uint8_t *sheet, size_t sheet_len, uint8_t *out, size_t out_len, size_t start);
+
+/* Reads one value of a column.
+ *   physical, type_length, kind, p1, p2   the column type, five numbers as a row has them
+ *   value   the value's bytes, as a page stores them, without a length in front
+ *   out     where GRIFFELJOL_READ_WIDTH numbers go
+ * Result: the case of the value. out[0] and out[1] are
+ *   GRIFFELJOL_CASE_TRUTH      0 or 1, and 0
+ *   GRIFFELJOL_CASE_SIGNED     the whole number as 64-bit two's complement, and 0
+ *   GRIFFELJOL_CASE_UNSIGNED   the whole number, and 0
+ *   GRIFFELJOL_CASE_FLOAT      the bits of the FLOAT in the low 32 bits, a NaN as 7FC00000 hexadecimal, and 0
+ *   GRIFFELJOL_CASE_DOUBLE     the bits of the DOUBLE, a NaN as 7FF8000000000000 hexadecimal, and 0
+ *   GRIFFELJOL_CASE_BYTES      where the stretch of bytes starts in value, and its length
+ * and the numbers behind them stay.
+ * Refusals: 20, then 15, then 16, then 14 where out_len is below GRIFFELJOL_READ_WIDTH. out stays as it was. */
+uint64_t griffeljol_read(uint32_t physical, uint32_t type_length, uint32_t kind, uint32_t p1, uint32_t p2,
+                         const uint8_t *value, size_t value_len, uint64_t *out, size_t out_len);
+
+/* Orders two values of a column.
+ *   physical, type_length, kind, p1, p2   the column type, five numbers as a row has them
+ *   a, b    the bytes of the two values; they may be the same
+ * Result: how a stands to b, one of GRIFFELJOL_ORDER_LESS, _EQUAL, _GREATER and _UNORDERED. Nothing is written.
+ * Refusals: 20, then 17, then 15 or 16 for a, then 15 or 16 for b. */
+uint64_t griffeljol_order(uint32_t physical, uint32_t type_length, uint32_t kind, uint32_t p1, uint32_t p2,
+                          const uint8_t *a, size_t a_len, const uint8_t *b, size_t b_len);
+
+/* Turns a timestamp's count into its date and time, by the Gregorian calendar carried both ways.
+ *   unit     GRIFFELJOL_UNIT_MILLIS, _MICROS or _NANOS
+ *   count    ticks since 1970-01-01 00:00:00; every count has a date and time
+ *   fields   where year, month, day, hour, minute, second and fraction go
+ * Result: GRIFFELJOL_FIELDS_WIDTH, the numbers written; those behind them stay.
+ * Refusals: 20 for the unit, then 14 where fields_len is below GRIFFELJOL_FIELDS_WIDTH. fields stays as it was. */
+uint64_t griffeljol_decode(uint32_t unit, int64_t count, int64_t *fields, size_t fields_len);
+
+/* Turns a date and time into its timestamp's count.
+ *   unit     GRIFFELJOL_UNIT_MILLIS, _MICROS or _NANOS
+ *   fields   year, month, day, hour, minute, second and fraction, any number in each; what stands behind them is not read
+ *   count    where the count goes
+ * Result: 1, the numbers written; those behind count[0] stay.
+ * Refusals: 20 for the unit, then 18, also for fewer than GRIFFELJOL_FIELDS_WIDTH fields, then 19, then 14 where count_len is 0.
+ * count stays as it was. */
+uint64_t griffeljol_encode(uint32_t unit, const int64_t *fields, size_t fields_len, int64_t *count, size_t count_len);
+
+#ifdef __cplusplus
+}
+#endif
+
+#endif

@@ -1,0 +1,35 @@
+//! A reader of Parquet schema sheets by document 01, written from its papers and sharing nothing with the proved one.
+//!
+//! Each entry answers a result or a numbered [`Refusal`]; a refused call leaves every lent buffer as it was.
+//!
+//! ```
+//! use independent::{decode, Fields};
+//!
+//! let fields = decode(1, -1).unwrap();
+//! assert_eq!(fields, Fields { year: 1969, month: 12, day: 31, hour: 23, minute: 59, second: 59, fraction: 999 });
+//! ```
+#![forbid(unsafe_code)]
+#![warn(missing_docs)]
+
+pub mod annotation;
+pub mod codes;
+pub mod column;
+pub mod decimal;
+pub mod order;
+pub mod refusal;
+pub mod rewrite;
+pub mod rows;
+pub mod rules;
+pub mod sheet;
+pub mod timestamp;
+pub mod tree;
+pub mod utf8;
+pub mod value;
+
+pub use column::ColumnType;
+pub use order::{order, Order};
+pub use refusal::Refusal;
+pub use rewrite::rewrite;
+pub use rows::{resolve, ROW_WIDTH};
+pub use timestamp::{decode, encode, Fields};
+pub use value::{read, Value};

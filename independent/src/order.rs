@@ -1,0 +1,51 @@
+//! The order of two values of a column: refusal 17.
+
+use std::cmp::Ordering;
+
+use crate::annotation::Annotation;
+use crate::codes::physical;
+use crate::column::{Column, ColumnType};
+use crate::decimal;
+use crate::refusal::{self, Refusal};
+use crate::value::{read_in, Value};
+
+/// How the first of two values stands to the second.
+#[derive(Clone, Copy, Debug, PartialEq, Eq)]
+pub enum Order {
+    /// It comes before.
+    Less = 0,
+    /// They are equal.
+    Equal = 1,
+    /// It comes after.
+    Greater = 2,
+    /// One of them is a NaN.
+    Unordered = 3,
+}
+
+impl From<Ordering> for Order {
+    fn from(ordering: Ordering) -> Self {
+        match ordering {
+            Ordering::Less => Order::Less,
+            Ordering::Equal => Order::Equal,
+            Ordering::Greater => Order::Greater,
+        }
+    }
+}
+
+/// Orders two values of a column: refusal 20, then 17, then those of the first value, then those of the second.
+pub fn order(column: ColumnType, a: &[u8], b: &[u8]) -> Result<Order, Refusal> {
+    let column = Column::of(column)?;
+    if column.physical == physical::INT96 || column.annotation == Annotation::Interval {
+        return Err(Refusal::whole(refusal::NO_ORDER));
+    }
+    let ordering = match (read_in(&column, a)?, read_in(&column, b)?) {
+        (Value::Truth(a), Value::Truth(b)) => Some(a.cmp(&b)),
+        (Value::Signed(a), Value::Signed(b)) => Some(a.cmp(&b)),
+        (Value::Unsigned(a), Value::Unsigned(b)) => Some(a.cmp(&b)),
+        (Value::Float(a), Value::Float(b)) => a.partial_cmp(&b),
+        (Value::Double(a), Value::Double(b)) => a.partial_cmp(&b),
+        _ if column.is_byte_decimal() => decimal::compare(a, b),
+        _ => Some(a.cmp(b)),
+    };
+    Ok(ordering.map_or(Order::Unordered, Order::from))
+}

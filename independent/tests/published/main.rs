@@ -1,0 +1,148 @@
+//! Document 01's examples and fixed points and published vectors, run against this reader.
+
+mod tables;
+
+use independent::sheet::{assemble, Sheet, Slot, BLOCK};
+use independent::{decimal, decode, encode, order, read, resolve, rewrite, utf8, ColumnType, Fields, Refusal, Value};
+use tables::*;
+
+fn fields([year, month, day, hour, minute, second, fraction]: [i64; 7]) -> Fields {
+    Fields { year, month, day, hour, minute, second, fraction }
+}
+
+fn both_ways(unit: u32, count: i64, expected: Fields) {
+    assert_eq!(decode(unit, count), Ok(expected));
+    assert_eq!(encode(unit, &expected), Ok(count));
+}
+
+fn column([physical, type_length, kind, p1, p2]: Column) -> ColumnType {
+    ColumnType { physical, type_length, kind, p1, p2 }
+}
+
+fn refused(number: u32) -> Refusal {
+    Refusal { number, place: 0 }
+}
+
+#[test]
+fn days_of_the_calendar() {
+    let reingold = REINGOLD_DERSHOWITZ.map(|(y, m, d, rd)| (y, m, d, rd - REINGOLD_DERSHOWITZ_EPOCH));
+    for (year, month, day, number) in HINNANT.into_iter().chain(reingold) {
+        both_ways(1, number * 86_400_000, fields([year, month, day, 0, 0, 0, 0]));
+    }
+    for (year, month, day, hour, halves) in MEEUS {
+        both_ways(2, (halves - MEEUS_EPOCH_HALF_DAYS) * 43_200_000_000, fields([year, month, day, hour, 0, 0, 0]));
+    }
+}
+
+#[test]
+fn instants() {
+    for (unit, count, expected) in INSTANTS {
+        both_ways(unit, count, fields(expected));
+    }
+    for (unit, given, number) in NO_INSTANTS {
+        assert_eq!(encode(unit, &fields(given)), Err(refused(number)));
+    }
+}
+
+#[test]
+fn texts() {
+    for (text, stop) in RFC_3629.into_iter().chain(UNICODE) {
+        assert_eq!(utf8::valid_up_to(text), stop, "{text:02X?}");
+    }
+}
+
+#[test]
+fn values() {
+    for (given, value, expected) in READS {
+        let found = read(column(given), value).map(|value| match value {
+            Value::Truth(truth) => (0, [truth.into(), 0]),
+            Value::Signed(number) => (1, [number as u64, 0]),
+            Value::Unsigned(number) => (2, [number, 0]),
+            Value::Float(float) => (3, [float.to_bits().into(), 0]),
+            Value::Double(double) => (4, [double.to_bits(), 0]),
+            Value::Bytes { start, length } => (5, [start as u64, length as u64]),
+        });
+        assert_eq!(found, expected.map_err(refused), "{given:?} {value:02X?}");
+    }
+}
+
+#[test]
+fn orders() {
+    for (given, a, b, expected) in ORDERS {
+        let found = order(column(given), a, b).map(|order| order as u32);
+        assert_eq!(found, expected.map_err(refused), "{given:?} {a:02X?} {b:02X?}");
+    }
+}
+
+#[test]
+fn precisions() {
+    for (length, most) in PRECISIONS {
+        assert_eq!(decimal::greatest_precision(length as usize), Some(most));
+    }
+}
+
+fn slot(
+    ([physical, repetition, converted, logical, a, b, children, type_length, scale, precision], name): tables::Slot,
+) -> Slot<'static> {
+    Slot {
+        physical: physical as u8,
+        repetition: repetition as u8,
+        converted: converted as u8,
+        logical: logical as u8,
+        a: a as u8,
+        b: b as u8,
+        children: children as u16,
+        type_length: type_length as i32,
+        scale: scale as i32,
+        precision: precision as i32,
+        name_length: name.len() as u8,
+        name: name.as_bytes(),
+    }
+}
+
+#[test]
+fn sheets() {
+    for (title, slots, expected) in SHEETS {
+        let sheet = assemble(&slots.iter().map(|&given| slot(given)).collect::<Vec<_>>());
+        let mut rows = [0; 9 * 8];
+        match (resolve(&sheet, &mut rows), expected) {
+            (Ok(count), Ok(expected)) => {
+                assert_eq!(count as usize, expected.len(), "{title}");
+                assert_eq!(rows[..9 * expected.len()], expected.concat(), "{title}");
+            }
+            (Err(refusal), Err((number, place))) => assert_eq!(refusal, Refusal { number, place }, "{title}"),
+            (found, _) => panic!("{title}: {found:?}"),
+        }
+    }
+}
+
+/// The rewritten sheet has the same rows, and rewriting it again changes no byte.
+#[test]
+fn rewritten_sheets() {
+    for (title, slots, expected) in SHEETS {
+        let sheet = assemble(&slots.iter().map(|&given| slot(given)).collect::<Vec<_>>());
+        let mut made = vec![0; sheet.len()];
+        let Ok(rows) = expected else {
+            assert!(rewrite(&sheet, &mut made, 0).is_err(), "{title}");
+            continue;
+        };
+        assert_eq!(rewrite(&sheet, &mut made, 0), Ok(sheet.len() as u32), "{title}");
+        let mut again = vec![0; made.len()];
+        rewrite(&made, &mut again, 0).unwrap();
+        assert_eq!(again, made, "{title}");
+        let mut resolved = [0; 9 * 8];
+        resolve(&made, &mut resolved).unwrap();
+        assert_eq!(resolved[..9 * rows.len()], rows.concat(), "{title}");
+    }
+}
+
+/// Byte 509 equal to 255, all others zero, has the check 64,529; a block of zeros then fails at its header.
+#[test]
+fn check_of_one_byte() {
+    let mut block = [0; BLOCK];
+    block[509] = 255;
+    block[510..].copy_from_slice(&64_529u16.to_le_bytes());
+    assert_eq!(Sheet::open(&block).unwrap_err(), Refusal { number: 3, place: 0 });
+    block[510] += 1;
+    assert_eq!(Sheet::open(&block).unwrap_err(), Refusal { number: 2, place: 0 });
+}

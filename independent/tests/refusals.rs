@@ -1,0 +1,145 @@
+//! The order of refusals, their places, and that a refused call leaves what it was lent.
+
+use independent::sheet::{assemble, renew_checks, slot_start, Slot, BLOCK};
+use independent::{encode, order, read, resolve, rewrite, ColumnType, Fields, Refusal, ROW_WIDTH};
+
+fn refused(number: u32, place: u32) -> Refusal {
+    Refusal { number, place }
+}
+
+const ROOT: Slot = Slot {
+    physical: 255,
+    repetition: 255,
+    converted: 255,
+    logical: 0,
+    a: 0,
+    b: 0,
+    children: 0,
+    type_length: 0,
+    scale: 0,
+    precision: 0,
+    name_length: 1,
+    name: b"r",
+};
+const LEAF: Slot = Slot { physical: 1, repetition: 0, name: b"v", ..ROOT };
+
+/// A root with so many leaves.
+fn flat(leaves: u16) -> Vec<u8> {
+    let mut slots = vec![LEAF; usize::from(leaves) + 1];
+    slots[0] = Slot { children: leaves, ..ROOT };
+    assemble(&slots)
+}
+
+/// Resolving and rewriting a sheet, which both refuse it alike and leave their outputs.
+fn refusal_of(sheet: &[u8]) -> Refusal {
+    let (mut rows, mut out) = ([7; 20_000], vec![9; 140_000]);
+    let refusal = resolve(sheet, &mut rows).unwrap_err();
+    assert_eq!(rewrite(sheet, &mut out, 3), Err(refusal));
+    assert!(rows.iter().all(|&number| number == 7) && out.iter().all(|&byte| byte == 9));
+    refusal
+}
+
+fn changed(sheet: &[u8], changes: &[(usize, u8)]) -> Vec<u8> {
+    let mut sheet = sheet.to_vec();
+    changes.iter().for_each(|&(at, byte)| sheet[at] = byte);
+    renew_checks(&mut sheet);
+    sheet
+}
+
+#[test]
+fn one_number_at_a_time_over_the_whole_sheet() {
+    let sheet = flat(16);
+    // A slot of block 0, a header of block 1, a check of block 2: the check comes first, then the header, then the slot.
+    let both = changed(&sheet, &[(slot_start(2), 9), (BLOCK + 3, 2)]);
+    let mut all = both.clone();
+    all[2 * BLOCK + 511] ^= 1;
+    assert_eq!(refusal_of(&all), refused(2, 2));
+    assert_eq!(refusal_of(&both), refused(3, 1));
+    assert_eq!(refusal_of(&changed(&sheet, &[(slot_start(2), 9)])), refused(4, 2));
+    // An unused slot has the number that a node there would have.
+    assert_eq!(refusal_of(&changed(&sheet, &[(slot_start(20) + 40, 1)])), refused(4, 20));
+    for length in [0, 1, 511, 513, 65_537, 66_048] {
+        assert_eq!(refusal_of(&vec![0; length]), refused(1, 0));
+    }
+}
+
+#[test]
+fn open_places() {
+    let claims = |claims: &[u16]| {
+        let slots: Vec<Slot> = claims.iter().map(|&children| Slot { children, ..LEAF }).collect();
+        refusal_of(&assemble(&slots))
+    };
+    assert_eq!(claims(&[1]), refused(5, 1));
+    assert_eq!(claims(&[2, 0, 1]), refused(5, 3));
+    assert_eq!(claims(&[0, 65_535]), refused(6, 1));
+    assert_eq!(claims(&[2, 1, 0, 0, 1, 0]), refused(6, 4));
+    // Claims of leaves count: node 33 of a chain is too deep, before the chain's shape is judged.
+    let chain: Vec<u16> = (0..40).map(|node| u16::from(node < 39)).collect();
+    assert_eq!(claims(&chain), refused(7, 33));
+    assert_eq!(claims(&chain[7..]), refused(8, 0));
+}
+
+#[test]
+fn output_too_short_comes_last() {
+    let sheet = flat(3);
+    let needed = ROW_WIDTH * 4;
+    let mut rows = vec![7; needed - 1];
+    assert_eq!(resolve(&sheet, &mut rows), Err(refused(14, 0)));
+    assert!(rows.iter().all(|&number| number == 7));
+    let mut rows = vec![7; needed + 1];
+    assert_eq!(resolve(&sheet, &mut rows), Ok(4));
+    assert_eq!(rows[needed], 7);
+    for (lent, start) in [(511, 0), (512, 1), (512, 513), (0, 0), (1_000, usize::MAX)] {
+        let mut out = vec![9; lent];
+        assert_eq!(rewrite(&sheet, &mut out, start), Err(refused(14, 0)));
+        assert!(out.iter().all(|&byte| byte == 9));
+    }
+    let mut out = vec![9; 520];
+    assert_eq!(rewrite(&sheet, &mut out, 5), Ok(512));
+    assert_eq!((&out[..5], &out[517..]), (&[9; 5][..], &[9; 3][..]));
+    assert_eq!(resolve(&changed(&sheet, &[(slot_start(3) + 8, 1)]), &mut []), Err(refused(8, 3)));
+}
+
+#[test]
+fn fields_are_taken_as_they_come() {
+    let good = Fields { year: 1970, month: 1, day: 1, hour: 0, minute: 0, second: 0, fraction: 0 };
+    assert_eq!(encode(1, &good), Ok(0));
+    for wrong in [-5, -1, 1 << 40, i64::MIN, i64::MAX] {
+        for fields in [
+            Fields { month: wrong, ..good },
+            Fields { day: wrong, ..good },
+            Fields { hour: wrong, ..good },
+            Fields { minute: wrong, ..good },
+            Fields { second: wrong, ..good },
+            Fields { fraction: wrong, ..good },
+        ] {
+            for unit in 1..=3 {
+                assert_eq!(encode(unit, &fields), Err(refused(18, 0)));
+                assert_eq!(encode(unit, &Fields { year: wrong, ..fields }), Err(refused(18, 0)));
+            }
+            assert_eq!(encode(4, &fields), Err(refused(20, 0)));
+        }
+    }
+    for year in [i64::MIN, -292_275_056, 292_278_995, i64::MAX] {
+        for unit in 1..=3 {
+            assert_eq!(encode(unit, &Fields { year, ..good }), Err(refused(19, 0)));
+        }
+    }
+}
+
+#[test]
+fn a_value_by_20_15_16_and_an_order_by_20_17_and_its_values() {
+    let column = |physical, type_length, kind, p1, p2| ColumnType { physical, type_length, kind, p1, p2 };
+    let unknown = column(1, 0, 11, 0, 0);
+    assert_eq!(read(unknown, b""), Err(refused(15, 0)));
+    assert_eq!(read(unknown, b"\0\0\0\0"), Err(refused(16, 0)));
+    assert_eq!(read(column(1, 0, 11, 1, 0), b""), Err(refused(20, 0)));
+    assert_eq!(read(column(6, 0, 0, 0, 0), &[0; 65_537]), Err(refused(15, 0)));
+    assert!(read(column(6, 0, 0, 0, 0), &[0; 65_536]).is_ok());
+    assert_eq!(read(column(7, 65_537, 0, 0, 0), &[0; 65_537]), Err(refused(15, 0)));
+    assert_eq!(order(column(3, 1, 0, 0, 0), b"", b""), Err(refused(20, 0)));
+    assert_eq!(order(column(3, 0, 0, 0, 0), b"", b""), Err(refused(17, 0)));
+    let text = column(6, 0, 1, 0, 0);
+    assert_eq!(order(text, b"\xFF", &[0; 65_537]), Err(refused(16, 0)));
+    assert_eq!(order(text, &[0; 65_537], b"\xFF"), Err(refused(15, 0)));
+}

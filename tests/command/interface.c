@@ -1,0 +1,196 @@
+/* Calls each function of griffeljol.h at its edges: NULL with length 0, outputs that just fit or do not, what stays unchanged,
+ * and which refusal comes first. The argument is the sample sheet, of four nodes. */
+#include "griffeljol.h"
+
+#include <stdio.h>
+#include <string.h>
+
+static int failures = 0;
+
+#define CHECK(fact)                                                            \
+    do {                                                                       \
+        if (!(fact)) {                                                         \
+            fprintf(stderr, "%s:%d: not so: %s\n", __FILE__, __LINE__, #fact); \
+            failures++;                                                        \
+        }                                                                      \
+    } while (0)
+
+/* Whole answers, so that bits 40 to 63 are seen to be 0. */
+static uint64_t refused(uint64_t number)
+{
+    return number << 32;
+}
+
+enum { SHEET = 512, NODES = 4, ROWS = NODES * GRIFFELJOL_ROW_WIDTH };
+
+static void check_helpers(void)
+{
+    uint64_t answer = (UINT64_C(0xABCDEF) << 40) | (UINT64_C(12) << 32) | UINT64_C(0xFFFFFFFF);
+    CHECK(griffeljol_refusal(answer) == GRIFFELJOL_REFUSAL_LIST);
+    CHECK(griffeljol_place(answer) == 0xFFFFFFFF);
+    CHECK(griffeljol_value(answer) == 0xFFFFFFFF);
+    CHECK(griffeljol_refusal(0xFFFFFFFF) == GRIFFELJOL_REFUSAL_NONE);
+}
+
+static void check_resolve(const uint8_t *sheet)
+{
+    const uint32_t expected[ROWS] = {255, 0, 255, 30, 0, 0, 0, 4, 0, 255, 0, 0, 3, 0, 0, 0, 4, 0,
+                                     255, 0, 2,   30, 0, 0, 1, 4, 1, 6,   0, 1, 1, 0, 0, 2, 4, 2};
+    uint32_t rows[ROWS + 1], before[ROWS + 1];
+    uint8_t wrong[SHEET];
+    memset(rows, 0xA5, sizeof rows);
+    memcpy(before, rows, sizeof rows);
+    CHECK(griffeljol_resolve(NULL, 0, NULL, 0) == refused(1));
+    CHECK(griffeljol_resolve(NULL, 0, rows, ROWS) == refused(1));
+    CHECK(griffeljol_resolve(sheet, SHEET - 1, rows, ROWS) == refused(1));
+    CHECK(griffeljol_resolve(sheet, SHEET, NULL, 0) == refused(14));
+    CHECK(griffeljol_resolve(sheet, SHEET, rows, ROWS - 1) == refused(14));
+    memcpy(wrong, sheet, SHEET);
+    wrong[30] ^= 1;
+    CHECK(griffeljol_resolve(wrong, SHEET, NULL, 0) == refused(2));
+    CHECK(griffeljol_resolve(wrong, SHEET, rows, ROWS) == refused(2));
+    CHECK(memcmp(rows, before, sizeof rows) == 0);
+    CHECK(griffeljol_resolve(sheet, SHEET, rows, ROWS) == NODES);
+    CHECK(memcmp(rows, expected, sizeof expected) == 0);
+    CHECK(griffeljol_resolve(sheet, SHEET, rows, ROWS + 1) == NODES);
+    CHECK(memcmp(rows, expected, sizeof expected) == 0);
+    CHECK(rows[ROWS] == before[ROWS]);
+}
+
+static void check_rewrite(const uint8_t *sheet)
+{
+    enum { START = 45, BEHIND = 3, OUT = START + SHEET + BEHIND };
+    uint8_t out[OUT], before[OUT], again[SHEET];
+    uint32_t rows[ROWS], rewritten[ROWS];
+    memset(out, 0xA5, sizeof out);
+    memcpy(before, out, sizeof out);
+    CHECK(griffeljol_rewrite(NULL, 0, NULL, 0, 0) == refused(1));
+    CHECK(griffeljol_rewrite(sheet, SHEET, NULL, 0, 0) == refused(14));
+    CHECK(griffeljol_rewrite(sheet, SHEET, NULL, 0, 1) == refused(14));
+    CHECK(griffeljol_rewrite(sheet, SHEET, out, OUT, SIZE_MAX) == refused(14));
+    CHECK(griffeljol_rewrite(sheet, SHEET, out, OUT, OUT) == refused(14));
+    CHECK(griffeljol_rewrite(sheet, SHEET, out, OUT, OUT + 1) == refused(14));
+    CHECK(griffeljol_rewrite(sheet, SHEET, out, OUT, START + BEHIND + 1) == refused(14));
+    CHECK(griffeljol_rewrite(sheet, SHEET - 1, out, OUT, OUT + 1) == refused(1));
+    CHECK(memcmp(out, before, sizeof out) == 0);
+    CHECK(griffeljol_rewrite(sheet, SHEET, out, OUT, START) == SHEET);
+    CHECK(memcmp(out, before, START) == 0);
+    CHECK(memcmp(out + START + SHEET, before + START + SHEET, BEHIND) == 0);
+    CHECK(griffeljol_resolve(sheet, SHEET, rows, ROWS) == NODES);
+    CHECK(griffeljol_resolve(out + START, SHEET, rewritten, ROWS) == NODES);
+    CHECK(memcmp(rows, rewritten, sizeof rows) == 0);
+    CHECK(griffeljol_rewrite(out + START, SHEET, again, SHEET, 0) == SHEET);
+    CHECK(memcmp(out + START, again, SHEET) == 0);
+    CHECK(griffeljol_rewrite(sheet, SHEET, out, OUT, START + BEHIND) == SHEET);
+    CHECK(memcmp(out + START + BEHIND, again, SHEET) == 0);
+}
+
+/* Reads a value into out, of three numbers, and says whether the answer is as it should be and the third stayed. */
+static int reads(uint32_t physical, uint32_t kind, uint32_t p1, uint32_t p2, const uint8_t *value, size_t length,
+                 uint32_t value_case, uint64_t first, uint64_t second)
+{
+    uint64_t out[3] = {7, 7, 7};
+    uint64_t answer = griffeljol_read(physical, 0, kind, p1, p2, value, length, out, 3);
+    return answer == value_case && out[0] == first && out[1] == second && out[2] == 7;
+}
+
+static void check_read(void)
+{
+    static const uint8_t longest[GRIFFELJOL_MAX_VALUE + 1] = {0};
+    const uint8_t one[1] = {1}, two[1] = {2};
+    const uint8_t ones[8] = {255, 255, 255, 255, 255, 255, 255, 255};
+    const uint8_t float_nan[4] = {1, 0, 0x80, 0xFF}, minus_zero[4] = {0, 0, 0, 0x80};
+    const uint8_t double_nan[8] = {1, 0, 0, 0, 0, 0, 0xF0, 0x7F};
+    uint64_t out[2] = {7, 7};
+    CHECK(reads(GRIFFELJOL_PHYSICAL_BOOLEAN, 0, 0, 0, one, 1, GRIFFELJOL_CASE_TRUTH, 1, 0));
+    CHECK(reads(GRIFFELJOL_PHYSICAL_INT32, 0, 0, 0, ones, 4, GRIFFELJOL_CASE_SIGNED, UINT64_MAX, 0));
+    CHECK(reads(GRIFFELJOL_PHYSICAL_INT64, 0, 0, 0, ones, 8, GRIFFELJOL_CASE_SIGNED, UINT64_MAX, 0));
+    CHECK(reads(GRIFFELJOL_PHYSICAL_INT32, 10, 32, 0, ones, 4, GRIFFELJOL_CASE_UNSIGNED, 0xFFFFFFFF, 0));
+    CHECK(reads(GRIFFELJOL_PHYSICAL_INT64, 10, 64, 0, ones, 8, GRIFFELJOL_CASE_UNSIGNED, UINT64_MAX, 0));
+    CHECK(reads(GRIFFELJOL_PHYSICAL_FLOAT, 0, 0, 0, minus_zero, 4, GRIFFELJOL_CASE_FLOAT, 0x80000000, 0));
+    CHECK(reads(GRIFFELJOL_PHYSICAL_FLOAT, 0, 0, 0, float_nan, 4, GRIFFELJOL_CASE_FLOAT, 0x7FC00000, 0));
+    CHECK(reads(GRIFFELJOL_PHYSICAL_DOUBLE, 0, 0, 0, double_nan, 8, GRIFFELJOL_CASE_DOUBLE,
+                UINT64_C(0x7FF8000000000000), 0));
+    CHECK(reads(GRIFFELJOL_PHYSICAL_BYTE_ARRAY, 0, 0, 0, ones, 8, GRIFFELJOL_CASE_BYTES, 0, 8));
+    CHECK(reads(GRIFFELJOL_PHYSICAL_BYTE_ARRAY, 0, 0, 0, NULL, 0, GRIFFELJOL_CASE_BYTES, 0, 0));
+    CHECK(reads(GRIFFELJOL_PHYSICAL_BYTE_ARRAY, 1, 0, 0, NULL, 0, GRIFFELJOL_CASE_BYTES, 0, 0));
+    CHECK(reads(GRIFFELJOL_PHYSICAL_BYTE_ARRAY, 0, 0, 0, longest, GRIFFELJOL_MAX_VALUE, GRIFFELJOL_CASE_BYTES, 0,
+                GRIFFELJOL_MAX_VALUE));
+    CHECK(griffeljol_read(GRIFFELJOL_PHYSICAL_GROUP, 0, 30, 0, 0, NULL, 0, NULL, 0) == refused(20));
+    CHECK(griffeljol_read(GRIFFELJOL_PHYSICAL_BOOLEAN, 0, 0, 0, 0, NULL, 0, NULL, 0) == refused(15));
+    CHECK(griffeljol_read(GRIFFELJOL_PHYSICAL_BYTE_ARRAY, 0, 0, 0, 0, longest, sizeof longest, out, 2) == refused(15));
+    CHECK(griffeljol_read(GRIFFELJOL_PHYSICAL_BOOLEAN, 0, 0, 0, 0, two, 1, NULL, 0) == refused(16));
+    CHECK(griffeljol_read(GRIFFELJOL_PHYSICAL_BOOLEAN, 0, 0, 0, 0, one, 1, NULL, 0) == refused(14));
+    CHECK(griffeljol_read(GRIFFELJOL_PHYSICAL_BOOLEAN, 0, 0, 0, 0, one, 1, out, 1) == refused(14));
+    CHECK(griffeljol_read(GRIFFELJOL_PHYSICAL_BOOLEAN, 0, 0, 0, 0, two, 1, out, 2) == refused(16));
+    CHECK(out[0] == 7 && out[1] == 7);
+}
+
+static void check_order(void)
+{
+    const uint8_t text[3] = {'a', 'b', 0xFF};
+    const uint8_t zero[4] = {0, 0, 0, 0}, minus_zero[4] = {0, 0, 0, 0x80}, nan[4] = {0, 0, 0xC0, 0x7F};
+    const uint32_t bytes = GRIFFELJOL_PHYSICAL_BYTE_ARRAY;
+    CHECK(griffeljol_order(bytes, 0, 0, 0, 0, NULL, 0, NULL, 0) == GRIFFELJOL_ORDER_EQUAL);
+    CHECK(griffeljol_order(bytes, 0, 0, 0, 0, NULL, 0, text, 1) == GRIFFELJOL_ORDER_LESS);
+    CHECK(griffeljol_order(bytes, 0, 0, 0, 0, text, 2, text, 1) == GRIFFELJOL_ORDER_GREATER);
+    CHECK(griffeljol_order(bytes, 0, 0, 0, 0, text, 3, text, 3) == GRIFFELJOL_ORDER_EQUAL);
+    CHECK(griffeljol_order(GRIFFELJOL_PHYSICAL_FLOAT, 0, 0, 0, 0, zero, 4, minus_zero, 4) == GRIFFELJOL_ORDER_EQUAL);
+    CHECK(griffeljol_order(GRIFFELJOL_PHYSICAL_FLOAT, 0, 0, 0, 0, nan, 4, nan, 4) == GRIFFELJOL_ORDER_UNORDERED);
+    CHECK(griffeljol_order(bytes, 1, 0, 0, 0, NULL, 0, NULL, 0) == refused(20));
+    CHECK(griffeljol_order(GRIFFELJOL_PHYSICAL_INT96, 0, 0, 0, 0, NULL, 0, NULL, 0) == refused(17));
+    CHECK(griffeljol_order(GRIFFELJOL_PHYSICAL_INT32, 0, 0, 0, 0, NULL, 0, zero, 4) == refused(15));
+    CHECK(griffeljol_order(bytes, 0, GRIFFELJOL_KIND_STRING, 0, 0, text, 3, text, 2) == refused(16));
+    CHECK(griffeljol_order(bytes, 0, GRIFFELJOL_KIND_STRING, 0, 0, text, 2, text, 3) == refused(16));
+    /* The first value's 16 comes before the second's 15. */
+    CHECK(griffeljol_order(bytes, 0, GRIFFELJOL_KIND_DECIMAL, 1, 0, text, 1, NULL, 0) == refused(16));
+}
+
+static void check_timestamps(void)
+{
+    const int64_t day[8] = {1970, 1, 3, 0, 0, 0, 0, 99};
+    const int64_t leap_day[7] = {1900, 2, 29, 0, 0, 0, 0};
+    const int64_t far[7] = {INT64_MAX, 1, 1, 0, 0, 0, 0};
+    int64_t fields[8] = {7, 7, 7, 7, 7, 7, 7, 7};
+    int64_t count[2] = {7, 7};
+    CHECK(griffeljol_decode(0, 0, NULL, 0) == refused(20));
+    CHECK(griffeljol_decode(4, 0, fields, 8) == refused(20));
+    CHECK(griffeljol_decode(1, 0, NULL, 0) == refused(14));
+    CHECK(griffeljol_decode(1, 0, fields, 6) == refused(14));
+    for (int i = 0; i < 8; i++)
+        CHECK(fields[i] == 7);
+    CHECK(griffeljol_decode(1, 172800000, fields, 7) == GRIFFELJOL_FIELDS_WIDTH);
+    CHECK(memcmp(fields, day, 7 * sizeof fields[0]) == 0);
+    CHECK(griffeljol_decode(3, INT64_MIN, fields, 8) == GRIFFELJOL_FIELDS_WIDTH);
+    CHECK(fields[GRIFFELJOL_FIELD_YEAR] == 1677 && fields[GRIFFELJOL_FIELD_FRACTION] == 145224192);
+    CHECK(fields[7] == 7);
+    CHECK(griffeljol_encode(0, NULL, 0, NULL, 0) == refused(20));
+    CHECK(griffeljol_encode(1, NULL, 0, NULL, 0) == refused(18));
+    CHECK(griffeljol_encode(1, day, 6, count, 2) == refused(18));
+    CHECK(griffeljol_encode(1, leap_day, 7, NULL, 0) == refused(18));
+    CHECK(griffeljol_encode(1, far, 7, NULL, 0) == refused(19));
+    CHECK(griffeljol_encode(1, day, 7, NULL, 0) == refused(14));
+    CHECK(count[0] == 7 && count[1] == 7);
+    CHECK(griffeljol_encode(1, day, 8, count, 1) == 1);
+    CHECK(count[0] == 172800000);
+    CHECK(griffeljol_encode(3, fields, 7, count, 2) == 1);
+    CHECK(count[0] == INT64_MIN && count[1] == 7);
+}
+
+int main(int argc, char **argv)
+{
+    uint8_t sheet[SHEET];
+    FILE *file = argc == 2 ? fopen(argv[1], "rb") : NULL;
+    if (file == NULL || fread(sheet, 1, SHEET, file) != SHEET) {
+        fprintf(stderr, "usage: interface SHEET\n");
+        return 2;
+    }
+    fclose(file);
+    check_helpers();
+    check_resolve(sheet);
+    check_rewrite(sheet);
+    check_read();
+    check_order();
+    check_timestamps();
+    return failures == 0 ? 0 : 1;
+}

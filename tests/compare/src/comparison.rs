@@ -1,0 +1,303 @@
+//! One input given to both sides, and all that they answer and leave compared.
+
+use std::fmt;
+use std::hint::black_box;
+
+use independent::ROW_WIDTH;
+
+use crate::columns::Column;
+use crate::lent::Lent;
+use crate::side::{refusal_of, value_of, Side};
+
+/// Two sides, the buffers lent to them, and what was counted.
+pub struct Comparison<'a> {
+    left: &'a dyn Side,
+    right: &'a dyn Side,
+    rows: Lent<u32>,
+    bytes: Lent<u8>,
+    words: Lent<u64>,
+    numbers: Lent<i64>,
+    /// What was counted.
+    pub tally: Tally,
+}
+
+/// How often each thing was met.
+#[derive(Default)]
+pub struct Tally {
+    /// Comparisons made.
+    pub comparisons: u64,
+    /// Refusals, by number.
+    pub refusals: [u64; 21],
+    /// Rows of accepted sheets, by kind.
+    pub kinds: [u64; 31],
+    /// Rows of accepted sheets, by role.
+    pub roles: [u64; 8],
+    /// Values read, by case.
+    pub cases: [u64; 6],
+    /// Values ordered, by answer.
+    pub orders: [u64; 4],
+}
+
+/// Where the sides differ, or a promise is broken by both.
+pub struct Difference {
+    entry: &'static str,
+    input: String,
+    what: String,
+}
+
+impl Difference {
+    /// The entry and how it differs, without the input.
+    pub fn in_short(&self) -> String {
+        format!("{}: {}", self.entry, self.what)
+    }
+}
+
+impl fmt::Display for Difference {
+    fn fmt(&self, f: &mut fmt::Formatter<'_>) -> fmt::Result {
+        write!(f, "{}: {}\n  given {}", self.entry, self.what, self.input)
+    }
+}
+
+/// An answer as a person reads it.
+fn shown(answer: u64) -> String {
+    match refusal_of(answer) {
+        0 => format!("{}", value_of(answer)),
+        number => format!("refused {number} at {}", value_of(answer)),
+    }
+}
+
+fn hex(bytes: &[u8]) -> String {
+    bytes.iter().map(|byte| format!("{byte:02x}")).collect()
+}
+
+/// What an entry was given and what both sides answered.
+struct Answers {
+    entry: &'static str,
+    left: u64,
+    right: u64,
+}
+
+impl Answers {
+    /// Holds the answers, and a lent buffer with the stretch that a result fills, to one another and to the promises: a
+    /// refusal leaves all as it was, a result all but its stretch.
+    fn check<T: Copy + PartialEq>(
+        &self,
+        lent: Option<(&Lent<T>, usize, usize)>,
+        input: impl FnOnce() -> String,
+    ) -> Result<(), Difference> {
+        let fault = if self.left != self.right {
+            format!("{} against {}", shown(self.left), shown(self.right))
+        } else {
+            match lent {
+                Some((lent, ..)) if !lent.is_alike() => format!("{}, but the lent buffers differ", shown(self.left)),
+                Some((lent, ..)) if refusal_of(self.left) != 0 && !lent.is_kept() => {
+                    format!("{}, but a lent buffer was written to", shown(self.left))
+                }
+                Some((lent, start, length)) if refusal_of(self.left) == 0 && !lent.is_kept_but(start, length) => {
+                    format!("{}, but more was written than the result", shown(self.left))
+                }
+                _ => return Ok(()),
+            }
+        };
+        Err(Difference { entry: self.entry, input: input(), what: fault })
+    }
+}
+
+impl<'a> Comparison<'a> {
+    /// A comparison of two sides.
+    pub fn new(left: &'a dyn Side, right: &'a dyn Side) -> Self {
+        let (rows, bytes, words, numbers) = Default::default();
+        Comparison { left, right, rows, bytes, words, numbers, tally: Tally::default() }
+    }
+
+    fn count(&mut self, answer: u64) {
+        self.tally.comparisons += 1;
+        self.tally.refusals[refusal_of(answer) as usize % 21] += 1;
+    }
+
+    /// Resolves a sheet into so many lent numbers.
+    pub fn resolve(&mut self, sheet: &[u8], lent: usize) -> Result<u64, Difference> {
+        let salt = sheet.len() as u32;
+        self.rows.prepare(lent, |at| (at as u32).wrapping_mul(0x9E37_79B9) ^ salt);
+        let left = on_copies([sheet], |[sheet]| self.left.resolve(sheet, self.rows.left()))?;
+        let right = self.right.resolve(sheet, self.rows.right());
+        let written = if refusal_of(left) == 0 { ROW_WIDTH * value_of(left) as usize } else { 0 };
+        let answers = Answers { entry: "resolve", left, right };
+        answers.check(Some((&self.rows, 0, written)), || format!("{lent} lent, sheet {}", hex(sheet)))?;
+        self.count(left);
+        for row in self.rows.held()[..written].chunks_exact(ROW_WIDTH) {
+            self.tally.kinds[row[3] as usize % 31] += 1;
+            self.tally.roles[row[8] as usize % 8] += 1;
+        }
+        Ok(left)
+    }
+
+    /// Rewrites a sheet into so many lent bytes, from a start on.
+    pub fn rewrite(&mut self, sheet: &[u8], lent: usize, start: usize) -> Result<u64, Difference> {
+        let salt = sheet.len() as u8;
+        self.bytes.prepare(lent, |at| (at % 251) as u8 ^ salt);
+        let left = on_copies([sheet], |[sheet]| self.left.rewrite(sheet, self.bytes.left(), start))?;
+        let right = self.right.rewrite(sheet, self.bytes.right(), start);
+        let answers = Answers { entry: "rewrite", left, right };
+        let input = || format!("{lent} lent from {start}, sheet {}", hex(sheet));
+        answers.check(Some((&self.bytes, start, value_of(left) as usize)), input)?;
+        self.count(left);
+        Ok(left)
+    }
+
+    /// What the last rewriting wrote, which answered this.
+    pub fn rewritten(&self, start: usize, answer: u64) -> Vec<u8> {
+        self.bytes.held()[start..][..value_of(answer) as usize].to_vec()
+    }
+
+    /// The rows that the last resolving wrote, which answered this.
+    pub fn resolved(&self, answer: u64) -> Vec<u32> {
+        self.rows.held()[..ROW_WIDTH * value_of(answer) as usize].to_vec()
+    }
+
+    /// Reads a value, with so many numbers lent.
+    pub fn read(&mut self, column: Column, value: &[u8], lent: usize) -> Result<u64, Difference> {
+        let salt = value.len() as u64;
+        self.words.prepare(lent, |at| (at as u64).wrapping_mul(0x9E37_79B9_7F4A_7C15) ^ salt);
+        let left = on_copies([value], |[value]| self.left.read(column, value, self.words.left()))?;
+        let right = self.right.read(column, value, self.words.right());
+        let answers = Answers { entry: "read", left, right };
+        let input = || format!("column {column:?}, value {}, {lent} lent", hex(value));
+        answers.check(Some((&self.words, 0, 2)), input)?;
+        self.count(left);
+        if refusal_of(left) == 0 {
+            self.tally.cases[value_of(left) as usize % 6] += 1;
+        }
+        Ok(left)
+    }
+
+    /// Orders two values, both ways.
+    pub fn order(&mut self, column: Column, a: &[u8], b: &[u8]) -> Result<u64, Difference> {
+        let answer = self.order_once(column, a, b)?;
+        let turned = self.order_once(column, b, a)?;
+        let expected = match (refusal_of(answer), value_of(answer)) {
+            (0, value @ (0 | 2)) => u64::from(2 - value),
+            (0, value) => u64::from(value),
+            // Which value is at fault may differ.
+            _ => turned,
+        };
+        if turned != expected {
+            let what = format!("{} one way, {} the other", shown(answer), shown(turned));
+            return Err(Difference { entry: "order", input: format!("{column:?} {} {}", hex(a), hex(b)), what });
+        }
+        Ok(answer)
+    }
+
+    fn order_once(&mut self, column: Column, a: &[u8], b: &[u8]) -> Result<u64, Difference> {
+        let left = on_copies([a, b], |[a, b]| self.left.order(column, a, b))?;
+        let right = self.right.order(column, a, b);
+        let answers = Answers { entry: "order", left, right };
+        let input = || format!("column {column:?}, values {} and {}", hex(a), hex(b));
+        answers.check::<u8>(None, input)?;
+        self.count(left);
+        if refusal_of(left) == 0 {
+            self.tally.orders[value_of(left) as usize % 4] += 1;
+        }
+        Ok(left)
+    }
+
+    /// Decodes a count, with so many numbers lent.
+    pub fn decode(&mut self, unit: u32, count: i64, lent: usize) -> Result<u64, Difference> {
+        self.numbers.prepare(lent, |at| (at as i64).wrapping_mul(0x1E37_79B9_7F4A_7C15) ^ count);
+        let left = self.left.decode(unit, count, self.numbers.left());
+        let right = self.right.decode(unit, count, self.numbers.right());
+        let answers = Answers { entry: "decode", left, right };
+        answers.check(Some((&self.numbers, 0, 7)), || format!("unit {unit}, count {count}, {lent} lent"))?;
+        self.count(left);
+        Ok(left)
+    }
+
+    /// The fields that the last decoding wrote.
+    pub fn decoded(&self) -> [i64; 7] {
+        *self.numbers.held().first_chunk().expect("seven fields were written")
+    }
+
+    /// Encodes fields, of which there may be any number, with so many numbers lent.
+    pub fn encode(&mut self, unit: u32, fields: &[i64], lent: usize) -> Result<u64, Difference> {
+        self.numbers.prepare(lent, |at| (at as i64).wrapping_mul(0x1E37_79B9_7F4A_7C15));
+        let mut copy = fields.to_vec();
+        let left = self.left.encode(unit, &copy, self.numbers.left());
+        let right = self.right.encode(unit, fields, self.numbers.right());
+        let answers = Answers { entry: "encode", left, right };
+        let input = || format!("unit {unit}, fields {fields:?}, {lent} lent");
+        answers.check(Some((&self.numbers, 0, 1)), input)?;
+        // The compiler may not take it that the copy is as it was.
+        if *black_box(&mut copy) != fields {
+            return Err(written_to("encode"));
+        }
+        self.count(left);
+        Ok(left)
+    }
+
+    /// The count that the last encoding wrote.
+    pub fn encoded(&self) -> i64 {
+        self.numbers.held()[0]
+    }
+}
+
+/// Calls a side on copies of inputs, with known bytes around them, and looks whether they are as they were.
+fn on_copies<const N: usize>(inputs: [&[u8]; N], call: impl FnOnce([&[u8]; N]) -> u64) -> Result<u64, Difference> {
+    const AROUND: [u8; 16] = [0x5A; 16];
+    let mut copies = inputs.map(|input| [&AROUND, input, &AROUND].concat());
+    let answer = call(std::array::from_fn(|i| &copies[i][AROUND.len()..copies[i].len() - AROUND.len()]));
+    // The compiler may not take it that the copies are as they were.
+    for (input, copy) in inputs.iter().zip(black_box(&mut copies)) {
+        let (before, rest) = copy.split_at(AROUND.len());
+        let (held, after) = rest.split_at(input.len());
+        if before != AROUND || held != *input || after != AROUND {
+            return Err(written_to("an entry"));
+        }
+    }
+    Ok(answer)
+}
+
+fn written_to(entry: &'static str) -> Difference {
+    Difference { entry, input: "-".to_string(), what: "an input was written to".to_string() }
+}
+
+impl Tally {
+    /// What was met less often than it must be.
+    pub fn missing(&self, least: u64) -> Vec<String> {
+        /// The kinds that rows have: plain leaf, logical types, INTERVAL, plain group.
+        const KINDS: [usize; 16] = [0, 1, 2, 3, 4, 5, 6, 7, 8, 10, 11, 12, 13, 14, 21, 30];
+        let all = [
+            ("refusal", (1..=20).map(|n| (n, self.refusals[n])).collect::<Vec<_>>()),
+            ("kind", KINDS.iter().map(|&n| (n, self.kinds[n])).collect()),
+            ("role", self.roles.iter().copied().enumerate().collect()),
+            ("case of a value", self.cases.iter().copied().enumerate().collect()),
+            ("order", self.orders.iter().copied().enumerate().collect()),
+        ];
+        let mut missing = Vec::new();
+        for (what, counts) in all {
+            let few = counts.into_iter().filter(|&(_, count)| count < least);
+            missing.extend(few.map(|(n, count)| format!("{what} {n}: {count} times, not {least}")));
+        }
+        missing
+    }
+}
+
+impl fmt::Display for Tally {
+    fn fmt(&self, f: &mut fmt::Formatter<'_>) -> fmt::Result {
+        write!(f, "refusals")?;
+        (1..=20).try_for_each(|n| write!(f, " {n}:{}", self.refusals[n]))?;
+        write!(f, "\nresults {}; roles", self.refusals[0])?;
+        self.roles.iter().enumerate().try_for_each(|(n, count)| write!(f, " {n}:{count}"))?;
+        write!(f, "\nkinds")?;
+        let kinds = self.kinds.iter().enumerate().filter(|(_, &count)| count > 0);
+        kinds.into_iter().try_for_each(|(n, count)| write!(f, " {n}:{count}"))?;
+        write!(f, "\ncases of values")?;
+        self.cases.iter().enumerate().try_for_each(|(n, count)| write!(f, " {n}:{count}"))?;
+        write!(f, "\norders")?;
+        self.orders.iter().enumerate().try_for_each(|(n, count)| write!(f, " {n}:{count}"))
+    }
+}
+
+/// A difference found by a promise of the whole and not of one entry.
+pub fn broken(entry: &'static str, what: String, input: &[u8]) -> Difference {
+    Difference { entry, what, input: hex(input) }
+}

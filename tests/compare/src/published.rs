@@ -1,0 +1,86 @@
+//! Published vectors run against a side: document 01's points, calendars, the UTF-8 examples.
+
+use independent::ROW_WIDTH;
+
+use crate::sheets::assemble;
+use crate::side::{refused, Side};
+
+#[path = "../../../independent/tests/published/tables.rs"]
+mod tables;
+
+use tables::*;
+
+/// Runs every published vector against a side; answers how many there are, or the first that it answers otherwise.
+pub fn run(side: &dyn Side) -> Result<usize, String> {
+    let mut count = 0;
+    let mut hold = |what: String, found: bool| {
+        count += 1;
+        if found {
+            Ok(())
+        } else {
+            Err(what)
+        }
+    };
+    let reingold = REINGOLD_DERSHOWITZ.map(|(y, m, d, rd)| (y, m, d, rd - REINGOLD_DERSHOWITZ_EPOCH));
+    let days = HINNANT.into_iter().chain(reingold).map(|(y, m, d, day)| (1, day * 86_400_000, [y, m, d, 0, 0, 0, 0]));
+    let halves =
+        MEEUS.map(|(y, m, d, h, jd)| (2, (jd - MEEUS_EPOCH_HALF_DAYS) * 43_200_000_000, [y, m, d, h, 0, 0, 0]));
+    for (unit, instant, fields) in days.chain(halves).chain(INSTANTS) {
+        let (mut found, mut back) = ([0; 7], [0]);
+        let both = side.decode(unit, instant, &mut found) == 7 && side.encode(unit, &fields, &mut back) == 1;
+        hold(format!("unit {unit}, count {instant}, fields {fields:?}"), both && found == fields && back == [instant])?;
+    }
+    for (unit, fields, number) in NO_INSTANTS {
+        let found = side.encode(unit, &fields, &mut [0]);
+        hold(format!("unit {unit}, fields {fields:?}: {number}"), found == refused(number, 0))?;
+    }
+    for (text, stop) in RFC_3629.into_iter().chain(UNICODE) {
+        let mut found = [9; 2];
+        let answer = side.read([6, 0, 1, 0, 0], text, &mut found);
+        let right =
+            if stop == text.len() { answer == 5 && found == [0, text.len() as u64] } else { answer == refused(16, 0) };
+        hold(format!("text {text:02X?}"), right)?;
+    }
+    for (column, value, expected) in READS {
+        let mut found = [9; 2];
+        let answer = side.read(column, value, &mut found);
+        let right = match expected {
+            Ok((case, numbers)) => answer == u64::from(case) && found == numbers,
+            Err(number) => answer == refused(number, 0),
+        };
+        hold(format!("column {column:?}, value {value:02X?}"), right)?;
+    }
+    for (column, a, b, expected) in ORDERS {
+        let right = expected.map_or_else(|number| refused(number, 0), u64::from);
+        hold(format!("column {column:?}, values {a:02X?}, {b:02X?}"), side.order(column, a, b) == right)?;
+    }
+    for (length, most) in PRECISIONS {
+        let reads = |precision| side.read([7, length, 5, precision, 0], &vec![0; length as usize], &mut [0; 2]);
+        hold(format!("precision {most} of {length} bytes"), reads(most) == 5 && reads(most + 1) == refused(20, 0))?;
+    }
+    for (title, slots, expected) in SHEETS {
+        let sheet = assemble(&slots.iter().map(slot).collect::<Vec<_>>());
+        let mut rows = [0; ROW_WIDTH * 8];
+        let answer = side.resolve(&sheet, &mut rows);
+        let right = match expected {
+            Ok(expected) => answer == expected.len() as u64 && rows[..ROW_WIDTH * expected.len()] == expected.concat(),
+            Err((number, place)) => answer == refused(number, place),
+        };
+        hold(title.to_string(), right)?;
+    }
+    Ok(count)
+}
+
+fn slot(&(numbers, name): &Slot) -> crate::trees::Slot {
+    let mut slot = [0; independent::sheet::SLOT];
+    for (at, number) in numbers[..6].iter().enumerate() {
+        slot[at] = *number as u8;
+    }
+    slot[6..8].copy_from_slice(&(numbers[6] as u16).to_le_bytes());
+    for (at, number) in [8, 12, 16].into_iter().zip(&numbers[7..]) {
+        slot[at..at + 4].copy_from_slice(&(*number as i32).to_le_bytes());
+    }
+    slot[20] = name.len() as u8;
+    slot[24..24 + name.len()].copy_from_slice(name.as_bytes());
+    slot
+}

@@ -1,0 +1,174 @@
+//! Rounds of comparisons. A round is told by the seed and its number alone, so that one can be run again by itself.
+
+use independent::sheet::{self, MAX_NODES};
+use independent::tree::MAX_DEPTH;
+use independent::ROW_WIDTH;
+
+use crate::changes::{change, change_nodes};
+use crate::columns::{column, second_value, value};
+use crate::comparison::{broken, Comparison, Difference};
+use crate::instants::{count, fields, unit};
+use crate::random::Random;
+use crate::sheets::{assemble, random_bytes, store_unreduced, total_of};
+use crate::side::refusal_of;
+use crate::trees::{deep_tree, tree};
+
+/// Runs one round.
+pub fn run(comparison: &mut Comparison, seed: u64, round: u64) -> Result<(), Difference> {
+    let random = &mut Random::of_round(seed, round);
+    sheets(comparison, random)?;
+    let bytes = random_bytes(random);
+    both(comparison, random, &bytes)?;
+    for _ in 0..12 {
+        values(comparison, random)?;
+    }
+    for _ in 0..8 {
+        instants(comparison, random)?;
+    }
+    Ok(())
+}
+
+/// A lawful tree; it with one change and with two, checks renewed or not; it with other nodes.
+fn sheets(comparison: &mut Comparison, random: &mut Random) -> Result<(), Difference> {
+    let size = size(random);
+    let slots = tree(random, size);
+    let lawful = assemble(&slots);
+    accepted(comparison, random, &lawful)?;
+    for changes in [1, 1, 1, 2, 2, 2] {
+        let mut sheet = lawful.clone();
+        (0..changes).for_each(|_| change(random, &mut sheet));
+        if random.percent(85) {
+            sheet::renew_checks(&mut sheet);
+        }
+        both(comparison, random, &sheet)?;
+    }
+    let mut other = slots;
+    for _ in 0..random.between(1, 2) {
+        change_nodes(random, &mut other);
+    }
+    other.truncate(MAX_NODES);
+    both(comparison, random, &assemble(&other))?;
+    // Deep enough that some node may be below the greatest depth.
+    if random.percent(25) {
+        let size = random.between(MAX_DEPTH, 3 * MAX_DEPTH);
+        let depth = random.between(MAX_DEPTH, MAX_DEPTH + 3);
+        let mut sheet = assemble(&deep_tree(random, size, depth));
+        if random.percent(20) {
+            change(random, &mut sheet);
+            sheet::renew_checks(&mut sheet);
+        }
+        both(comparison, random, &sheet)?;
+    }
+    if random.percent(3) {
+        let mut sheet = lawful;
+        if store_unreduced(random, &mut sheet) {
+            both(comparison, random, &sheet)?;
+        }
+    }
+    Ok(())
+}
+
+/// How many nodes a tree has.
+fn size(random: &mut Random) -> usize {
+    match random.below(200) {
+        0 => random.between(MAX_NODES - 8, MAX_NODES),
+        1 => random.between(200, MAX_NODES),
+        2..10 => random.between(50, 200),
+        10..80 => random.between(8, 50),
+        80..90 => random.pick(&[1, 6, 7, 8, 13, 14, 15]),
+        _ => random.between(1, 8),
+    }
+}
+
+/// A sheet that must be accepted: what rewriting it gives is held to what document 01 says of it.
+fn accepted(comparison: &mut Comparison, random: &mut Random, sheet: &[u8]) -> Result<(), Difference> {
+    let total = total_of(sheet);
+    let answer = comparison.resolve(sheet, ROW_WIDTH * total)?;
+    if answer != total as u64 {
+        return Err(broken("resolve", format!("a lawful tree was refused by {}", refusal_of(answer)), sheet));
+    }
+    let rows = comparison.resolved(answer);
+    let start = random.below(20);
+    let answer = comparison.rewrite(sheet, start + sheet.len() + 3, start)?;
+    if answer != sheet.len() as u64 {
+        return Err(broken("rewrite", format!("a lawful tree was refused by {}", refusal_of(answer)), sheet));
+    }
+    let made = comparison.rewritten(start, answer);
+    let answer = comparison.resolve(&made, ROW_WIDTH * total)?;
+    if refusal_of(answer) != 0 || comparison.resolved(answer) != rows {
+        return Err(broken("rewrite", "the rewritten sheet has other rows".to_string(), sheet));
+    }
+    let answer = comparison.rewrite(&made, made.len(), 0)?;
+    if refusal_of(answer) != 0 || comparison.rewritten(0, answer) != made {
+        return Err(broken("rewrite", "the rewritten sheet is rewritten to another".to_string(), sheet));
+    }
+    both(comparison, random, sheet)
+}
+
+/// Resolves and rewrites bytes, with enough lent or not.
+fn both(comparison: &mut Comparison, random: &mut Random, sheet: &[u8]) -> Result<(), Difference> {
+    let needed = ROW_WIDTH * total_of(sheet).min(MAX_NODES);
+    let lent = match random.below(8) {
+        0 => needed.saturating_sub(1),
+        1 => random.below(needed + 1),
+        2 => needed + 1,
+        3 => needed + random.below(40),
+        _ => needed,
+    };
+    comparison.resolve(sheet, lent)?;
+    let start = random.pick(&[0, 0, 1, 7, 511, 513]);
+    let (lent, start) = match random.below(8) {
+        0 => ((sheet.len() + start).saturating_sub(1), start),
+        1 => (random.below(sheet.len() + 1), start),
+        2 => (sheet.len() + start, sheet.len() + start + random.below(3)),
+        3 => (sheet.len() + 9, random.pick(&[usize::MAX, usize::MAX - 511, 1 << 32, 1 << 63])),
+        4 => (sheet.len() + start + random.below(600), start),
+        _ => (sheet.len() + start, start),
+    };
+    comparison.rewrite(sheet, lent, start)?;
+    Ok(())
+}
+
+/// A value read, and two ordered.
+fn values(comparison: &mut Comparison, random: &mut Random) -> Result<(), Difference> {
+    let column = column(random);
+    let first = value(random, column);
+    let lent = if random.percent(5) { random.below(2) } else { random.pick(&[2, 2, 3, 9]) };
+    comparison.read(column, &first, lent)?;
+    let second = second_value(random, column, &first);
+    comparison.order(column, &first, &second)?;
+    Ok(())
+}
+
+/// A count decoded and encoded again, and fields encoded and decoded again.
+fn instants(comparison: &mut Comparison, random: &mut Random) -> Result<(), Difference> {
+    let number = count(random);
+    let first_unit = unit(random);
+    let lent = if random.percent(5) { random.below(7) } else { random.pick(&[7, 7, 8, 20]) };
+    let answer = comparison.decode(first_unit, number, lent)?;
+    if refusal_of(answer) == 0 {
+        let decoded = comparison.decoded();
+        let back = comparison.encode(first_unit, &decoded, 1)?;
+        if refusal_of(back) != 0 || comparison.encoded() != number {
+            return Err(broken("decode", format!("unit {first_unit}, count {number} does not come back"), &[]));
+        }
+    }
+    let second_unit = unit(random);
+    let given = fields(random, second_unit);
+    let mut longer = given.to_vec();
+    if random.percent(5) {
+        longer.truncate(random.below(7));
+    } else if random.percent(10) {
+        longer.push(i64::MAX);
+    }
+    let lent = if random.percent(5) { 0 } else { random.pick(&[1, 1, 2]) };
+    let answer = comparison.encode(second_unit, &longer, lent)?;
+    if refusal_of(answer) == 0 {
+        let encoded = comparison.encoded();
+        comparison.decode(second_unit, encoded, given.len())?;
+        if comparison.decoded() != given {
+            return Err(broken("encode", format!("unit {second_unit}, fields {given:?} do not come back"), &[]));
+        }
+    }
+    Ok(())
+}

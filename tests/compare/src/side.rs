@@ -1,0 +1,126 @@
+//! A side of the comparison: the six entries in the shape of the C interface.
+
+use independent::Refusal;
+
+/// The entries of the C interface. An answer has a refusal's number in bits 32 to 39, 0 for a result, and its place or the
+/// result's value in bits 0 to 31.
+pub trait Side {
+    /// T.
+    fn resolve(&self, sheet: &[u8], rows: &mut [u32]) -> u64;
+    /// Bytes written.
+    fn rewrite(&self, sheet: &[u8], out: &mut [u8], start: usize) -> u64;
+    /// The case: 0 truth, 1 signed whole, 2 unsigned whole, 3 FLOAT, 4 DOUBLE, 5 bytes; two numbers are written.
+    fn read(&self, column: [u32; 5], value: &[u8], out: &mut [u64]) -> u64;
+    /// 0 less, 1 equal, 2 greater, 3 unordered.
+    fn order(&self, column: [u32; 5], a: &[u8], b: &[u8]) -> u64;
+    /// 7; year, month, day, hour, minute, second and fraction are written.
+    fn decode(&self, unit: u32, count: i64, fields: &mut [i64]) -> u64;
+    /// 1; one count is written.
+    fn encode(&self, unit: u32, fields: &[i64], count: &mut [i64]) -> u64;
+}
+
+/// The number of an answer's refusal, 0 for a result.
+pub fn refusal_of(answer: u64) -> u32 {
+    (answer >> 32) as u32
+}
+
+/// The value of an answer that is a result.
+pub fn value_of(answer: u64) -> u32 {
+    answer as u32
+}
+
+/// The answer of a refusal.
+pub fn refused(number: u32, place: u32) -> u64 {
+    u64::from(number) << 32 | u64::from(place)
+}
+
+/// The answer of a result or a refusal.
+pub fn answer(result: Result<u32, Refusal>) -> u64 {
+    result.map_or_else(|refusal| refused(refusal.number, refusal.place), u64::from)
+}
+
+/// Makes a side of a library that has the independent reader's entries.
+#[macro_export]
+macro_rules! side {
+    ($visible:vis $name:ident, $library:ident) => {
+        /// The library's entries in the shape of the C interface.
+        $visible struct $name;
+
+        impl $crate::side::Side for $name {
+            fn resolve(&self, sheet: &[u8], rows: &mut [u32]) -> u64 {
+                $crate::side!(@answer $library::resolve(sheet, rows))
+            }
+
+            fn rewrite(&self, sheet: &[u8], out: &mut [u8], start: usize) -> u64 {
+                $crate::side!(@answer $library::rewrite(sheet, out, start))
+            }
+
+            fn read(&self, [physical, type_length, kind, p1, p2]: [u32; 5], value: &[u8], out: &mut [u64]) -> u64 {
+                use $library::Value;
+                let column = $library::ColumnType { physical, type_length, kind, p1, p2 };
+                let (case, first, second) = match $library::read(column, value) {
+                    Err(refusal) => return $crate::side::refused(refusal.number, refusal.place),
+                    Ok(Value::Truth(truth)) => (0, u64::from(truth), 0),
+                    Ok(Value::Signed(number)) => (1, number as u64, 0),
+                    Ok(Value::Unsigned(number)) => (2, number, 0),
+                    Ok(Value::Float(float)) => (3, u64::from(float.to_bits()), 0),
+                    Ok(Value::Double(double)) => (4, double.to_bits(), 0),
+                    Ok(Value::Bytes { start, length }) => (5, start as u64, length as u64),
+                };
+                match out.first_chunk_mut() {
+                    Some(out) => *out = [first, second],
+                    None => return $crate::side::refused($library::refusal::OUTPUT, 0),
+                }
+                case
+            }
+
+            fn order(&self, [physical, type_length, kind, p1, p2]: [u32; 5], a: &[u8], b: &[u8]) -> u64 {
+                let column = $library::ColumnType { physical, type_length, kind, p1, p2 };
+                $crate::side!(@answer $library::order(column, a, b).map(|order| order as u32))
+            }
+
+            fn decode(&self, unit: u32, count: i64, fields: &mut [i64]) -> u64 {
+                let decoded = match $library::decode(unit, count) {
+                    Ok(decoded) => decoded,
+                    Err(refusal) => return $crate::side::refused(refusal.number, refusal.place),
+                };
+                let $library::Fields { year, month, day, hour, minute, second, fraction } = decoded;
+                match fields.first_chunk_mut() {
+                    Some(fields) => *fields = [year, month, day, hour, minute, second, fraction],
+                    None => return $crate::side::refused($library::refusal::OUTPUT, 0),
+                }
+                7
+            }
+
+            fn encode(&self, unit: u32, fields: &[i64], count: &mut [i64]) -> u64 {
+                let encoded = match fields.first_chunk() {
+                    Some(&[year, month, day, hour, minute, second, fraction]) => {
+                        $library::encode(unit, &$library::Fields { year, month, day, hour, minute, second, fraction })
+                    }
+                    // Too few fields form no date or time; the unit comes first.
+                    None => {
+                        let number = match $library::timestamp::Unit::from_code(unit) {
+                            Some(_) => $library::refusal::NO_DATE,
+                            None => $library::refusal::COLUMN_TYPE,
+                        };
+                        return $crate::side::refused(number, 0);
+                    }
+                };
+                match (encoded, count.first_mut()) {
+                    (Err(refusal), _) => $crate::side::refused(refusal.number, refusal.place),
+                    (Ok(_), None) => $crate::side::refused($library::refusal::OUTPUT, 0),
+                    (Ok(encoded), Some(count)) => {
+                        *count = encoded;
+                        1
+                    }
+                }
+            }
+        }
+    };
+    (@answer $result:expr) => {
+        match $result {
+            Ok(value) => u64::from(value),
+            Err(refusal) => $crate::side::refused(refusal.number, refusal.place),
+        }
+    };
+}

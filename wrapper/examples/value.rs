@@ -1,0 +1,20 @@
+//! Reads single values of columns and orders them: `cargo run --example value`.
+
+use griffeljol::codes::{kind, physical};
+use griffeljol::{order, read, ColumnType, Order, Refusal, Value};
+
+fn main() -> Result<(), Refusal> {
+    // INT(8, false) on INT32, little-endian: 255 is valid, 256 is not.
+    let uint8 = ColumnType { physical: physical::INT32, type_length: 0, kind: kind::INTEGER, p1: 8, p2: 0 };
+    assert_eq!(read(uint8, &[0xFF, 0, 0, 0])?, Value::Unsigned(255));
+    match read(uint8, &[0, 1, 0, 0]) {
+        Err(refusal) => println!("256: {refusal}, {}", refusal.meaning()),
+        Ok(value) => println!("256: {value:?}"),
+    }
+
+    // DECIMAL(3, 2) on BYTE_ARRAY, big-endian two's complement: -1.28 is below 1.27.
+    let decimal = ColumnType { physical: physical::BYTE_ARRAY, type_length: 0, kind: kind::DECIMAL, p1: 3, p2: 2 };
+    assert_eq!(order(decimal, &[0x80], &[0x7F])?, Order::Less);
+    println!("80 and 7F as decimals: {:?}", order(decimal, &[0x80], &[0x7F])?);
+    Ok(())
+}

@@ -1,0 +1,82 @@
+//! The numbers that rows, column types and answers are made of, under document 01's names.
+#![allow(missing_docs)]
+
+/// Physical types.
+pub mod physical {
+    pub const BOOLEAN: u32 = 0;
+    pub const INT32: u32 = 1;
+    pub const INT64: u32 = 2;
+    pub const INT96: u32 = 3;
+    pub const FLOAT: u32 = 4;
+    pub const DOUBLE: u32 = 5;
+    pub const BYTE_ARRAY: u32 = 6;
+    pub const FIXED_LEN_BYTE_ARRAY: u32 = 7;
+    pub const GROUP: u32 = 255;
+}
+
+/// Repetitions. Only the root has none.
+pub mod repetition {
+    pub const REQUIRED: u32 = 0;
+    pub const OPTIONAL: u32 = 1;
+    pub const REPEATED: u32 = 2;
+    pub const NONE: u32 = 255;
+}
+
+/// Kinds. The parameters p1 and p2 are precision and scale of a DECIMAL; unit and UTC (1 or 0) of a TIME or TIMESTAMP; bit
+/// width and signed (1 or 0) of an INTEGER; else 0.
+pub mod kind {
+    pub const PLAIN_LEAF: u32 = 0;
+    pub const STRING: u32 = 1;
+    pub const MAP: u32 = 2;
+    pub const LIST: u32 = 3;
+    pub const ENUM: u32 = 4;
+    pub const DECIMAL: u32 = 5;
+    pub const DATE: u32 = 6;
+    pub const TIME: u32 = 7;
+    pub const TIMESTAMP: u32 = 8;
+    pub const INTEGER: u32 = 10;
+    pub const UNKNOWN: u32 = 11;
+    pub const JSON: u32 = 12;
+    pub const BSON: u32 = 13;
+    pub const UUID: u32 = 14;
+    pub const INTERVAL: u32 = 21;
+    pub const PLAIN_GROUP: u32 = 30;
+}
+
+/// Roles.
+pub mod role {
+    pub const FIELD: u32 = 0;
+    pub const LIST_LAYER: u32 = 1;
+    pub const ELEMENT: u32 = 2;
+    /// A group layer that is the element.
+    pub const ELEMENT_LAYER: u32 = 3;
+    pub const KEY_VALUE_LAYER: u32 = 4;
+    pub const KEY: u32 = 5;
+    pub const VALUE: u32 = 6;
+    pub const BARE_REPEATED: u32 = 7;
+}
+
+/// Time units.
+pub mod unit {
+    pub const MILLIS: u32 = 1;
+    pub const MICROS: u32 = 2;
+    pub const NANOS: u32 = 3;
+}
+
+/// The cases of a read value.
+pub(crate) mod case {
+    pub const TRUTH: u32 = 0;
+    pub const SIGNED: u32 = 1;
+    pub const UNSIGNED: u32 = 2;
+    pub const FLOAT: u32 = 3;
+    pub const DOUBLE: u32 = 4;
+    pub const BYTES: u32 = 5;
+}
+
+/// The answers of an order.
+pub(crate) mod order {
+    pub const LESS: u32 = 0;
+    pub const EQUAL: u32 = 1;
+    pub const GREATER: u32 = 2;
+    pub const UNORDERED: u32 = 3;
+}

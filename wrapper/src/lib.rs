@@ -1,0 +1,28 @@
+//! Safe functions over the C interface of `griffeljol`, the proved reader of Parquet schema sheets.
+//!
+//! Every answer is the proved library's; nothing is judged here. What no prover sees is the boundary: the declarations of the
+//! six C functions, which stand in one module, and that each slice is handed over as its pointer and its length.
+//!
+//! "Document 01" is the paper that defines the sheet, the rows and the refusals. Any bytes and any numbers may be offered; a
+//! refused call leaves what it was lent as it was.
+//!
+//! ```
+//! let sheet = std::fs::read("../crates/schema_rows/stdin")?;
+//! let rows = griffeljol::rows(&sheet)?;
+//! assert_eq!(rows.len(), 4);
+//! assert_eq!(rows[3].kind, griffeljol::codes::kind::STRING);
+//! # Ok::<(), Box<dyn std::error::Error>>(())
+//! ```
+#![warn(missing_docs)]
+
+mod boundary;
+pub mod codes;
+mod refusal;
+mod sheet;
+mod timestamp;
+mod value;
+
+pub use refusal::Refusal;
+pub use sheet::{resolve, rewrite, rows, Row, MAX_NODES, MAX_SHEET, ROW_WIDTH};
+pub use timestamp::{decode, encode, Fields};
+pub use value::{order, read, ColumnType, Order, Value, MAX_VALUE};

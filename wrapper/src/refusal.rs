@@ -1,0 +1,75 @@
+//! The numbered refusals of document 01.
+
+use std::error::Error;
+use std::fmt;
+
+/// A refusal: its number in document 01's table, and its place.
+///
+/// ```
+/// let refusal = griffeljol::rows(&[0; 100]).unwrap_err();
+/// assert_eq!(refusal.to_string(), "refused 1 at 0");
+/// assert_eq!(refusal.meaning(), "sheet length 0, not a multiple of 512, or over 65,536");
+/// ```
+#[derive(Clone, Copy, Debug, PartialEq, Eq, Hash)]
+pub struct Refusal {
+    /// The number in the table, 1 to 20.
+    pub number: u8,
+    /// What [`Refusal::place_meaning`] says, else 0.
+    pub place: u32,
+}
+
+impl Refusal {
+    /// What it is given for, in document 01's words.
+    pub fn meaning(&self) -> &'static str {
+        self.row().0
+    }
+
+    /// What its place is; none where it is always 0.
+    ///
+    /// ```
+    /// let refusal = griffeljol::rows(&[255; 512]).unwrap_err();
+    /// assert_eq!((refusal.number, refusal.place), (2, 0));
+    /// assert_eq!(refusal.place_meaning(), Some("the first such block"));
+    /// ```
+    pub fn place_meaning(&self) -> Option<&'static str> {
+        self.row().1
+    }
+
+    /// The row of the table.
+    fn row(&self) -> (&'static str, Option<&'static str>) {
+        match self.number {
+            1 => ("sheet length 0, not a multiple of 512, or over 65,536", None),
+            2 => ("block check differs", Some("the first such block")),
+            3 => ("block header wrong", Some("the first such block")),
+            4 => (
+                "slot code outside the lists, name length or zero bytes wrong, unused slot not zero",
+                Some("the first such node"),
+            ),
+            5 => ("more children are claimed than nodes exist", Some("T, the number of nodes")),
+            6 => ("nodes remain after the root's tree", Some("the first node left over")),
+            7 => ("a node deeper than 32", Some("the first such node")),
+            8 => ("shape", Some("the node")),
+            9 => ("converted and logical disagree", Some("the node")),
+            10 => ("annotation on the wrong physical type, length or parameters", Some("the node")),
+            11 => ("DECIMAL scale or precision", Some("the node")),
+            12 => ("LIST structure", Some("the LIST")),
+            13 => ("MAP structure", Some("the MAP")),
+            14 => ("output too short, or its start lies beyond its end", None),
+            15 => ("value of wrong length, or over 65,536 bytes", None),
+            16 => ("value breaks its annotation", None),
+            17 => ("this column has no order", None),
+            18 => ("fields form no date or time", None),
+            19 => ("fields not representable in a signed 64-bit count", None),
+            20 => ("no accepted sheet has a leaf of this column type, or a time unit is not 1 to 3", None),
+            _ => ("a refusal that document 01 does not list", None),
+        }
+    }
+}
+
+impl fmt::Display for Refusal {
+    fn fmt(&self, f: &mut fmt::Formatter<'_>) -> fmt::Result {
+        write!(f, "refused {} at {}", self.number, self.place)
+    }
+}
+
+impl Error for Refusal {}

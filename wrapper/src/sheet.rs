@@ -1,0 +1,113 @@
+//! Sheets: their rows, and rewriting.
+
+use crate::boundary::{griffeljol_resolve, griffeljol_rewrite, result};
+use crate::{ColumnType, Refusal};
+
+/// The most bytes of a sheet.
+pub const MAX_SHEET: usize = 65_536;
+
+/// The most nodes of a sheet.
+pub const MAX_NODES: usize = 896;
+
+/// The numbers of a row.
+pub const ROW_WIDTH: usize = 9;
+
+/// Judges a sheet and writes [`ROW_WIDTH`] numbers for each of its nodes, in listing order; answers T, how many nodes it has.
+/// Numbers beyond the rows stay.
+///
+/// Refusals 1 to 13, then 14 where fewer than `ROW_WIDTH * T` numbers are lent.
+///
+/// ```
+/// use griffeljol::{resolve, MAX_NODES, ROW_WIDTH};
+///
+/// let sheet = std::fs::read("../crates/schema_rows/stdin")?;
+/// let mut rows = [0; ROW_WIDTH * MAX_NODES];
+/// let nodes = resolve(&sheet, &mut rows)? as usize;
+/// assert_eq!(nodes, 4);
+/// assert_eq!(rows[ROW_WIDTH..2 * ROW_WIDTH], [255, 0, 0, 3, 0, 0, 0, 4, 0]);
+/// # Ok::<(), Box<dyn std::error::Error>>(())
+/// ```
+pub fn resolve(sheet: &[u8], rows: &mut [u32]) -> Result<u32, Refusal> {
+    // SAFETY: two slices, each as its pointer and its length; `rows` is borrowed alone.
+    result(unsafe { griffeljol_resolve(sheet.as_ptr(), sheet.len(), rows.as_mut_ptr(), rows.len()) })
+}
+
+/// A node's row.
+#[derive(Clone, Copy, Debug, PartialEq, Eq, Hash)]
+pub struct Row {
+    /// Physical type, or group: one of [`crate::codes::physical`].
+    pub physical: u32,
+    /// Type length of a FIXED_LEN_BYTE_ARRAY, else 0.
+    pub type_length: u32,
+    /// One of [`crate::codes::repetition`].
+    pub repetition: u32,
+    /// One of [`crate::codes::kind`].
+    pub kind: u32,
+    /// The kind's first parameter.
+    pub p1: u32,
+    /// The kind's second parameter.
+    pub p2: u32,
+    /// The parent's number; the root's is 0.
+    pub parent: u32,
+    /// One past the last descendant.
+    pub end: u32,
+    /// One of [`crate::codes::role`].
+    pub role: u32,
+}
+
+impl Row {
+    /// The column type of a leaf's row.
+    pub fn column_type(&self) -> ColumnType {
+        let Row { physical, type_length, kind, p1, p2, .. } = *self;
+        ColumnType { physical, type_length, kind, p1, p2 }
+    }
+
+    /// The numbers in the order of document 01.
+    pub fn numbers(&self) -> [u32; ROW_WIDTH] {
+        let Row { physical, type_length, repetition, kind, p1, p2, parent, end, role } = *self;
+        [physical, type_length, repetition, kind, p1, p2, parent, end, role]
+    }
+}
+
+impl From<[u32; ROW_WIDTH]> for Row {
+    fn from(numbers: [u32; ROW_WIDTH]) -> Self {
+        let [physical, type_length, repetition, kind, p1, p2, parent, end, role] = numbers;
+        Row { physical, type_length, repetition, kind, p1, p2, parent, end, role }
+    }
+}
+
+/// The rows of a sheet, in listing order; refusals 1 to 13.
+///
+/// ```
+/// use griffeljol::{codes, rows};
+///
+/// let sheet = std::fs::read("../crates/schema_rows/stdin")?;
+/// let rows = rows(&sheet)?;
+/// let element = rows[3];
+/// assert_eq!(element.role, codes::role::ELEMENT);
+/// assert_eq!(element.column_type().kind, codes::kind::STRING);
+/// # Ok::<(), Box<dyn std::error::Error>>(())
+/// ```
+pub fn rows(sheet: &[u8]) -> Result<Vec<Row>, Refusal> {
+    let mut numbers = vec![[0; ROW_WIDTH]; MAX_NODES];
+    let nodes = resolve(sheet, numbers.as_flattened_mut())?;
+    numbers.truncate(nodes as usize);
+    Ok(numbers.into_iter().map(Row::from).collect())
+}
+
+/// Judges a sheet and writes it, with both annotations at every node, into the output from the start on; answers how many bytes
+/// were written, the sheet's own length. Bytes before and after stay.
+///
+/// Refusals 1 to 13, then 14 where the start is beyond the output's end or the sheet does not fit behind it.
+///
+/// ```
+/// let sheet = std::fs::read("../crates/schema_rows/stdin")?;
+/// let mut out = vec![0; sheet.len()];
+/// assert_eq!(griffeljol::rewrite(&sheet, &mut out, 0)? as usize, sheet.len());
+/// assert_eq!(griffeljol::rows(&out)?, griffeljol::rows(&sheet)?);
+/// # Ok::<(), Box<dyn std::error::Error>>(())
+/// ```
+pub fn rewrite(sheet: &[u8], out: &mut [u8], start: usize) -> Result<u32, Refusal> {
+    // SAFETY: two slices, each as its pointer and its length; `out` is borrowed alone.
+    result(unsafe { griffeljol_rewrite(sheet.as_ptr(), sheet.len(), out.as_mut_ptr(), out.len(), start) })
+}

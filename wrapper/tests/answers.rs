@@ -1,0 +1,107 @@
+//! Every kind of answer through the safe functions, and what a refusal leaves unchanged.
+
+use std::fs;
+
+use griffeljol::codes::{kind, physical, unit};
+use griffeljol::{decode, encode, order, read, resolve, rewrite, rows};
+use griffeljol::{ColumnType, Fields, Order, Refusal, Row, Value, ROW_WIDTH};
+
+fn sample() -> Vec<u8> {
+    fs::read("../crates/schema_rows/stdin").expect("the sample sheet")
+}
+
+/// A column type without parameters.
+fn column(physical: u32, kind: u32) -> ColumnType {
+    ColumnType { physical, type_length: 0, kind, p1: 0, p2: 0 }
+}
+
+/// A refusal without a place.
+fn refused<T>(number: u8) -> Result<T, Refusal> {
+    Err(Refusal { number, place: 0 })
+}
+
+#[test]
+fn rows_are_those_of_resolving() {
+    let sheet = sample();
+    let mut numbers = [7; 4 * ROW_WIDTH + 1];
+    assert_eq!(resolve(&sheet, &mut numbers), Ok(4));
+    let (written, behind) = numbers.split_at(4 * ROW_WIDTH);
+    assert_eq!(behind, [7]);
+    let rows = rows(&sheet).expect("the sample is accepted");
+    assert_eq!(rows.iter().flat_map(Row::numbers).collect::<Vec<_>>(), written);
+    let last = Row { physical: 6, type_length: 0, repetition: 1, kind: 1, p1: 0, p2: 0, parent: 2, end: 4, role: 2 };
+    assert_eq!(rows[3], last);
+    assert_eq!(Row::from(last.numbers()), last);
+}
+
+#[test]
+fn refused_sheets_write_nothing() {
+    let sheet = sample();
+    let mut numbers = [7; 4 * ROW_WIDTH - 1];
+    assert_eq!(resolve(&sheet, &mut numbers), refused(14));
+    assert_eq!(numbers, [7; 4 * ROW_WIDTH - 1]);
+    let mut out = [7; 600];
+    assert_eq!(rewrite(&sheet, &mut out, 89), refused(14));
+    assert_eq!(rewrite(&sheet, &mut out, usize::MAX), refused(14));
+    assert_eq!(rewrite(&[], &mut out, 0), refused(1));
+    assert_eq!(out, [7; 600]);
+    assert_eq!(rewrite(&sheet, &mut out, 88), Ok(512));
+    assert_eq!(out[..88], [7; 88]);
+    let mut wrong = sheet;
+    wrong[1] = 1;
+    assert_eq!(rows(&wrong), refused(2));
+}
+
+#[test]
+fn a_refusal_has_its_place() {
+    // The check of the first block is right, that of the second is not.
+    let sheet = [sample(), vec![1; 512]].concat();
+    assert_eq!(rows(&sheet), Err(Refusal { number: 2, place: 1 }));
+}
+
+#[test]
+fn each_case_of_a_value() {
+    assert_eq!(read(column(physical::BOOLEAN, 0), &[1]), Ok(Value::Truth(true)));
+    assert_eq!(read(column(physical::BOOLEAN, 0), &[0]), Ok(Value::Truth(false)));
+    assert_eq!(read(column(physical::INT32, kind::DATE), &[0xFE, 0xFF, 0xFF, 0xFF]), Ok(Value::Signed(-2)));
+    assert_eq!(read(column(physical::INT64, 0), &i64::MIN.to_le_bytes()), Ok(Value::Signed(i64::MIN)));
+    let uint64 = ColumnType { p1: 64, ..column(physical::INT64, kind::INTEGER) };
+    assert_eq!(read(uint64, &[0xFF; 8]), Ok(Value::Unsigned(u64::MAX)));
+    assert_eq!(read(column(physical::FLOAT, 0), &(-1.5f32).to_le_bytes()), Ok(Value::Float(-1.5)));
+    assert_eq!(read(column(physical::DOUBLE, 0), &1e300f64.to_le_bytes()), Ok(Value::Double(1e300)));
+    let Ok(Value::Double(nan)) = read(column(physical::DOUBLE, 0), &[0xFF; 8]) else { panic!("a DOUBLE") };
+    assert_eq!(nan.to_bits(), 0x7FF8_0000_0000_0000);
+    assert_eq!(read(column(physical::INT96, 0), &[0; 12]), Ok(Value::Bytes { start: 0, length: 12 }));
+    assert_eq!(read(column(physical::BYTE_ARRAY, kind::STRING), b""), Ok(Value::Bytes { start: 0, length: 0 }));
+    assert_eq!(read(column(physical::INT32, 0), &[0; 3]), refused(15));
+    assert_eq!(read(column(physical::BYTE_ARRAY, kind::STRING), &[0xFF]), refused(16));
+    assert_eq!(read(column(physical::GROUP, kind::PLAIN_GROUP), &[]), refused(20));
+}
+
+#[test]
+fn each_answer_of_an_order() {
+    let double = column(physical::DOUBLE, 0);
+    let ordered = |a: f64, b: f64| order(double, &a.to_le_bytes(), &b.to_le_bytes());
+    assert_eq!(ordered(-1.0, 1.0), Ok(Order::Less));
+    assert_eq!(ordered(-0.0, 0.0), Ok(Order::Equal));
+    assert_eq!(ordered(f64::INFINITY, 1.0), Ok(Order::Greater));
+    assert_eq!(ordered(f64::NAN, 1.0), Ok(Order::Unordered));
+    assert_eq!(order(column(physical::INT96, 0), &[], &[]), refused(17));
+    assert_eq!(order(double, &[], &[0; 8]), refused(15));
+    assert_eq!(order(double, &[0; 8], &[]), refused(15));
+}
+
+#[test]
+fn timestamps_there_and_back() {
+    for unit in [unit::MILLIS, unit::MICROS, unit::NANOS] {
+        for count in [i64::MIN, -1, 0, 951_782_400_000, i64::MAX] {
+            let fields = decode(unit, count).expect("every count decodes");
+            assert_eq!(encode(unit, &fields), Ok(count));
+        }
+    }
+    let fields = Fields { year: i64::MAX, month: 1, day: 1, hour: 0, minute: 0, second: 0, fraction: 0 };
+    assert_eq!(encode(unit::NANOS, &fields), refused(19));
+    assert_eq!(encode(unit::NANOS, &Fields { month: 13, ..fields }), refused(18));
+    assert_eq!(encode(4, &Fields { month: 13, ..fields }), refused(20));
+    assert_eq!(decode(0, 0), refused(20));
+}

@@ -1,0 +1,68 @@
+//! The numbers of `codes` and of the widths are those of `include/griffeljol.h`. Both are written by hand, and no prover sees
+//! either.
+
+use std::collections::BTreeMap;
+use std::fs;
+
+/// The named numbers of the header, without the prefix: `KIND_LIST` and so on.
+fn header() -> BTreeMap<String, u64> {
+    let text = fs::read_to_string("../include/griffeljol.h").expect("the header");
+    text.lines()
+        .filter_map(|line| line.strip_prefix("#define GRIFFELJOL_"))
+        .filter_map(|line| {
+            let mut words = line.split_whitespace();
+            Some((words.next()?.to_owned(), words.next()?.parse().ok()?))
+        })
+        .collect()
+}
+
+/// The named numbers of `codes`, each behind its module's name.
+fn codes() -> BTreeMap<String, u64> {
+    let text = fs::read_to_string("src/codes.rs").expect("the codes");
+    let mut module = String::new();
+    let mut found = BTreeMap::new();
+    for line in text.lines().map(str::trim) {
+        if let Some((_, name)) = line.split_once("mod ").filter(|_| line.starts_with("pub")) {
+            module = name.trim_end_matches(" {").to_uppercase();
+        } else if let Some((name, number)) =
+            line.strip_prefix("pub const ").and_then(|rest| rest.split_once(": u32 = "))
+        {
+            let number = number.trim_end_matches(';').parse().expect("a number");
+            found.insert(format!("{module}_{name}"), number);
+        }
+    }
+    found
+}
+
+#[test]
+fn codes_are_those_of_the_header() {
+    let groups = ["PHYSICAL", "REPETITION", "KIND", "ROLE", "UNIT", "CASE", "ORDER"];
+    let mut expected = header();
+    expected.retain(|name, _| {
+        groups.iter().any(|group| name.strip_prefix(group).is_some_and(|rest| rest.starts_with('_')))
+    });
+    assert_eq!(codes(), expected);
+    assert!(!expected.is_empty());
+}
+
+#[test]
+fn widths_are_those_of_the_header() {
+    let header = header();
+    assert_eq!(header["MAX_SHEET"], griffeljol::MAX_SHEET as u64);
+    assert_eq!(header["MAX_VALUE"], griffeljol::MAX_VALUE as u64);
+    assert_eq!(header["MAX_NODES"], griffeljol::MAX_NODES as u64);
+    assert_eq!(header["ROW_WIDTH"], griffeljol::ROW_WIDTH as u64);
+}
+
+#[test]
+fn meanings_are_those_of_the_header() {
+    // Comments are joined into one line, so that a meaning that runs over two is found.
+    let text = fs::read_to_string("../include/griffeljol.h").expect("the header");
+    let text = text.split_whitespace().collect::<Vec<_>>().join(" ");
+    for number in 1..=20 {
+        let refusal = griffeljol::Refusal { number, place: 0 };
+        let place = refusal.place_meaning().unwrap_or("0");
+        let words = format!(" {number} /* {}: {place} */", refusal.meaning());
+        assert!(text.contains(&words), "{words}");
+    }
+}
