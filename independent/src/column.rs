@@ -22,9 +22,12 @@ pub struct ColumnType {
 
 /// A column type that a leaf of some accepted sheet has.
 #[derive(Clone, Copy, Debug)]
-pub(crate) struct Column {
+pub struct Column {
+    /// Physical type.
     pub physical: u8,
+    /// Type length.
     pub type_length: usize,
+    /// Its annotation.
     pub annotation: Annotation,
     /// The precision of a DECIMAL, else 0.
     pub precision: u32,

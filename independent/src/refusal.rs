@@ -13,13 +13,13 @@ pub struct Refusal {
 
 impl Refusal {
     /// The refusal of a number at a block or node.
-    pub(crate) fn at(number: u32, place: usize) -> Self {
+    pub fn at(number: u32, place: usize) -> Self {
         // Places are below 897, so nothing is lost.
         Refusal { number, place: place as u32 }
     }
 
     /// The refusal of a number that has no place.
-    pub(crate) fn whole(number: u32) -> Self {
+    pub fn whole(number: u32) -> Self {
         Refusal { number, place: 0 }
     }
 }

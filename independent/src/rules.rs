@@ -115,7 +115,7 @@ fn has_shape(slot: &Slot, is_root: bool) -> bool {
 }
 
 /// Whether a node of a physical type, or a group, may have this type length.
-pub(crate) fn is_type_length(physical: u8, type_length: i32) -> bool {
+pub fn is_type_length(physical: u8, type_length: i32) -> bool {
     if physical == physical::FIXED {
         type_length >= 1
     } else {

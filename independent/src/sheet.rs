@@ -22,7 +22,7 @@ const CHECK_MODULUS: u32 = 65_521;
 const VERSION: u8 = 1;
 
 /// Where a slot's converted type, logical type and parameters stand in it.
-pub(crate) const ANNOTATION: std::ops::Range<usize> = 2..6;
+pub const ANNOTATION: std::ops::Range<usize> = 2..6;
 const NAME_LENGTH: usize = 20;
 const NAME: usize = 24;
 

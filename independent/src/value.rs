@@ -38,7 +38,7 @@ pub fn read(column: ColumnType, value: &[u8]) -> Result<Value, Refusal> {
 }
 
 /// Reads one value of a lawful column.
-pub(crate) fn read_in(column: &Column, value: &[u8]) -> Result<Value, Refusal> {
+pub fn read_in(column: &Column, value: &[u8]) -> Result<Value, Refusal> {
     if !has_length(column, value.len()) {
         return Err(Refusal::whole(refusal::VALUE_LENGTH));
     }

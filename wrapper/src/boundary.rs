@@ -1,16 +1,17 @@
-//! The boundary: the functions of `include/griffeljol.h` declared again, and how an answer is taken apart.
+//! The boundary: the functions of `include/griffeljol.h` declared again, and each called with slices.
 //!
 //! No prover sees these declarations. Each slice goes over as its pointer and its length, so what the header asks of memory
 //! holds by Rust's own rules on references: the elements are there for the whole call, and what is written overlaps nothing.
-
-use crate::Refusal;
+//! An answer comes back as the header has it.
+//!
+//! `tests/compare` compiles this file too: what it compares with the independent reader is called from here.
 
 extern "C" {
-    pub fn griffeljol_resolve(sheet: *const u8, sheet_len: usize, rows: *mut u32, rows_len: usize) -> u64;
+    fn griffeljol_resolve(sheet: *const u8, sheet_len: usize, rows: *mut u32, rows_len: usize) -> u64;
 
-    pub fn griffeljol_rewrite(sheet: *const u8, sheet_len: usize, out: *mut u8, out_len: usize, start: usize) -> u64;
+    fn griffeljol_rewrite(sheet: *const u8, sheet_len: usize, out: *mut u8, out_len: usize, start: usize) -> u64;
 
-    pub fn griffeljol_read(
+    fn griffeljol_read(
         physical: u32,
         type_length: u32,
         kind: u32,
@@ -22,7 +23,7 @@ extern "C" {
         out_len: usize,
     ) -> u64;
 
-    pub fn griffeljol_order(
+    fn griffeljol_order(
         physical: u32,
         type_length: u32,
         kind: u32,
@@ -34,22 +35,37 @@ extern "C" {
         b_len: usize,
     ) -> u64;
 
-    pub fn griffeljol_decode(unit: u32, count: i64, fields: *mut i64, fields_len: usize) -> u64;
+    fn griffeljol_decode(unit: u32, count: i64, fields: *mut i64, fields_len: usize) -> u64;
 
-    pub fn griffeljol_encode(
-        unit: u32,
-        fields: *const i64,
-        fields_len: usize,
-        count: *mut i64,
-        count_len: usize,
-    ) -> u64;
+    fn griffeljol_encode(unit: u32, fields: *const i64, fields_len: usize, count: *mut i64, count_len: usize) -> u64;
 }
 
-/// Takes an answer apart: bits 32 to 39 are a refusal's number, 0 for a result; bits 0 to 31 its place, or the result's value.
-pub fn result(answer: u64) -> Result<u32, Refusal> {
-    let (number, low) = ((answer >> 32) as u8, answer as u32);
-    match number {
-        0 => Ok(low),
-        _ => Err(Refusal { number, place: low }),
-    }
+// SAFETY of each call: the pointers and lengths are those of slices that live through it, those written to are borrowed alone, and
+// the header asks no more.
+
+pub fn resolve(sheet: &[u8], rows: &mut [u32]) -> u64 {
+    unsafe { griffeljol_resolve(sheet.as_ptr(), sheet.len(), rows.as_mut_ptr(), rows.len()) }
+}
+
+pub fn rewrite(sheet: &[u8], out: &mut [u8], start: usize) -> u64 {
+    unsafe { griffeljol_rewrite(sheet.as_ptr(), sheet.len(), out.as_mut_ptr(), out.len(), start) }
+}
+
+/// The column is its physical type, type length, kind, p1 and p2.
+pub fn read([physical, length, kind, p1, p2]: [u32; 5], value: &[u8], out: &mut [u64]) -> u64 {
+    let (value, value_len) = (value.as_ptr(), value.len());
+    unsafe { griffeljol_read(physical, length, kind, p1, p2, value, value_len, out.as_mut_ptr(), out.len()) }
+}
+
+/// The column is its physical type, type length, kind, p1 and p2.
+pub fn order([physical, length, kind, p1, p2]: [u32; 5], a: &[u8], b: &[u8]) -> u64 {
+    unsafe { griffeljol_order(physical, length, kind, p1, p2, a.as_ptr(), a.len(), b.as_ptr(), b.len()) }
+}
+
+pub fn decode(unit: u32, count: i64, fields: &mut [i64]) -> u64 {
+    unsafe { griffeljol_decode(unit, count, fields.as_mut_ptr(), fields.len()) }
+}
+
+pub fn encode(unit: u32, fields: &[i64], count: &mut [i64]) -> u64 {
+    unsafe { griffeljol_encode(unit, fields.as_ptr(), fields.len(), count.as_mut_ptr(), count.len()) }
 }

@@ -1,7 +1,7 @@
 //! Safe functions over the C interface of `griffeljol`, the proved reader of Parquet schema sheets.
 //!
 //! Every answer is the proved library's; nothing is judged here. What no prover sees is the boundary: the declarations of the
-//! six C functions, which stand in one module, and that each slice is handed over as its pointer and its length.
+//! six C functions, and that each slice is handed over as its pointer and its length. All of it stands in one module.
 //!
 //! "Document 01" is the paper that defines the sheet, the rows and the refusals. Any bytes and any numbers may be offered; a
 //! refused call leaves what it was lent as it was.
@@ -13,8 +13,10 @@
 //! assert_eq!(rows[3].kind, griffeljol::codes::kind::STRING);
 //! # Ok::<(), Box<dyn std::error::Error>>(())
 //! ```
+#![deny(unsafe_code)]
 #![warn(missing_docs)]
 
+#[allow(unsafe_code)]
 mod boundary;
 pub mod codes;
 mod refusal;

@@ -66,6 +66,16 @@ impl Refusal {
     }
 }
 
+/// Takes an answer of the boundary apart: bits 32 to 39 are a refusal's number, 0 for a result; bits 0 to 31 its place, or the
+/// result's value.
+pub(crate) fn result(answer: u64) -> Result<u32, Refusal> {
+    let (number, low) = ((answer >> 32) as u8, answer as u32);
+    match number {
+        0 => Ok(low),
+        _ => Err(Refusal { number, place: low }),
+    }
+}
+
 impl fmt::Display for Refusal {
     fn fmt(&self, f: &mut fmt::Formatter<'_>) -> fmt::Result {
         write!(f, "refused {} at {}", self.number, self.place)

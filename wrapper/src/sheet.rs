@@ -1,7 +1,7 @@
 //! Sheets: their rows, and rewriting.
 
-use crate::boundary::{griffeljol_resolve, griffeljol_rewrite, result};
-use crate::{ColumnType, Refusal};
+use crate::refusal::result;
+use crate::{boundary, ColumnType, Refusal};
 
 /// The most bytes of a sheet.
 pub const MAX_SHEET: usize = 65_536;
@@ -28,8 +28,7 @@ pub const ROW_WIDTH: usize = 9;
 /// # Ok::<(), Box<dyn std::error::Error>>(())
 /// ```
 pub fn resolve(sheet: &[u8], rows: &mut [u32]) -> Result<u32, Refusal> {
-    // SAFETY: two slices, each as its pointer and its length; `rows` is borrowed alone.
-    result(unsafe { griffeljol_resolve(sheet.as_ptr(), sheet.len(), rows.as_mut_ptr(), rows.len()) })
+    result(boundary::resolve(sheet, rows))
 }
 
 /// A node's row.
@@ -108,6 +107,5 @@ pub fn rows(sheet: &[u8]) -> Result<Vec<Row>, Refusal> {
 /// # Ok::<(), Box<dyn std::error::Error>>(())
 /// ```
 pub fn rewrite(sheet: &[u8], out: &mut [u8], start: usize) -> Result<u32, Refusal> {
-    // SAFETY: two slices, each as its pointer and its length; `out` is borrowed alone.
-    result(unsafe { griffeljol_rewrite(sheet.as_ptr(), sheet.len(), out.as_mut_ptr(), out.len(), start) })
+    result(boundary::rewrite(sheet, out, start))
 }

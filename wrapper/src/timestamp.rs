@@ -1,7 +1,7 @@
 //! Timestamps: counts of ticks since 1970-01-01 00:00:00, and dates and times of the Gregorian calendar.
 
-use crate::boundary::{griffeljol_decode, griffeljol_encode, result};
-use crate::Refusal;
+use crate::refusal::result;
+use crate::{boundary, Refusal};
 
 /// A date and time.
 #[derive(Clone, Copy, Debug, PartialEq, Eq, Hash)]
@@ -33,8 +33,7 @@ pub struct Fields {
 /// ```
 pub fn decode(unit: u32, count: i64) -> Result<Fields, Refusal> {
     let mut fields = [0; 7];
-    // SAFETY: one slice as its pointer and its length, borrowed alone.
-    result(unsafe { griffeljol_decode(unit, count, fields.as_mut_ptr(), fields.len()) })?;
+    result(boundary::decode(unit, count, &mut fields))?;
     let [year, month, day, hour, minute, second, fraction] = fields;
     Ok(Fields { year, month, day, hour, minute, second, fraction })
 }
@@ -55,7 +54,6 @@ pub fn encode(unit: u32, fields: &Fields) -> Result<i64, Refusal> {
     let Fields { year, month, day, hour, minute, second, fraction } = *fields;
     let fields = [year, month, day, hour, minute, second, fraction];
     let mut count = [0];
-    // SAFETY: two slices, each as its pointer and its length; `count` is borrowed alone.
-    result(unsafe { griffeljol_encode(unit, fields.as_ptr(), fields.len(), count.as_mut_ptr(), count.len()) })?;
+    result(boundary::encode(unit, &fields, &mut count))?;
     Ok(count[0])
 }

@@ -1,7 +1,7 @@
 //! Single values of columns, and their order.
 
-use crate::boundary::{griffeljol_order, griffeljol_read, result};
-use crate::{codes, Refusal};
+use crate::refusal::result;
+use crate::{boundary, codes, Refusal};
 
 /// The most bytes of a value.
 pub const MAX_VALUE: usize = 65_536;
@@ -19,6 +19,14 @@ pub struct ColumnType {
     pub p1: u32,
     /// The kind's second parameter.
     pub p2: u32,
+}
+
+impl ColumnType {
+    /// The numbers in the order of a row.
+    fn numbers(self) -> [u32; 5] {
+        let ColumnType { physical, type_length, kind, p1, p2 } = self;
+        [physical, type_length, kind, p1, p2]
+    }
 }
 
 /// A read value.
@@ -55,12 +63,8 @@ pub enum Value {
 /// assert_eq!(read(column, &[0, 1, 0, 0]).unwrap_err().number, 16);
 /// ```
 pub fn read(column: ColumnType, value: &[u8]) -> Result<Value, Refusal> {
-    let ColumnType { physical, type_length, kind, p1, p2 } = column;
     let mut out = [0; 2];
-    // SAFETY: two slices, each as its pointer and its length; `out` is borrowed alone.
-    let case = result(unsafe {
-        griffeljol_read(physical, type_length, kind, p1, p2, value.as_ptr(), value.len(), out.as_mut_ptr(), out.len())
-    })?;
+    let case = result(boundary::read(column.numbers(), value, &mut out))?;
     let [bits, length] = out;
     Ok(match case {
         codes::case::TRUTH => Value::Truth(bits != 0),
@@ -98,11 +102,7 @@ pub enum Order {
 /// assert_eq!(order(column, &[0xFF], &[0xFF, 0xFF]), Ok(Order::Equal));
 /// ```
 pub fn order(column: ColumnType, a: &[u8], b: &[u8]) -> Result<Order, Refusal> {
-    let ColumnType { physical, type_length, kind, p1, p2 } = column;
-    // SAFETY: two slices, each as its pointer and its length; nothing is written.
-    let order = result(unsafe {
-        griffeljol_order(physical, type_length, kind, p1, p2, a.as_ptr(), a.len(), b.as_ptr(), b.len())
-    })?;
+    let order = result(boundary::order(column.numbers(), a, b))?;
     Ok(match order {
         codes::order::LESS => Order::Less,
         codes::order::EQUAL => Order::Equal,

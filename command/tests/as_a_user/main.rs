@@ -3,7 +3,6 @@
 mod answers;
 mod arguments;
 mod files;
-mod pipes;
 mod refusals;
 mod sheet;
 

@@ -7,7 +7,7 @@ use independent::ROW_WIDTH;
 
 use crate::columns::Column;
 use crate::lent::Lent;
-use crate::side::{refusal_of, value_of, Side};
+use crate::side::{refusal_of, shown, value_of, Side};
 
 /// Two sides, the buffers lent to them, and what was counted.
 pub struct Comparison<'a> {
@@ -55,14 +55,6 @@ impl Difference {
 impl fmt::Display for Difference {
     fn fmt(&self, f: &mut fmt::Formatter<'_>) -> fmt::Result {
         write!(f, "{}: {}\n  given {}", self.entry, self.what, self.input)
-    }
-}
-
-/// An answer as a person reads it.
-fn shown(answer: u64) -> String {
-    match refusal_of(answer) {
-        0 => format!("{}", value_of(answer)),
-        number => format!("refused {number} at {}", value_of(answer)),
     }
 }
 
@@ -135,7 +127,7 @@ impl<'a> Comparison<'a> {
     /// Rewrites a sheet into so many lent bytes, from a start on.
     pub fn rewrite(&mut self, sheet: &[u8], lent: usize, start: usize) -> Result<u64, Difference> {
         let salt = sheet.len() as u8;
-        self.bytes.prepare(lent, |at| (at % 251) as u8 ^ salt);
+        self.bytes.prepare(lent, |at| ((at as u32).wrapping_mul(0x9E37_79B9) >> 24) as u8 ^ salt);
         let left = on_copies([sheet], |[sheet]| self.left.rewrite(sheet, self.bytes.left(), start))?;
         let right = self.right.rewrite(sheet, self.bytes.right(), start);
         let answers = Answers { entry: "rewrite", left, right };

@@ -1,5 +1,5 @@
 //! Two readers run side by side on the same inputs: the linked library through its C interface, and the independent one.
-#![deny(unsafe_op_in_unsafe_fn)]
+#![deny(unsafe_code)]
 
 pub mod changes;
 pub mod columns;
@@ -13,6 +13,7 @@ pub mod random;
 pub mod rounds;
 pub mod sheets;
 pub mod side;
+pub mod stored;
 pub mod trees;
 
 use std::process::ExitCode;
@@ -32,30 +33,35 @@ pub fn reference() -> (&'static dyn Side, &'static str) {
 }
 
 /// Compares each of some wrong versions of the independent reader with the reference, and tells how each was found; fails
-/// where one shows no difference within so many rounds, or where the reader as it is shows one.
+/// where one shows no difference within so many rounds, or where the reader as it is shows one in the rounds that were needed.
 pub fn hunt(wrong: &[(&str, &dyn Side)], most_rounds: u64) -> ExitCode {
     const SEED: u64 = 1;
     let (reference, name) = reference();
     println!("wrong versions of the independent reader beside {name}, seed {SEED}");
-    let first_difference = |side: &dyn Side| {
+    let first_difference = |side: &dyn Side, rounds: u64| {
         let mut comparison = Comparison::new(reference, side);
-        (0..most_rounds).find_map(|round| {
-            let difference = rounds::run(&mut comparison, SEED, round).err()?;
-            Some(format!("round {round}, {}", difference.in_short()))
-        })
+        (0..rounds).find_map(|round| Some((round, rounds::run(&mut comparison, SEED, round).err()?.in_short())))
     };
-    if let Some(difference) = first_difference(&Independent) {
-        println!("the reader as it is differs: {difference}");
-        return ExitCode::FAILURE;
-    }
-    let mut missed = 0;
+    let (mut missed, mut needed) = (0, 0);
     for (title, side) in wrong {
-        let found = first_difference(*side);
-        missed += usize::from(found.is_none());
-        println!("{title}: {}", found.as_deref().unwrap_or("NOT FOUND"));
+        match first_difference(*side, most_rounds) {
+            Some((round, difference)) => {
+                needed = needed.max(round + 1);
+                println!("{title}: round {round}, {difference}");
+            }
+            None => {
+                missed += 1;
+                println!("{title}: NOT FOUND");
+            }
+        }
+    }
+    let as_it_is = first_difference(&Independent, needed);
+    match &as_it_is {
+        Some((round, difference)) => println!("the reader as it is differs: round {round}, {difference}"),
+        None => println!("the reader as it is: no difference in {needed} rounds"),
     }
     println!("{} wrong versions, {missed} not found", wrong.len());
-    if missed == 0 {
+    if missed == 0 && as_it_is.is_none() {
         ExitCode::SUCCESS
     } else {
         ExitCode::FAILURE
@@ -64,3 +70,6 @@ pub fn hunt(wrong: &[(&str, &dyn Side)], most_rounds: u64) -> ExitCode {
 
 /// Whether the library is linked.
 pub const IS_LINKED: bool = cfg!(linked);
+
+/// What is said where it is not.
+pub const NOT_LINKED: &str = "no library is linked: set GRIFFELJOL_LIB to the folder of libc_api.a, or give --itself";

@@ -1,63 +1,36 @@
-//! The linked library, through the C interface of `include/griffeljol.h`.
+//! The linked library, through the C interface of `include/griffeljol.h` as the wrapper declares it.
 
 use crate::side::Side;
 
-extern "C" {
-    fn griffeljol_resolve(sheet: *const u8, sheet_len: usize, rows: *mut u32, rows_len: usize) -> u64;
-    fn griffeljol_rewrite(sheet: *const u8, sheet_len: usize, out: *mut u8, out_len: usize, start: usize) -> u64;
-    fn griffeljol_read(
-        physical: u32,
-        type_length: u32,
-        kind: u32,
-        p1: u32,
-        p2: u32,
-        value: *const u8,
-        value_len: usize,
-        out: *mut u64,
-        out_len: usize,
-    ) -> u64;
-    fn griffeljol_order(
-        physical: u32,
-        type_length: u32,
-        kind: u32,
-        p1: u32,
-        p2: u32,
-        a: *const u8,
-        a_len: usize,
-        b: *const u8,
-        b_len: usize,
-    ) -> u64;
-    fn griffeljol_decode(unit: u32, count: i64, fields: *mut i64, fields_len: usize) -> u64;
-    fn griffeljol_encode(unit: u32, fields: *const i64, fields_len: usize, count: *mut i64, count_len: usize) -> u64;
-}
+#[allow(unsafe_code)]
+#[path = "../../../wrapper/src/boundary.rs"]
+mod boundary;
 
 /// The proved library.
 pub struct Linked;
 
-// SAFETY of each call: the pointers and lengths are those of slices that live through it, and the interface asks no more.
 impl Side for Linked {
     fn resolve(&self, sheet: &[u8], rows: &mut [u32]) -> u64 {
-        unsafe { griffeljol_resolve(sheet.as_ptr(), sheet.len(), rows.as_mut_ptr(), rows.len()) }
+        boundary::resolve(sheet, rows)
     }
 
     fn rewrite(&self, sheet: &[u8], out: &mut [u8], start: usize) -> u64 {
-        unsafe { griffeljol_rewrite(sheet.as_ptr(), sheet.len(), out.as_mut_ptr(), out.len(), start) }
+        boundary::rewrite(sheet, out, start)
     }
 
-    fn read(&self, [physical, length, kind, p1, p2]: [u32; 5], value: &[u8], out: &mut [u64]) -> u64 {
-        let (value, value_len) = (value.as_ptr(), value.len());
-        unsafe { griffeljol_read(physical, length, kind, p1, p2, value, value_len, out.as_mut_ptr(), out.len()) }
+    fn read(&self, column: [u32; 5], value: &[u8], out: &mut [u64]) -> u64 {
+        boundary::read(column, value, out)
     }
 
-    fn order(&self, [physical, length, kind, p1, p2]: [u32; 5], a: &[u8], b: &[u8]) -> u64 {
-        unsafe { griffeljol_order(physical, length, kind, p1, p2, a.as_ptr(), a.len(), b.as_ptr(), b.len()) }
+    fn order(&self, column: [u32; 5], a: &[u8], b: &[u8]) -> u64 {
+        boundary::order(column, a, b)
     }
 
     fn decode(&self, unit: u32, count: i64, fields: &mut [i64]) -> u64 {
-        unsafe { griffeljol_decode(unit, count, fields.as_mut_ptr(), fields.len()) }
+        boundary::decode(unit, count, fields)
     }
 
     fn encode(&self, unit: u32, fields: &[i64], count: &mut [i64]) -> u64 {
-        unsafe { griffeljol_encode(unit, fields.as_ptr(), fields.len(), count.as_mut_ptr(), count.len()) }
+        boundary::encode(unit, fields, count)
     }
 }

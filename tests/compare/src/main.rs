@@ -6,7 +6,7 @@
 use std::process::ExitCode;
 use std::time::{Duration, Instant};
 
-use compare::{published, reference, rounds, Comparison, Independent, IS_LINKED};
+use compare::{published, reference, rounds, Comparison, Independent, IS_LINKED, NOT_LINKED};
 
 const LEAST_COMPARISONS: u64 = 1_000_000;
 const LEAST_OF_EACH: u64 = 1_000;
@@ -51,9 +51,7 @@ fn main() -> ExitCode {
 
 fn run(options: &Options) -> Result<(), String> {
     if !IS_LINKED && !options.itself {
-        return Err(
-            "no library is linked: set GRIFFELJOL_LIB to the folder of libc_api.a, or give --itself".to_string()
-        );
+        return Err(NOT_LINKED.to_string());
     }
     let (left, name) = reference();
     println!("the independent reader beside {name}, seed {}", options.seed);

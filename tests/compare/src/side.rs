@@ -29,6 +29,14 @@ pub fn value_of(answer: u64) -> u32 {
     answer as u32
 }
 
+/// An answer as a person reads it.
+pub fn shown(answer: u64) -> String {
+    match refusal_of(answer) {
+        0 => format!("{}", value_of(answer)),
+        number => format!("refused {number} at {}", value_of(answer)),
+    }
+}
+
 /// The answer of a refusal.
 pub fn refused(number: u32, place: u32) -> u64 {
     u64::from(number) << 32 | u64::from(place)

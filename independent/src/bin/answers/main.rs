@@ -1,22 +1,22 @@
-//! Makes the inputs and the stored answers of the vector programs.
+//! Makes the stored questions and answers: those of the programs in `crates`, and those in `tests/stored`.
 //!
-//! `answers NAME FOLDER` writes `stdin`, where the program reads one that is made here, and `stdout` into the folder.
-//! `answers --given NAME` reads an input of that program from standard input and prints the answers to it.
-//! `answers --check CRATES` makes all anew and compares it with what is stored in the programs' folders.
+//! `answers NAME FOLDER` writes the questions, where they are made here, and the answers into the folder.
+//! `answers --given NAME` reads questions from standard input and prints the answers to them.
+//! `answers --check REPOSITORY` makes all anew and compares it with what is stored there.
 #![forbid(unsafe_code)]
 
 mod annotation_vectors;
 mod bytes;
-mod column_vectors;
+mod column;
 mod decimal_vectors;
 mod nodes;
 mod random;
 mod random_trees;
+mod schema;
 mod schema_programs;
-mod schema_vectors;
 mod sheet_slots;
 mod sheet_vectors;
-mod timestamp_vectors;
+mod timestamp;
 mod utf8_vectors;
 mod wide;
 
@@ -24,41 +24,64 @@ use std::io::{Read, Write};
 use std::path::Path;
 use std::process::ExitCode;
 
-/// A program whose answers are made here.
-struct Program {
+/// Questions and answers that are made here.
+struct Stored {
     name: &'static str,
-    /// What it reads from standard input, where that is made here.
-    input: Option<fn() -> Vec<u8>>,
-    /// What it prints for an input.
+    place: Place,
+    /// The questions, where they do not stand with the answers.
+    questions: Option<fn() -> Vec<u8>>,
+    /// The answers to questions.
     answers: fn(&[u8]) -> Vec<u8>,
 }
 
-const PROGRAMS: [Program; 10] = [
-    Program { name: "sheet_vectors", input: Some(sheet_vectors::input), answers: sheet_vectors::answers },
-    Program { name: "sheet_slots", input: Some(sheet_slots::input), answers: sheet_slots::answers },
-    Program { name: "timestamp_vectors", input: None, answers: timestamp_vectors::answers },
-    Program { name: "utf8_vectors", input: Some(utf8_vectors::input), answers: utf8_vectors::answers },
-    Program { name: "decimal_vectors", input: None, answers: decimal_vectors::answers },
-    Program { name: "annotation_vectors", input: None, answers: annotation_vectors::answers },
-    Program { name: "schema_vectors", input: Some(schema_vectors::input), answers: schema_vectors::answers },
-    Program { name: "schema_rows", input: Some(schema_programs::input), answers: schema_programs::rows },
-    Program { name: "schema_rewrite", input: Some(schema_programs::input), answers: schema_programs::rewritten },
-    Program { name: "column_vectors", input: Some(column_vectors::input), answers: column_vectors::answers },
+/// Where in the repository questions and answers stand, and under which names.
+struct Place {
+    folder: &'static str,
+    questions: &'static str,
+    answers: &'static str,
+}
+
+/// What a program reads and prints.
+const PROGRAM: Place = Place { folder: "crates", questions: "stdin", answers: "stdout" };
+/// What the linked library is asked by `tests/compare`.
+const LIBRARY: Place = Place { folder: "tests/stored", questions: "questions", answers: "answers" };
+
+const fn stored(
+    name: &'static str,
+    place: Place,
+    questions: Option<fn() -> Vec<u8>>,
+    answers: fn(&[u8]) -> Vec<u8>,
+) -> Stored {
+    Stored { name, place, questions, answers }
+}
+
+const ALL: [Stored; 10] = [
+    stored("sheet_vectors", PROGRAM, Some(sheet_vectors::input), sheet_vectors::answers),
+    stored("sheet_slots", PROGRAM, Some(sheet_slots::input), sheet_slots::answers),
+    stored("utf8_vectors", PROGRAM, Some(utf8_vectors::input), utf8_vectors::answers),
+    stored("decimal_vectors", PROGRAM, None, decimal_vectors::answers),
+    stored("annotation_vectors", PROGRAM, None, annotation_vectors::answers),
+    stored("schema_rows", PROGRAM, Some(schema_programs::input), schema_programs::rows),
+    stored("schema_rewrite", PROGRAM, Some(schema_programs::input), schema_programs::rewritten),
+    stored("schema", LIBRARY, Some(schema::input), schema::answers),
+    stored("column", LIBRARY, Some(column::input), column::answers),
+    stored("timestamp", LIBRARY, None, timestamp::answers),
 ];
 
 fn main() -> ExitCode {
     let arguments: Vec<String> = std::env::args().skip(1).collect();
     let done = match arguments.iter().map(String::as_str).collect::<Vec<_>>()[..] {
         ["--list"] => {
-            PROGRAMS.iter().for_each(|program| println!("{}", program.name));
+            ALL.iter().for_each(|stored| println!("{}", stored.name));
             Ok(())
         }
-        ["--given", name] => program(name).and_then(answer_given),
-        ["--check", crates] => {
-            PROGRAMS.iter().try_for_each(|program| check(program, &Path::new(crates).join(program.name)))
-        }
-        [name, folder] => program(name).and_then(|program| store(program, Path::new(folder))),
-        _ => Err("usage: answers NAME FOLDER | --given NAME | --check CRATES | --list".to_string()),
+        ["--given", name] => by_name(name).and_then(answer_given),
+        ["--check", repository] => ALL.iter().try_for_each(|stored| {
+            let folder = Path::new(repository).join(stored.place.folder).join(stored.name);
+            check(stored, &folder)
+        }),
+        [name, folder] => by_name(name).and_then(|stored| store(stored, Path::new(folder))),
+        _ => Err("usage: answers NAME FOLDER | --given NAME | --check REPOSITORY | --list".to_string()),
     };
     match done {
         Ok(()) => ExitCode::SUCCESS,
@@ -69,35 +92,36 @@ fn main() -> ExitCode {
     }
 }
 
-fn program(name: &str) -> Result<&'static Program, String> {
-    PROGRAMS.iter().find(|program| program.name == name).ok_or_else(|| format!("{name}: no such program"))
+fn by_name(name: &str) -> Result<&'static Stored, String> {
+    ALL.iter().find(|stored| stored.name == name).ok_or_else(|| format!("{name}: no such name"))
 }
 
-fn answer_given(program: &Program) -> Result<(), String> {
+fn answer_given(stored: &Stored) -> Result<(), String> {
     let mut given = Vec::new();
     std::io::stdin().read_to_end(&mut given).map_err(|fault| fault.to_string())?;
-    std::io::stdout().write_all(&(program.answers)(&given)).map_err(|fault| fault.to_string())
+    std::io::stdout().write_all(&(stored.answers)(&given)).map_err(|fault| fault.to_string())
 }
 
-/// The files of a program that are made here, by their names.
-fn files(program: &Program) -> Vec<(&'static str, Vec<u8>)> {
-    let input = program.input.map(|input| input());
-    let answers = (program.answers)(input.as_deref().unwrap_or_default());
-    input.map(|input| ("stdin", input)).into_iter().chain([("stdout", answers)]).collect()
+/// The files that are made here, by their names.
+fn files(stored: &Stored) -> Vec<(&'static str, Vec<u8>)> {
+    let questions = stored.questions.map(|questions| questions());
+    let answers = (stored.answers)(questions.as_deref().unwrap_or_default());
+    let questions = questions.map(|questions| (stored.place.questions, questions));
+    questions.into_iter().chain([(stored.place.answers, answers)]).collect()
 }
 
-fn store(program: &Program, folder: &Path) -> Result<(), String> {
-    files(program).into_iter().try_for_each(|(name, content)| {
+fn store(stored: &Stored, folder: &Path) -> Result<(), String> {
+    files(stored).into_iter().try_for_each(|(name, content)| {
         let path = folder.join(name);
         std::fs::write(&path, content).map_err(|fault| format!("{}: {fault}", path.display()))
     })
 }
 
-fn check(program: &Program, folder: &Path) -> Result<(), String> {
-    files(program).into_iter().try_for_each(|(name, content)| {
+fn check(stored: &Stored, folder: &Path) -> Result<(), String> {
+    files(stored).into_iter().try_for_each(|(name, content)| {
         let path = folder.join(name);
-        let stored = std::fs::read(&path).map_err(|fault| format!("{}: {fault}", path.display()))?;
-        if stored != content {
+        let held = std::fs::read(&path).map_err(|fault| format!("{}: {fault}", path.display()))?;
+        if held != content {
             return Err(format!("{} is not what the independent reader makes", path.display()));
         }
         println!("{}: as the independent reader makes it", path.display());
