@@ -1,0 +1,56 @@
+//! What is measured: the same work by several contenders.
+
+/// The name of the library's contender, which is the first of each case.
+pub const LIBRARY: &str = "griffeljol";
+/// The name of the independent reader's.
+pub const INDEPENDENT: &str = "independent";
+
+/// One input of an entry, and who works on it.
+pub struct Case<'a> {
+    /// The entry of the C interface.
+    pub entry: &'static str,
+    /// The input, in words.
+    pub input: String,
+    /// What a cost is told for: a node, a call or a byte.
+    pub item: &'static str,
+    /// How many of those one run has.
+    pub items: usize,
+    /// What is to be reached.
+    pub goal: Goal,
+    /// The library first, then the independent reader, then the others.
+    pub contenders: Vec<Contender<'a>>,
+}
+
+/// What is to be reached by the library in a case.
+#[derive(Clone, Copy)]
+pub enum Goal {
+    /// Beside the independent reader, and beside sheets of other sizes.
+    Sheet { shape: &'static str, nodes: usize },
+    /// The time of each of some contenders.
+    TimeOf(&'static [&'static str]),
+    /// A decimal of 16 bytes.
+    Decimal,
+    /// The same cost at every precision of a physical type.
+    Precision(&'static str),
+    /// None.
+    None,
+}
+
+/// Somebody who does the work.
+pub struct Contender<'a> {
+    pub name: &'static str,
+    /// Does it so many times.
+    pub run: Box<dyn FnMut(usize) + 'a>,
+}
+
+impl<'a> Contender<'a> {
+    /// Somebody who does the work once by a function.
+    pub fn new(name: &'static str, mut once: impl FnMut() + 'a) -> Self {
+        let run = move |times| {
+            for _ in 0..times {
+                once();
+            }
+        };
+        Contender { name, run: Box::new(run) }
+    }
+}

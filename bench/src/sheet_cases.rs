@@ -1,0 +1,64 @@
+//! Sheets resolved into rows, and rewritten.
+
+use std::hint::black_box;
+
+use independent::ROW_WIDTH;
+
+use crate::case::{Case, Contender, Goal, INDEPENDENT, LIBRARY};
+use crate::linked::{self, answer, answer_of};
+use crate::shapes::SHAPES;
+
+/// The numbers of nodes. Each fills its blocks.
+pub const SIZES: [usize; 4] = [7, 70, 448, 896];
+
+pub const RESOLVE: &str = "resolve";
+pub const REWRITE: &str = "rewrite";
+
+pub fn cases() -> Vec<Case<'static>> {
+    let mut cases = Vec::new();
+    for make in [resolving, rewriting] {
+        for (shape, sheet_of) in SHAPES {
+            for nodes in SIZES {
+                cases.push(make(shape, nodes, sheet_of(nodes)));
+            }
+        }
+    }
+    cases
+}
+
+fn case(entry: &'static str, shape: &'static str, nodes: usize, contenders: Vec<Contender<'static>>) -> Case<'static> {
+    let input = format!("{shape}, {nodes} nodes");
+    Case { entry, input, item: "node", items: nodes, goal: Goal::Sheet { shape, nodes }, contenders }
+}
+
+fn resolving(shape: &'static str, nodes: usize, sheet: Vec<u8>) -> Case<'static> {
+    let mut rows = vec![0; ROW_WIDTH * nodes];
+    let mut other_rows = vec![0; ROW_WIDTH * nodes];
+    assert_eq!(linked::resolve(&sheet, &mut rows), answer(0, nodes as u32));
+    assert_eq!(answer_of(independent::resolve(&sheet, &mut other_rows)), answer(0, nodes as u32));
+    assert_eq!(rows, other_rows);
+    let same = sheet.clone();
+    let library = Contender::new(LIBRARY, move || {
+        black_box(linked::resolve(black_box(&sheet), black_box(&mut rows)));
+    });
+    let independent = Contender::new(INDEPENDENT, move || {
+        black_box(independent::resolve(black_box(&same), black_box(&mut other_rows))).expect("a lawful sheet");
+    });
+    case(RESOLVE, shape, nodes, vec![library, independent])
+}
+
+fn rewriting(shape: &'static str, nodes: usize, sheet: Vec<u8>) -> Case<'static> {
+    let mut out = vec![0; sheet.len()];
+    let mut other_out = vec![0; sheet.len()];
+    assert_eq!(linked::rewrite(&sheet, &mut out, 0), answer(0, sheet.len() as u32));
+    assert_eq!(answer_of(independent::rewrite(&sheet, &mut other_out, 0)), answer(0, sheet.len() as u32));
+    assert_eq!(out, other_out);
+    let same = sheet.clone();
+    let library = Contender::new(LIBRARY, move || {
+        black_box(linked::rewrite(black_box(&sheet), black_box(&mut out), black_box(0)));
+    });
+    let independent = Contender::new(INDEPENDENT, move || {
+        black_box(independent::rewrite(black_box(&same), black_box(&mut other_out), black_box(0))).expect("lawful");
+    });
+    case(REWRITE, shape, nodes, vec![library, independent])
+}

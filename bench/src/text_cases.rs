@@ -1,0 +1,106 @@
+//! Texts of 65,536 bytes read as STRING: UTF-8.
+
+use std::hint::black_box;
+
+use independent::codes::{logical, physical};
+
+use crate::byte_loop::{is_utf8_by_match, is_utf8_by_sequence, is_utf8_by_table};
+use crate::case::{Case, Contender, Goal, INDEPENDENT, LIBRARY};
+use crate::linked::{self, answer, ColumnType};
+use crate::random::Random;
+
+/// Bytes of a text, the most that a value has.
+const LENGTH: usize = 65_536;
+
+const STRING: ColumnType = [physical::BYTE_ARRAY as u32, 0, logical::STRING as u32, 0, 0];
+
+const BREAKS_ANNOTATION: u32 = 16;
+const BYTES: u32 = 5;
+
+/// The names of the loops whose time is to be reached.
+const BY_SEQUENCE: &str = "byte loop, by sequence";
+const BY_MATCH: &str = "byte loop, state by match";
+const BY_TABLE: &str = "byte loop, state by table";
+const FROM_UTF8: &str = "str::from_utf8";
+
+pub fn cases() -> Vec<Case<'static>> {
+    let mut random = Random::new(5);
+    let texts = [
+        ("ASCII", text(|_| random.between(0x20, 0x7F) as u32)),
+        ("letters of two bytes", text(|_| random.between(0x400, 0x460) as u32)),
+        ("letters of three bytes", text(|_| random.between(0x4E00, 0x9FA6) as u32)),
+        (
+            "ASCII, one letter of two bytes in each 16",
+            text(|at| if at % 16 == 0 { 0xE9 } else { random.between(0x61, 0x7B) as u32 }),
+        ),
+        ("letters of one to four bytes, mixed", text(|_| mixed(&mut random))),
+    ];
+    texts.into_iter().map(|(words, text)| case(words, text)).collect()
+}
+
+/// A text of such letters, by where each starts, that ends with ASCII where no other letter fits.
+fn text(mut letter: impl FnMut(usize) -> u32) -> Vec<u8> {
+    let mut text = String::with_capacity(LENGTH);
+    while text.len() < LENGTH {
+        let letter = char::from_u32(letter(text.len())).expect("a letter");
+        text.push(if text.len() + letter.len_utf8() <= LENGTH { letter } else { '.' });
+    }
+    text.into_bytes()
+}
+
+fn mixed(random: &mut Random) -> u32 {
+    let ranges = [(0x20, 0x7F), (0xA0, 0x800), (0x800, 0xD800), (0x1_0000, 0x11_0000)];
+    let (from, to) = ranges[random.between(0, 4) as usize];
+    random.between(from, to) as u32
+}
+
+fn case(words: &str, text: Vec<u8>) -> Case<'static> {
+    agree(&text, true);
+    for at in [0, 1000, LENGTH / 2 + 1, LENGTH - 1] {
+        let mut changed = text.clone();
+        changed[at] = 0xFF;
+        agree(&changed, false);
+    }
+    let mut cut = text.clone();
+    cut[LENGTH - 2..].copy_from_slice(&[0xE2, 0x82]);
+    agree(&cut, false);
+    let contenders = vec![
+        contender(LIBRARY, &text, |text| linked::read(STRING, text, &mut [0; 2])),
+        contender(INDEPENDENT, &text, |text| independent::read(black_box(column(STRING)), text)),
+        contender(FROM_UTF8, &text, |text| std::str::from_utf8(text).is_ok()),
+        contender(BY_SEQUENCE, &text, is_utf8_by_sequence),
+        contender(BY_MATCH, &text, is_utf8_by_match),
+        contender(BY_TABLE, &text, is_utf8_by_table),
+    ];
+    let input = format!("STRING of 65,536 bytes: {words}");
+    Case {
+        entry: "read",
+        input,
+        item: "byte",
+        items: LENGTH,
+        goal: Goal::TimeOf(&[BY_SEQUENCE, BY_MATCH, BY_TABLE]),
+        contenders,
+    }
+}
+
+fn contender<R>(name: &'static str, text: &[u8], work: impl Fn(&[u8]) -> R + 'static) -> Contender<'static> {
+    let text = text.to_vec();
+    Contender::new(name, move || {
+        black_box(work(black_box(&text)));
+    })
+}
+
+fn column([physical, type_length, kind, p1, p2]: ColumnType) -> independent::ColumnType {
+    independent::ColumnType { physical, type_length, kind, p1, p2 }
+}
+
+/// Every contender says the same of a text.
+fn agree(text: &[u8], valid: bool) {
+    let expected = if valid { answer(0, BYTES) } else { answer(BREAKS_ANNOTATION, 0) };
+    assert_eq!(linked::read(STRING, text, &mut [0; 2]), expected);
+    assert_eq!(independent::read(column(STRING), text).is_ok(), valid);
+    assert_eq!(std::str::from_utf8(text).is_ok(), valid);
+    assert_eq!(is_utf8_by_sequence(text), valid);
+    assert_eq!(is_utf8_by_match(text), valid);
+    assert_eq!(is_utf8_by_table(text), valid);
+}
