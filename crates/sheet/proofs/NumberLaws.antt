@@ -1,7 +1,7 @@
 -- Laws of the numbers in a list of bytes.
-use mathlib.Core.Path.{_≡_}
+use mathlib.Core.Path.{_≡_, sym, ap, _∙_}
 use mathlib.Core.List.{List}
-use Prim.Native.Nat.{ℕ, suc, _+_, _-_, _*_, _^_, _≤_, _<_}
+use Prim.Native.Nat.{ℕ, zero, suc, _+_, _-_, _*_, _^_, _≤_, _<_}
 use native.Mathlib.Numerals.{towards-suc}
 use native.Mathlib.Decide.{decLt}
 use native.Mathlib.Omega.{arith}
@@ -25,6 +25,19 @@ pub numberAt-four : (bytes : List ℕ) (at : ℕ)
     → numberAt bytes at 4 ≡ getD bytes at 0 + 256 * (getD bytes (at + 1) 0 + 256 * (getD bytes (at + 2) 0 + 256 * getD bytes (at + 3) 0))
 unfolding numberAt
 numberAt-four bytes at = simp towards-suc (omega arith)
+
+-- where a number of four bytes is zero, so are the bytes
+pub numberAt-four-zero : (bytes : List ℕ) (at k : ℕ) → numberAt bytes at 4 ≡ 0 → at ≤ k → k < at + 4 → getD bytes k 0 ≡ 0
+numberAt-four-zero bytes at k none l h = cases (k - at) (omega arith)
+  where
+    parts : getD bytes at 0 + 256 * (getD bytes (at + 1) 0 + 256 * (getD bytes (at + 2) 0 + 256 * getD bytes (at + 3) 0)) ≡ 0
+    parts = sym (numberAt-four bytes at) ∙ none
+    cases : (j : ℕ) → k ≡ at + j → getD bytes k 0 ≡ 0
+    cases zero e = ap (λ (i : ℕ). getD bytes i 0) {y = at} (omega arith) ∙ omega (arith, parts)
+    cases (suc zero) e = ap (λ (i : ℕ). getD bytes i 0) e ∙ omega (arith, parts)
+    cases (suc (suc zero)) e = ap (λ (i : ℕ). getD bytes i 0) e ∙ omega (arith, parts)
+    cases (suc (suc (suc zero))) e = ap (λ (i : ℕ). getD bytes i 0) e ∙ omega (arith, parts)
+    cases (suc (suc (suc (suc j)))) e = absurd (omega arith)
 
 -- the lower half stands for itself
 pub signed32-low : (n : ℕ) → n < 2 ^ 31 → signed32 n ≡ pos n

@@ -8,3 +8,4 @@ pub mod Header
 pub mod First
 pub mod Opening
 pub mod Name
+pub mod Steps

@@ -4,6 +4,7 @@ ghost use Prim.Native.Nat.{_+_, _*_, _^_, _≤_, _<_};
 ghost use lib.ListN.{length};
 ghost use Rattle.sheet.specs.Block.{blockSize, slotsInBlock, blockCount, checkAt, blockAt, totalOf};
 ghost use Rattle.sheet.specs.Check.{sumBelow, weighted, check, checkRight};
+ghost use Rattle.sheet.specs.Steps.{partSize, parts, weightedFrom};
 ghost use Rattle.sheet.specs.Header.{nodesIn, totalRight, fieldsRight, headerRight};
 use crate::layout;
 use crate::number::number16;
@@ -12,6 +13,13 @@ use crate::number::wide;
 const VERSION_NOW: u32 = 1;
 
 const CHECK_MODULUS: u32 = 65521;
+
+// A block is summed in so many parts of so many bytes, and then byte by byte.
+const PART_SIZE: usize = 80;
+
+const PARTS: usize = 6;
+
+const FRONT: usize = PART_SIZE * PARTS;
 
 // Whether the stored check of block i is its check.
 pub(crate) fn check_right(sheet: &[u8], i: usize) -> bool
@@ -67,13 +75,49 @@ fn weighted_sum(block: &[u8]) -> u32
     requires { ⌜ length (now block) ≡ blockSize ⌝ }
     ensures { λ r. ⌜ r ≡ sumBelow (weighted (now (block .entry))) checkAt ⌝ }
 {
-    let mut sum: u32 = 0;
-    let mut i: usize = 0;
+    let mut sum = front_sum(block);
+    let mut i: usize = FRONT;
     while i < layout::CHECK {
         sum += (i as u32 + 1) * wide(block[i]);
         i += 1;
     }
     sum
+}
+
+// The same over the bytes of the parts alone.
+fn front_sum(block: &[u8]) -> u32
+    requires { ⌜ length (now block) ≡ blockSize ⌝ }
+    ensures { λ r. ⌜ r ≡ sumBelow (weighted (now (block .entry))) (partSize * parts) ⌝ }
+    ensures { λ r. ⌜ r ≤ checkAt * 255 * (partSize * parts) ⌝ }
+{
+    let mut sum: u32 = 0;
+    let mut part: usize = 0;
+    while part < PARTS {
+        let start = PART_SIZE * part;
+        sum += part_sum(&block[start..start + PART_SIZE], start as u32);
+        part += 1;
+    }
+    sum
+}
+
+// The sum of (before + j + 1) times byte j over a part. The weights of the loop are the same for every part, so that they can
+// stand in registers.
+fn part_sum(part: &[u8], before: u32) -> u32
+    requires { ⌜ length (now part) ≡ partSize ⌝ }
+    requires { ⌜ before + partSize ≤ checkAt ⌝ }
+    ensures { λ r. ⌜ r ≡ sumBelow (weightedFrom before (now (part .entry))) partSize ⌝ }
+    ensures { λ r. ⌜ r ≤ checkAt * 255 * partSize ⌝ }
+{
+    let mut plain: u32 = 0;
+    let mut own: u32 = 0;
+    let mut j: usize = 0;
+    while j < PART_SIZE {
+        let byte = wide(part[j]);
+        plain += byte;
+        own += (j as u32 + 1) * byte;
+        j += 1;
+    }
+    own + before * plain
 }
 
 // Whether a block's header is that of block number i, of total nodes in all.

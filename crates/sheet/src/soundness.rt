@@ -1,17 +1,21 @@
 // Whether a slot is sound: its codes stand in the lists of document 01, and zeros stand where zeros must.
 ghost use mathlib.Core.Path.{_≡_};
-ghost use Prim.Native.Nat.{_+_, _≤_, _<_};
-ghost use lib.ListN.{length};
+ghost use Prim.Native.Nat.{ℕ, _+_, _≤_, _<_};
+ghost use lib.ListN.{length, getD};
 ghost use Rattle.sheet.specs.Block.{slotSize, mostNodes, totalOf};
 ghost use Rattle.sheet.specs.Slot.{slotStart};
 ghost use Rattle.sheet.specs.Sound.{listed as Sound·listed, logicalListed, allZero, codesListed, nameRight, slotSound, slotRight};
 use crate::layout;
+use crate::number::number32;
 use crate::number::wide;
 use crate::slots::slot_start;
 use parquet::converted;
 use parquet::logical;
 use parquet::physical;
 use parquet::repetition;
+
+// The bytes of a number that is compared with zero at once.
+const WORD: usize = 4;
 
 // Whether the slot of number k is sound where k is a node's, and zero where it is not.
 pub(crate) fn slot_right(sheet: &[u8], k: usize, total: usize) -> bool
@@ -86,7 +90,7 @@ fn name_right(slot: &[u8]) -> bool
 fn all_zero(bytes: &[u8]) -> bool
     ensures { λ r. ⌜ r ≡ allZero (now (bytes .entry)) ⌝ }
 {
-    let mut i = 0;
+    let mut i = zero_words(bytes);
     while i < bytes.len() {
         if bytes[i] != 0 {
             return false;
@@ -94,6 +98,21 @@ fn all_zero(bytes: &[u8]) -> bool
         i += 1;
     }
     true
+}
+
+// How many bytes at the front are zero, as far as whole words tell.
+fn zero_words(bytes: &[u8]) -> usize
+    ensures { λ r. ⌜ r ≤ length (now (bytes .entry)) ⌝ }
+    ensures { λ r. ⌜ ((k : ℕ) → k < r → getD (now (bytes .entry)) k 0 ≡ 0) ⌝ }
+{
+    let mut i = 0;
+    while bytes.len() - i >= WORD {
+        if number32(bytes, i) != 0 {
+            return i;
+        }
+        i += WORD;
+    }
+    i
 }
 
 // Whether a code is in the list from 0 to last, or the one beside it.

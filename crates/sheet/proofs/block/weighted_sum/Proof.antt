@@ -15,9 +15,11 @@ Inv-loop block sum₀ i₀ sum i = (i ≤ checkAt) × (sum ≡ sumBelow (weighte
 abbrev μ-loop : tie.MeasureT-loop
 μ-loop block sum₀ i₀ sum i = checkAt - i
 
+front-sum-requires : tie.Need-front-sum-requires Inv-loop μ-loop
+front-sum-requires c κs = search needs
+
 loop-holds : tie.Need-loop-holds Inv-loop μ-loop
-unfolding sumBelow
-loop-holds c = omega arith
+loop-holds c = (omega arith, c .front-sum .ensures .0, c .front-sum .ensures .1)
 
 cast-sum : tie.Need-cast-sum Inv-loop μ-loop
 cast-sum c = omega arith
@@ -62,6 +64,7 @@ weighted-sum-spec =
     (tie.spec
     Inv-loop
     μ-loop
+    front-sum-requires
     loop-holds
     cast-sum
     add-sum

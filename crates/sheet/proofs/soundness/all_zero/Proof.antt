@@ -15,8 +15,11 @@ Inv-loop bytes i₀ i = (i ≤ length bytes) × ((k : ℕ) → k < i → getD by
 abbrev μ-loop : tie.MeasureT-loop
 μ-loop bytes i₀ i = length bytes - i
 
+zero-words-requires : tie.Need-zero-words-requires Inv-loop μ-loop
+zero-words-requires c κs = search needs
+
 loop-holds : tie.Need-loop-holds Inv-loop μ-loop
-loop-holds c = search needs
+loop-holds c = c .zero-words .ensures
 
 shared-slice-read-if1 : tie.Need-shared-slice-read-if1 Inv-loop μ-loop
 shared-slice-read-if1 c = omega arith
@@ -42,6 +45,7 @@ all-zero-spec =
     (tie.spec
     Inv-loop
     μ-loop
+    zero-words-requires
     loop-holds
     shared-slice-read-if1
     returns
