@@ -2,6 +2,7 @@
 ghost use mathlib.Core.Path.{_≡_};
 ghost use Rattle.annotation.specs.Kinds.{kindOf, kindAs, bareKind, plainKind, decimalKind, logicalKind};
 ghost use Rattle.annotation.specs.Outcome.{resolutionOf, refusalOf, outcomeOf, outcome};
+ghost use Rattle.annotation.specs.Steps.{StatedIn, resolutionAs};
 use crate::agreement::rule9;
 use crate::decimals::digits_allowed;
 use crate::decimals::is_decimal;
@@ -55,10 +56,17 @@ pub fn resolve(n: Annotated, under_map: bool) -> Resolution
     ensures { λ r. ⌜ r ≡ resolutionOf n «under_map» ⌝ }
     ensures { λ r. ⌜ outcomeOf r ≡ outcome n «under_map» ⌝ }
 {
-    if !rule9(n) {
+    resolve_as(annotation_of(n, under_map), n)
+}
+
+// Resolves the numbers of a slot whose annotations say so.
+pub(crate) fn resolve_as(says: Annotation, n: Annotated) -> Resolution
+    requires { ⌜ StatedIn n says ⌝ }
+    ensures { λ r. ⌜ r ≡ resolutionAs says n ⌝ }
+{
+    if !rule9(n, says) {
         return Resolution::Disagreement;
     }
-    let says = annotation_of(n, under_map);
     if !annotation_on(says, n.physical, type_length(n)) {
         return Resolution::Misplaced;
     }

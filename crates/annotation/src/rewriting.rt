@@ -5,7 +5,7 @@ use crate::conversion::forward_of;
 use crate::parameters;
 use crate::resolution::Resolution;
 use crate::resolution::refusal;
-use crate::resolution::resolve;
+use crate::resolution::resolve_as;
 use crate::slot::Annotated;
 use crate::slot::annotation_of;
 use crate::spelling::spelling_of;
@@ -34,9 +34,10 @@ pub fn rewrite(n: Annotated, under_map: bool) -> Rewriting
     ensures { λ r. ⌜ r ≡ rewritingOf n «under_map» ⌝ }
     ensures { λ r. ⌜ outcomeOf r ≡ outcome n «under_map» ⌝ }
 {
-    let resolution = resolve(n, under_map);
+    let says = annotation_of(n, under_map);
+    let resolution = resolve_as(says, n);
     match resolution {
-        Resolution::Resolved(_) => Rewriting::Written(written_as(annotation_of(n, under_map))),
+        Resolution::Resolved(_) => Rewriting::Written(written_as(says)),
         Resolution::Disagreement => Rewriting::Refused(refusal(resolution)),
         Resolution::Misplaced => Rewriting::Refused(refusal(resolution)),
         Resolution::BadDecimal => Rewriting::Refused(refusal(resolution)),
