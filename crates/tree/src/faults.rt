@@ -2,11 +2,12 @@
 ghost use mathlib.Core.Path.{_≡_};
 ghost use Prim.Native.Nat.{suc};
 ghost use Rattle.sheet.specs.Slot.{slotAt};
+ghost use Rattle.annotation.specs.Outcome.{resolutionOf};
 ghost use Rattle.tree.specs.Annotated.{annotatedBy};
+ghost use Rattle.tree.specs.Rules.{underMap};
 ghost use Rattle.tree.specs.Faults.{broken as Faults·broken};
 ghost use Rattle.tree.specs.Steps.{Visited, fieldsAt, innerIn, structureBroken};
 use crate::place::Place;
-use crate::place::under_map;
 use crate::shape::shape_kept;
 use crate::structure::list_kept;
 use crate::structure::map_kept;
@@ -28,17 +29,24 @@ const LIST: u32 = logical::LIST as u32;
 
 const MAP: u32 = logical::MAP as u32;
 
-// The number of the first rule that the node at a number breaks, or KEPT. Where it is a MAP, the second field of its child
-// stands at value.
-pub(crate) fn broken(sheet: &[u8], at: usize, place: Place, s: Slot, value: usize) -> u32
+// The number of the first rule that the node at a number breaks, or KEPT. Its annotations resolve so. Where it is a MAP, the second
+// field of its child stands at value.
+pub(crate) fn broken(
+    sheet: &[u8],
+    at: usize,
+    place: Place,
+    s: Slot,
+    resolution: Resolution,
+    value: usize,
+) -> u32
     requires { ⌜ Visited (now sheet) at s ⌝ }
+    requires { ⌜ resolution ≡ resolutionOf (annotatedBy s) (underMap place) ⌝ }
     requires { ⌜ value ≡ innerIn (suc at) (fieldsAt (now sheet) at) ⌝ }
     ensures { λ r. ⌜ r ≡ Faults·broken place (slotAt (now (sheet .entry)) at) (fieldsAt (now (sheet .entry)) at) ⌝ }
 {
     if !shape_kept(place, s) {
         return SHAPE;
     }
-    let resolution = annotation::resolve(annotated(s), under_map(place));
     match resolution {
         Resolution::Resolved(k) => structure_broken(sheet, at, s, k.kind, value),
         Resolution::Disagreement => annotation::refusal(resolution),

@@ -11,7 +11,7 @@ use crate::faults::KEPT;
 use crate::faults::annotated;
 use crate::faults::broken;
 use crate::place::Place;
-use crate::place::place_under;
+use crate::place::place_below;
 use crate::place::under_map;
 use crate::refusal::Refusal;
 use crate::refusal::Verdict;
@@ -53,13 +53,13 @@ pub(crate) fn judge_tree(sheet: &[u8], at: usize, levels: usize, place: Place) -
         return TreeJudged::Deep(at);
     }
     let s = sheet::slot_at(sheet, at);
-    let kind = annotation::resolved_kind(annotated(s), under_map(place));
+    let resolution = annotation::resolve(annotated(s), under_map(place));
     let run = judge_run(
         sheet,
         at + 1,
         s.children as usize,
         levels - 1,
-        place_under(kind.kind),
+        place_below(resolution, s, place),
     );
     match run {
         RunJudged::Deep(node) => TreeJudged::Deep(node),
@@ -69,7 +69,7 @@ pub(crate) fn judge_tree(sheet: &[u8], at: usize, levels: usize, place: Place) -
             inner,
             verdict,
         } => {
-            let own = broken(sheet, at, place, s, inner);
+            let own = broken(sheet, at, place, s, resolution, inner);
             TreeJudged::Judged {
                 next: next,
                 second: second,

@@ -1,7 +1,13 @@
 // Where a node stands, as far as rules 8 to 13 look above it.
 ghost use mathlib.Core.Path.{_≡_};
+ghost use Rattle.annotation.specs.Kinds.{kindOf};
+ghost use Rattle.annotation.specs.Outcome.{resolutionOf};
+ghost use Rattle.tree.specs.Annotated.{annotatedBy};
 ghost use Rattle.tree.specs.Rules.{underMap, placeUnder};
+use crate::faults::annotated;
+use annotation::Resolution;
 use parquet::logical;
+use sheet::Slot;
 
 pub enum Place {
     Root,
@@ -32,5 +38,19 @@ pub fn place_under(kind: u32) -> Place
         Place::MapField
     } else {
         Place::Field
+    }
+}
+
+// The place of the fields of a node whose annotations resolve so.
+pub(crate) fn place_below(resolution: Resolution, s: Slot, place: Place) -> Place
+    requires { ⌜ resolution ≡ resolutionOf (annotatedBy s) (underMap place) ⌝ }
+    ensures { λ r. ⌜ r ≡ placeUnder (kindOf (annotatedBy s) (underMap place) .kind) ⌝ }
+{
+    match resolution {
+        Resolution::Resolved(k) => place_under(k.kind),
+        _ => {
+            let kind = annotation::resolved_kind(annotated(s), under_map(place));
+            place_under(kind.kind)
+        }
     }
 }

@@ -2,7 +2,7 @@
 use Rattle.tree.proofs.NodeLaws.{brokenBy, broken-shape, broken-resolved}
 use Rattle.annotation.specs.Outcome.{refusalOf}
 use borrow.Author.Tests.{not-true, not-false}
-use mathlib.Core.Path.{sym, ap, _∙_}
+use mathlib.Core.Path.{refl, sym, ap, _∙_}
 use borrow.Author.Needs.{needs}
 use Rattle.tree.proofs.faults.broken.Statement.{statement}
 use Rattle.tree.proofs.faults.broken.Tie as tie
@@ -12,15 +12,6 @@ shape-kept-requires c κs = search needs
 
 returns : tie.Need-returns
 returns c = broken-shape _ _ _ _ (c .before .before .before .pre .0) (sym (c .before .shape-kept .ensures) ∙ not-true _ (c .if1 .taken))
-
-annotated-requires : tie.Need-annotated-requires
-annotated-requires c κs = search needs
-
-under-map-requires : tie.Need-under-map-requires
-under-map-requires c κs = search needs
-
-resolve-requires : tie.Need-resolve-requires
-resolve-requires c κs = search needs
 
 enum-known-resolution : tie.Need-enum-known-resolution
 enum-known-resolution c = search needs
@@ -48,19 +39,35 @@ refusal-requires-3 c κs = search needs
 
 returns-2 : tie.Need-returns-2
 unfolding brokenBy
-returns-2 c = c .structure-broken .ensures ∙ sym (broken-resolved _ _ _ _ (c .before .before .before .before .before .before .before .before .before .before .pre .0) _ _ _ (sym (c .before .before .before .before .before .before .before .before .shape-kept .ensures) ∙ not-false _ (c .before .before .before .before .before .before .before .if1 .left)) (c .before .before .before .before .before .before .annotated .ensures) (c .before .before .before .before .before .under-map .ensures) (c .before .before .before .before .resolve .ensures .0) ∙ rw (c .before .before .resolution .given .1))
+returns-2 c =
+    let test = c .before .before .before .before in
+    let start = test .before .before .before in
+    let kept = sym (test .before .shape-kept .ensures) ∙ not-false _ (test .if1 .left) in
+    c .structure-broken .ensures ∙ sym (broken-resolved _ _ _ _ (start .pre .0) _ _ _ kept refl refl (start .pre .1 .0) ∙ rw (c .before .before .resolution .given .1))
 
 returns-3 : tie.Need-returns-3
 unfolding brokenBy
-returns-3 c = c .refusal .ensures ∙ ap refusalOf (c .before .enum-told .given .1) ∙ sym (broken-resolved _ _ _ _ (c .before .before .before .before .before .before .before .before .before .pre .0) _ _ _ (sym (c .before .before .before .before .before .before .before .shape-kept .ensures) ∙ not-false _ (c .before .before .before .before .before .before .if1 .left)) (c .before .before .before .before .before .annotated .ensures) (c .before .before .before .before .under-map .ensures) (c .before .before .before .resolve .ensures .0) ∙ rw (c .before .enum-told .given .1))
+returns-3 c =
+    let test = c .before .before .before in
+    let start = test .before .before .before in
+    let kept = sym (test .before .shape-kept .ensures) ∙ not-false _ (test .if1 .left) in
+    c .refusal .ensures ∙ ap refusalOf (c .before .enum-told .given .1) ∙ sym (broken-resolved _ _ _ _ (start .pre .0) _ _ _ kept refl refl (start .pre .1 .0) ∙ rw (c .before .enum-told .given .1))
 
 returns-4 : tie.Need-returns-4
 unfolding brokenBy
-returns-4 c = c .refusal2 .ensures ∙ ap refusalOf (c .before .enum-told2 .given .1) ∙ sym (broken-resolved _ _ _ _ (c .before .before .before .before .before .before .before .before .before .pre .0) _ _ _ (sym (c .before .before .before .before .before .before .before .shape-kept .ensures) ∙ not-false _ (c .before .before .before .before .before .before .if1 .left)) (c .before .before .before .before .before .annotated .ensures) (c .before .before .before .before .under-map .ensures) (c .before .before .before .resolve .ensures .0) ∙ rw (c .before .enum-told2 .given .1))
+returns-4 c =
+    let test = c .before .before .before in
+    let start = test .before .before .before in
+    let kept = sym (test .before .shape-kept .ensures) ∙ not-false _ (test .if1 .left) in
+    c .refusal2 .ensures ∙ ap refusalOf (c .before .enum-told2 .given .1) ∙ sym (broken-resolved _ _ _ _ (start .pre .0) _ _ _ kept refl refl (start .pre .1 .0) ∙ rw (c .before .enum-told2 .given .1))
 
 returns-5 : tie.Need-returns-5
 unfolding brokenBy
-returns-5 c = c .refusal3 .ensures ∙ ap refusalOf (c .before .enum-told3 .given .1) ∙ sym (broken-resolved _ _ _ _ (c .before .before .before .before .before .before .before .before .before .pre .0) _ _ _ (sym (c .before .before .before .before .before .before .before .shape-kept .ensures) ∙ not-false _ (c .before .before .before .before .before .before .if1 .left)) (c .before .before .before .before .before .annotated .ensures) (c .before .before .before .before .under-map .ensures) (c .before .before .before .resolve .ensures .0) ∙ rw (c .before .enum-told3 .given .1))
+returns-5 c =
+    let test = c .before .before .before in
+    let start = test .before .before .before in
+    let kept = sym (test .before .shape-kept .ensures) ∙ not-false _ (test .if1 .left) in
+    c .refusal3 .ensures ∙ ap refusalOf (c .before .enum-told3 .given .1) ∙ sym (broken-resolved _ _ _ _ (start .pre .0) _ _ _ kept refl refl (start .pre .1 .0) ∙ rw (c .before .enum-told3 .given .1))
 
 pub broken-spec : {M : Type 1} → statement M
 broken-spec =
@@ -68,9 +75,6 @@ broken-spec =
     (tie.spec
     shape-kept-requires
     returns
-    annotated-requires
-    under-map-requires
-    resolve-requires
     enum-known-resolution
     structure-broken-requires
     enum-told

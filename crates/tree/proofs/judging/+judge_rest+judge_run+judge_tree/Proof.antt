@@ -6,9 +6,10 @@ use Rattle.tree.proofs.NodeLaws.{placeBelow-is}
 use Rattle.tree.specs.declared.judging.TreeJudged.{TreeJudged}
 use Rattle.tree.specs.Steps.{Visited, ownFirst}
 use Rattle.sheet.specs.Block.{totalOf}
+use Rattle.annotation.specs.Outcome.{resolutionOf}
 use borrow.Author.Needs.{needs}
 use native.Mathlib.Omega.{arith}
-use mathlib.Core.Path.{_≡_, sym, _∙_, ap}
+use mathlib.Core.Path.{_≡_, refl, sym, _∙_, ap, ap₂}
 use Prim.Native.Nat.{ℕ, _+_, _*_, _-_, _<_}
 use borrow.Fn.Kinds.{In}
 use borrow.Fn.PlainCycle.{Measures, is, falls, and}
@@ -21,11 +22,11 @@ use Rattle.tree.proofs.judging.+judge_rest+judge_run+judge_tree.Lts-jud
 use Rattle.tree.proofs.judging.judge_tree.Reads as judge-tree
 use Rattle.tree.proofs.judging.judge_tree.Kinds as judge-tree-kinds
 use Rattle.tree.proofs.judging.+judge_rest+judge_run+judge_tree.Lts-judge_tree as judge-tree-lts
-use Rattle.annotation.proofs.resolved_kind.Reads as resolved-kind-reads
+use Rattle.annotation.proofs.resolve.Reads as resolve-reads
 use Rattle.tree.proofs.faults.annotated.Reads as annotated-reads
 use Rattle.tree.proofs.faults.broken.Reads as broken-reads
 use Rattle.tree.proofs.judging.own_first.Reads as own-first-reads
-use Rattle.tree.proofs.place.place_under.Reads as place-under-reads
+use Rattle.tree.proofs.place.place_below.Reads as place-below-reads
 use Rattle.tree.proofs.place.under_map.Reads as under-map-reads
 use Rattle.tree.proofs.refusal.or_else.Reads as or-else-reads
 use Rattle.sheet.proofs.slot_at.Reads as slot-at-reads
@@ -250,10 +251,10 @@ judge-tree-returns : (t : ℕ) → judge-tree-lts.Need-returns (
   annotated-reads.Learnt,
   under-map-reads.Asked,
   under-map-reads.Learnt,
-  resolved-kind-reads.Asked,
-  resolved-kind-reads.Learnt,
-  place-under-reads.Asked,
-  place-under-reads.Learnt,
+  resolve-reads.Asked,
+  resolve-reads.Learnt,
+  place-below-reads.Asked,
+  place-below-reads.Learnt,
   judge-run-below t,
   judge-run.Post,
   broken-reads.Asked,
@@ -270,10 +271,10 @@ judge-tree-slot-at-requires : (t : ℕ) → judge-tree-lts.Need-slot-at-requires
   annotated-reads.Learnt,
   under-map-reads.Asked,
   under-map-reads.Learnt,
-  resolved-kind-reads.Asked,
-  resolved-kind-reads.Learnt,
-  place-under-reads.Asked,
-  place-under-reads.Learnt,
+  resolve-reads.Asked,
+  resolve-reads.Learnt,
+  place-below-reads.Asked,
+  place-below-reads.Learnt,
   judge-run-below t,
   judge-run.Post,
   broken-reads.Asked,
@@ -290,10 +291,10 @@ judge-tree-annotated-requires : (t : ℕ) → judge-tree-lts.Need-annotated-requ
   annotated-reads.Learnt,
   under-map-reads.Asked,
   under-map-reads.Learnt,
-  resolved-kind-reads.Asked,
-  resolved-kind-reads.Learnt,
-  place-under-reads.Asked,
-  place-under-reads.Learnt,
+  resolve-reads.Asked,
+  resolve-reads.Learnt,
+  place-below-reads.Asked,
+  place-below-reads.Learnt,
   judge-run-below t,
   judge-run.Post,
   broken-reads.Asked,
@@ -310,10 +311,10 @@ judge-tree-under-map-requires : (t : ℕ) → judge-tree-lts.Need-under-map-requ
   annotated-reads.Learnt,
   under-map-reads.Asked,
   under-map-reads.Learnt,
-  resolved-kind-reads.Asked,
-  resolved-kind-reads.Learnt,
-  place-under-reads.Asked,
-  place-under-reads.Learnt,
+  resolve-reads.Asked,
+  resolve-reads.Learnt,
+  place-below-reads.Asked,
+  place-below-reads.Learnt,
   judge-run-below t,
   judge-run.Post,
   broken-reads.Asked,
@@ -323,17 +324,17 @@ judge-tree-under-map-requires : (t : ℕ) → judge-tree-lts.Need-under-map-requ
 ) (judge-tree-at t) judge-tree.Post
 judge-tree-under-map-requires t c κs = search needs
 
-judge-tree-resolved-kind-requires : (t : ℕ) → judge-tree-lts.Need-resolved-kind-requires (
+judge-tree-resolve-requires : (t : ℕ) → judge-tree-lts.Need-resolve-requires (
   slot-at-reads.Asked,
   slot-at-reads.Learnt,
   annotated-reads.Asked,
   annotated-reads.Learnt,
   under-map-reads.Asked,
   under-map-reads.Learnt,
-  resolved-kind-reads.Asked,
-  resolved-kind-reads.Learnt,
-  place-under-reads.Asked,
-  place-under-reads.Learnt,
+  resolve-reads.Asked,
+  resolve-reads.Learnt,
+  place-below-reads.Asked,
+  place-below-reads.Learnt,
   judge-run-below t,
   judge-run.Post,
   broken-reads.Asked,
@@ -341,7 +342,7 @@ judge-tree-resolved-kind-requires : (t : ℕ) → judge-tree-lts.Need-resolved-k
   own-first-reads.Asked,
   own-first-reads.Learnt,
 ) (judge-tree-at t) judge-tree.Post
-judge-tree-resolved-kind-requires t c κs = search needs
+judge-tree-resolve-requires t c κs = search needs
 
 judge-tree-add-judge-run : (t : ℕ) → judge-tree-lts.Need-add-judge-run (
   slot-at-reads.Asked,
@@ -350,10 +351,10 @@ judge-tree-add-judge-run : (t : ℕ) → judge-tree-lts.Need-add-judge-run (
   annotated-reads.Learnt,
   under-map-reads.Asked,
   under-map-reads.Learnt,
-  resolved-kind-reads.Asked,
-  resolved-kind-reads.Learnt,
-  place-under-reads.Asked,
-  place-under-reads.Learnt,
+  resolve-reads.Asked,
+  resolve-reads.Learnt,
+  place-below-reads.Asked,
+  place-below-reads.Learnt,
   judge-run-below t,
   judge-run.Post,
   broken-reads.Asked,
@@ -370,10 +371,10 @@ judge-tree-cast-judge-run : (t : ℕ) → judge-tree-lts.Need-cast-judge-run (
   annotated-reads.Learnt,
   under-map-reads.Asked,
   under-map-reads.Learnt,
-  resolved-kind-reads.Asked,
-  resolved-kind-reads.Learnt,
-  place-under-reads.Asked,
-  place-under-reads.Learnt,
+  resolve-reads.Asked,
+  resolve-reads.Learnt,
+  place-below-reads.Asked,
+  place-below-reads.Learnt,
   judge-run-below t,
   judge-run.Post,
   broken-reads.Asked,
@@ -390,10 +391,10 @@ judge-tree-sub-judge-run : (t : ℕ) → judge-tree-lts.Need-sub-judge-run (
   annotated-reads.Learnt,
   under-map-reads.Asked,
   under-map-reads.Learnt,
-  resolved-kind-reads.Asked,
-  resolved-kind-reads.Learnt,
-  place-under-reads.Asked,
-  place-under-reads.Learnt,
+  resolve-reads.Asked,
+  resolve-reads.Learnt,
+  place-below-reads.Asked,
+  place-below-reads.Learnt,
   judge-run-below t,
   judge-run.Post,
   broken-reads.Asked,
@@ -403,17 +404,17 @@ judge-tree-sub-judge-run : (t : ℕ) → judge-tree-lts.Need-sub-judge-run (
 ) (judge-tree-at t) judge-tree.Post
 judge-tree-sub-judge-run t c = omega (arith, c .before .before .before .before .before .if1 .left)
 
-judge-tree-place-under-requires : (t : ℕ) → judge-tree-lts.Need-place-under-requires (
+judge-tree-place-below-requires : (t : ℕ) → judge-tree-lts.Need-place-below-requires (
   slot-at-reads.Asked,
   slot-at-reads.Learnt,
   annotated-reads.Asked,
   annotated-reads.Learnt,
   under-map-reads.Asked,
   under-map-reads.Learnt,
-  resolved-kind-reads.Asked,
-  resolved-kind-reads.Learnt,
-  place-under-reads.Asked,
-  place-under-reads.Learnt,
+  resolve-reads.Asked,
+  resolve-reads.Learnt,
+  place-below-reads.Asked,
+  place-below-reads.Learnt,
   judge-run-below t,
   judge-run.Post,
   broken-reads.Asked,
@@ -421,7 +422,8 @@ judge-tree-place-under-requires : (t : ℕ) → judge-tree-lts.Need-place-under-
   own-first-reads.Asked,
   own-first-reads.Learnt,
 ) (judge-tree-at t) judge-tree.Post
-judge-tree-place-under-requires t c κs = search needs
+judge-tree-place-below-requires t c κs =
+    c .before .resolve .ensures .0 ∙ ap₂ resolutionOf (c .before .before .before .annotated .ensures) (c .before .before .under-map .ensures)
 
 judge-tree-judge-run-requires : (t : ℕ) → judge-tree-lts.Need-judge-run-requires (
   slot-at-reads.Asked,
@@ -430,10 +432,10 @@ judge-tree-judge-run-requires : (t : ℕ) → judge-tree-lts.Need-judge-run-requ
   annotated-reads.Learnt,
   under-map-reads.Asked,
   under-map-reads.Learnt,
-  resolved-kind-reads.Asked,
-  resolved-kind-reads.Learnt,
-  place-under-reads.Asked,
-  place-under-reads.Learnt,
+  resolve-reads.Asked,
+  resolve-reads.Learnt,
+  place-below-reads.Asked,
+  place-below-reads.Learnt,
   judge-run-below t,
   judge-run.Post,
   broken-reads.Asked,
@@ -453,10 +455,10 @@ judge-tree-enum-known-run : (t : ℕ) → judge-tree-lts.Need-enum-known-run (
   annotated-reads.Learnt,
   under-map-reads.Asked,
   under-map-reads.Learnt,
-  resolved-kind-reads.Asked,
-  resolved-kind-reads.Learnt,
-  place-under-reads.Asked,
-  place-under-reads.Learnt,
+  resolve-reads.Asked,
+  resolve-reads.Learnt,
+  place-below-reads.Asked,
+  place-below-reads.Learnt,
   judge-run-below t,
   judge-run.Post,
   broken-reads.Asked,
@@ -473,10 +475,10 @@ judge-tree-enum-known-run-2 : (t : ℕ) → judge-tree-lts.Need-enum-known-run-2
   annotated-reads.Learnt,
   under-map-reads.Asked,
   under-map-reads.Learnt,
-  resolved-kind-reads.Asked,
-  resolved-kind-reads.Learnt,
-  place-under-reads.Asked,
-  place-under-reads.Learnt,
+  resolve-reads.Asked,
+  resolve-reads.Learnt,
+  place-below-reads.Asked,
+  place-below-reads.Learnt,
   judge-run-below t,
   judge-run.Post,
   broken-reads.Asked,
@@ -493,10 +495,10 @@ judge-tree-broken-requires : (t : ℕ) → judge-tree-lts.Need-broken-requires (
   annotated-reads.Learnt,
   under-map-reads.Asked,
   under-map-reads.Learnt,
-  resolved-kind-reads.Asked,
-  resolved-kind-reads.Learnt,
-  place-under-reads.Asked,
-  place-under-reads.Learnt,
+  resolve-reads.Asked,
+  resolve-reads.Learnt,
+  place-below-reads.Asked,
+  place-below-reads.Learnt,
   judge-run-below t,
   judge-run.Post,
   broken-reads.Asked,
@@ -507,8 +509,9 @@ judge-tree-broken-requires : (t : ℕ) → judge-tree-lts.Need-broken-requires (
 judge-tree-broken-requires t c κs =
     let start = c .before .before .before .before .before .before .before .before .before .before .before .before in
     let visited : Visited (start .args .sheet .now) (start .args .at) (c .before .before .before .before .before .before .before .before .before .slot-at .result) = record { claimed = start .pre .1 .0; below = start .pre .1 .1 .0; numbers = c .before .before .before .before .before .before .before .before .before .slot-at .ensures } in
-    let below = c .before .before .before .before .place-under .ensures ∙ placeBelow-is _ _ _ (start .args .place) visited _ _ _ (c .before .before .before .before .before .before .before .before .annotated .ensures) (c .before .before .before .before .before .before .before .under-map .ensures) (c .before .before .before .before .before .before .resolved-kind .ensures) in
-    (visited, tree-inner _ _ _ visited _ _ _ below (c .before .before .before .before .before .before .before .before .before .before .if1 .left) (start .pre .1 .1 .1) _ (c .before .before .before .judge-run .ensures) _ _ _ _ (c .before .run2 .given .1))
+    let below = c .before .before .before .before .place-below .ensures ∙ placeBelow-is _ _ _ (start .args .place) visited _ _ _ refl refl refl in
+    let resolved = c .before .before .before .before .before .before .resolve .ensures .0 ∙ ap₂ resolutionOf (c .before .before .before .before .before .before .before .before .annotated .ensures) (c .before .before .before .before .before .before .before .under-map .ensures) in
+    (visited, (resolved, tree-inner _ _ _ visited _ _ _ below (c .before .before .before .before .before .before .before .before .before .before .if1 .left) (start .pre .1 .1 .1) _ (c .before .before .before .judge-run .ensures) _ _ _ _ (c .before .run2 .given .1)))
 
 judge-tree-own-first-requires : (t : ℕ) → judge-tree-lts.Need-own-first-requires (
   slot-at-reads.Asked,
@@ -517,10 +520,10 @@ judge-tree-own-first-requires : (t : ℕ) → judge-tree-lts.Need-own-first-requ
   annotated-reads.Learnt,
   under-map-reads.Asked,
   under-map-reads.Learnt,
-  resolved-kind-reads.Asked,
-  resolved-kind-reads.Learnt,
-  place-under-reads.Asked,
-  place-under-reads.Learnt,
+  resolve-reads.Asked,
+  resolve-reads.Learnt,
+  place-below-reads.Asked,
+  place-below-reads.Learnt,
   judge-run-below t,
   judge-run.Post,
   broken-reads.Asked,
@@ -537,10 +540,10 @@ judge-tree-returns-2 : (t : ℕ) → judge-tree-lts.Need-returns-2 (
   annotated-reads.Learnt,
   under-map-reads.Asked,
   under-map-reads.Learnt,
-  resolved-kind-reads.Asked,
-  resolved-kind-reads.Learnt,
-  place-under-reads.Asked,
-  place-under-reads.Learnt,
+  resolve-reads.Asked,
+  resolve-reads.Learnt,
+  place-below-reads.Asked,
+  place-below-reads.Learnt,
   judge-run-below t,
   judge-run.Post,
   broken-reads.Asked,
@@ -551,7 +554,7 @@ judge-tree-returns-2 : (t : ℕ) → judge-tree-lts.Need-returns-2 (
 judge-tree-returns-2 t c =
     let start = c .before .before .before .before .before .before .before .before .before .before .before .before in
     let visited : Visited (start .args .sheet .now) (start .args .at) (c .before .before .before .before .before .before .before .before .before .slot-at .result) = record { claimed = start .pre .1 .0; below = start .pre .1 .1 .0; numbers = c .before .before .before .before .before .before .before .before .before .slot-at .ensures } in
-    let below = c .before .before .before .before .place-under .ensures ∙ placeBelow-is _ _ _ (start .args .place) visited _ _ _ (c .before .before .before .before .before .before .before .before .annotated .ensures) (c .before .before .before .before .before .before .before .under-map .ensures) (c .before .before .before .before .before .before .resolved-kind .ensures) in
+    let below = c .before .before .before .before .place-below .ensures ∙ placeBelow-is _ _ _ (start .args .place) visited _ _ _ refl refl refl in
     tree-run-deep _ _ _ visited _ _ _ below (c .before .before .before .before .before .before .before .before .before .before .if1 .left) (start .pre .1 .1 .1) _ (c .before .before .before .judge-run .ensures) _ (c .before .run .given .1)
 
 judge-tree-returns-3 : (t : ℕ) → judge-tree-lts.Need-returns-3 (
@@ -561,10 +564,10 @@ judge-tree-returns-3 : (t : ℕ) → judge-tree-lts.Need-returns-3 (
   annotated-reads.Learnt,
   under-map-reads.Asked,
   under-map-reads.Learnt,
-  resolved-kind-reads.Asked,
-  resolved-kind-reads.Learnt,
-  place-under-reads.Asked,
-  place-under-reads.Learnt,
+  resolve-reads.Asked,
+  resolve-reads.Learnt,
+  place-below-reads.Asked,
+  place-below-reads.Learnt,
   judge-run-below t,
   judge-run.Post,
   broken-reads.Asked,
@@ -575,7 +578,7 @@ judge-tree-returns-3 : (t : ℕ) → judge-tree-lts.Need-returns-3 (
 judge-tree-returns-3 t c =
     let start = c .before .before .before .before .before .before .before .before .before .before .before .before .before .before in
     let visited : Visited (start .args .sheet .now) (start .args .at) (c .before .before .before .before .before .before .before .before .before .before .before .slot-at .result) = record { claimed = start .pre .1 .0; below = start .pre .1 .1 .0; numbers = c .before .before .before .before .before .before .before .before .before .before .before .slot-at .ensures } in
-    let below = c .before .before .before .before .before .before .place-under .ensures ∙ placeBelow-is _ _ _ (start .args .place) visited _ _ _ (c .before .before .before .before .before .before .before .before .before .before .annotated .ensures) (c .before .before .before .before .before .before .before .before .before .under-map .ensures) (c .before .before .before .before .before .before .before .before .resolved-kind .ensures) in
+    let below = c .before .before .before .before .before .before .place-below .ensures ∙ placeBelow-is _ _ _ (start .args .place) visited _ _ _ refl refl refl in
     let run = c .before .before .before .run2 .given .0 in
     ap (TreeJudged.Judged (run .0) (run .1 .0)) (c .own-first .ensures ∙ ap (λ (n : ℕ). ownFirst n (start .args .at) (run .1 .1 .1 .0)) (c .before .broken .ensures))
     ∙ sym (tree-judged _ _ _ visited _ _ _ below (c .before .before .before .before .before .before .before .before .before .before .before .before .if1 .left) (start .pre .1 .1 .1) _ (c .before .before .before .before .before .judge-run .ensures) _ _ _ _ (c .before .before .before .run2 .given .1))
@@ -625,10 +628,10 @@ pub +judge-rest+judge-run+judge-tree-spec : {M : Type 1} → statement M
       annotated-reads.Learnt,
       under-map-reads.Asked,
       under-map-reads.Learnt,
-      resolved-kind-reads.Asked,
-      resolved-kind-reads.Learnt,
-      place-under-reads.Asked,
-      place-under-reads.Learnt,
+      resolve-reads.Asked,
+      resolve-reads.Learnt,
+      place-below-reads.Asked,
+      place-below-reads.Learnt,
       judge-run-below t,
       judge-run.Post,
       broken-reads.Asked,
@@ -642,11 +645,11 @@ pub +judge-rest+judge-run+judge-tree-spec : {M : Type 1} → statement M
     (judge-tree-slot-at-requires t)
     (judge-tree-annotated-requires t)
     (judge-tree-under-map-requires t)
-    (judge-tree-resolved-kind-requires t)
+    (judge-tree-resolve-requires t)
     (judge-tree-add-judge-run t)
     (judge-tree-cast-judge-run t)
     (judge-tree-sub-judge-run t)
-    (judge-tree-place-under-requires t)
+    (judge-tree-place-below-requires t)
     (judge-tree-judge-run-requires t)
     (judge-tree-enum-known-run t)
     (judge-tree-enum-known-run-2 t)
