@@ -5,6 +5,7 @@ use mathlib.Core.Path.{_≡_, refl, sym, ap, _∙_}
 use mathlib.Core.Bool.{Bool, true, false, true≢false, cond, _||_, or-true}
 use lib.Dec.{eqb}
 use borrow.Author.Tests.{eq-eqb, eqb-true, eqb-false}
+use Rattle.parquet.specs.Physical as physical
 use Rattle.parquet.specs.Converted as converted
 use Rattle.parquet.specs.Logical as logical
 use Rattle.annotation.specs.Parameters.{validParameters}
@@ -16,9 +17,9 @@ use Rattle.annotation.specs.Meaning.{annotationOf}
 use Rattle.annotation.specs.Rule9.{rule9}
 use Rattle.annotation.specs.Rule10.{annotationOn, rule10}
 use Rattle.annotation.specs.Rule11.{isDecimal, decimalHolds, rule11}
-use Rattle.annotation.specs.Kinds.{PLAIN-GROUP, kindAs, kindOf}
+use Rattle.annotation.specs.Kinds.{PLAIN-LEAF, PLAIN-GROUP, bareKind, kindAs, kindOf}
 use Rattle.annotation.specs.Outcome.{resolutionOf}
-use Rattle.annotation.specs.Rewriting.{writtenAs, writtenOf, rewritingOf, outcomeOf, outcome, withWritten, rewritten}
+use Rattle.annotation.specs.Rewriting.{writtenAs, writtenOf, rewritingAs, rewritingOf, outcomeOf, outcome, withWritten, rewritten}
 use Rattle.annotation.specs.declared.types.LogicalType.{LogicalType}
 use Rattle.annotation.specs.declared.types.Annotation.{Annotation}
 use Rattle.annotation.specs.declared.slot.Annotated.{Annotated}
@@ -176,3 +177,28 @@ module _ (n : Annotated) (underMap : Bool) (nine : rule9 n ≡ true) (ten : rule
 pub with-outcome : (n : Annotated) (underMap : Bool) (r : Rewriting) → r ≡ rewritingOf n underMap → (r ≡ rewritingOf n underMap) × (outcomeOf r ≡ outcome n underMap)
 unfolding outcome
 with-outcome n underMap r e = (e, ap outcomeOf e)
+
+-- a node without annotation is no MAP
+plain-map : (group : Bool) → false ≡ eqb (cond group (bareKind PLAIN-GROUP) (bareKind PLAIN-LEAF) .kind) logical.MAP
+plain-map true = refl
+plain-map false = refl
+
+-- what an annotation is written as says whether its kind is MAP
+written-map : (says : Annotation) (n : Annotated) → eqb (writtenAs says .logical) logical.MAP ≡ eqb (kindAs says n .kind) logical.MAP
+written-map Annotation.Plain n = plain-map (eqb (n .physical) physical.GROUP)
+written-map (Annotation.Logical l) n = ap (λ (code : ℕ). eqb code logical.MAP) (sym (kind-logical l n))
+written-map Annotation.Interval n = refl
+written-map Annotation.Unreadable n = plain-map (eqb (n .physical) physical.GROUP)
+
+-- what is answered is what is written
+written-of : (r : Resolution) (v w : Written) → rewritingAs r v ≡ Rewriting.Written w → v ≡ w
+written-of (Resolution.Resolved k) v w e = (cc)
+written-of Resolution.Disagreement v w e = (cc)
+written-of Resolution.Misplaced v w e = (cc)
+written-of Resolution.BadDecimal v w e = (cc)
+
+-- and so does what rewriting answers for the numbers of a slot
+pub written-kind : (n : Annotated) (underMap : Bool) (w : Written) → rewritingOf n underMap ≡ Rewriting.Written w → eqb (w .logical) logical.MAP ≡ eqb (kindOf n underMap .kind) logical.MAP
+unfolding rewritingOf writtenOf kindOf
+written-kind n underMap w e =
+    ap (λ (v : Written). eqb (v .logical) logical.MAP) (sym (written-of (resolutionOf n underMap) _ w e)) ∙ written-map (annotationOf n underMap) n

@@ -20,7 +20,10 @@ const INT64_DIGITS: u32 = 18;
 pub(crate) fn digits_allowed(says: Annotation, n: Annotated) -> bool
     ensures { λ r. ⌜ r ≡ digitsAllowed says n ⌝ }
 {
-    !is_decimal(says) | decimal_holds(n)
+    if !is_decimal(says) {
+        return true;
+    }
+    decimal_holds(n)
 }
 
 // Whether an annotation is DECIMAL.

@@ -7,8 +7,12 @@ ghost use Rattle.sheet.specs.Slot.{slots};
 ghost use Rattle.tree.specs.Tree.{count as Tree·count, size};
 ghost use Rattle.tree.specs.Reading.{trees};
 ghost use Rattle.schema.specs.Rewriting.{rewritings, runRewritings, withRewriting, withRewritings, rewritten, rewriteOutcome, rewriteWritten};
+ghost use Rattle.annotation.specs.Kinds.{kindOf};
+ghost use Rattle.annotation.specs.Rewriting.{rewritingOf};
+ghost use Rattle.tree.specs.Rules.{placeUnder};
 ghost use Rattle.tree.specs.Steps.{Claimed, treeAt, runAt, sizes};
 use crate::output::short_output;
+use annotation::Annotated;
 use annotation::Rewriting;
 use tree::Judgement;
 use tree::Place;
@@ -69,14 +73,14 @@ fn write_tree(sheet: &[u8], out: &mut [u8], at: usize, place: Place) -> usize
     let s = sheet::slot_at(sheet, at);
     let n = annotated(s);
     let under = under_map(place);
-    write_slot(out, at, annotation::rewrite(n, under));
-    let kind = annotation::resolved_kind(n, under);
+    let rewriting = annotation::rewrite(n, under);
+    write_slot(out, at, rewriting);
     write_run(
         sheet,
         out,
         at + 1,
         s.children as usize,
-        place_under(kind.kind),
+        place_below(rewriting, n, under),
     )
 }
 
@@ -94,6 +98,20 @@ fn write_run(sheet: &[u8], out: &mut [u8], start: usize, count: usize, place: Pl
         left = left - 1;
     }
     at
+}
+
+// The place of the fields of a node that is rewritten so.
+fn place_below(rewriting: Rewriting, n: Annotated, under: bool) -> Place
+    requires { ⌜ rewriting ≡ rewritingOf n under ⌝ }
+    ensures { λ r. ⌜ r ≡ placeUnder (kindOf n under .kind) ⌝ }
+{
+    match rewriting {
+        Rewriting::Written(w) => place_under(w.logical as u32),
+        Rewriting::Refused(_) => {
+            let kind = annotation::resolved_kind(n, under);
+            place_under(kind.kind)
+        }
+    }
 }
 
 // Writes what is rewritten of one node.

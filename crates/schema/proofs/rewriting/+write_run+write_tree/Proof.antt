@@ -7,7 +7,7 @@ use Rattle.tree.specs.Steps.{Visited}
 use Rattle.sheet.specs.Block.{totalOf}
 use borrow.Author.Needs.{needs}
 use native.Mathlib.Omega.{arith}
-use mathlib.Core.Path.{_≡_, _∙_}
+use mathlib.Core.Path.{_≡_, refl, _∙_}
 use Prim.Native.Nat.{ℕ, _+_, _*_, _-_, _<_}
 use borrow.Fn.Kinds.{In}
 use borrow.Fn.PlainCycle.{Measures, is, falls, and}
@@ -17,10 +17,9 @@ use Rattle.schema.proofs.rewriting.+write_run+write_tree.Lts-write_run 
 use Rattle.schema.proofs.rewriting.write_tree.Reads as write-tree
 use Rattle.schema.proofs.rewriting.write_tree.Kinds as write-tree-kinds
 use Rattle.schema.proofs.rewriting.+write_run+write_tree.Lts-write_tree as write-tree-lts
-use Rattle.annotation.proofs.resolved_kind.Reads as resolved-kind-reads
 use Rattle.annotation.proofs.rewrite.Reads as rewrite-reads
 use Rattle.tree.proofs.annotated.Reads as annotated-reads
-use Rattle.tree.proofs.place_under.Reads as place-under-reads
+use Rattle.schema.proofs.rewriting.place_below.Reads as place-below-reads
 use Rattle.tree.proofs.under_map.Reads as under-map-reads
 use Rattle.schema.proofs.rewriting.write_slot.Reads as write-slot-reads
 use Rattle.sheet.proofs.slot_at.Reads as slot-at-reads
@@ -129,10 +128,8 @@ write-tree-slot-at-requires : (t : ℕ) → write-tree-lts.Need-slot-at-requires
   rewrite-reads.Learnt,
   write-slot-reads.Asked,
   write-slot-reads.Learnt,
-  resolved-kind-reads.Asked,
-  resolved-kind-reads.Learnt,
-  place-under-reads.Asked,
-  place-under-reads.Learnt,
+  place-below-reads.Asked,
+  place-below-reads.Learnt,
   write-run-below t,
   write-run.Post,
 ) (write-tree-at t) write-tree.Post
@@ -149,10 +146,8 @@ write-tree-annotated-requires : (t : ℕ) → write-tree-lts.Need-annotated-requ
   rewrite-reads.Learnt,
   write-slot-reads.Asked,
   write-slot-reads.Learnt,
-  resolved-kind-reads.Asked,
-  resolved-kind-reads.Learnt,
-  place-under-reads.Asked,
-  place-under-reads.Learnt,
+  place-below-reads.Asked,
+  place-below-reads.Learnt,
   write-run-below t,
   write-run.Post,
 ) (write-tree-at t) write-tree.Post
@@ -169,10 +164,8 @@ write-tree-under-map-requires : (t : ℕ) → write-tree-lts.Need-under-map-requ
   rewrite-reads.Learnt,
   write-slot-reads.Asked,
   write-slot-reads.Learnt,
-  resolved-kind-reads.Asked,
-  resolved-kind-reads.Learnt,
-  place-under-reads.Asked,
-  place-under-reads.Learnt,
+  place-below-reads.Asked,
+  place-below-reads.Learnt,
   write-run-below t,
   write-run.Post,
 ) (write-tree-at t) write-tree.Post
@@ -189,10 +182,8 @@ write-tree-rewrite-requires : (t : ℕ) → write-tree-lts.Need-rewrite-requires
   rewrite-reads.Learnt,
   write-slot-reads.Asked,
   write-slot-reads.Learnt,
-  resolved-kind-reads.Asked,
-  resolved-kind-reads.Learnt,
-  place-under-reads.Asked,
-  place-under-reads.Learnt,
+  place-below-reads.Asked,
+  place-below-reads.Learnt,
   write-run-below t,
   write-run.Post,
 ) (write-tree-at t) write-tree.Post
@@ -209,34 +200,12 @@ write-tree-write-slot-requires : (t : ℕ) → write-tree-lts.Need-write-slot-re
   rewrite-reads.Learnt,
   write-slot-reads.Asked,
   write-slot-reads.Learnt,
-  resolved-kind-reads.Asked,
-  resolved-kind-reads.Learnt,
-  place-under-reads.Asked,
-  place-under-reads.Learnt,
+  place-below-reads.Asked,
+  place-below-reads.Learnt,
   write-run-below t,
   write-run.Post,
 ) (write-tree-at t) write-tree.Post
 write-tree-write-slot-requires t c κs = search needs
-
-write-tree-resolved-kind-requires : (t : ℕ) → write-tree-lts.Need-resolved-kind-requires (
-  slot-at-reads.Asked,
-  slot-at-reads.Learnt,
-  annotated-reads.Asked,
-  annotated-reads.Learnt,
-  under-map-reads.Asked,
-  under-map-reads.Learnt,
-  rewrite-reads.Asked,
-  rewrite-reads.Learnt,
-  write-slot-reads.Asked,
-  write-slot-reads.Learnt,
-  resolved-kind-reads.Asked,
-  resolved-kind-reads.Learnt,
-  place-under-reads.Asked,
-  place-under-reads.Learnt,
-  write-run-below t,
-  write-run.Post,
-) (write-tree-at t) write-tree.Post
-write-tree-resolved-kind-requires t c κs = search needs
 
 write-tree-add-write-run : (t : ℕ) → write-tree-lts.Need-add-write-run (
   slot-at-reads.Asked,
@@ -249,14 +218,12 @@ write-tree-add-write-run : (t : ℕ) → write-tree-lts.Need-add-write-run (
   rewrite-reads.Learnt,
   write-slot-reads.Asked,
   write-slot-reads.Learnt,
-  resolved-kind-reads.Asked,
-  resolved-kind-reads.Learnt,
-  place-under-reads.Asked,
-  place-under-reads.Learnt,
+  place-below-reads.Asked,
+  place-below-reads.Learnt,
   write-run-below t,
   write-run.Post,
 ) (write-tree-at t) write-tree.Post
-write-tree-add-write-run t c = omega (arith, c .before .before .before .before .before .before .before .before .before .before .before .before .pre .1 .1, c .before .before .before .before .before .before .before .before .before .before .before .before .pre .1 .0 .most)
+write-tree-add-write-run t c = omega (arith, c .before .before .before .before .before .before .before .before .before .before .before .pre .1 .1, c .before .before .before .before .before .before .before .before .before .before .before .pre .1 .0 .most)
 
 write-tree-cast-write-run : (t : ℕ) → write-tree-lts.Need-cast-write-run (
   slot-at-reads.Asked,
@@ -269,16 +236,14 @@ write-tree-cast-write-run : (t : ℕ) → write-tree-lts.Need-cast-write-run (
   rewrite-reads.Learnt,
   write-slot-reads.Asked,
   write-slot-reads.Learnt,
-  resolved-kind-reads.Asked,
-  resolved-kind-reads.Learnt,
-  place-under-reads.Asked,
-  place-under-reads.Learnt,
+  place-below-reads.Asked,
+  place-below-reads.Learnt,
   write-run-below t,
   write-run.Post,
 ) (write-tree-at t) write-tree.Post
 write-tree-cast-write-run t c = search needs
 
-write-tree-place-under-requires : (t : ℕ) → write-tree-lts.Need-place-under-requires (
+write-tree-place-below-requires : (t : ℕ) → write-tree-lts.Need-place-below-requires (
   slot-at-reads.Asked,
   slot-at-reads.Learnt,
   annotated-reads.Asked,
@@ -289,14 +254,12 @@ write-tree-place-under-requires : (t : ℕ) → write-tree-lts.Need-place-under-
   rewrite-reads.Learnt,
   write-slot-reads.Asked,
   write-slot-reads.Learnt,
-  resolved-kind-reads.Asked,
-  resolved-kind-reads.Learnt,
-  place-under-reads.Asked,
-  place-under-reads.Learnt,
+  place-below-reads.Asked,
+  place-below-reads.Learnt,
   write-run-below t,
   write-run.Post,
 ) (write-tree-at t) write-tree.Post
-write-tree-place-under-requires t c κs = search needs
+write-tree-place-below-requires t c κs = c .before .before .before .before .before .before .rewrite .ensures .0
 
 write-tree-write-run-requires : (t : ℕ) → write-tree-lts.Need-write-run-requires (
   slot-at-reads.Asked,
@@ -309,16 +272,14 @@ write-tree-write-run-requires : (t : ℕ) → write-tree-lts.Need-write-run-requ
   rewrite-reads.Learnt,
   write-slot-reads.Asked,
   write-slot-reads.Learnt,
-  resolved-kind-reads.Asked,
-  resolved-kind-reads.Learnt,
-  place-under-reads.Asked,
-  place-under-reads.Learnt,
+  place-below-reads.Asked,
+  place-below-reads.Learnt,
   write-run-below t,
   write-run.Post,
 ) (write-tree-at t) write-tree.Post
 write-tree-write-run-requires t c κs =
-    let start = c .before .before .before .before .before .before .before .before .before .before .before .before .before .before in
-    (run-falls _ _ _ (start .pre .1 .1) (start .pre .0), (start .pre .1 .0, children-claimed _ _ _ (c .before .before .before .before .before .before .before .before .before .before .before .slot-at .ensures) (start .pre .1 .0) (start .pre .1 .1)))
+    let start = c .before .before .before .before .before .before .before .before .before .before .before .before .before in
+    (run-falls _ _ _ (start .pre .1 .1) (start .pre .0), (start .pre .1 .0, children-claimed _ _ _ (c .before .before .before .before .before .before .before .before .before .before .slot-at .ensures) (start .pre .1 .0) (start .pre .1 .1)))
 
 write-tree-same-length : (t : ℕ) → write-tree-lts.Need-same-length (
   slot-at-reads.Asked,
@@ -331,14 +292,12 @@ write-tree-same-length : (t : ℕ) → write-tree-lts.Need-same-length (
   rewrite-reads.Learnt,
   write-slot-reads.Asked,
   write-slot-reads.Learnt,
-  resolved-kind-reads.Asked,
-  resolved-kind-reads.Learnt,
-  place-under-reads.Asked,
-  place-under-reads.Learnt,
+  place-below-reads.Asked,
+  place-below-reads.Learnt,
   write-run-below t,
   write-run.Post,
 ) (write-tree-at t) write-tree.Post
-write-tree-same-length t c = c .before .before .write-run .kept .1 .0 ∙ c .before .before .before .before .before .before .before .before .before .write-slot .kept .0
+write-tree-same-length t c = c .before .before .write-run .kept .1 .0 ∙ c .before .before .before .before .before .before .before .before .write-slot .kept .0
 
 write-tree-returns : (t : ℕ) → write-tree-lts.Need-returns (
   slot-at-reads.Asked,
@@ -351,19 +310,17 @@ write-tree-returns : (t : ℕ) → write-tree-lts.Need-returns (
   rewrite-reads.Learnt,
   write-slot-reads.Asked,
   write-slot-reads.Learnt,
-  resolved-kind-reads.Asked,
-  resolved-kind-reads.Learnt,
-  place-under-reads.Asked,
-  place-under-reads.Learnt,
+  place-below-reads.Asked,
+  place-below-reads.Learnt,
   write-run-below t,
   write-run.Post,
 ) (write-tree-at t) write-tree.Post
 write-tree-returns t c =
-    let start = c .before .before .before .before .before .before .before .before .before .before .before .before .before .before .before .before .before in
-    let slot = c .before .before .before .before .before .before .before .before .before .before .before .before .before .before .slot-at in
+    let start = c .before .before .before .before .before .before .before .before .before .before .before .before .before .before .before .before in
+    let slot = c .before .before .before .before .before .before .before .before .before .before .before .before .before .slot-at in
     let visited : Visited (start .args .sheet .now) (start .args .at) (slot .result) = record { claimed = start .pre .1 .0; below = start .pre .1 .1; numbers = slot .ensures } in
     let run = c .before .before .write-run in
-    (tree-end _ _ _ visited _ (run .ensures .0), tree-rewritten _ (start .args .out .now) _ _ (start .args .place) visited _ _ _ _ _ _ _ (c .before .before .before .before .before .before .before .before .before .before .before .before .before .annotated .ensures) (c .before .before .before .before .before .before .before .before .before .before .before .before .under-map .ensures) (c .before .before .before .before .before .before .before .before .before .before .rewrite .ensures .0) (c .before .before .before .before .before .before .before .before .before .write-slot .ensures) (c .before .before .before .before .before .before .resolved-kind .ensures) (c .before .before .before .place-under .ensures) (run .ensures .1))
+    (tree-end _ _ _ visited _ (run .ensures .0), tree-rewritten _ (start .args .out .now) _ _ (start .args .place) visited _ _ _ _ _ _ _ (c .before .before .before .before .before .before .before .before .before .before .before .before .annotated .ensures) (c .before .before .before .before .before .before .before .before .before .before .before .under-map .ensures) (c .before .before .before .before .before .before .before .before .before .before .rewrite .ensures .0) (c .before .before .before .before .before .before .before .before .write-slot .ensures) refl (c .before .before .before .place-below .ensures) (run .ensures .1))
 
 pub +write-run+write-tree-spec : {M : Type 1} → statement M
 +write-run+write-tree-spec = close μ-write-run μ-write-tree (λ t. write-run-lts.spec (
@@ -392,10 +349,8 @@ pub +write-run+write-tree-spec : {M : Type 1} → statement M
       rewrite-reads.Learnt,
       write-slot-reads.Asked,
       write-slot-reads.Learnt,
-      resolved-kind-reads.Asked,
-      resolved-kind-reads.Learnt,
-      place-under-reads.Asked,
-      place-under-reads.Learnt,
+      place-below-reads.Asked,
+      place-below-reads.Learnt,
       write-run-below t,
       write-run.Post,
     )
@@ -406,10 +361,9 @@ pub +write-run+write-tree-spec : {M : Type 1} → statement M
     (write-tree-under-map-requires t)
     (write-tree-rewrite-requires t)
     (write-tree-write-slot-requires t)
-    (write-tree-resolved-kind-requires t)
     (write-tree-add-write-run t)
     (write-tree-cast-write-run t)
-    (write-tree-place-under-requires t)
+    (write-tree-place-below-requires t)
     (write-tree-write-run-requires t)
     (write-tree-same-length t)
     (write-tree-returns t)
