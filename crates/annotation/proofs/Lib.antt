@@ -1,10 +1,6 @@
 -- Laws that other crates cite, and those that the proofs here share.
-pub mod ConversionLaws
 pub mod OutcomeLaws
 mod StatedLaws
 pub mod PlacementLaws
 pub mod RewritingLaws
 mod SignedLaws
-pub mod SpellingLaws
-mod TableLaws
-pub mod ReadingLaws

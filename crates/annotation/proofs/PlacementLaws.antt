@@ -6,15 +6,15 @@ use mathlib.Core.Bool.{Bool, true, false, true≢false, _||_}
 use lib.Dec.{eqb}
 use Rattle.parquet.specs.Physical as physical
 use Rattle.parquet.specs.Logical as logical
-use Rattle.annotation.specs.Spelling.{codeOf}
+use Rattle.logical_type.specs.Spelling.{codeOf}
 use Rattle.annotation.specs.Signed.{natural}
 use Rattle.annotation.specs.Meaning.{annotationOf}
 use Rattle.annotation.specs.Rule10.{logicalOn, annotationOn, rule10}
 use Rattle.annotation.specs.Kinds.{PLAIN-GROUP, kindAs, kindOf}
-use Rattle.annotation.specs.declared.types.TimeUnit.{TimeUnit}
-use Rattle.annotation.specs.declared.types.BitWidth.{BitWidth}
-use Rattle.annotation.specs.declared.types.LogicalType.{LogicalType}
-use Rattle.annotation.specs.declared.types.Annotation.{Annotation}
+use Rattle.logical_type.specs.declared.types.TimeUnit.{TimeUnit}
+use Rattle.logical_type.specs.declared.types.BitWidth.{BitWidth}
+use Rattle.logical_type.specs.declared.types.LogicalType.{LogicalType}
+use Rattle.logical_type.specs.declared.types.Annotation.{Annotation}
 use Rattle.annotation.specs.declared.slot.Annotated.{Annotated}
 
 -- the kinds of groups: plain, LIST and MAP
@@ -57,6 +57,22 @@ logical-leaf LogicalType.Unknown code length leaf e = refl
 logical-leaf LogicalType.Json code length leaf e = refl
 logical-leaf LogicalType.Bson code length leaf e = refl
 logical-leaf LogicalType.Uuid code length leaf e = refl
+
+-- the code of a logical type says that one stands, and is not the kind of a plain group
+pub code-stands : (l : LogicalType) → (eqb (codeOf l) logical.NONE ≡ false) × (eqb (codeOf l) PLAIN-GROUP ≡ false)
+code-stands LogicalType.String = (refl, refl)
+code-stands LogicalType.Map = (refl, refl)
+code-stands LogicalType.List = (refl, refl)
+code-stands LogicalType.Enum = (refl, refl)
+code-stands LogicalType.Decimal = (refl, refl)
+code-stands LogicalType.Date = (refl, refl)
+code-stands (LogicalType.Time unit utc) = (refl, refl)
+code-stands (LogicalType.Timestamp unit utc) = (refl, refl)
+code-stands (LogicalType.Integer width signed) = (refl, refl)
+code-stands LogicalType.Unknown = (refl, refl)
+code-stands LogicalType.Json = (refl, refl)
+code-stands LogicalType.Bson = (refl, refl)
+code-stands LogicalType.Uuid = (refl, refl)
 
 -- the kind of a logical type is its code, DECIMAL's too
 pub kind-logical : (l : LogicalType) (n : Annotated) → kindAs (Annotation.Logical l) n .kind ≡ codeOf l

@@ -8,11 +8,11 @@ use borrow.Author.Tests.{eq-eqb, eqb-true, eqb-false}
 use Rattle.parquet.specs.Physical as physical
 use Rattle.parquet.specs.Converted as converted
 use Rattle.parquet.specs.Logical as logical
-use Rattle.annotation.specs.Parameters.{validParameters}
-use Rattle.annotation.specs.Spelling.{codeOf, namedOf, statedOf}
+use Rattle.logical_type.specs.Parameters.{validParameters}
+use Rattle.logical_type.specs.Spelling.{codeOf, namedOf, statedOf}
 use Rattle.annotation.specs.Signed.{natural}
-use Rattle.annotation.specs.Forward.{forwardOf, imageOf}
-use Rattle.annotation.specs.Backward.{backwardOf}
+use Rattle.logical_type.specs.Forward.{forwardOf, imageOf}
+use Rattle.logical_type.specs.Backward.{backwardOf}
 use Rattle.annotation.specs.Meaning.{annotationOf}
 use Rattle.annotation.specs.Rule9.{rule9}
 use Rattle.annotation.specs.Rule10.{annotationOn, rule10}
@@ -20,16 +20,16 @@ use Rattle.annotation.specs.Rule11.{isDecimal, decimalHolds, rule11}
 use Rattle.annotation.specs.Kinds.{PLAIN-LEAF, PLAIN-GROUP, bareKind, kindAs, kindOf}
 use Rattle.annotation.specs.Outcome.{resolutionOf}
 use Rattle.annotation.specs.Rewriting.{writtenAs, writtenOf, rewritingAs, rewritingOf, outcomeOf, outcome, withWritten, rewritten}
-use Rattle.annotation.specs.declared.types.LogicalType.{LogicalType}
-use Rattle.annotation.specs.declared.types.Annotation.{Annotation}
+use Rattle.logical_type.specs.declared.types.LogicalType.{LogicalType}
+use Rattle.logical_type.specs.declared.types.Annotation.{Annotation}
 use Rattle.annotation.specs.declared.slot.Annotated.{Annotated}
 use Rattle.annotation.specs.declared.resolution.Kind.{Kind}
 use Rattle.annotation.specs.declared.resolution.Resolution.{Resolution}
 use Rattle.annotation.specs.declared.rewriting.Written.{Written}
 use Rattle.annotation.specs.declared.rewriting.Rewriting.{Rewriting}
-use Rattle.annotation.proofs.ConversionLaws.{forward-decimal}
-use Rattle.annotation.proofs.SpellingLaws.{stated-spelled, code-stands}
-use Rattle.annotation.proofs.PlacementLaws.{kind-logical}
+use Rattle.logical_type.proofs.ConversionLaws.{forward-decimal}
+use Rattle.logical_type.proofs.SpellingLaws.{stated-spelled}
+use Rattle.annotation.proofs.PlacementLaws.{kind-logical, code-stands}
 use Rattle.annotation.proofs.OutcomeLaws.{resolved-of-keeps, keeps-of-resolved, kind-of-resolved}
 
 -- an annotation as it is after rewriting: what cannot be read is written as none

@@ -9,7 +9,7 @@ use Rattle.annotation.specs.Kinds.{kindOf}
 use Rattle.annotation.specs.Outcome.{resolutionOf}
 use Rattle.annotation.specs.Steps.{StatedIn, resolutionAs}
 use Rattle.annotation.specs.declared.slot.Annotated.{Annotated}
-use Rattle.annotation.specs.declared.types.Annotation.{Annotation}
+use Rattle.logical_type.specs.declared.types.Annotation.{Annotation}
 use Rattle.annotation.specs.declared.resolution.Resolution.{Resolution}
 
 -- where a logical type stands, it is what they say

@@ -5,12 +5,12 @@ use lib.Dec.{eqb}
 use Rattle.parquet.specs.Physical as physical
 use Rattle.parquet.specs.Converted as converted
 use Rattle.parquet.specs.Logical as logical
-use Rattle.annotation.specs.Spelling.{codeOf, aOf, bOf}
+use Rattle.logical_type.specs.Spelling.{codeOf, aOf, bOf}
 use Rattle.annotation.specs.Signed.{natural}
 use Rattle.annotation.specs.Meaning.{annotationOf}
 use Rattle.annotation.specs.Rule11.{isDecimal}
-use Rattle.annotation.specs.declared.types.LogicalType.{LogicalType}
-use Rattle.annotation.specs.declared.types.Annotation.{Annotation}
+use Rattle.logical_type.specs.declared.types.LogicalType.{LogicalType}
+use Rattle.logical_type.specs.declared.types.Annotation.{Annotation}
 use Rattle.annotation.specs.declared.slot.Annotated.{Annotated}
 -- `Kind` has the numbers kind, p1 and p2
 use Rattle.annotation.specs.declared.resolution.Kind.{Kind}

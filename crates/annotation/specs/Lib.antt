@@ -1,10 +1,5 @@
 -- What the contracts of `annotation` cite, in the order of document 01. The first file that names a type of src/ says what it holds.
-pub mod Table
-pub mod Parameters
-pub mod Spelling
 pub mod Signed
-pub mod Forward
-pub mod Backward
 pub mod Meaning
 pub mod Rule9
 pub mod Rule10

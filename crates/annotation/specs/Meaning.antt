@@ -2,10 +2,10 @@
 use mathlib.Core.Bool.{Bool, cond}
 use lib.Dec.{eqb}
 use Rattle.parquet.specs.Logical as logical
-use Rattle.annotation.specs.Parameters.{validParameters}
-use Rattle.annotation.specs.Spelling.{statedOf}
-use Rattle.annotation.specs.Backward.{backwardOf}
-use Rattle.annotation.specs.declared.types.Annotation.{Annotation}
+use Rattle.logical_type.specs.Parameters.{validParameters}
+use Rattle.logical_type.specs.Spelling.{statedOf}
+use Rattle.logical_type.specs.Backward.{backwardOf}
+use Rattle.logical_type.specs.declared.types.Annotation.{Annotation}
 -- `Annotated` has the numbers of a slot that say its type: physical, converted, logical, a and b, which are naturals, and type_length, scale and precision, which are integers
 use Rattle.annotation.specs.declared.slot.Annotated.{Annotated}
 

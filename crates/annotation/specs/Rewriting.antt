@@ -3,12 +3,12 @@ use Prim.Native.Nat.{ℕ}
 use mathlib.Core.Bool.{Bool}
 use Rattle.parquet.specs.Converted as converted
 use Rattle.parquet.specs.Logical as logical
-use Rattle.annotation.specs.Parameters.{UNUSED}
-use Rattle.annotation.specs.Spelling.{codeOf, aOf, bOf}
-use Rattle.annotation.specs.Forward.{forwardOf}
+use Rattle.logical_type.specs.Parameters.{UNUSED}
+use Rattle.logical_type.specs.Spelling.{codeOf, aOf, bOf}
+use Rattle.logical_type.specs.Forward.{forwardOf}
 use Rattle.annotation.specs.Meaning.{annotationOf}
-use Rattle.annotation.specs.declared.types.LogicalType.{LogicalType}
-use Rattle.annotation.specs.declared.types.Annotation.{Annotation}
+use Rattle.logical_type.specs.declared.types.LogicalType.{LogicalType}
+use Rattle.logical_type.specs.declared.types.Annotation.{Annotation}
 use Rattle.annotation.specs.declared.slot.Annotated.{Annotated}
 use Rattle.annotation.specs.Outcome.{Outcome, given, refused, refusalOf, resolutionOf}
 use Rattle.annotation.specs.declared.resolution.Resolution.{Resolution}

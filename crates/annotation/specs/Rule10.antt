@@ -5,10 +5,10 @@ use lib.Dec.{eqb}
 use Rattle.parquet.specs.Physical as physical
 use Rattle.annotation.specs.Signed.{natural}
 use Rattle.annotation.specs.Meaning.{annotationOf}
-use Rattle.annotation.specs.declared.types.TimeUnit.{TimeUnit}
-use Rattle.annotation.specs.declared.types.BitWidth.{BitWidth}
-use Rattle.annotation.specs.declared.types.LogicalType.{LogicalType}
-use Rattle.annotation.specs.declared.types.Annotation.{Annotation}
+use Rattle.logical_type.specs.declared.types.TimeUnit.{TimeUnit}
+use Rattle.logical_type.specs.declared.types.BitWidth.{BitWidth}
+use Rattle.logical_type.specs.declared.types.LogicalType.{LogicalType}
+use Rattle.logical_type.specs.declared.types.Annotation.{Annotation}
 use Rattle.annotation.specs.declared.slot.Annotated.{Annotated}
 
 -- "UUID: FIXED 16"

@@ -7,10 +7,10 @@ use lib.Signed.{leZ, ltZ}
 use Rattle.decimal.specs.Precision.{isLength, greatestPrecision}
 use Rattle.parquet.specs.Physical as physical
 use Rattle.parquet.specs.Logical as logical
-use Rattle.annotation.specs.Spelling.{codeOf}
+use Rattle.logical_type.specs.Spelling.{codeOf}
 use Rattle.annotation.specs.Signed.{natural}
 use Rattle.annotation.specs.Meaning.{annotationOf}
-use Rattle.annotation.specs.declared.types.Annotation.{Annotation}
+use Rattle.logical_type.specs.declared.types.Annotation.{Annotation}
 use Rattle.annotation.specs.declared.slot.Annotated.{Annotated}
 
 -- "INT32: precision to 9"

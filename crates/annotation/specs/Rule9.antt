@@ -3,8 +3,8 @@ use mathlib.Core.Bool.{Bool, _||_}
 use lib.Dec.{eqb}
 use Rattle.parquet.specs.Converted as converted
 use Rattle.parquet.specs.Logical as logical
-use Rattle.annotation.specs.Spelling.{statedOf}
-use Rattle.annotation.specs.Forward.{imageOf}
+use Rattle.logical_type.specs.Spelling.{statedOf}
+use Rattle.logical_type.specs.Forward.{imageOf}
 use Rattle.annotation.specs.declared.slot.Annotated.{Annotated}
 
 -- "If both annotations stand, converted is the forward image of logical .. One annotation alone is accepted" (01, rule 9)

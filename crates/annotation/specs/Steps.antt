@@ -4,13 +4,13 @@ use mathlib.Core.Bool.{Bool, false, cond}
 use lib.Dec.{eqb}
 use Rattle.parquet.specs.Logical as logical
 use Rattle.annotation.specs.Signed.{natural}
-use Rattle.annotation.specs.Spelling.{statedOf}
+use Rattle.logical_type.specs.Spelling.{statedOf}
 use Rattle.annotation.specs.Rule9.{rule9}
 use Rattle.annotation.specs.Rule10.{annotationOn}
 use Rattle.annotation.specs.Rule11.{digitsAllowed}
 use Rattle.annotation.specs.Kinds.{kindAs}
 use Rattle.annotation.specs.declared.slot.Annotated.{Annotated}
-use Rattle.annotation.specs.declared.types.Annotation.{Annotation}
+use Rattle.logical_type.specs.declared.types.Annotation.{Annotation}
 use Rattle.annotation.specs.declared.resolution.Resolution.{Resolution}
 
 -- an annotation is what the logical type of a slot states, where one stands

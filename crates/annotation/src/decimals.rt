@@ -4,8 +4,8 @@ ghost use Rattle.annotation.specs.Rule11.{digitsAllowed, isDecimal, deci
 use crate::slot::Annotated;
 use crate::slot::precision;
 use crate::slot::type_length;
-use crate::spelling::spelling_of;
-use crate::types::Annotation;
+use logical_type::spelling_of;
+use logical_type::Annotation;
 use decimal::greatest_precision;
 use decimal::is_length;
 use parquet::logical;

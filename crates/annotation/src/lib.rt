@@ -3,15 +3,11 @@
 // A slot is document 01's word for the bytes of one node of a sheet. Nothing here knows bytes or trees: `Annotated` has the
 // numbers of a slot that say its type.
 mod agreement; // rule 9: converted and logical agree
-mod conversion; // forward and backward between logical and converted types
 mod decimals; // rule 11: precision and scale
-pub mod parameters; // codes of the parameters of logical types
 mod placement; // rule 10: physical type and length
 mod resolution; // the rules in order, and the kind
 mod rewriting; // what the rewritten sheet says of a node
 mod slot; // the numbers of a slot that say its type, and what its annotations mean
-mod spelling; // how numbers spell a logical type with its parameters
-mod types; // logical types with their parameters
 
 pub use resolution::Kind;
 pub use resolution::Resolution;
@@ -23,7 +19,3 @@ pub use rewriting::Written;
 pub use rewriting::rewrite;
 pub use slot::Annotated;
 pub use slot::type_length;
-pub use types::Annotation;
-pub use types::BitWidth;
-pub use types::LogicalType;
-pub use types::TimeUnit;

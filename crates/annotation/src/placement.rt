@@ -1,10 +1,10 @@
 // Rule 10: each annotation on its physical type and length.
 ghost use mathlib.Core.Path.{_≡_};
 ghost use Rattle.annotation.specs.Rule10.{annotationOn, logicalOn, decimalOn, integerPhysical, timePhysical, isFixed};
-use crate::types::Annotation;
-use crate::types::BitWidth;
-use crate::types::LogicalType;
-use crate::types::TimeUnit;
+use logical_type::Annotation;
+use logical_type::BitWidth;
+use logical_type::LogicalType;
+use logical_type::TimeUnit;
 use parquet::physical;
 
 const UUID_LENGTH: u32 = 16;

@@ -2,7 +2,7 @@
 use crate::text;
 use annotation::Annotated;
 use annotation::Resolution;
-use annotation::parameters;
+use logical_type::parameters;
 use parquet::converted;
 use parquet::logical;
 use parquet::physical;

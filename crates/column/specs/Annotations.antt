@@ -13,7 +13,7 @@ use Rattle.timestamp.specs.Units.{TimeUnit, ticksPerSecond, ticksPerDay, unitOf
 use Rattle.utf8.specs.Valid.{validUpTo}
 use Rattle.parquet.specs.Physical.{BOOLEAN, INT32, INT64}
 use Rattle.parquet.specs.Logical.{STRING, ENUM, DECIMAL, TIME, INTEGER, UNKNOWN, JSON}
-use Rattle.annotation.specs.Parameters.{flagCode}
+use Rattle.logical_type.specs.Parameters.{flagCode}
 use Rattle.column.specs.Numbers.{little, signed}
 use Rattle.column.specs.Lengths.{isByteForm}
 

@@ -1,5 +1,5 @@
 // The codes of a column type, whose numbers are of 32 bits: its physical types, its kinds, and the parameter of INT.
-use annotation::parameters;
+use logical_type::parameters;
 use parquet::converted;
 use parquet::logical;
 use parquet::physical;

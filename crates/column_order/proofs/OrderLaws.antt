@@ -11,11 +11,11 @@ use lib.IntN.{ℤ, pos}
 use lib.Signed.{_<ℤ_}
 use borrow.Author.Tests.{eqb-true}
 use Rattle.annotation.specs.Meaning.{annotationOf}
-use Rattle.annotation.specs.Parameters.{validParameters}
+use Rattle.logical_type.specs.Parameters.{validParameters}
 use Rattle.annotation.specs.Rule9.{rule9}
 use Rattle.annotation.specs.Rule10.{decimalOn, rule10}
 use Rattle.annotation.specs.Rule11.{rule11}
-use Rattle.annotation.specs.Spelling.{namedOf, statedOf}
+use Rattle.logical_type.specs.Spelling.{namedOf, statedOf}
 use Rattle.tree.specs.Rules.{lengthShape}
 use Rattle.column_type.specs.declared.types.ColumnType.{ColumnType}
 use Rattle.column_type.specs.Lawful.{slotOf, fits, isLeaf, annotationRight, isLawful}

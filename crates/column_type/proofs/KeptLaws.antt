@@ -8,20 +8,20 @@ use lib.IntN.{ℤ, pos, negsuc}
 use lib.Signed.{mag}
 use Rattle.parquet.specs.Physical as physical
 use Rattle.parquet.specs.Logical as logical
-use Rattle.annotation.specs.Parameters.{validParameters}
-use Rattle.annotation.specs.Spelling.{namedOf, statedOf}
+use Rattle.logical_type.specs.Parameters.{validParameters}
+use Rattle.logical_type.specs.Spelling.{namedOf, statedOf}
 use Rattle.annotation.specs.Signed.{natural}
-use Rattle.annotation.specs.Backward.{backwardOf}
+use Rattle.logical_type.specs.Backward.{backwardOf}
 use Rattle.annotation.specs.Meaning.{annotationOf}
 use Rattle.annotation.specs.Rule10.{annotationOn, rule10}
 use Rattle.annotation.specs.Rule11.{isDecimal, ordered, physicalHolds, decimalHolds, digitsAllowed, rule11}
 use Rattle.annotation.specs.Kinds.{PLAIN-LEAF, PLAIN-GROUP, bareKind, plainKind, decimalKind, kindAs, kindOf}
-use Rattle.annotation.specs.declared.types.LogicalType.{LogicalType}
-use Rattle.annotation.specs.declared.types.Annotation.{Annotation}
+use Rattle.logical_type.specs.declared.types.LogicalType.{LogicalType}
+use Rattle.logical_type.specs.declared.types.Annotation.{Annotation}
 use Rattle.annotation.specs.declared.slot.Annotated.{Annotated}
 use Rattle.annotation.specs.declared.resolution.Kind.{Kind}
-use Rattle.annotation.proofs.SpellingLaws.{stated-spelled}
-use Rattle.annotation.proofs.ReadingLaws.{spelled-bytes}
+use Rattle.logical_type.proofs.SpellingLaws.{stated-spelled}
+use Rattle.logical_type.proofs.ReadingLaws.{spelled-bytes}
 use Rattle.tree.specs.Rules.{isGroup, isNought, lengthShape}
 use Rattle.column_type.specs.Lawful.{slotOf, byteNumbers, signedNumbers, parameterNumbers, isLeaf, isLawful}
 use Rattle.column_type.specs.declared.types.ColumnType.{ColumnType}

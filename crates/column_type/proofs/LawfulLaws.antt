@@ -8,8 +8,8 @@ use native.Mathlib.Omega.{arith}
 use lib.IntN.{pos}
 use lib.ListN.{length, drop, replicate}
 use Rattle.annotation.specs.Signed.{natural}
-use Rattle.annotation.specs.Parameters.{validParameters}
-use Rattle.annotation.specs.Backward.{backwardOf}
+use Rattle.logical_type.specs.Parameters.{validParameters}
+use Rattle.logical_type.specs.Backward.{backwardOf}
 use Rattle.annotation.specs.Meaning.{annotationOf}
 use Rattle.annotation.specs.Rule9.{rule9}
 use Rattle.annotation.specs.Rule10.{rule10}

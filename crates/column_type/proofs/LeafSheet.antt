@@ -11,7 +11,7 @@ use Rattle.parquet.specs.Repetition as repetition
 use Rattle.parquet.specs.Physical as physical
 use Rattle.parquet.specs.Converted as converted
 use Rattle.parquet.specs.Logical as logical
-use Rattle.annotation.specs.Parameters.{UNUSED}
+use Rattle.logical_type.specs.Parameters.{UNUSED}
 use Rattle.annotation.specs.Signed.{natural}
 use Rattle.annotation.specs.declared.slot.Annotated.{Annotated}
 use Rattle.sheet.specs.Number.{numberAt, signed32}

@@ -7,9 +7,9 @@ use native.Mathlib.Omega.{arith}
 use lib.Dec.{eqb}
 use lib.ListN.{getD}
 use Rattle.parquet.specs.Logical as logical
-use Rattle.annotation.specs.Parameters.{validParameters}
+use Rattle.logical_type.specs.Parameters.{validParameters}
 use Rattle.annotation.specs.Signed.{natural}
-use Rattle.annotation.specs.Backward.{backwardOf}
+use Rattle.logical_type.specs.Backward.{backwardOf}
 use Rattle.annotation.specs.Meaning.{annotationOf}
 use Rattle.annotation.specs.Rule9 as nine
 use Rattle.annotation.specs.Rule10 as ten

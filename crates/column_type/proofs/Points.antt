@@ -7,17 +7,17 @@ use Rattle.decimal.specs.Precision.{greatestPrecision, greatest}
 use Rattle.parquet.specs.Physical.{INT32, INT64, BYTE-ARRAY, FIXED-LEN-BYTE-ARRAY, GROUP}
 use Rattle.parquet.specs.Converted as converted
 use Rattle.parquet.specs.Logical as logical
-use Rattle.annotation.specs.Parameters.{bitWidthCode, unitCode, flagCode, unitOf, bitWidthOf, validParameters}
-use Rattle.annotation.specs.Spelling.{namedOf, statedOf}
+use Rattle.logical_type.specs.Parameters.{bitWidthCode, unitCode, flagCode, unitOf, bitWidthOf, validParameters}
+use Rattle.logical_type.specs.Spelling.{namedOf, statedOf}
 use Rattle.annotation.specs.Signed.{natural}
-use Rattle.annotation.specs.Backward.{backwardOf}
+use Rattle.logical_type.specs.Backward.{backwardOf}
 use Rattle.annotation.specs.Meaning.{annotationOf}
 use Rattle.annotation.specs.Rule9.{rule9}
 use Rattle.annotation.specs.Rule10.{rule10, INTERVAL-LENGTH, UUID-LENGTH}
 use Rattle.annotation.specs.Rule11.{ordered, physicalHolds, decimalHolds, rule11}
 use Rattle.annotation.specs.Kinds.{PLAIN-LEAF, PLAIN-GROUP}
-use Rattle.annotation.specs.declared.types.TimeUnit.{TimeUnit}
-use Rattle.annotation.specs.declared.types.BitWidth.{BitWidth}
+use Rattle.logical_type.specs.declared.types.TimeUnit.{TimeUnit}
+use Rattle.logical_type.specs.declared.types.BitWidth.{BitWidth}
 use Rattle.sheet.specs.Sound.{listed, physicalListed}
 use Rattle.tree.specs.Rules.{isNought, lengthShape}
 use Rattle.column_type.specs.Lawful.{slotOf, fits, isLeaf, isLawful}

@@ -6,7 +6,7 @@ use lib.IntN.{pos}
 use borrow.Author.Tests.{eq-eqb, ne-eqb}
 use Rattle.parquet.specs.Converted as converted
 use Rattle.parquet.specs.Logical as logical
-use Rattle.annotation.specs.Parameters.{UNUSED}
+use Rattle.logical_type.specs.Parameters.{UNUSED}
 use Rattle.annotation.specs.Rule9.{rule9}
 use Rattle.annotation.specs.declared.slot.Annotated.{Annotated}
 use Rattle.column_type.specs.Lawful.{slotWith, slotOf}

@@ -8,18 +8,18 @@ use lib.Dec.{eqb}
 use borrow.Author.Tests.{eqb-true, ne-eqb}
 use Rattle.parquet.specs.Converted as converted
 use Rattle.parquet.specs.Logical as logical
-use Rattle.annotation.specs.Parameters.{UNUSED, validParameters}
-use Rattle.annotation.specs.Spelling.{codeOf, namedOf, statedOf}
+use Rattle.logical_type.specs.Parameters.{UNUSED, validParameters}
+use Rattle.logical_type.specs.Spelling.{codeOf, namedOf, statedOf}
 use Rattle.annotation.specs.Signed.{natural}
-use Rattle.annotation.specs.Backward.{backwardOf}
+use Rattle.logical_type.specs.Backward.{backwardOf}
 use Rattle.annotation.specs.Meaning.{annotationOf}
 use Rattle.annotation.specs.Rule10.{annotationOn, rule10}
 use Rattle.annotation.specs.Kinds.{kindAs, kindOf}
-use Rattle.annotation.specs.declared.types.LogicalType.{LogicalType}
-use Rattle.annotation.specs.declared.types.Annotation.{Annotation}
+use Rattle.logical_type.specs.declared.types.LogicalType.{LogicalType}
+use Rattle.logical_type.specs.declared.types.Annotation.{Annotation}
 use Rattle.annotation.specs.declared.slot.Annotated.{Annotated}
 use Rattle.annotation.specs.declared.resolution.Kind.{Kind}
-use Rattle.annotation.proofs.ReadingLaws.{Spells, spelled-stated}
+use Rattle.logical_type.proofs.ReadingLaws.{Spells, spelled-stated}
 use Rattle.sheet.specs.Sound.{listed, convertedListed, logicalListed}
 use Rattle.tree.specs.Rules.{isGroup, isNought, decimalShape}
 use Rattle.column_type.specs.Lawful.{slotWith, slotOf, byteNumbers, signedNumbers}

@@ -5,7 +5,7 @@ use lib.Dec.{eqb, ltb}
 use lib.IntN.{pos}
 use Rattle.parquet.specs.Converted as converted
 use Rattle.parquet.specs.Logical as logical
-use Rattle.annotation.specs.Parameters.{UNUSED}
+use Rattle.logical_type.specs.Parameters.{UNUSED}
 use Rattle.annotation.specs.Rule9.{rule9}
 use Rattle.annotation.specs.Rule10.{rule10}
 use Rattle.annotation.specs.Rule11.{rule11}

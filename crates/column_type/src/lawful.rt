@@ -7,7 +7,7 @@ ghost use Rattle.tree.specs.Rules.{lengthShape};
 ghost use Rattle.column_type.specs.Lawful.{slotWith, slotOf, byteNumbers, signedNumbers, parameterNumbers, fits, isLeaf, annotationRight, isLawful};
 use crate::types::ColumnType;
 use annotation::Annotated;
-use annotation::parameters;
+use logical_type::parameters;
 use annotation::refusal;
 use annotation::resolve;
 use parquet::converted;

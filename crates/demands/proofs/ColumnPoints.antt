@@ -2,14 +2,14 @@
 use mathlib.Core.Path.{_≡_, refl}
 use mathlib.Core.List.{List, [], _∷_}
 use Prim.Native.Nat.{ℕ}
-use Rattle.annotation.specs.Backward.{backwardOf}
+use Rattle.logical_type.specs.Backward.{backwardOf}
 use Rattle.annotation.specs.Meaning.{annotationOf}
-use Rattle.annotation.specs.Parameters.{unitOf, bitWidthOf, validParameters}
+use Rattle.logical_type.specs.Parameters.{unitOf, bitWidthOf, validParameters}
 use Rattle.annotation.specs.Rule9.{rule9}
 use Rattle.annotation.specs.Rule10.{rule10}
 use Rattle.annotation.specs.Rule11.{ordered, physicalHolds, decimalHolds, rule11}
 use Rattle.annotation.specs.Signed.{natural}
-use Rattle.annotation.specs.Spelling.{namedOf, statedOf}
+use Rattle.logical_type.specs.Spelling.{namedOf, statedOf}
 use Rattle.column.specs.Annotations.{inSignedBits, wholeKeeps, bytesKeep, keeps}
 use Rattle.parquet.specs.Physical.{INT32, BYTE-ARRAY}
 use Rattle.parquet.specs.Logical.{DECIMAL, INTEGER}

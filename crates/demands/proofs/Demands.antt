@@ -1,5 +1,5 @@
 -- The three demands hold. Each part cites the law of the layer that shows it.
-use Rattle.annotation.proofs.ConversionLaws.{backward-forward, forward-backward, forward-not-map-key-value}
+use Rattle.logical_type.proofs.ConversionLaws.{backward-forward, forward-backward, forward-not-map-key-value}
 use Rattle.tree.proofs.TreeOfLaws.{six-five-or-tree, tree-neither, treeRefusal-tree}
 use Rattle.schema.proofs.DemandLaws as demand
 use Rattle.schema.proofs.RewriteLaws.{rewrite-kept}

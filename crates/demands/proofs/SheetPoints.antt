@@ -20,15 +20,15 @@ use Rattle.parquet.specs.Physical as physical
 use Rattle.parquet.specs.Converted as converted
 use Rattle.parquet.specs.Logical as logical
 use Rattle.annotation.specs.Signed.{natural}
-use Rattle.annotation.specs.Parameters.{UNUSED, unitCode, flagCode, unitOf, validParameters}
-use Rattle.annotation.specs.Spelling.{namedOf, statedOf}
-use Rattle.annotation.specs.Backward.{backwardOf}
+use Rattle.logical_type.specs.Parameters.{UNUSED, unitCode, flagCode, unitOf, validParameters}
+use Rattle.logical_type.specs.Spelling.{namedOf, statedOf}
+use Rattle.logical_type.specs.Backward.{backwardOf}
 use Rattle.annotation.specs.Meaning.{annotationOf}
 use Rattle.annotation.specs.Kinds.{kindOf}
 use Rattle.annotation.specs.Rule9 as nine
 use Rattle.annotation.specs.Rule10 as ten
 use Rattle.annotation.specs.Rule11 as eleven
-use Rattle.annotation.specs.declared.types.TimeUnit.{TimeUnit}
+use Rattle.logical_type.specs.declared.types.TimeUnit.{TimeUnit}
 use Rattle.tree.specs.Annotated.{annotated, kind, rule9, rule10, rule11}
 use Rattle.tree.specs.Tree.{listing, count, size, depths}
 use Rattle.tree.specs.Rules.{isList, isMap, placeBelow, isNought, lengthShape, decimalShape, shape, rule8, namedElement, isElementGroup, holdsElement, listChild, listRun, listKept, rule12, rule13}

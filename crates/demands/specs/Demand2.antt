@@ -12,11 +12,11 @@ use lib.ListN.{length, take, drop}
 use lib.Signed.{_<ℤ_}
 use Rattle.parquet.specs.Converted as converted
 use Rattle.parquet.specs.Logical as logical
-use Rattle.annotation.specs.Forward.{forwardOf, imageOf}
-use Rattle.annotation.specs.Backward.{backwardOf}
-use Rattle.annotation.specs.declared.types.LogicalType.{LogicalType}
-use Rattle.annotation.specs.declared.types.Annotation.{Annotation}
-use Rattle.annotation.proofs.ConversionLaws.{adjusted}
+use Rattle.logical_type.specs.Forward.{forwardOf, imageOf}
+use Rattle.logical_type.specs.Backward.{backwardOf}
+use Rattle.logical_type.specs.declared.types.LogicalType.{LogicalType}
+use Rattle.logical_type.specs.declared.types.Annotation.{Annotation}
+use Rattle.logical_type.proofs.ConversionLaws.{adjusted}
 use Rattle.sheet.specs.Slot.{slotAt}
 use Rattle.tree.specs.Tree.{Tree, size}
 use Rattle.tree.specs.Rules.{judgedKinds}

@@ -7,9 +7,9 @@ use lib.IntN.{ℤ, pos, negsuc}
 use Rattle.parquet.specs.Physical as physical
 use Rattle.parquet.specs.Converted as converted
 use Rattle.parquet.specs.Logical as logical
-use Rattle.annotation.specs.Parameters.{UNUSED, bitWidthCode, unitCode, flagCode}
-use Rattle.annotation.specs.declared.types.BitWidth.{BitWidth}
-use Rattle.annotation.specs.declared.types.TimeUnit.{TimeUnit}
+use Rattle.logical_type.specs.Parameters.{UNUSED, bitWidthCode, unitCode, flagCode}
+use Rattle.logical_type.specs.declared.types.BitWidth.{BitWidth}
+use Rattle.logical_type.specs.declared.types.TimeUnit.{TimeUnit}
 use Rattle.tree.specs.Judgement.{refusal}
 use Rattle.schema.specs.Rows.{rowWidth}
 use Rattle.schema.specs.Outcome as schema

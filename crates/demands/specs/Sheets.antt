@@ -6,7 +6,7 @@ use Rattle.sheet.specs.Number.{lowByte, highByte}
 use Rattle.sheet.specs.Block.{firstSlotAt, checkAt, slotSize, versionNow}
 use Rattle.sheet.specs.Check.{check}
 use Rattle.sheet.specs.Slot.{nameAt}
-use Rattle.annotation.specs.Parameters.{UNUSED}
+use Rattle.logical_type.specs.Parameters.{UNUSED}
 use Rattle.parquet.specs.Physical as physical
 use Rattle.parquet.specs.Repetition as repetition
 use Rattle.parquet.specs.Converted as converted

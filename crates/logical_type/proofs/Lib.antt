@@ -1,0 +1,5 @@
+-- Laws that other crates cite, and those that the proofs here share.
+pub mod ConversionLaws
+pub mod SpellingLaws
+mod TableLaws
+pub mod ReadingLaws
