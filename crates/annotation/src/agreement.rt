@@ -2,9 +2,9 @@
 ghost use mathlib.Core.Path.{_≡_};
 ghost use Rattle.annotation.specs.Rule9.{rule9};
 ghost use Rattle.annotation.specs.Steps.{StatedIn};
-use logical_type::image_of;
 use crate::slot::Annotated;
 use logical_type::Annotation;
+use logical_type::image_of;
 use parquet::converted;
 use parquet::logical;
 

@@ -4,10 +4,10 @@ ghost use Rattle.annotation.specs.Rule11.{digitsAllowed, isDecimal, deci
 use crate::slot::Annotated;
 use crate::slot::precision;
 use crate::slot::type_length;
-use logical_type::spelling_of;
-use logical_type::Annotation;
 use decimal::greatest_precision;
 use decimal::is_length;
+use logical_type::Annotation;
+use logical_type::spelling_of;
 use parquet::logical;
 use parquet::physical;
 

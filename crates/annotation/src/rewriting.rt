@@ -1,16 +1,16 @@
 // What the rewritten sheet says of a node.
 ghost use mathlib.Core.Path.{_≡_};
 ghost use Rattle.annotation.specs.Rewriting.{rewritingOf, outcomeOf, outcome, writtenAs, convertedWritten, logicalWritten};
-use logical_type::forward_of;
-use logical_type::parameters;
 use crate::resolution::Resolution;
 use crate::resolution::refusal;
 use crate::resolution::resolve_as;
 use crate::slot::Annotated;
 use crate::slot::annotation_of;
-use logical_type::spelling_of;
 use logical_type::Annotation;
 use logical_type::LogicalType;
+use logical_type::forward_of;
+use logical_type::parameters;
+use logical_type::spelling_of;
 use parquet::converted;
 use parquet::logical;
 

@@ -2,10 +2,10 @@
 ghost use mathlib.Core.Path.{_≡_};
 ghost use Rattle.annotation.specs.Signed.{natural};
 ghost use Rattle.annotation.specs.Meaning.{annotationOf, convertedAlone};
+use logical_type::Annotation;
 use logical_type::backward_of;
 use logical_type::stated_of;
 use logical_type::valid_parameters;
-use logical_type::Annotation;
 use parquet::logical;
 
 // Physical GROUP is a group, converted NONE and logical NONE are no annotation; any other number may stand in a field.

@@ -32,6 +32,7 @@ numberAt-four-zero bytes at k none l h = cases (k - at) (omega arith)
   where
     parts : getD bytes at 0 + 256 * (getD bytes (at + 1) 0 + 256 * (getD bytes (at + 2) 0 + 256 * getD bytes (at + 3) 0)) ≡ 0
     parts = sym (numberAt-four bytes at) ∙ none
+
     cases : (j : ℕ) → k ≡ at + j → getD bytes k 0 ≡ 0
     cases zero e = ap (λ (i : ℕ). getD bytes i 0) {y = at} (omega arith) ∙ omega (arith, parts)
     cases (suc zero) e = ap (λ (i : ℕ). getD bytes i 0) e ∙ omega (arith, parts)

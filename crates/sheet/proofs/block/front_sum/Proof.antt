@@ -62,10 +62,10 @@ loop-again c =
     let block = c .before .before .before .before .before .args .block .now in
     let start = 80 * loop .part in
     let own = c .part-sum .ensures .0 ∙ ap (λ part. sumBelow (weightedFrom start part) partSize) (take-to block start 80) in
-    let next : start + partSize ≡ partSize * (loop .part + 1) = omega arith in
-    ( omega arith
-    , ap₂ _+_ (loop .inv .1) own ∙ sym (sumBelow-part block start partSize) ∙ ap (sumBelow (weighted block)) next
-    , omega arith
+    let next : start + partSize ≡ partSize * (loop .part + 1) = omega arith in (
+      omega arith,
+      ap₂ _+_ (loop .inv .1) own ∙ sym (sumBelow-part block start partSize) ∙ ap (sumBelow (weighted block)) next,
+      omega arith,
     )
 
 returns : tie.Need-returns Inv-loop μ-loop

@@ -61,12 +61,12 @@ unfolding weighted
 loop-again c =
     let loop = c .before .before .before .loop in
     let plain = ap₂ _+_ (loop .inv .1) (c .wide .ensures .0) in
-    let own = ap₂ _+_ (loop .inv .2) (ap (λ (byte : ℕ). (loop .j + 1) * byte) (c .wide .ensures .0)) in
-    ( omega arith
-    , plain ∙ sym (sumBelow-more _ (loop .j))
-    , own ∙ sym (sumBelow-more _ (loop .j))
-    , omega arith
-    , omega (arith, bound c)
+    let own = ap₂ _+_ (loop .inv .2) (ap (λ (byte : ℕ). (loop .j + 1) * byte) (c .wide .ensures .0)) in (
+      omega arith,
+      plain ∙ sym (sumBelow-more _ (loop .j)),
+      own ∙ sym (sumBelow-more _ (loop .j)),
+      omega arith,
+      omega (arith, bound c),
     )
 
 bound-before : (c : tie.After-loop Inv-loop μ-loop)
@@ -86,9 +86,9 @@ returns c =
     let a = c .before .before .before .args in
     let whole : c .before .loop .j ≡ partSize = omega arith in
     let own = inv .2 ∙ ap (sumBelow _) whole in
-    let plain = inv .1 ∙ ap (sumBelow _) whole in
-    ( ap₂ _+_ own (ap (λ (sum : ℕ). a .before * sum) plain) ∙ sumBelow-from (a .part .now) (a .before) partSize
-    , omega (arith, bound-before c)
+    let plain = inv .1 ∙ ap (sumBelow _) whole in (
+      ap₂ _+_ own (ap (λ (sum : ℕ). a .before * sum) plain) ∙ sumBelow-from (a .part .now) (a .before) partSize,
+      omega (arith, bound-before c),
     )
 
 pub part-sum-spec : {M : Type 1} → statement M

@@ -38,6 +38,7 @@ loop-again c = (omega arith, λ k h. zeros k h (decLt k i))
   where
     i : ℕ
     i = c .before .before .before .loop .i
+
     zeros : (k : ℕ) → k < i + 4 → Dec (k < i) → getD (c .before .before .before .before .before .args .bytes .now) k 0 ≡ 0
     zeros k h (yes l) = c .before .before .before .loop .inv .1 k l
     zeros k h (no l) = numberAt-four-zero _ i k (sym (c .before .number32 .ensures) ∙ c .if1 .left) (omega arith) h
