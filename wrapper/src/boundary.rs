@@ -4,7 +4,7 @@
 //! holds by Rust's own rules on references: the elements are there for the whole call, and what is written overlaps nothing.
 //! An answer comes back as the header has it.
 //!
-//! `tests/compare` compiles this file too: what it compares with the independent reader is called from here.
+//! `tests/compare` and `bench` compile this file too: what they compare and measure is called from here.
 
 extern "C" {
     fn griffeljol_resolve(sheet: *const u8, sheet_len: usize, rows: *mut u32, rows_len: usize) -> u64;
