@@ -5,9 +5,8 @@ use mathlib.Core.Bool.{Bool, true, false, not, cond}
 use mathlib.Core.List.{List, [], _∷_}
 use native.Mathlib.Omega.{arith}
 use lib.Dec.{T}
-use lib.Ieee.{Float, Format, nan, inf, fin, top, isNan, ne, ofBits, nanBits, toBits}
+use lib.Ieee.{Float, Format, top, isNan, ne, ofBits, nanBits, toBits}
 use lib.Ieee.Bits.{toBits-ofBits, nanBits-is}
-use lib.Ieee.Compare.{nan-differs, differs-from-itself}
 use lib.IntN.{ℤ}
 use lib.ListN.{length}
 use lib.Signed.{mag, nonNeg}
@@ -18,36 +17,26 @@ use Rattle.column.specs.Reading.{readOf}
 use Rattle.column.specs.declared.value.Read.{Read}
 use Rattle.column.specs.declared.value.Value.{Value}
 use Rattle.column.specs.declared.value.Value.the-variants as value
+use Rattle.column.proofs.FloatLaws.{differs-nan}
 use Rattle.column_order.specs.Outcome as column_order
 use Rattle.column_order.specs.Order.{orderOf}
 use Rattle.column_order.specs.declared.answer.Order.{Order}
-use Rattle.laws.proofs.BoolLaws.{T-false}
 use Rattle.timestamp.proofs.SignedLaws.{negative-is, nonnegative-is}
 use Rattle.c_api.specs.Answers.{within, answer}
 use Rattle.c_api.specs.Values.{caseOf, twosComplement64, quietNan, floatBits, numbersOf, readEffect, reading, orderEffect, ordering}
 
 -- ---- bits
 
--- a float differs from itself exactly where it is a NaN
-differs-nan : (x : Float) → ne x x ≡ isNan x
-unfolding isNan
-differs-nan nan = nan-differs
-differs-nan (inf s) = T-false (ne (inf s) (inf s)) (λ t. let e : inf s ≡ nan = differs-from-itself (inf s) t in let z : _≡_ {A = ℕ} 0 1 = cc in omega arith)
-differs-nan (fin s m d) = T-false (ne (fin s m d) (fin s m d)) (λ t. let e : fin s m d ≡ nan = differs-from-itself (fin s m d) t in let z : _≡_ {A = ℕ} 0 1 = cc in omega arith)
-
 module _ (f : Format) (x : Float) where
-  -- one that does is written as the quiet NaN
+  -- a float that differs from itself is written as the quiet NaN
   pub nan-bits : ne x x ≡ true → quietNan f ≡ floatBits f x
   unfolding floatBits
   nan-bits e = rw (sym (differs-nan x) ∙ e)
 
-  -- any other as its own bits, which it has
+  -- any other as its own bits
   pub number-bits : ne x x ≡ false → toBits f x ≡ floatBits f x
   unfolding floatBits
   number-bits e = rw (sym (differs-nan x) ∙ e)
-
-  pub has-bits : ne x x ≡ false → T (not (isNan x))
-  has-bits e = rw (sym (differs-nan x) ∙ e) tt
 
 -- a FLOAT or DOUBLE of bits that are no NaN's is written as those bits
 pub own-bits : (f : Format) (n : ℕ) → n < 2 * top f → nanBits f n ≡ false → floatBits f (ofBits f n) ≡ n

@@ -1,5 +1,6 @@
 // Reads one value of a column. The arguments are the five numbers of its column type, and standard input is the value.
 ghost use mathlib.Core.Path.{_≡_};
+use column_text::LINE_ROOM;
 use column_type::ColumnType;
 use libc::STDERR_FILENO;
 use libc::STDIN_FILENO;
@@ -14,23 +15,16 @@ const ARGUMENTS: usize = 6;
 // Room for the digits of a number; an argument that is longer is no number of 32 bits, but for zeros in front.
 const DIGITS: usize = 16;
 
+// The greatest number of 32 bits, and one past it, which stands for no number.
 const GREATEST: u64 = 0xffff_ffff;
 
-enum Arguments {
-    Type(ColumnType),
-    // One is missing, is too many or is no number of 32 bits.
-    Odd,
-}
-
-enum Argument {
-    Number(u32),
-    Odd,
-}
+const NO_NUMBER: u64 = GREATEST + 1;
 
 fn main() {
-    match read_arguments() {
-        Arguments::Type(c) => print_value(c),
-        Arguments::Odd => print_usage(),
+    if arguments_right() {
+        print_value(read_type());
+    } else {
+        print_usage();
     }
 }
 
@@ -38,9 +32,9 @@ fn main() {
 fn print_value(c: ColumnType) {
     let mut value = [0u8; MOST_BYTES + 1];
     let length = io::read_full(STDIN_FILENO, &mut value);
-    if column_lines::print_read(column::read(c, &value[..length])) {
-        io::write_all(STDOUT_FILENO, b"\n");
-    }
+    let mut line = [0u8; LINE_ROOM];
+    let count = column_text::read_line(column::read(c, &value[..length]), &mut line);
+    io::write_all(STDOUT_FILENO, &line[..count]);
 }
 
 fn print_usage() {
@@ -50,63 +44,70 @@ fn print_usage() {
     );
 }
 
-fn read_arguments() -> Arguments {
+// Whether the arguments are five numbers of 32 bits.
+fn arguments_right() -> bool {
     if os::arg_count() != ARGUMENTS {
-        return Arguments::Odd;
+        return false;
     }
-    let Argument::Number(physical) = argument_at(1) else {
-        return Arguments::Odd;
-    };
-    let Argument::Number(type_length) = argument_at(2) else {
-        return Arguments::Odd;
-    };
-    let Argument::Number(kind) = argument_at(3) else {
-        return Arguments::Odd;
-    };
-    let Argument::Number(p1) = argument_at(4) else {
-        return Arguments::Odd;
-    };
-    let Argument::Number(p2) = argument_at(5) else {
-        return Arguments::Odd;
-    };
-    Arguments::Type(ColumnType {
+    let mut i = 1;
+    while i < ARGUMENTS {
+        if argument_at(i) > GREATEST {
+            return false;
+        }
+        i += 1;
+    }
+    true
+}
+
+fn read_type() -> ColumnType {
+    let physical = number_at(1);
+    let type_length = number_at(2);
+    let kind = number_at(3);
+    let p1 = number_at(4);
+    let p2 = number_at(5);
+    ColumnType {
         physical,
         type_length,
         kind,
         p1,
         p2,
-    })
+    }
+}
+
+fn number_at(i: usize) -> u32 {
+    let n = argument_at(i);
+    if n > GREATEST {
+        return 0;
+    }
+    n as u32
 }
 
 // An argument that is missing or does not fit the room is read as no digits.
-fn argument_at(i: usize) -> Argument {
+fn argument_at(i: usize) -> u64 {
     let mut text = [0u8; DIGITS];
     let length = os::arg(i, &mut text);
     number(&text[..length])
 }
 
 // The number of decimal digits, if it has one and fits 32 bits.
-fn number(text: &[u8]) -> Argument {
+fn number(text: &[u8]) -> u64 {
     if text.len() == 0 {
-        return Argument::Odd;
+        return NO_NUMBER;
     }
     let mut n: u64 = 0;
     let mut i = 0;
     while i < text.len() {
-        let digit = text[i];
-        if digit < b'0' {
-            return Argument::Odd;
+        let digit = std::num::wrapping_sub_u8(text[i], b'0');
+        if digit > 9 {
+            return NO_NUMBER;
         }
-        if digit > b'9' {
-            return Argument::Odd;
-        }
-        n = n * 10 + wide(digit - b'0');
+        n = n * 10 + wide(digit);
         if n > GREATEST {
-            return Argument::Odd;
+            return NO_NUMBER;
         }
         i += 1;
     }
-    Argument::Number(n as u32)
+    n
 }
 
 fn wide(digit: u8) -> u64

@@ -7,6 +7,9 @@ use schema::Rewritten;
 // The most bytes that a sheet has.
 const MOST_BYTES: usize = 65536;
 
+// Room for any refusal's line: two numbers of 64 bits, the words before them and the line's end.
+const REFUSAL_ROOM: usize = 53;
+
 // Reads to the end of the input, or to the first byte past the most: what is longer is refused for its length.
 fn main() {
     let mut sheet = [0u8; MOST_BYTES + 1];
@@ -26,15 +29,12 @@ fn write_answer(sheet: &[u8]) {
     }
 }
 
+// Prints `refused N at P`, for which there is room.
 fn print_refusal(refusal: Refusal) {
-    if print_number(b"refused ", refusal.number as u64, b' ') {
-        print_number(b"at ", refusal.place as u64, b'\n');
+    let mut line = [0u8; REFUSAL_ROOM];
+    let told = text::put_refusal(&mut line, 0, refusal.number as u64, refusal.place as u64);
+    let end = text::put(&mut line, told, b"\n");
+    if end <= line.len() {
+        io::write_all(STDOUT_FILENO, &line[..end]);
     }
-}
-
-// Prints a number between a text and a byte, and answers whether all was written.
-fn print_number(before: &[u8], n: u64, after: u8) -> bool {
-    io::write_all(STDOUT_FILENO, before)
-        && io::print_decimal(STDOUT_FILENO, n)
-        && io::write_all(STDOUT_FILENO, &[after])
 }

@@ -3,19 +3,20 @@
 //
 // Standard input is a count, and then each sheet as the length of its bytes, the node, the other node, the length of the
 // text, the text and the bytes. Each number is four bytes, the least first.
-ghost use mathlib.Core.Path.{_≡_};
-ghost use lib.ListN.{length};
 use libc::STDIN_FILENO;
 use libc::STDOUT_FILENO;
 use sheet::Opened;
-use sheet::Slot;
-use sheet::Stretch;
 
+// Room for a sheet of two blocks more than there may be, for a text, and for a line.
 const SHEET_ROOM: usize = 66560;
 
+const TEXT_ROOM: usize = 4096;
+
+const LINE_ROOM: usize = 512;
+
 fn main() {
-    let mut sheet = sheet_room();
-    let mut text = io::buffer();
+    let mut sheet = [0u8; SHEET_ROOM];
+    let mut text = [0u8; TEXT_ROOM];
     run(&mut sheet, &mut text, read_number());
 }
 
@@ -49,70 +50,48 @@ fn read_and_answer(sheet: &mut [u8], node: usize, other: usize, text: &mut [u8])
     answer(sheet, node, other, text);
 }
 
+// Prints the line of a sheet that was read. There is room for each.
 fn answer(bytes: &[u8], node: usize, other: usize, text: &[u8]) {
-    print_opened(sheet::open(bytes));
-    print_slot(sheet::slot_at(bytes, node));
-    print_stretch(sheet::name_stretch(bytes, node));
-    print_truth(b" is ", sheet::name_is(bytes, node, text));
-    print_truth(b" with ", sheet::name_is_with(bytes, node, other, text));
-    print(b"\n");
+    let mut line = [0u8; LINE_ROOM];
+    let opened = put_opened(&mut line, sheet::open(bytes));
+    let slot = put_slot(&mut line, opened, bytes, node);
+    let end = put_names(&mut line, slot, bytes, node, other, text);
+    if end <= line.len() {
+        io::write_all(STDOUT_FILENO, &line[..end]);
+    }
 }
 
-fn print_opened(opened: Opened) {
+fn put_opened(line: &mut [u8], opened: Opened) -> usize {
     match opened {
-        Opened::Nodes(total) => print_number(b"nodes ", total as u64),
-        Opened::BadLength => print(b"refused 1 at 0"),
-        Opened::BadCheck(block) => print_number(b"refused 2 at ", block as u64),
-        Opened::BadHeader(block) => print_number(b"refused 3 at ", block as u64),
-        Opened::BadSlot(node) => print_number(b"refused 4 at ", node as u64),
+        Opened::Nodes(total) => {
+            let word = text::put(line, 0, b"nodes ");
+            text::put_decimal(line, word, total as u64)
+        }
+        _ => slot_text::put_opened(line, 0, opened),
     }
 }
 
-fn print_slot(slot: Slot) {
-    print_number(b" slot ", slot.physical as u64);
-    print_number(b" ", slot.repetition as u64);
-    print_number(b" ", slot.converted as u64);
-    print_number(b" ", slot.logical as u64);
-    print_number(b" ", slot.a as u64);
-    print_number(b" ", slot.b as u64);
-    print_number(b" ", slot.children as u64);
-    print_signed(slot.type_length);
-    print_signed(slot.scale);
-    print_signed(slot.precision);
-    print_number(b" ", slot.name_length as u64);
+fn put_slot(line: &mut [u8], at: usize, bytes: &[u8], node: usize) -> usize {
+    let slot = text::put(line, at, b" slot ");
+    let numbers = slot_text::put_slot(line, slot, sheet::slot_at(bytes, node));
+    let name = text::put(line, numbers, b" name ");
+    slot_text::put_stretch(line, name, sheet::name_stretch(bytes, node))
 }
 
-fn print_stretch(stretch: Stretch) {
-    print_number(b" name ", stretch.start as u64);
-    print_number(b" ", stretch.len as u64);
-}
-
-fn print_truth(before: &[u8], truth: bool) {
-    print_number(before, truth as u64);
-}
-
-fn print_signed(z: i32) {
-    if z < 0 {
-        print_number(b" -", (0 - z as i64) as u64);
-    } else {
-        print_number(b" ", z as u64);
-    }
-}
-
-fn print_number(before: &[u8], n: u64) {
-    print(before);
-    io::print_decimal(STDOUT_FILENO, n);
-}
-
-fn print(text: &[u8]) {
-    io::write_all(STDOUT_FILENO, text);
-}
-
-// Room for a sheet of two blocks more than there may be.
-fn sheet_room() -> [u8; SHEET_ROOM]
-    ensures { λ r. ⌜ 66560 ≡ length r ⌝ }
-{
-    [0; SHEET_ROOM]
+fn put_names(
+    line: &mut [u8],
+    at: usize,
+    bytes: &[u8],
+    node: usize,
+    other: usize,
+    text: &[u8],
+) -> usize {
+    let is = text::put(line, at, b" is ");
+    let one = text::put_decimal(line, is, sheet::name_is(bytes, node, text) as u64);
+    let with = text::put(line, one, b" with ");
+    let both = sheet::name_is_with(bytes, node, other, text) as u64;
+    let end = text::put_decimal(line, with, both);
+    text::put(line, end, b"\n")
 }
 
 // The next number of standard input; past its end, zeros.

@@ -24,7 +24,7 @@ item-later zero n e = absurd (e refl)
 item-later (suc i) n e = refl
 
 -- a text behind others
-spaced-snoc : (t u : List ℕ) (ts : List (List ℕ)) → spaced ((t ∷ ts) ++ (u ∷ [])) ≡ spaced (t ∷ ts) ++ SPACE ∷ u
+pub spaced-snoc : (t u : List ℕ) (ts : List (List ℕ)) → spaced ((t ∷ ts) ++ (u ∷ [])) ≡ spaced (t ∷ ts) ++ SPACE ∷ u
 unfolding spaced
 spaced-snoc t u [] = refl
 spaced-snoc t u (s ∷ ts) =

@@ -7,13 +7,14 @@ use mathlib.Core.Path.{_≡_, refl, ap, subst, _∙_}
 use native.Mathlib.Nat.{lt-of-lt-of-le, pow-le-pow-right, pow-suc}
 use native.Mathlib.Omega.{arith}
 use lib.Dec.{ltb}
+use lib.IntN.{ℤ, pos, negsuc}
 use lib.ListN.{length, length-append}
 use mir.Syntax.{w64}
-use mir.Val.{Fits}
+use mir.Val.{Fits, SFits}
 use borrow.Author.Tests.{ltb-true, ltb-false}
 use Rattle.io.specs.Digits.{digits, Fewest}
 use Rattle.laws.proofs.DifferenceLaws.{below?}
-use Rattle.text.specs.Numbers.{enoughDigits, digitCount, decimalText, hexText}
+use Rattle.text.specs.Numbers.{enoughDigits, digitCount, decimalText, signedText, hexText}
 
 pub length-digits : (b k n : ℕ) → length (digits b k n) ≡ k
 length-digits b zero n = refl
@@ -64,6 +65,10 @@ pub length-decimal : (n : ℕ) → length (decimalText n) ≡ digitCount n
 unfolding decimalText
 length-decimal n = length-digits 10 (digitCount n) n
 
+pub length-hex : (k n : ℕ) → length (hexText k n) ≡ k
+unfolding hexText
+length-hex k n = length-digits 16 k n
+
 -- a number below a power of ten has no more digits than the exponent
 pub digits-below : (n k : ℕ) → 1 ≤ k → n < 10 ^ k → length (decimalText n) ≤ k
 digits-below n k some below =
@@ -75,6 +80,12 @@ digits-below n k some below =
 -- a number of 64 bits has at most 20
 pub decimal-most : (n : ℕ) → Fits w64 n → length (decimalText n) ≤ 20
 decimal-most n h = digits-below n 20 (omega arith) (omega (arith, h))
+
+-- an integer of 64 bits takes no more, with its sign
+pub signed-most : (z : ℤ) → SFits w64 z → length (signedText z) ≤ 20
+unfolding signedText
+signed-most (pos n) h = decimal-most n (record { fits = omega (arith, h .sfits) })
+signed-most (negsuc n) h = omega (arith, digits-below (suc n) 19 (omega arith) (omega (arith, h .sfits)))
 
 -- a number that so many hexadecimal digits hold has just these
 pub fewest-hex : (k n j : ℕ) {text : List ℕ} → n < 16 ^ k → Fewest 16 k n j → text ≡ digits 16 j n → text ≡ hexText k n

@@ -67,6 +67,11 @@ after-after room at us vs = past-past room at (length us) (length vs) ∙ ap (po
 pub after-more : (room at : ℕ) {next last : ℕ} (us vs : List ℕ) → next ≡ positionAfter room at us → last ≡ positionAfter room next vs → last ≡ positionAfter room at (us ++ vs)
 after-more room at us vs e q = q ∙ ap (λ (p : ℕ). positionAfter room p vs) e ∙ after-after room at us vs
 
+-- a text that was put, by another definition of it
+pub put-as : (lent : List ℕ) (at : ℕ) {next : ℕ} {held us vs : List ℕ} → us ≡ vs
+    → (next ≡ positionAfter (length lent) at us) × (held ≡ placedText lent at us) → (next ≡ positionAfter (length lent) at vs) × (held ≡ placedText lent at vs)
+put-as lent at e put = (put .0 ∙ ap (positionAfter (length lent) at) e, put .1 ∙ ap (placedText lent at) e)
+
 -- storing keeps the number of the bytes
 pub length-stored : (lent : List ℕ) (at : ℕ) (text : List ℕ) → at + length text ≤ length lent → length (stored lent at text) ≡ length lent
 unfolding stored
@@ -149,6 +154,22 @@ holds-front {lent} {held} {next} {text} holds =
 
 pub holds-within : {lent held : List ℕ} {next : ℕ} {text : List ℕ} → Holds lent held 0 next text → next ≤ length held
 holds-within {lent} {held} {next} {text} holds = omega (arith, holds .end, holds .enough, holds-length holds)
+
+-- so that a text made in a room is counted
+pub holds-made : {lent held : List ℕ} {next : ℕ} {text : List ℕ} → Holds lent held 0 next text → ((next ≤ length held) × (next ≡ length (take next held))) × (take next held ≡ text)
+holds-made {lent} {held} {next} holds =
+    let within = holds-within holds in
+    ((within, sym (length-take-le next held within)), holds-front holds)
+
+-- and hold it among what they hold now
+pub holds-again : {lent held : List ℕ} {next : ℕ} {text : List ℕ} → Holds lent held 0 next text → Holds held held 0 next text
+unfolding stored
+holds-again {lent} {held} {next} {text} holds =
+    record {
+      enough = omega (arith, holds .enough, holds-length holds);
+      end = holds .end;
+      bytes = sym (take-append-drop next held) ∙ ap (λ (l : List ℕ). l ++ drop next held) (holds-front holds) ∙ ap (λ (k : ℕ). text ++ drop k held) (holds .end);
+    }
 
 pub holds-first : (byte : ℕ) (rest : List ℕ) → Holds (byte ∷ rest) (byte ∷ rest) 0 1 (byte ∷ [])
 unfolding stored

@@ -12,35 +12,18 @@ use Rattle.sheet_slots.proofs.print_step.Tie as tie
 slot-other : (slot : Numbers) (name : Stretch) → Slot slot name ≡ End → ⊥
 slot-other slot name e = let z : _≡_ {A = ℕ} 0 1 = cc in omega arith
 
-enum-known-step : tie.Need-enum-known-step
-enum-known-step c = search needs
-
-print-slot-requires : tie.Need-print-slot-requires
-print-slot-requires c κs = search needs
-
-print-name-requires : tie.Need-print-name-requires
-print-name-requires c κs = search needs
-
-enum-told : tie.Need-enum-told
-enum-told c = search needs
-
 returns : tie.Need-returns
-returns c = λ e. absurd (slot-other _ _ (sym (c .before .before .before .before .step .given .1) ∙ e))
-
-returns-2 : tie.Need-returns-2
-returns-2 c = search needs
-
-returns-3 : tie.Need-returns-3
-returns-3 c = search needs
+returns c = λ e. absurd (slot-other _ _ (sym (c .before .before .before .before .before .step .given .1) ∙ e))
 
 pub print-step-spec : {M : Type 1} → statement M
 print-step-spec =
     tie.close
     (tie.spec
-    enum-known-step
-    print-slot-requires
-    print-name-requires
-    enum-told
+    (λ c. search needs)
+    (λ c κs. search needs)
+    (λ c. search needs)
+    (λ c. search needs)
+    (λ c κs. search needs)
+    (λ c. search needs)
     returns
-    returns-2
-    returns-3)
+    (λ c. search needs))

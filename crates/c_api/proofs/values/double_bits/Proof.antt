@@ -1,6 +1,7 @@
 -- `c_api::values::double_bits` meets its contract: a float that differs from itself is the NaN, and any other has bits.
 use lib.Ieee.{binary64}
-use Rattle.c_api.proofs.ValueLaws.{nan-bits, number-bits, has-bits}
+use Rattle.column.proofs.FloatLaws.{has-bits}
+use Rattle.c_api.proofs.ValueLaws.{nan-bits, number-bits}
 use Rattle.c_api.proofs.values.double_bits.Statement.{statement}
 use Rattle.c_api.proofs.values.double_bits.Tie as tie
 
@@ -8,7 +9,7 @@ returns : tie.Need-returns
 returns c = nan-bits binary64 (c .before .args .x) (c .if1 .taken)
 
 float-to-bits-result : tie.Need-float-to-bits-result
-float-to-bits-result c = has-bits binary64 (c .before .args .x) (c .if1 .left)
+float-to-bits-result c = has-bits (c .before .args .x) (c .if1 .left)
 
 returns-2 : tie.Need-returns-2
 returns-2 c = number-bits binary64 (c .before .args .x) (c .if1 .left)

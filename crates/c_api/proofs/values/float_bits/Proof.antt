@@ -4,7 +4,8 @@ use borrow.Author.Needs.{needs}
 use lib.Dec.{T}
 use lib.Ieee.{binary32, fits}
 use lib.Ieee.Bits.{toBits-lt}
-use Rattle.c_api.proofs.ValueLaws.{nan-bits, number-bits, has-bits}
+use Rattle.column.proofs.FloatLaws.{has-bits}
+use Rattle.c_api.proofs.ValueLaws.{nan-bits, number-bits}
 use Rattle.c_api.proofs.values.float_bits.Statement.{statement}
 use Rattle.c_api.proofs.values.float_bits.Tie as tie
 
@@ -12,7 +13,7 @@ returns : tie.Need-returns
 returns c = nan-bits binary32 (c .before .args .x) (c .if1 .taken)
 
 float-to-bits-result : tie.Need-float-to-bits-result
-float-to-bits-result c = has-bits binary32 (c .before .args .x) (c .if1 .left)
+float-to-bits-result c = has-bits (c .before .args .x) (c .if1 .left)
 
 cast-result : tie.Need-cast-result
 cast-result c =

@@ -1,2 +1,0 @@
--- A law of floats.
-pub mod FloatLaws

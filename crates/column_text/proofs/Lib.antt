@@ -1,0 +1,4 @@
+-- Laws of values and answers as text.
+pub mod ValueLaws
+pub mod AnswerLaws
+pub mod Examples

@@ -1,0 +1,44 @@
+-- `column_text::answers::put_read` meets its contract.
+use Prim.Native.Nat.{ℕ}
+use mathlib.Core.Path.{sym, ap, _∙_}
+use native.Mathlib.Omega.{arith}
+use lib.ListN.{length}
+use Rattle.text.specs.Refusals.{refusalText}
+use Rattle.text.proofs.PlacingLaws.{put-as}
+use Rattle.column_text.specs.Answers.{readText}
+use Rattle.column_text.proofs.AnswerLaws.{read-refused, refused-most}
+use borrow.Author.Needs.{needs}
+use Rattle.column_text.proofs.answers.put_read.Statement.{statement}
+use Rattle.column_text.proofs.answers.put_read.Tie as tie
+
+returns : tie.Need-returns
+unfolding readText
+returns c =
+    let made = c .before .before .before .before .before .make-value .ensures in
+    let text = made .1 .0 ∙ ap readText (sym (c .before .before .before .before .before .before .before .before .r .given .1)) in
+    let put = put-as _ _ text (c .before .before .put .ensures) in
+    (put .0, (put .1, omega (arith, made .0 .1, made .1 .1, ap length text)))
+
+returns-2 : tie.Need-returns-2
+returns-2 c =
+    let case = c .before .before .before .before .before .match .keys2 in
+    let number = ap (λ (n : ℕ). refusalText n 0) (c .before .before .before .refusal .ensures) in
+    let put = put-as _ _ (number ∙ read-refused _ case) (c .before .before .put-refusal .ensures) in
+    (put .0, (put .1, refused-most _ case))
+
+pub put-read-spec : {M : Type 1} → statement M
+put-read-spec =
+    tie.close
+    (tie.spec
+    (λ c. search needs)
+    (λ c κs. search needs)
+    (λ c. search needs)
+    (λ c. search needs)
+    (λ c κs. search needs)
+    (λ c κs. search needs)
+    (λ c. search needs)
+    (λ c κs. search needs)
+    (λ c. search needs)
+    returns
+    (λ c. search needs)
+    returns-2)
