@@ -40,10 +40,11 @@ make-float-spec =
     tie.close
     (tie.spec
     (λ c. search needs)
-    (λ c κs. search needs)
+    (λ c κs. tt)
     (λ c. search needs)
-    (λ c κs. search needs)
+    (λ c κs. tt)
     returns
     float-to-bits
-    (λ c κs. search needs)
+    (λ c κs. tt)
     returns-2)
+-- x

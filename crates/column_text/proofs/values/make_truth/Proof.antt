@@ -24,8 +24,9 @@ make-truth-spec =
     tie.close
     (tie.spec
     (λ c. search needs)
-    (λ c κs. search needs)
+    (λ c κs. tt)
     returns
     (λ c. search needs)
-    (λ c κs. search needs)
+    (λ c κs. tt)
     returns-2)
+-- x
