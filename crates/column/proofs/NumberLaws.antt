@@ -4,8 +4,7 @@ use mathlib.Core.Bool.{Bool, true, false, _&&_}
 use mathlib.Core.List.{List}
 use mathlib.Core.Logic.{⊎-elim}
 use Prim.Native.Nat.{ℕ, zero, suc, _+_, _-_, _*_, _/_, _^_, _<_, _≤_}
-use native.Mathlib.Nat.{lt-of-lt-of-le, one-mul, div-eq-of-lt, div-lt-iff-lt-mul, div-div-eq-div-mul, pow-suc, one-le-pow, pow-le-pow-right, two-pow-succ}
-use native.Mathlib.Numerals.{add-one}
+use native.Mathlib.Nat.{one-mul, div-eq-of-lt, div-lt-iff-lt-mul, pow-suc, two-pow-succ}
 use native.Mathlib.Omega.{arith}
 use lib.Dec.{leb, ltb, eqb, leb·suc-suc}
 use lib.IntN.{ℤ, pos, negsuc, negℤ}
@@ -16,6 +15,7 @@ use lib.Signed.{mag, leZ, ltZ}
 use borrow.Author.Tests.{lt-ltb, le-ltb, ltb-true, ltb-false, eq-eqb, ne-eqb}
 use Rattle.laws.proofs.DifferenceLaws.{sub-below, sub-above}
 use Rattle.decimal.proofs.NumberLaws.{lt-or-ge}
+use Rattle.decimal.proofs.WordLaws.{ltb-same}
 use Rattle.column.specs.Numbers.{little, twosComplement}
 use Rattle.column.specs.Annotations.{inSignedBits}
 
@@ -62,16 +62,6 @@ twos-mag-< weight n h = ⊎-elim below above (lt-or-ge n weight)
 
 -- ---- ranges
 
--- two tests that hold of the same numbers are the same
-pub ltb-same : (a b c d : ℕ) → (a < b → c < d) → (c < d → a < b) → ltb a b ≡ ltb c d
-ltb-same a b c d f g = go (ltb a b) refl (ltb c d) refl
-  where
-    go : (t : Bool) → ltb a b ≡ t → (u : Bool) → ltb c d ≡ u → t ≡ u
-    go true p true q = refl
-    go false p false q = refl
-    go true p false q = absurd (let h = f (ltb-true a b p) in let k = ltb-false c d q in omega arith)
-    go false p true q = absurd (let h = g (ltb-true c d q) in let k = ltb-false a b p in omega arith)
-
 -- nothing is left of a number divided by a greater one
 pub div-eqb : (n d : ℕ) → 0 < d → eqb (n / d) 0 ≡ ltb n d
 div-eqb n d h = go (ltb n d) refl
@@ -80,20 +70,6 @@ div-eqb n d h = go (ltb n d) refl
     go true p = eq-eqb _ _ (div-eq-of-lt (ltb-true n d p))
     go false p =
         ne-eqb _ _ (λ (e : n / d ≡ 0). let k = div-lt-iff-lt-mul {x = n} {y = 1} h .0 (omega arith) in let l = one-mul d in let m = ltb-false n d p in omega arith)
-
-module _ (n gone left : ℕ) where
-  -- no digit is left before all are gone
-  pub digits-none : (precision : ℕ) → gone ≤ precision → left ≡ n / 10 ^ gone → left ≡ 0 → ltb n (10 ^ precision) ≡ true
-  digits-none precision h e z =
-      lt-ltb _ _ (lt-of-lt-of-le (ltb-true _ _ (sym (div-eqb n (10 ^ gone) (one-le-pow gone 10 (omega arith))) ∙ eq-eqb _ _ (sym e ∙ z))) (pow-le-pow-right {n = 10} (omega arith) h))
-
-  -- one more is gone
-  pub digits-next : left ≡ n / 10 ^ gone → left / 10 ≡ n / 10 ^ (gone + 1)
-  digits-next e = rw (add-one, pow-suc, ← div-div-eq-div-mul) (ap (λ (m : ℕ). m / 10) e)
-
-  -- all are gone
-  pub digits-all : (precision : ℕ) → gone ≡ precision → left ≡ n / 10 ^ gone → eqb left 0 ≡ ltb n (10 ^ precision)
-  digits-all precision g e = rw (e, g) (div-eqb n (10 ^ precision) (one-le-pow precision 10 (omega arith)))
 
 doubled : (m n : ℕ) → ltb (m * 2) (2 ^ n) ≡ ltb m (2 ^ (n - 1))
 doubled m zero = ltb-same (m * 2) 1 m 1 (λ h. omega arith) (λ h. omega arith)

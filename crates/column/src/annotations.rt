@@ -14,9 +14,9 @@ use crate::codes;
 use crate::numbers::absolute;
 use crate::numbers::folded;
 use crate::numbers::in_bits;
-use crate::numbers::in_digits;
 use column_type::ColumnType;
 use decimal::Fit;
+use decimal::is_below_power;
 use timestamp::DayTicks;
 
 // Whether the column's values are INT(n, false).
@@ -44,7 +44,7 @@ pub(crate) fn whole_keeps(c: ColumnType, n: u64, weight: u64) -> bool
         return in_day(n, weight, c.p1);
     }
     if c.kind == codes::DECIMAL {
-        return in_digits(absolute(n, weight), c.p1);
+        return is_below_power(absolute(n, weight), c.p1);
     }
     true
 }

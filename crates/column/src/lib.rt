@@ -17,6 +17,7 @@ pub mod value;
 
 pub use lengths::is_byte_decimal;
 pub use reading::read;
+pub use reading::read_lawful;
 pub use value::Read;
 pub use value::Value;
 pub use value::refusal;

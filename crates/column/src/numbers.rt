@@ -79,19 +79,3 @@ pub(crate) fn in_bits(n: u64, bits: u32) -> bool
     }
     n >> bits == 0
 }
-
-// Whether `n` is below 10^precision: whether no digit is left once so many are gone.
-pub(crate) fn in_digits(n: u64, precision: u32) -> bool
-    ensures { λ r. ⌜ r ≡ ltb n (10 ^ precision) ⌝ }
-{
-    let mut left = n;
-    let mut gone = 0;
-    while gone < precision {
-        if left == 0 {
-            return true;
-        }
-        left /= 10;
-        gone += 1;
-    }
-    left == 0
-}

@@ -1,22 +1,25 @@
 // Reading one value of a column.
 ghost use mathlib.Core.Path.{_≡_};
-ghost use mathlib.Core.Bool.{true, false};
+ghost use mathlib.Core.Bool.{true, false, cond};
 ghost use Prim.Native.Nat.{_*_, _<_, _≤_, _^_};
 ghost use lib.Dec.{eqb};
 ghost use lib.ListN.{length};
 ghost use Rattle.decimal.specs.Precision.{isLength};
+ghost use Rattle.parquet.specs.Physical.{INT32};
 ghost use Rattle.parquet.specs.Logical.{DECIMAL, UNKNOWN};
 ghost use Rattle.column.specs.Numbers.{little, twosComplement};
-ghost use Rattle.column.specs.Lengths.{lengthRight};
-ghost use Rattle.column.specs.Annotations.{isTruth, wholeKeeps, bytesKeep, keeps};
+ghost use Rattle.column.specs.Lengths.{isByteForm, lengthRight};
+ghost use Rattle.column.specs.Annotations.{isWhole, isTruth, wholeKeeps, bytesKeep, keeps};
 ghost use Rattle.column.specs.Reading.{wholeValue, valueOf, checked, readOf};
 ghost use Rattle.column.specs.Outcome.{outcomeOf, outcome};
+ghost use Rattle.column.specs.Steps.{readLawful};
 use crate::annotations::bytes_keep;
 use crate::annotations::is_unsigned;
 use crate::annotations::whole_keeps;
 use crate::codes;
 use crate::floats::double_of;
 use crate::floats::float_of;
+use crate::lengths::is_byte_form;
 use crate::lengths::length_right;
 use crate::numbers::INT32_SIGN;
 use crate::numbers::INT64_SIGN;
@@ -34,6 +37,13 @@ pub fn read(c: ColumnType, value: &[u8]) -> Read
     if !column_type::is_lawful(c) {
         return Read::Unlawful;
     }
+    read_lawful(c, value)
+}
+
+// The same behind the check of the column type, for a caller that made it: 15, then 16, whether or not the column type is lawful.
+pub fn read_lawful(c: ColumnType, value: &[u8]) -> Read
+    ensures { λ r. ⌜ r ≡ readLawful c (now (value .entry)) ⌝ }
+{
     if !length_right(c, value.len()) {
         return Read::WrongLength;
     }
@@ -48,17 +58,44 @@ fn read_present(c: ColumnType, value: &[u8]) -> Read
     requires { ⌜ (lengthRight c (length (now value)) ≡ true) × (eqb (c .kind) UNKNOWN ≡ false) ⌝ }
     ensures { λ r. ⌜ r ≡ checked (keeps c (now (value .entry))) (valueOf c (now (value .entry))) ⌝ }
 {
+    if is_byte_form(c) {
+        return read_bytes(c, value);
+    }
+    if is_whole(c) {
+        return read_whole(c, little(value), sign_weight(c.physical));
+    }
+    read_other(c, value)
+}
+
+// Reads what is neither a whole number nor of a byte form.
+fn read_other(c: ColumnType, value: &[u8]) -> Read
+    requires { ⌜ (lengthRight c (length (now value)) ≡ true) × (isWhole c ≡ false) × (isByteForm c ≡ false) × (eqb (c .kind) UNKNOWN ≡ false) ⌝ }
+    ensures { λ r. ⌜ r ≡ checked (keeps c (now (value .entry))) (valueOf c (now (value .entry))) ⌝ }
+{
     let physical = c.physical;
     match physical {
         codes::BOOLEAN => read_truth(little(value)),
-        codes::INT32 => read_whole(c, little(value), INT32_SIGN),
-        codes::INT64 => read_whole(c, little(value), INT64_SIGN),
         codes::FLOAT => Read::Value(Value::Float(float_of(little(value) as u32))),
         codes::DOUBLE => Read::Value(Value::Double(double_of(little(value)))),
-        codes::BYTE_ARRAY => read_bytes(c, value),
-        codes::FIXED_LEN_BYTE_ARRAY => read_bytes(c, value),
         _ => Read::Value(stretch(value.len())),
     }
+}
+
+// Whether values are INT32 or INT64.
+fn is_whole(c: ColumnType) -> bool
+    ensures { λ r. ⌜ r ≡ isWhole c ⌝ }
+{
+    c.physical == codes::INT32 || c.physical == codes::INT64
+}
+
+// The weight of the first bit of a whole number of this physical type.
+fn sign_weight(physical: u32) -> u64
+    ensures { λ r. ⌜ r ≡ cond (eqb physical INT32) (2 ^ 31) (2 ^ 63) ⌝ }
+{
+    if physical == codes::INT32 {
+        return INT32_SIGN;
+    }
+    INT64_SIGN
 }
 
 // A truth value: 0 or 1.

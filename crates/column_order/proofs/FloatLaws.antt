@@ -19,7 +19,7 @@ use lib.IntN.{ℤ, pos, negℤ}
 use lib.Signed.{ltZ}
 use borrow.Author.Tests.{not-false, lt-ltb, le-ltb, ltb-true, ltb-false, eq-eqb, ne-eqb, eqb-true, eqb-false}
 use Rattle.decimal.proofs.NumberLaws.{lt-or-ge}
-use Rattle.column.proofs.NumberLaws.{ltb-same}
+use Rattle.decimal.proofs.WordLaws.{ltb-same}
 use Rattle.column.proofs.FloatLaws.{nan-above}
 use Rattle.column_order.specs.Keys.{whole, none, floatKey, wholeOrder, keyOrder}
 use Rattle.column_order.specs.Values.{floatOrder}

@@ -28,7 +28,7 @@ pub fn order(c: ColumnType, a: &[u8], b: &[u8]) -> Order
     if !has_order(c) {
         return Order::NoOrder;
     }
-    match column::read(c, a) {
+    match column::read_lawful(c, a) {
         Read::Value(x) => order_after(c, x, a, b),
         Read::Unlawful => Order::Unlawful,
         Read::WrongLength => Order::WrongLength,
@@ -51,7 +51,7 @@ fn order_after(c: ColumnType, x: Value, a: &[u8], b: &[u8]) -> Order
     requires { ⌜ readOf c (now a) ≡ declared.Read.Value x ⌝ }
     ensures { λ r. ⌜ r ≡ unlessRefused (readOf c (now (b .entry))) (keyOrder (keyOf c (now (a .entry))) (keyOf c (now (b .entry)))) ⌝ }
 {
-    match column::read(c, b) {
+    match column::read_lawful(c, b) {
         Read::Value(y) => order_read(c, x, a, y, b),
         Read::Unlawful => Order::Unlawful,
         Read::WrongLength => Order::WrongLength,

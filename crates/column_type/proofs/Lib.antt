@@ -9,3 +9,4 @@ pub mod LeafTree
 pub mod SpeltLaws
 pub mod LawfulLaws
 pub mod Points
+pub mod DecimalLaws

@@ -1,14 +1,18 @@
 // Whether a column type is lawful: whether the slot of such a leaf keeps the rules.
 ghost use Prim.Native.Nat.{_<_};
 ghost use mathlib.Core.Path.{_≡_};
-ghost use mathlib.Core.Bool.{true};
+ghost use mathlib.Core.Bool.{true, _&&_};
 ghost use lib.IntN.{pos};
+ghost use Rattle.annotation.specs.Rule10.{decimalOn};
+ghost use Rattle.annotation.specs.Rule11.{physicalHolds, fixedHolds};
 ghost use Rattle.tree.specs.Rules.{lengthShape};
 ghost use Rattle.column_type.specs.Lawful.{slotWith, slotOf, byteNumbers, signedNumbers, parameterNumbers, fits, isLeaf, annotationRight, isLawful};
 use crate::types::ColumnType;
 use annotation::Annotated;
 use annotation::refusal;
 use annotation::resolve;
+use decimal::greatest_precision;
+use decimal::is_length;
 use logical_type::parameters;
 use parquet::converted;
 use parquet::logical;
@@ -18,6 +22,19 @@ use parquet::physical;
 const BYTE_NUMBERS: u32 = 256;
 
 const SIGNED_NUMBERS: u32 = 2147483648;
+
+// The physical types that a DECIMAL stands on, and the greatest precisions on two of them.
+const INT32: u32 = physical::INT32 as u32;
+
+const INT64: u32 = physical::INT64 as u32;
+
+const BYTE_ARRAY: u32 = physical::BYTE_ARRAY as u32;
+
+const FIXED_LEN_BYTE_ARRAY: u32 = physical::FIXED_LEN_BYTE_ARRAY as u32;
+
+const INT32_DIGITS: u32 = 9;
+
+const INT64_DIGITS: u32 = 18;
 
 // The number of no refusal.
 const NO_REFUSAL: u32 = 0;
@@ -29,7 +46,7 @@ pub fn is_lawful(c: ColumnType) -> bool
     if !fits_slot(c) {
         return false;
     }
-    is_leaf(c.physical) & length_right(c.physical, c.type_length) & annotation_right(slot(c))
+    is_leaf(c.physical) & length_right(c.physical, c.type_length) & rules_kept(c)
 }
 
 // Whether each number fits its field of a slot.
@@ -70,6 +87,36 @@ fn length_right(physical: u32, type_length: u32) -> bool
         return 1 <= type_length;
     }
     type_length == 0
+}
+
+// Whether the slot of such a leaf keeps rules 9, 10 and 11. A DECIMAL is judged without its slot.
+fn rules_kept(c: ColumnType) -> bool
+    requires { ⌜ fits c ≡ true ⌝ }
+    ensures { λ r. ⌜ r ≡ annotationRight (slotOf c) ⌝ }
+{
+    if c.kind == wide(logical::DECIMAL) {
+        return (c.p2 < c.p1) & holds_digits(c.physical, c.type_length, c.p1);
+    }
+    annotation_right(slot(c))
+}
+
+// Whether a DECIMAL of this precision may stand on a physical type and length, by rules 10 and 11.
+fn holds_digits(physical: u32, type_length: u32, precision: u32) -> bool
+    ensures { λ r. ⌜ r ≡ decimalOn physical && physicalHolds physical «type_length» precision ⌝ }
+{
+    match physical {
+        INT32 => precision <= INT32_DIGITS,
+        INT64 => precision <= INT64_DIGITS,
+        BYTE_ARRAY => true,
+        FIXED_LEN_BYTE_ARRAY => fixed_holds(type_length, precision),
+        _ => false,
+    }
+}
+
+fn fixed_holds(type_length: u32, precision: u32) -> bool
+    ensures { λ r. ⌜ r ≡ fixedHolds «type_length» precision ⌝ }
+{
+    is_length(type_length as usize) & (precision <= greatest_precision(type_length))
 }
 
 // Whether a slot keeps rules 9, 10 and 11, its parent no MAP.

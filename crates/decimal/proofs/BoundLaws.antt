@@ -49,10 +49,10 @@ negative-mod (suc n) (suc t) h k =
 -- ---- the sign of bytes, from their unsigned number
 
 module _ (b : ℕ) (bs : List ℕ) (h : Bytes (b ∷ bs)) where
-  sign-clear : unsigned (b ∷ bs) < 128 * 256 ^ length bs → leb 128 b ≡ false
+  pub sign-clear : unsigned (b ∷ bs) < 128 * 256 ^ length bs → leb 128 b ≡ false
   sign-clear l = lt-leb 128 b (lt-of-mul-lt-mul-right (256 ^ length bs) (lt-of-le-of-lt (le-add-right _ _) l))
 
-  sign-set : 128 * 256 ^ length bs ≤ unsigned (b ∷ bs) → leb 128 b ≡ true
+  pub sign-set : 128 * 256 ^ length bs ≤ unsigned (b ∷ bs) → leb 128 b ≡ true
   sign-set l =
       le-leb 128 b
       (le-of-suc-le-suc

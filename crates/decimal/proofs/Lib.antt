@@ -1,6 +1,7 @@
 pub mod Table
 pub mod PrecisionLaws
 pub mod UnsignedLaws
+pub mod WordLaws
 pub mod NumberLaws
 pub mod OrderLaws
 pub mod PowerLaws

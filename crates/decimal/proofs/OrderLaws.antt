@@ -8,7 +8,7 @@ use Prim.Native.Nat.{ℕ, suc, _+_, _-_, _^_, _≤_, _<_}
 use native.Mathlib.Nat.{le-refl, le-of-lt, le-antisymm, lt-irrefl, not-suc-le-zero, sub-add-cancel}
 use native.Mathlib.Numerals.{add-one}
 use native.Mathlib.Omega.{arith}
-use lib.Dec.{T, leb}
+use lib.Dec.{T, leb, ltb}
 use lib.IntN.{ℤ, pos, negsuc, subℕ}
 use lib.ListN.{length, getD, take, replicate, length-append, length-replicate}
 use lib.Seq.{take-all, take-suc}
@@ -119,6 +119,28 @@ number-first i a b h e s k t l =
     ap₂ ltZ (number-by a (isNegative b) s)
     (number-by b (isNegative b) refl ∙ ap (λ (n : ℕ). subℕ (unsigned b) (cond (isNegative b) (256 ^ n) 0)) (sym e))
     ∙ subℕ-monotone (unsigned a) (unsigned b) (cond (isNegative b) (256 ^ length a) 0) (unsigned-first i a b h e k t l)
+
+-- such numbers compare as the unsigned ones do
+alike-ltZ : (a b : List ℕ) → length a ≡ length b → isNegative a ≡ isNegative b → ltZ (number a) (number b) ≡ ltb (unsigned a) (unsigned b)
+alike-ltZ a b e s =
+    ap₂ ltZ (number-by a (isNegative b) s)
+    (number-by b (isNegative b) refl ∙ ap (λ (n : ℕ). subℕ (unsigned b) (cond (isNegative b) (256 ^ n) 0)) (sym e))
+    ∙ go (cond (isNegative b) (256 ^ length a) 0) (ltb (unsigned a) (unsigned b)) refl (ltb (unsigned b) (unsigned a)) refl
+  where
+    go : (k : ℕ) (t : Bool) → ltb (unsigned a) (unsigned b) ≡ t → (u : Bool) → ltb (unsigned b) (unsigned a) ≡ u
+        → ltZ (subℕ (unsigned a) k) (subℕ (unsigned b) k) ≡ ltb (unsigned a) (unsigned b)
+    go k true p u q = subℕ-monotone (unsigned a) (unsigned b) k (ltb-true _ _ p) ∙ sym p
+    go k false p true q =
+        ltZ-asym (subℕ (unsigned b) k) (subℕ (unsigned a) k) (subℕ-monotone (unsigned b) (unsigned a) k (ltb-true _ _ q)) ∙ sym p
+    go k false p false q =
+        ap (λ (n : ℕ). ltZ (subℕ (unsigned a) k) (subℕ n k)) (le-antisymm (ltb-false _ _ p) (ltb-false _ _ q))
+        ∙ ltZ-irrefl (subℕ (unsigned a) k) ∙ sym p
+
+pub alike-order : (a b : List ℕ) → length a ≡ length b → signByte a ≡ signByte b → (t u : Bool)
+    → ltb (unsigned a) (unsigned b) ≡ t → ltb (unsigned b) (unsigned a) ≡ u → cond t Less (cond u Greater Equal) ≡ order (number a) (number b)
+alike-order a b e s t u p q =
+    let n : isNegative a ≡ isNegative b = sym (isNegative-sign a) ∙ ap (leb 128) s ∙ isNegative-sign b in
+    sym (ap₂ (λ (x y : Bool). cond x Less (cond y Greater Equal)) (alike-ltZ a b e n ∙ p) (alike-ltZ b a (sym e) (sym n) ∙ q))
 
 -- ---- two numbers of one sign, each with the sign in front up to one width
 

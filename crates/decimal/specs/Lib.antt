@@ -5,3 +5,4 @@ pub mod Order
 pub mod Fit
 pub mod Outcome
 pub mod Significant
+pub mod Words

@@ -4,6 +4,7 @@ use crate::order;
 use crate::order::Order;
 use crate::power;
 use crate::precision;
+use crate::words;
 ghost use mathlib.Core.Path.{_≡_};
 ghost use mathlib.Core.Bool.{true};
 ghost use Prim.Native.Nat.{_≤_};
@@ -28,7 +29,22 @@ pub fn fits_precision(number: &[u8], precision: u32) -> Fit
     if !precision::is_length(number.len()) {
         return Fit::WrongLength;
     }
+    if number.len() == words::WIDE {
+        return fits_wide(number, precision);
+    }
     fits_by_length(number::significant(number), precision)
+}
+
+// Holds a number of 16 bytes to a precision.
+fn fits_wide(number: &[u8], precision: u32) -> Fit
+    requires { ⌜ length (now number) ≡ 16 ⌝ }
+    ensures { λ r. ⌜ r ≡ fitOf (now (number .entry)) precision ⌝ }
+{
+    let size = words::absolute(words::words_of(number));
+    if words::below_power(size, precision) {
+        return Fit::Within;
+    }
+    Fit::Beyond
 }
 
 // The number has n bytes, all needed, so |number| is at least 2^(8(n-1)-1), where n is not 1, and at most 2^(8n-1), which is no power

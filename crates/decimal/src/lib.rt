@@ -10,10 +10,13 @@ mod order;
 mod power;
 // The lengths, and the greatest precision of each.
 mod precision;
+// Numbers of 16 bytes, as two words.
+mod words;
 
 pub use fit::Fit;
 pub use fit::fits_precision;
 pub use order::Order;
 pub use order::compare;
+pub use power::is_below_power;
 pub use precision::greatest_precision;
 pub use precision::is_length;

@@ -1,6 +1,7 @@
 // The order of two decimals, as the numbers that they stand for.
 use crate::number;
 use crate::precision;
+use crate::words;
 ghost use mathlib.Core.Path.{_≡_};
 ghost use mathlib.Core.List.{_++_};
 ghost use Prim.Native.Nat.{_+_, _<_, max};
@@ -40,8 +41,38 @@ pub fn compare(a: &[u8], b: &[u8]) -> Order
     compare_alike(a, b, sign)
 }
 
-// Compares two numbers of one sign: once the shorter has its sign in front, the first byte that differs decides.
+// Compares two numbers of one sign: those of 16 bytes by words, others by bytes.
 fn compare_alike(a: &[u8], b: &[u8], sign: u8) -> Order
+    requires { ⌜ sign ≡ signByte (now a) ⌝ }
+    requires { ⌜ sign ≡ signByte (now b) ⌝ }
+    ensures { λ r. ⌜ r ≡ order (number (now (a .entry))) (number (now (b .entry))) ⌝ }
+{
+    if a.len() == words::WIDE {
+        if b.len() == words::WIDE {
+            return compare_wide(a, b);
+        }
+    }
+    compare_bytes(a, b, sign)
+}
+
+// Compares two numbers of 16 bytes and one sign.
+fn compare_wide(a: &[u8], b: &[u8]) -> Order
+    requires { ⌜ (length (now a) ≡ 16) × (length (now b) ≡ 16) × (signByte (now a) ≡ signByte (now b)) ⌝ }
+    ensures { λ r. ⌜ r ≡ order (number (now (a .entry))) (number (now (b .entry))) ⌝ }
+{
+    let v = words::words_of(a);
+    let w = words::words_of(b);
+    if words::is_below(v, w) {
+        return Order::Less;
+    }
+    if words::is_below(w, v) {
+        return Order::Greater;
+    }
+    Order::Equal
+}
+
+// Compares two numbers of one sign: once the shorter has its sign in front, the first byte that differs decides.
+fn compare_bytes(a: &[u8], b: &[u8], sign: u8) -> Order
     requires { ⌜ sign ≡ signByte (now a) ⌝ }
     requires { ⌜ sign ≡ signByte (now b) ⌝ }
     ensures { λ r. ⌜ r ≡ order (number (now (a .entry))) (number (now (b .entry))) ⌝ }

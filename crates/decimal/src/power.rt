@@ -1,7 +1,8 @@
 // Powers of ten, as bytes.
 ghost use mathlib.Core.Path.{_≡_};
 ghost use mathlib.Core.Bool.{cond};
-ghost use Prim.Native.Nat.{_*_, _-_, _%_, _^_, _≤_};
+ghost use Prim.Native.Nat.{_*_, _-_, _%_, _^_, _≤_, _<_};
+ghost use lib.Dec.{ltb};
 ghost use lib.IntN.{pos, negℤ};
 ghost use lib.ListN.{length, replicate};
 ghost use Rattle.decimal.specs.Precision.{greatestNumber};
@@ -9,6 +10,9 @@ ghost use Rattle.decimal.specs.Number.{unsigned, number};
 
 // A byte times ten to this power, and a carry below that power, fit 64 bits.
 const STEP: u32 = 16;
+
+// The first exponent whose power of ten is above every number of 64 bits.
+const BEYOND_WORD: u32 = 20;
 
 // Writes 10^exponent, or its negative, over the bytes, which must be enough to hold it.
 pub(crate) fn write_power(bytes: &mut [u8], negative: bool, exponent: u32)
@@ -55,17 +59,43 @@ fn scale_by_power(bytes: &mut [u8], exponent: u32)
     scale(bytes, power_of_ten(left));
 }
 
-fn power_of_ten(exponent: u32) -> u64
-    requires { ⌜ exponent ≤ 16 ⌝ }
+// 10^exponent, which 64 bits hold.
+pub(crate) fn power_of_ten(exponent: u32) -> u64
+    requires { ⌜ exponent < 20 ⌝ }
     ensures { λ r. ⌜ r ≡ 10 ^ exponent ⌝ }
 {
-    let mut power: u64 = 1;
-    let mut at = 0;
-    while at < exponent {
-        power *= 10;
-        at += 1;
+    match exponent {
+        0 => 1,
+        1 => 10,
+        2 => 100,
+        3 => 1_000,
+        4 => 10_000,
+        5 => 100_000,
+        6 => 1_000_000,
+        7 => 10_000_000,
+        8 => 100_000_000,
+        9 => 1_000_000_000,
+        10 => 10_000_000_000,
+        11 => 100_000_000_000,
+        12 => 1_000_000_000_000,
+        13 => 10_000_000_000_000,
+        14 => 100_000_000_000_000,
+        15 => 1_000_000_000_000_000,
+        16 => 10_000_000_000_000_000,
+        17 => 100_000_000_000_000_000,
+        18 => 1_000_000_000_000_000_000,
+        _ => 10_000_000_000_000_000_000,
     }
-    power
+}
+
+// Whether a number of 64 bits is below 10^exponent.
+pub fn is_below_power(n: u64, exponent: u32) -> bool
+    ensures { λ r. ⌜ r ≡ ltb n (10 ^ exponent) ⌝ }
+{
+    if exponent >= BEYOND_WORD {
+        return true;
+    }
+    n < power_of_ten(exponent)
 }
 
 // Multiplies the number of the bytes by a factor, from the last byte to the first, modulo what the bytes can hold.
@@ -83,7 +113,7 @@ fn scale(bytes: &mut [u8], factor: u64)
     }
 }
 
-fn wide(byte: u8) -> u64
+pub(crate) fn wide(byte: u8) -> u64
     ensures { λ r. ⌜ r ≡ byte ⌝ }
 {
     byte as u64

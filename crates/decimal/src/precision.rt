@@ -1,12 +1,16 @@
 // The byte lengths of a decimal, and the greatest precision of each.
 ghost use mathlib.Core.Path.{_≡_};
-ghost use Rattle.decimal.specs.Precision.{isLength, greatestPrecision};
+ghost use Prim.Native.Nat.{_≤_};
+ghost use Rattle.decimal.specs.Precision.{greatestLength, isLength, greatestPrecision};
 
 // The greatest byte length of a decimal.
 pub(crate) const GREATEST_LENGTH: usize = 256;
 
-// At n - 1 the greatest d with 10^d <= 2^(8n-1) - 1, for n from 1 to 256.
-const GREATEST_PRECISION: [u32; GREATEST_LENGTH] = [
+// The table of the greatest d with 10^d <= 2^(8n-1) - 1, for n from 1 to 256, in two parts: a part is laid out on the stack where it is
+// read, and most decimals are short. Up to 16 bytes the entry of n stands at n - 1, and above in the second part at n - 17.
+const SHORT_LENGTH: usize = 16;
+
+const SHORT_PRECISION: [u32; SHORT_LENGTH] = [
     2,
     4,
     6,
@@ -23,6 +27,9 @@ const GREATEST_PRECISION: [u32; GREATEST_LENGTH] = [
     33,
     35,
     38,
+];
+
+const LONG_PRECISION: [u32; GREATEST_LENGTH - SHORT_LENGTH] = [
     40,
     43,
     45,
@@ -283,5 +290,22 @@ pub fn greatest_precision(length: u32) -> u32
     if !is_length(n) {
         return 0;
     }
-    GREATEST_PRECISION[n - 1]
+    if n <= SHORT_LENGTH {
+        return short_precision(n);
+    }
+    long_precision(n)
+}
+
+fn short_precision(n: usize) -> u32
+    requires { ⌜ (1 ≤ n) × (n ≤ 16) ⌝ }
+    ensures { λ r. ⌜ r ≡ greatestPrecision n ⌝ }
+{
+    SHORT_PRECISION[n - 1]
+}
+
+fn long_precision(n: usize) -> u32
+    requires { ⌜ (17 ≤ n) × (n ≤ greatestLength) ⌝ }
+    ensures { λ r. ⌜ r ≡ greatestPrecision n ⌝ }
+{
+    LONG_PRECISION[n - 17]
 }

@@ -1,33 +1,111 @@
 -- What the tests of the calendar's code decide, and day numbers from the days of eras.
-use Prim.Native.Nat.{ℕ, zero, suc, _+_, _<_, _≤_}
+use Prim.Native.Nat.{ℕ, zero, suc, _+_, _-_, _<_, _≤_}
+use native.Mathlib.Nat.{le-of-eq, le-trans, lt-irrefl}
 use native.Mathlib.Omega.{arith}
 use mathlib.Core.Path.{_≡_, refl, sym, ap, subst, _∙_}
 use mathlib.Core.Bool.{Bool, true, false, not, _&&_, _||_, and-false, true≢false}
-use borrow.Author.Tests.{le-leb, lt-leb, ltb-true, ltb-false}
-use lib.Dec.{leb, ltb}
-use lib.ListN.{getD}
+use mathlib.Core.List.{_∷_}
+use mathlib.Core.Logic.{_⊎_, inl, inr}
+use borrow.Author.Tests.{le-leb, lt-leb, leb-true, leb-false, ltb-true, eqb-true, eq-eqb}
+use lib.Dec.{leb, ltb, eqb}
+use lib.ListN.{getD, List·getD-eq-default}
 use lib.IntN.{ℤ, pos, negsuc, natAbs, subℕ}
 use lib.Signed.{mag}
 use Rattle.timestamp.specs.Calendar.{divides, isLeap, months, monthsPerYear, daysOfMonth, dayOf, dayNumber, isDate}
-use Rattle.laws.proofs.BoolLaws.{by-test, or-rest}
+use Rattle.laws.proofs.BoolLaws.{by-test, and-both, both-and, or-rest}
 use Rattle.laws.proofs.DifferenceLaws.{below?, pos-sub, negsuc-sub, sub-eq, sub-inj, sub-above, sub-below}
-use Rattle.timestamp.proofs.DateLaws.{era-day-of, day-of-pos, day-number-era}
+use Rattle.timestamp.proofs.DateLaws.{Date, date-parts, parts-date, era-day-of, day-of-pos, day-number-era}
 
--- ---- leap years and months
+-- ---- leap years
 
 pub leap-tests : (y : ℤ) (n : ℕ) → n ≡ natAbs y → isLeap y ≡ divides 4 n && (not (divides 100 n) || divides 400 n)
 unfolding isLeap
 leap-tests y n e = ap (λ (x : ℕ). divides 4 x && (not (divides 100 x) || divides 400 x)) (sym e)
 
--- but for February a month has as many days in each year
-pub common-month : (b : Bool) (i : ℕ) → (i ≡ 1 → ⊥) → getD (months false) i 0 ≡ getD (months b) i 0
-common-month b zero h = refl
-common-month b (suc zero) h = absurd (h refl)
-common-month b (suc (suc i)) h = refl
-
 -- ---- what the code tests of a date
 
--- there is no such month
+-- the days of a month of a common year, and 0 where there is no such month
+abbrev pub common-days : ℕ → ℕ
+common-days m = getD (0 ∷ months false) m 0
+
+pub common-at : {m v : ℕ} (k : ℕ) → v ≡ common-days k → m ≡ k → v ≡ common-days m
+common-at k e p = e ∙ ap common-days (sym p)
+
+pub no-days : (m : ℕ) → ((m ≡ 1) ⊎ ((m ≡ 3) ⊎ ((m ≡ 5) ⊎ (m ≡ 7))) → ⊥) → ((m ≡ 8) ⊎ ((m ≡ 10) ⊎ (m ≡ 12)) → ⊥) → ((m ≡ 4) ⊎ ((m ≡ 6) ⊎ ((m ≡ 9) ⊎ (m ≡ 11))) → ⊥) → (m ≡ 2 → ⊥) → 0 ≡ common-days m
+no-days zero f g h k = refl
+no-days (suc zero) f g h k = absurd (f (inl refl))
+no-days (suc (suc zero)) f g h k = absurd (k refl)
+no-days (suc (suc (suc zero))) f g h k = absurd (f (inr (inl refl)))
+no-days (suc (suc (suc (suc zero)))) f g h k = absurd (h (inl refl))
+no-days (suc (suc (suc (suc (suc zero))))) f g h k = absurd (f (inr (inr (inl refl))))
+no-days (suc (suc (suc (suc (suc (suc zero)))))) f g h k = absurd (h (inr (inl refl)))
+no-days (suc (suc (suc (suc (suc (suc (suc zero))))))) f g h k = absurd (f (inr (inr (inr refl))))
+no-days (suc (suc (suc (suc (suc (suc (suc (suc zero)))))))) f g h k = absurd (g (inl refl))
+no-days (suc (suc (suc (suc (suc (suc (suc (suc (suc zero))))))))) f g h k = absurd (h (inr (inr (inl refl))))
+no-days (suc (suc (suc (suc (suc (suc (suc (suc (suc (suc zero)))))))))) f g h k = absurd (g (inr (inl refl)))
+no-days (suc (suc (suc (suc (suc (suc (suc (suc (suc (suc (suc zero))))))))))) f g h k = absurd (h (inr (inr (inr refl))))
+no-days (suc (suc (suc (suc (suc (suc (suc (suc (suc (suc (suc (suc zero)))))))))))) f g h k = absurd (g (inr (inr refl)))
+no-days (suc (suc (suc (suc (suc (suc (suc (suc (suc (suc (suc (suc (suc m))))))))))))) f g h k = refl
+
+-- each month has them in every year, and February has a day more in a leap year
+month-least : (b : Bool) (i : ℕ) → getD (months false) i 0 ≤ getD (months b) i 0
+month-least b zero = omega arith
+month-least true (suc zero) = omega arith
+month-least false (suc zero) = omega arith
+month-least b (suc (suc i)) = le-of-eq refl
+
+month-more : (b : Bool) (i : ℕ) → getD (months false) i 0 < getD (months b) i 0 → (i ≡ 1) × (b ≡ true)
+month-more b zero h = absurd (omega arith)
+month-more true (suc zero) h = (refl, refl)
+month-more false (suc zero) h = absurd (omega arith)
+month-more b (suc (suc i)) h = absurd (lt-irrefl _ h)
+
+-- there is no month after the twelfth
+months-end : (i : ℕ) → 0 < getD (months false) i 0 → i < 12
+months-end i h = below? i 12 (λ g. g) (λ g. absurd (omega (arith, beyond g)))
+  where
+    beyond : 12 ≤ i → getD (months false) i 0 ≡ 0
+    beyond g = List·getD-eq-default (months false) 0 g
+
+-- a day that its month has in every year makes a date
+pub common-date : (y : ℤ) (m d : ℕ) → (leb 1 d && leb d (common-days m)) ≡ true → isDate y m d ≡ true
+unfolding daysOfMonth
+common-date y m d e = by-month m (leb-true 1 d (and-both (leb 1 d) (leb d (common-days m)) e .0)) (leb-true d (common-days m) (and-both (leb 1 d) (leb d (common-days m)) e .1))
+  where
+    by-month : (m : ℕ) → 1 ≤ d → d ≤ common-days m → isDate y m d ≡ true
+    by-month zero h k = absurd (omega arith)
+    by-month (suc i) h k =
+        let same : i ≡ suc i - 1 = omega arith in
+        parts-date y (suc i) d (record { month-first = omega arith; month-last = omega (arith, months-end i (omega arith)); day-first = h; day-last = subst (λ (j : ℕ). d ≤ getD (months (isLeap y)) j 0) same (le-trans k (month-least (isLeap y) i)) })
+
+-- and any other date is 29 February of a leap year
+pub leap-date : (y : ℤ) (m d : ℕ) → (leb 1 d && leb d (common-days m)) ≡ false → (eqb m 2 && eqb d 29 && isLeap y) ≡ isDate y m d
+unfolding daysOfMonth
+leap-date y m d e = by-test (isDate y m d) (λ p. held (date-parts y m d p) ∙ sym p) (λ p. by-test (eqb m 2 && eqb d 29 && isLeap y) (λ q. absurd (true≢false (sym (formed q) ∙ p))) (λ q. q ∙ sym p))
+  where
+    formed : (eqb m 2 && eqb d 29 && isLeap y) ≡ true → isDate y m d ≡ true
+    formed q =
+        let both = and-both (eqb m 2 && eqb d 29) (isLeap y) q in
+        let fixed = and-both (eqb m 2) (eqb d 29) (both .0) in
+        let month : m ≡ 2 = eqb-true m 2 (fixed .0) in
+        let day : d ≡ 29 = eqb-true d 29 (fixed .1) in
+        parts-date y m d (record { month-first = omega arith; month-last = omega arith; day-first = omega arith; day-last = subst (λ (k : ℕ). d ≤ getD (months (isLeap y)) (k - 1) 0) (sym month) (subst (λ (b : Bool). d ≤ getD (months b) 1 0) (sym (both .1)) (omega arith)) })
+
+    held : Date y m d → (eqb m 2 && eqb d 29 && isLeap y) ≡ true
+    held p =
+        let more = month-more (isLeap y) (m - 1) (omega (arith, common, p .day-last)) in
+        let last : d ≤ getD (months true) 1 0 = subst (λ (b : Bool). d ≤ getD (months b) 1 0) (more .1) (subst (λ (i : ℕ). d ≤ getD (months (isLeap y)) i 0) (more .0) (p .day-last)) in
+        let least : getD (months false) 1 0 < d = subst (λ (i : ℕ). getD (months false) i 0 < d) (more .0) common in
+        both-and (eqb m 2 && eqb d 29) (isLeap y) (both-and (eqb m 2) (eqb d 29) (eq-eqb m 2 (omega (arith, more .0, p .month-first))) (eq-eqb d 29 (omega arith))) (more .1)
+      where
+        from-one : (k : ℕ) → 1 ≤ k → common-days k ≡ getD (months false) (k - 1) 0
+        from-one zero h = absurd (omega arith)
+        from-one (suc k) h = let same : k ≡ suc k - 1 = omega arith in ap (λ (i : ℕ). getD (months false) i 0) same
+
+        common : getD (months false) (m - 1) 0 < d
+        common = by-test (leb d (common-days m)) (λ t. absurd (true≢false (sym (both-and (leb 1 d) (leb d (common-days m)) (le-leb 1 d (p .day-first)) t) ∙ e))) (λ t. omega (arith, leb-false d (common-days m) t, from-one m (p .month-first)))
+
+-- a number that no month has makes no date
 pub no-month : (y : ℤ) (m d : ℕ) → (ltb m 1 || ltb 12 m) ≡ true → isDate y m d ≡ false
 unfolding isDate
 no-month y m d e = by-test (ltb m 1) before λ p. after (or-rest (ltb m 1) (ltb 12 m) p e)
@@ -37,16 +115,6 @@ no-month y m d e = by-test (ltb m 1) before λ p. after (or-rest (ltb m 1) (ltb 
 
     after : ltb 12 m ≡ true → isDate y m d ≡ false
     after p = ap (λ (b : Bool). b && leb 1 d && leb d (daysOfMonth y m)) (ap (λ (b : Bool). leb 1 m && b) (lt-leb m 12 (ltb-true 12 m p)) ∙ and-false (leb 1 m))
-
--- there is one
-pub month-told : (m : ℕ) → (ltb m 1 || ltb 12 m) ≡ false → (1 ≤ m) × (m ≤ 12)
-month-told m e = by-test (ltb m 1) (λ p. absurd (true≢false (sym (ap (λ (b : Bool). b || ltb 12 m) p) ∙ e))) λ p. (ltb-false m 1 p, ltb-false 12 m (sym (ap (λ (b : Bool). b || ltb 12 m) p) ∙ e))
-
--- and then the day is tested
-pub day-test : (y : ℤ) (m d : ℕ) → 1 ≤ m → m ≤ 12 → isDate y m d ≡ (leb 1 d && leb d (daysOfMonth y m))
-unfolding isDate
-day-test y m d h k =
-    ap (λ (b : Bool). b && leb m monthsPerYear && leb 1 d && leb d (daysOfMonth y m)) (le-leb 1 m h) ∙ ap (λ (b : Bool). b && leb 1 d && leb d (daysOfMonth y m)) (le-leb m 12 k)
 
 -- ---- day numbers
 

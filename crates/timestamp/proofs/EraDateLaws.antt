@@ -62,7 +62,7 @@ module _ (n k i s : ℕ) (i-is : i ≡ (5 * k + 2) / 153) (s-is : s ≡ march-mo
       )
 
   -- so the year and the month, as the code works them out: the tenth month from March begins the next year
-  pub date-told : k < daysOfYear (pos (n + 1)) → Date-in (n + i / 10) ((i + 3 - 1) % 12 + 1)
+  date-told : k < daysOfYear (pos (n + 1)) → Date-in (n + i / 10) ((i + 3 - 1) % 12 + 1)
   date-told m = below? i 10 (λ h. told n (i + 3) (omega arith) (omega arith) (march-date (omega arith) most)) (λ h. told (n + 1) (i + 3 - 12) (omega (arith, last)) (omega (arith, last)) (january-date (omega arith) m))
     where
       most : k ≤ 365
@@ -73,6 +73,10 @@ module _ (n k i s : ℕ) (i-is : i ≡ (5 * k + 2) / 153) (s-is : s ≡ march-mo
 
       told : (year month : ℕ) → n + i / 10 ≡ year → (i + 3 - 1) % 12 + 1 ≡ month → Date-in year month → Date-in (n + i / 10) ((i + 3 - 1) % 12 + 1)
       told year month p q t = subst (λ (y : ℕ). Date-in y ((i + 3 - 1) % 12 + 1)) (sym p) (subst (Date-in year) (sym q) t)
+
+  -- also by the years and the month that were told
+  pub date-named : (years month : ℕ) → years ≡ i / 10 → month ≡ (i + 3 - 1) % 12 + 1 → k < daysOfYear (pos (n + 1)) → Date-in (n + years) month
+  date-named years month y m h = subst (λ (a : ℕ). Date-in (n + a) month) (sym y) (subst (Date-in (n + i / 10)) (sym m) (date-told h))
 
 -- and the day of a date is told by the days before its year from March on and those before its month
 march-date-day : (n m d r s : ℕ) → 3 ≤ m → m ≤ 12 → 1 ≤ d → dayOf (pos n) 3 1 ≡ pos (r + 61) → s ≡ march-month (m - 3) → dayOf (pos n) m d ≡ pos (r + s + (d - 1) + 61)

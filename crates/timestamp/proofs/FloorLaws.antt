@@ -1,11 +1,11 @@
 -- Floor division of integers: a count from its days and its rest, by the sign, and that both are told by the count. Here t is the ticks in a day.
 use Prim.Native.Nat.{ℕ, suc, _+_, _*_, _-_, _/_, _%_, _<_, _≤_, _^_}
 use native.Mathlib.Omega.{arith}
-use native.Mathlib.Nat.{add-mul, div-add-mod', mod-lt, mul-le-mul-left}
+use native.Mathlib.Nat.{add-mul, div-add-mod', mod-lt, mul-le-mul-left, mul-le-mul-right}
 use mathlib.Core.Path.{_≡_, refl, sym, ap, subst, _∙_}
 use mathlib.Core.Bool.{Bool, true, false, cond, _&&_}
 use borrow.Author.Tests.{le-leb, lt-leb}
-use lib.IntN.{ℤ, pos, negsuc, subℕ, _+ℤ_, _*ℤ_}
+use lib.IntN.{ℤ, pos, negsuc, subℕ, _+ℤ_, _*ℤ_, +ℤ-idr}
 use lib.Signed.{mag}
 use mir.Syntax.{w64}
 use mir.Val.{SFits, toZ, ofZ}
@@ -50,6 +50,16 @@ joined-reach (negsuc q) t r h = subst (λ (z : ℤ). q * t ≤ mag z) (sym (join
 
 pub division-reach : {count : ℤ} {t : ℕ} {d : Division} → FloorDivision count t d → mag (d .day) * t ≤ mag count
 division-reach {count} {t} {d} p = subst (λ (z : ℤ). mag (d .day) * t ≤ mag z) (sym (p .exact)) (joined-reach (d .day) t (d .rest) (p .below))
+
+-- and on fewer days than fill 63 bits the count has 64
+pub joined-fits : (day : ℤ) (t r n : ℕ) → r < t → mag day < n → n * t < 2 ^ 63 → mag (joined day t r) < 2 ^ 63
+joined-fits (pos q) t r n h k l = let most : suc q * t ≤ n * t = mul-le-mul-right t k in omega (arith, suc-times q t)
+joined-fits (negsuc q) t r n h k l =
+    let most : suc q * t ≤ n * t = mul-le-mul-right t k in
+    subst (λ (z : ℤ). mag z < 2 ^ 63) (sym (joined-negative q t r h)) (omega (arith, suc-times q t))
+
+pub ticks-fit : (day : ℤ) (t n : ℕ) → 0 < t → mag day < n → n * t < 2 ^ 63 → mag (day *ℤ pos t) < 2 ^ 63
+ticks-fit day t n h k l = subst (λ (z : ℤ). mag z < 2 ^ 63) (+ℤ-idr (day *ℤ pos t)) (joined-fits day t 0 n h k l)
 
 -- a count has one day and one rest
 pub joined-one : (day day′ : ℤ) (t r r′ : ℕ) → r < t → r′ < t → joined day t r ≡ joined day′ t r′ → (day ≡ day′) × (r ≡ r′)

@@ -1,6 +1,7 @@
 -- Which unit a number names, and what decoding answers in it.
-use Prim.Native.Nat.{ℕ}
-use mathlib.Core.Path.{_≡_, sym, ap, subst, _∙_}
+use Prim.Native.Nat.{ℕ, _≤_}
+use native.Mathlib.Omega.{arith}
+use mathlib.Core.Path.{_≡_, refl, sym, ap, subst, _∙_}
 use mathlib.Core.Bool.{Bool, cond}
 use mathlib.Core.Option.{Option, none, some}
 use borrow.Author.Tests.{ne-eqb}
@@ -8,7 +9,11 @@ use lib.Dec.{eqb}
 use lib.IntN.{ℤ}
 use Rattle.timestamp.specs.declared.fields.Fields.{Fields}
 use Rattle.timestamp.specs.declared.units.Named.{Named}
-use Rattle.timestamp.specs.Units.{TimeUnit, millis, micros, nanos, unitOf, unitNamed}
+use Rattle.timestamp.specs.declared.units.Scale.{Scale}
+use Rattle.timestamp.specs.declared.units.Scaled
+use Rattle.timestamp.specs.declared.units.Scaled.{Scaled}
+use Rattle.timestamp.specs.Units.{TimeUnit, millis, micros, nanos, ticksPerSecond, unitOf, unitNamed}
+use Rattle.timestamp.specs.Steps.{IsScale, IsScaled}
 use Rattle.timestamp.specs.Outcomes.{Outcome, Decodes}
 use Rattle.timestamp.proofs.CountLaws.{decodes-one}
 
@@ -25,3 +30,32 @@ pub decodes-told : (n : ℕ) (r k : Named) (count : ℤ) (o : Outcome Fields) �
 decodes-told n r k count o e told p =
     let is : Decodes (unitOf n) count o = subst (λ (u : Option TimeUnit). Decodes u count o) (sym (unit-told n r k e told)) p in
     (is, λ o′ q. decodes-one (unitOf n) count o′ o q is)
+
+-- the scale of the unit that a number names, where one was found, and that none is named where none was
+pub scale-told : (u : Option TimeUnit) (r : Scaled) (s : Scale) → IsScaled u r → r ≡ Scaled.By s → (unit : TimeUnit) × (u ≡ some unit) × IsScale unit s
+scale-told none r s p e = absurd (apart s (sym e ∙ p))
+  where
+    apart : (s : Scale) → Scaled.By s ≡ Scaled.UnknownUnit → ⊥
+    apart s q = let z : _≡_ {A = ℕ} 0 1 = cc in omega arith
+scale-told (some unit) r s p e = (unit, refl, subst (IsScale unit) (inside (p .0) s (sym (p .1) ∙ e)) (p .2))
+  where
+    inside : (a b : Scale) → Scaled.By a ≡ Scaled.By b → a ≡ b
+    inside a b q = cc
+
+pub no-scale : (u : Option TimeUnit) (r : Scaled) → IsScaled u r → r ≡ Scaled.UnknownUnit → u ≡ none
+no-scale none r p e = refl
+no-scale (some unit) r p e = absurd (apart (p .0) (sym (p .1) ∙ e))
+  where
+    apart : (s : Scale) → Scaled.By s ≡ Scaled.UnknownUnit → ⊥
+    apart s q = let z : _≡_ {A = ℕ} 0 1 = cc in omega arith
+
+-- each unit has a thousand ticks in a second or more, and no more than NANOS
+pub ticks-least : (unit : TimeUnit) → 1000 ≤ ticksPerSecond unit
+ticks-least millis = omega arith
+ticks-least micros = omega arith
+ticks-least nanos = omega arith
+
+pub ticks-most : (unit : TimeUnit) → ticksPerSecond unit ≤ 1000000000
+ticks-most millis = omega arith
+ticks-most micros = omega arith
+ticks-most nanos = omega arith

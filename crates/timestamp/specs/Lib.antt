@@ -5,3 +5,4 @@ pub mod Units
 pub mod FloorDivision
 pub mod Count
 pub mod Outcomes
+pub mod Steps

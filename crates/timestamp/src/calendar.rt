@@ -1,14 +1,15 @@
 // The Gregorian calendar: which dates there are, and their day numbers from 1 January 1970 on, both ways.
 
 ghost use mathlib.Core.Path.{_≡_};
-ghost use mathlib.Core.Bool.{true};
-ghost use Prim.Native.Nat.{_+_, _<_, _≤_, _^_};
+ghost use mathlib.Core.Bool.{true, false};
+ghost use mathlib.Core.List.{_∷_};
+ghost use Prim.Native.Nat.{_<_, _^_};
+ghost use lib.ListN.{getD};
 ghost use lib.Signed.{mag};
-ghost use Rattle.timestamp.specs.Calendar.{isLeap, daysOfMonth, dayNumber, isDate};
+ghost use Rattle.timestamp.specs.Calendar.{isLeap, months, dayNumber, isDate};
 use crate::eras;
 use crate::eras::DAYS_PER_ERA;
 use crate::eras::EraDate;
-use crate::eras::MONTHS_PER_YEAR;
 use crate::eras::YEARS_PER_CENTURY;
 use crate::eras::YEARS_PER_ERA;
 use crate::eras::YEARS_PER_FOUR;
@@ -33,8 +34,8 @@ const DAYS_BEFORE: u64 = ERAS * DAYS_PER_ERA + MARCH_TO_EPOCH;
 
 const FEBRUARY: u32 = 2;
 
-// The days of each month of a common year.
-const DAYS_OF_MONTH: [u32; 12] = [31, 28, 31, 30, 31, 30, 31, 31, 30, 31, 30, 31];
+// The day of February that only a leap year has.
+const LEAP_DAY: u32 = 29;
 
 pub(crate) struct Date {
     pub(crate) year: i64,
@@ -46,11 +47,10 @@ pub(crate) struct Date {
 pub(crate) fn is_date(date: Date) -> bool
     ensures { λ r. ⌜ r ≡ isDate (date .year) (date .month) (date .day) ⌝ }
 {
-    let month = date.month;
-    if (month < 1) | (MONTHS_PER_YEAR < month) {
-        return false;
+    if (1 <= date.day) & (date.day <= common_days(date.month)) {
+        return true;
     }
-    (1 <= date.day) & (date.day <= days_of_month(date.year, month))
+    (date.month == FEBRUARY) & (date.day == LEAP_DAY) & is_leap(date.year)
 }
 
 // The date of a day number.
@@ -79,19 +79,17 @@ pub(crate) fn day_number(date: Date) -> i64
     lowered(eras::day_of(era_date), DAYS_BEFORE)
 }
 
-// The days of a month, which is 1 to 12.
-fn days_of_month(year: i64, month: u32) -> u32
-    requires { ⌜ (1 ≤ month) × (month ≤ 12) ⌝ }
-    ensures { λ r. ⌜ r ≡ daysOfMonth year month ⌝ }
+// The days of a month of a common year, and 0 where there is no such month.
+fn common_days(month: u32) -> u32
+    ensures { λ r. ⌜ r ≡ getD (0 ∷ months false) month 0 ⌝ }
 {
-    let days = DAYS_OF_MONTH[(month - 1) as usize];
-    if month != FEBRUARY {
-        return days;
+    match month {
+        1 | 3 | 5 | 7 => 31,
+        8 | 10 | 12 => 31,
+        4 | 6 | 9 | 11 => 30,
+        2 => 28,
+        _ => 0,
     }
-    if is_leap(year) {
-        return days + 1;
-    }
-    days
 }
 
 // Whether a year is a leap year. A year before 0 is one where its distance from 0 would be.

@@ -19,11 +19,8 @@ use crate::fields::Fields;
 use crate::signed::folded;
 use crate::signed::is_negative;
 use crate::signed::signed;
-use crate::units::Micros;
-use crate::units::Millis;
-use crate::units::Named;
-use crate::units::Nanos;
-use crate::units::which;
+use crate::units::Scaled;
+use crate::units::scale_of;
 
 // The greatest signed number of 64 bits. Each of them folds onto a number that is not above it.
 const GREATEST: u64 = 0x7fff_ffff_ffff_ffff;
@@ -43,18 +40,21 @@ pub enum Encoded {
 pub fn encode(unit: u32, fields: Fields) -> Encoded
     ensures { λ r. ⌜ encoded r ≡ encoding (unitOf unit) fields ⌝ }
 {
-    let named = which(unit);
-    match named {
-        Named::Millis => encode_in(Millis::TICKS_PER_SECOND, Millis::TICKS_PER_DAY, fields),
-        Named::Micros => encode_in(Micros::TICKS_PER_SECOND, Micros::TICKS_PER_DAY, fields),
-        Named::Nanos => encode_in(Nanos::TICKS_PER_SECOND, Nanos::TICKS_PER_DAY, fields),
-        Named::Unknown => Encoded::UnknownUnit,
+    let scaled = scale_of(unit);
+    match scaled {
+        Scaled::By(scale) => encode_in(scale.second, scale.day, scale.reached, fields),
+        Scaled::UnknownUnit => Encoded::UnknownUnit,
     }
 }
 
-// The count of the fields at so many ticks in a second and in a day.
-fn encode_in(ticks_per_second: u64, ticks_per_day: u64, fields: Fields) -> Encoded
-    requires { ⌜ (ticksPerSecond millis ≤ «ticks_per_second») × («ticks_per_second» ≤ ticksPerSecond nanos) × («ticks_per_day» ≡ ticksPerDay «ticks_per_second») ⌝ }
+// The count of the fields at so many ticks in a second and in a day, of which so many days have counts.
+fn encode_in(
+    ticks_per_second: u64,
+    ticks_per_day: u64,
+    days_reached: u64,
+    fields: Fields,
+) -> Encoded
+    requires { ⌜ (ticksPerSecond millis ≤ «ticks_per_second») × («ticks_per_second» ≤ ticksPerSecond nanos) × («ticks_per_day» ≡ ticksPerDay «ticks_per_second») × («days_reached» * «ticks_per_day» < 2 ^ 63) ⌝ }
     ensures { λ r. ⌜ encoded r ≡ encodingIn «ticks_per_second» fields ⌝ }
 {
     let date = Date {
@@ -68,7 +68,10 @@ fn encode_in(ticks_per_second: u64, ticks_per_day: u64, fields: Fields) -> Encod
         second: fields.second,
         fraction: fields.fraction,
     };
-    if !(is_date(date) & is_time(ticks_per_second, time)) {
+    if !is_date(date) {
+        return Encoded::NoDateTime;
+    }
+    if !is_time(ticks_per_second, time) {
         return Encoded::NoDateTime;
     }
     if folded(fields.year) >= YEARS_REACHED {
@@ -80,11 +83,23 @@ fn encode_in(ticks_per_second: u64, ticks_per_day: u64, fields: Fields) -> Encod
             rest: tick_of_day(ticks_per_second, time),
         },
         ticks_per_day,
+        days_reached,
     )
 }
 
-// The count of a day number and a tick of that day, at so many ticks in a day.
-fn count_of(division: Division, ticks_per_day: u64) -> Encoded
+// The count of a day number and a tick of that day, at so many ticks in a day, of which so many days have counts.
+fn count_of(division: Division, ticks_per_day: u64, days_reached: u64) -> Encoded
+    requires { ⌜ (division .rest < «ticks_per_day») × («ticks_per_day» < 2 ^ 63) × («days_reached» * «ticks_per_day» < 2 ^ 63) ⌝ }
+    ensures { λ r. ⌜ encoded r ≡ cond (isSigned64 (division .day *ℤ pos «ticks_per_day» +ℤ pos (division .rest))) (given (division .day *ℤ pos «ticks_per_day» +ℤ pos (division .rest))) notRepresentable ⌝ }
+{
+    if folded(division.day) < days_reached {
+        return Encoded::Count(division.day * ticks_per_day as i64 + division.rest as i64);
+    }
+    count_at_end(division, ticks_per_day)
+}
+
+// The same on any day, by the number that the count folds onto.
+fn count_at_end(division: Division, ticks_per_day: u64) -> Encoded
     requires { ⌜ (division .rest < «ticks_per_day») × («ticks_per_day» < 2 ^ 63) ⌝ }
     ensures { λ r. ⌜ encoded r ≡ cond (isSigned64 (division .day *ℤ pos «ticks_per_day» +ℤ pos (division .rest))) (given (division .day *ℤ pos «ticks_per_day» +ℤ pos (division .rest))) notRepresentable ⌝ }
 {

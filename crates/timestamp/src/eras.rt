@@ -1,16 +1,16 @@
 // Dates of year 0 and later as arithmetic on days, by eras of 400 years.
 //
 // A year here begins in March, so that a leap day is its last day, and days are counted from 1 March of year 0. An era
-// has a leap day in each fourth year but for three of its centuries: 146,097 days. Its centuries have 36,524 days and
-// the last one more; the fours of years in a century have 1,461 days, and the last of a shorter century one less; the
-// years have 365 days, and the fourth mostly one more. So a quotient that is at most 3 tells the century and the year.
+// has a leap day in each fourth year but for three of its centuries: 146,097 days. So a century has a quarter of that on
+// average, 36,524 and a quarter, and `(146,097 * c) / 4` days lie before the c-th: the day `d` is of the century
+// `(4 * d + 3) / 146,097`. In the same way the day `d` of a century is of its year `(4 * d + 3) / 1,461`.
 // From March on the months have 31, 30, 31, 30 and 31 days, again and again: 153 days in five of them, and
-// `(153 * m + 2) / 5` days before the m-th. The tenth and the eleventh from March are January and February of the next
-// year.
+// `(153 * m + 2) / 5` days before the m-th, which for a month of a year is `(979 * m + 18) / 32`. The tenth and the
+// eleventh from March are January and February of the next year.
 
 ghost use mathlib.Core.Path.{_≡_};
 ghost use mathlib.Core.Bool.{true};
-ghost use Prim.Native.Nat.{_+_, _*_, _/_, _<_, _≤_, _^_, min};
+ghost use Prim.Native.Nat.{_+_, _*_, _-_, _/_, _%_, _<_, _≤_, _^_};
 ghost use lib.IntN.{pos};
 ghost use Rattle.timestamp.specs.Calendar.{dayOf, daysOfYear, isDate};
 
@@ -20,7 +20,7 @@ pub(crate) const DAYS_PER_ERA: u64 = 146_097;
 
 pub(crate) const YEARS_PER_CENTURY: u64 = 100;
 
-const DAYS_PER_CENTURY: u64 = 36_524;
+const CENTURIES_PER_ERA: u64 = 4;
 
 pub(crate) const YEARS_PER_FOUR: u64 = 4;
 
@@ -60,8 +60,8 @@ pub(crate) fn date_of(day: u64) -> EraDate
     let at = year_of(day);
     let from_march = month_of(at.day);
     EraDate {
-        year: at.year + from_march / MONTHS_TO_JANUARY,
-        month: (from_march as u32 + MARCH - 1) % MONTHS_PER_YEAR + 1,
+        year: at.year + years_begun(from_march),
+        month: month_named(from_march),
         day: (at.day - days_before_month(from_march) + 1) as u32,
     }
 }
@@ -71,33 +71,23 @@ pub(crate) fn day_of(date: EraDate) -> u64
     requires { ⌜ (1 ≤ date .year) × (date .year < 2 ^ 32) × (isDate (pos (date .year)) (date .month) (date .day) ≡ true) ⌝ }
     ensures { λ r. ⌜ (dayOf (pos (date .year)) (date .month) (date .day) ≡ pos (r + 61)) × (r < 2 ^ 42) ⌝ }
 {
-    let from_march = ((date.month + MONTHS_PER_YEAR - MARCH) % MONTHS_PER_YEAR) as u64;
-    let year = date.year - from_march / MONTHS_TO_JANUARY;
+    let from_march = months_from_march(date.month);
+    let year = date.year - years_begun(from_march);
     days_before_year(year) + days_before_month(from_march) + (date.day - 1) as u64
 }
 
 // The year and the day of the year that a day is.
 fn year_of(day: u64) -> YearDay
+    requires { ⌜ day < 2 ^ 62 ⌝ }
     ensures { λ r. ⌜ (dayOf (pos (r .year)) 3 (r .day + 1) ≡ pos (day + 61)) × (r .day < daysOfYear (pos (r .year + 1))) × (r .year ≤ day) ⌝ }
 {
-    let era = day / DAYS_PER_ERA;
-    let of_era = day % DAYS_PER_ERA;
-    let century = at_most_three(of_era / DAYS_PER_CENTURY);
-    let of_century = of_era - century * DAYS_PER_CENTURY;
-    let four = of_century / DAYS_PER_FOUR;
-    let of_four = of_century % DAYS_PER_FOUR;
-    let one = at_most_three(of_four / DAYS_PER_YEAR);
+    let quarters = CENTURIES_PER_ERA * day + 3;
+    let of_century = quarters % DAYS_PER_ERA / CENTURIES_PER_ERA;
+    let rest = YEARS_PER_FOUR * of_century + 3;
     YearDay {
-        year: YEARS_PER_ERA * era + YEARS_PER_CENTURY * century + YEARS_PER_FOUR * four + one,
-        day: of_four - one * DAYS_PER_YEAR,
+        year: YEARS_PER_CENTURY * (quarters / DAYS_PER_ERA) + rest / DAYS_PER_FOUR,
+        day: rest % DAYS_PER_FOUR / YEARS_PER_FOUR,
     }
-}
-
-// The lesser of `n` and 3.
-fn at_most_three(n: u64) -> u64
-    ensures { λ r. ⌜ r ≡ min n 3 ⌝ }
-{
-    if n < 3 { n } else { 3 }
 }
 
 // The days before a year.
@@ -105,7 +95,8 @@ fn days_before_year(year: u64) -> u64
     requires { ⌜ year < 2 ^ 32 ⌝ }
     ensures { λ r. ⌜ (dayOf (pos year) 3 1 ≡ pos (r + 61)) × (r < 2 ^ 41) ⌝ }
 {
-    DAYS_PER_YEAR * year + year / YEARS_PER_FOUR + year / YEARS_PER_ERA - year / YEARS_PER_CENTURY
+    let century = (year as u32 / YEARS_PER_CENTURY as u32) as u64;
+    DAYS_PER_YEAR * year + year / YEARS_PER_FOUR + century / CENTURIES_PER_ERA - century
 }
 
 // The month that a day of a year is in, where March is 0.
@@ -121,5 +112,39 @@ fn days_before_month(month: u64) -> u64
     requires { ⌜ month ≤ 11 ⌝ }
     ensures { λ r. ⌜ r ≡ (153 * month + 2) / 5 ⌝ }
 {
-    (DAYS_PER_FIVE * month + 2) / MONTHS_PER_FIVE
+    (979 * month + 18) / 32
+}
+
+// The months from March to a month, which is 1 to 12.
+fn months_from_march(month: u32) -> u64
+    requires { ⌜ (1 ≤ month) × (month ≤ 12) ⌝ }
+    ensures { λ r. ⌜ r ≡ (month + 12 - 3) % 12 ⌝ }
+{
+    if month < MARCH {
+        return (month + MONTHS_PER_YEAR - MARCH) as u64;
+    }
+    (month - MARCH) as u64
+}
+
+// The month that so many months from March is.
+fn month_named(from_march: u64) -> u32
+    requires { ⌜ «from_march» ≤ 11 ⌝ }
+    ensures { λ r. ⌜ r ≡ («from_march» + 3 - 1) % 12 + 1 ⌝ }
+{
+    let month = from_march as u32 + MARCH;
+    if from_march < MONTHS_TO_JANUARY {
+        return month;
+    }
+    month - MONTHS_PER_YEAR
+}
+
+// Whether so many months from March is in the next year: 1 or 0.
+fn years_begun(from_march: u64) -> u64
+    requires { ⌜ «from_march» ≤ 11 ⌝ }
+    ensures { λ r. ⌜ r ≡ «from_march» / 10 ⌝ }
+{
+    if from_march < MONTHS_TO_JANUARY {
+        return 0;
+    }
+    1
 }

@@ -5,11 +5,15 @@ ghost use Rattle.timestamp.specs.Units.{millis, micros, nanos, ticksPerS
 ghost use Rattle.timestamp.specs.FloorDivision.{FloorDivision};
 ghost use Rattle.timestamp.specs.declared.division.Division.{Division};
 ghost use Rattle.timestamp.specs.Outcomes.{dayTicks, ticksInDay};
+ghost use Rattle.timestamp.specs.Steps.{IsScaled};
 use crate::division::Division;
 use crate::division::floor_divide;
 
 // The seconds of a day.
 const SECONDS_PER_DAY: u64 = 86_400;
+
+// The ticks of counts of 64 bits, before 1970 or after: so many days as they fill have counts.
+const TICKS_REACHED: u64 = 0x7fff_ffff_ffff_ffff;
 
 // Thousandths of a second.
 pub struct Millis;
@@ -21,6 +25,8 @@ impl Millis {
     pub const TICKS_PER_SECOND: u64 = 1_000;
 
     pub const TICKS_PER_DAY: u64 = Self::TICKS_PER_SECOND * SECONDS_PER_DAY;
+
+    pub(crate) const DAYS_REACHED: u64 = TICKS_REACHED / Self::TICKS_PER_DAY;
 
     // The days of a count, rounded down, and the ticks left. There is one such division.
     pub fn divide(count: i64) -> Division
@@ -42,6 +48,8 @@ impl Micros {
 
     pub const TICKS_PER_DAY: u64 = Self::TICKS_PER_SECOND * SECONDS_PER_DAY;
 
+    pub(crate) const DAYS_REACHED: u64 = TICKS_REACHED / Self::TICKS_PER_DAY;
+
     // The days of a count, rounded down, and the ticks left. There is one such division.
     pub fn divide(count: i64) -> Division
         ensures { λ r. ⌜ FloorDivision count (ticksPerDay (ticksPerSecond micros)) r ⌝ }
@@ -61,6 +69,8 @@ impl Nanos {
     pub const TICKS_PER_SECOND: u64 = 1_000_000_000;
 
     pub const TICKS_PER_DAY: u64 = Self::TICKS_PER_SECOND * SECONDS_PER_DAY;
+
+    pub(crate) const DAYS_REACHED: u64 = TICKS_REACHED / Self::TICKS_PER_DAY;
 
     // The days of a count, rounded down, and the ticks left. There is one such division.
     pub fn divide(count: i64) -> Division
@@ -93,6 +103,44 @@ pub(crate) fn which(unit: u32) -> Named
         return Named::Nanos;
     }
     Named::Unknown
+}
+
+// The ticks of a unit in a second and in a day, and the days that have counts in it.
+pub(crate) struct Scale {
+    pub(crate) second: u64,
+    pub(crate) day: u64,
+    pub(crate) reached: u64,
+}
+
+pub(crate) enum Scaled {
+    By(Scale),
+    // The unit is not 1 to 3.
+    UnknownUnit,
+}
+
+// The scale of the unit of that number.
+pub(crate) fn scale_of(unit: u32) -> Scaled
+    ensures { λ r. ⌜ IsScaled (unitOf unit) r ⌝ }
+{
+    let named = which(unit);
+    match named {
+        Named::Millis => Scaled::By(Scale {
+            second: Millis::TICKS_PER_SECOND,
+            day: Millis::TICKS_PER_DAY,
+            reached: Millis::DAYS_REACHED,
+        }),
+        Named::Micros => Scaled::By(Scale {
+            second: Micros::TICKS_PER_SECOND,
+            day: Micros::TICKS_PER_DAY,
+            reached: Micros::DAYS_REACHED,
+        }),
+        Named::Nanos => Scaled::By(Scale {
+            second: Nanos::TICKS_PER_SECOND,
+            day: Nanos::TICKS_PER_DAY,
+            reached: Nanos::DAYS_REACHED,
+        }),
+        Named::Unknown => Scaled::UnknownUnit,
+    }
 }
 
 // What the ticks of a day are.

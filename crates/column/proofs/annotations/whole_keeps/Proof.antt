@@ -30,14 +30,14 @@ returns-3 c = rw (ne-eqb _ _ (c .before .before .before .if1 .left), eq-eqb _ _ 
 absolute-requires : tie.Need-absolute-requires
 absolute-requires c κs = search needs
 
-in-digits-requires : tie.Need-in-digits-requires
-in-digits-requires c κs = search needs
+is-below-power-requires : tie.Need-is-below-power-requires
+is-below-power-requires c κs = search needs
 
 returns-4 : tie.Need-returns-4
 unfolding wholeKeeps
 returns-4 c =
     let decimal = c .before .before in
-    rw (ne-eqb _ _ (decimal .before .before .before .before .if1 .left), ne-eqb _ _ (decimal .before .before .if3 .left), eq-eqb _ _ (decimal .if4 .taken), ← c .before .absolute .ensures) (c .in-digits .ensures)
+    rw (ne-eqb _ _ (decimal .before .before .before .before .if1 .left), ne-eqb _ _ (decimal .before .before .if3 .left), eq-eqb _ _ (decimal .if4 .taken), ← c .before .absolute .ensures) (c .is-below-power .ensures)
 
 returns-5 : tie.Need-returns-5
 unfolding wholeKeeps
@@ -54,6 +54,6 @@ whole-keeps-spec =
     in-day-requires
     returns-3
     absolute-requires
-    in-digits-requires
+    is-below-power-requires
     returns-4
     returns-5)

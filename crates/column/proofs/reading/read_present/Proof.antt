@@ -1,152 +1,106 @@
--- `column::reading::read_present` meets its contract: each arm knows the physical type, and so the length.
+-- `column::reading::read_present` meets its contract.
 -- Assumes nothing.
-use mathlib.Core.Path.{_≡_, subst}
-use Prim.Native.Nat.{ℕ, _<_, _^_}
+use mathlib.Core.Path.{_≡_, sym, ap, subst, _∙_}
+use mathlib.Core.Bool.{true}
+use mathlib.Core.List.{List}
+use Prim.Native.Nat.{ℕ, _*_, _-_, _<_, _≤_, _^_}
+use native.Mathlib.Nat.{pow-le-pow-right}
 use native.Mathlib.Omega.{arith}
 use lib.ListN.{length}
-use borrow.Author.Tests.{ne-eqb}
 use borrow.Author.Needs.{needs}
-use Rattle.column.specs.Numbers.{little}
-use Rattle.column.specs.Annotations.{wholeKeeps, bytesKeep, keeps}
-use Rattle.column.specs.Reading.{valueOf}
-use Rattle.column.proofs.LengthLaws.{width-right, decimal-right}
+use Rattle.column.specs.Numbers.{signWeight}
+use Rattle.column.specs.Lengths.{isByteForm}
+use Rattle.column.specs.Annotations.{isWhole}
+use Rattle.column.proofs.LengthLaws.{decimal-right}
+use Rattle.column.proofs.ReadingLaws.{bytes-read, whole-read, whole-length}
 use Rattle.column.proofs.reading.read_present.Statement.{statement}
 use Rattle.column.proofs.reading.read_present.Tie as tie
 
--- the length of a value of each physical type
-boolean-bytes : (c : tie.At-match-keys1) → length (c .before .before .args .value .now) ≡ 1
-boolean-bytes c = width-right _ _ (c .before .before .pre .0) 1 (rw (c .match .keys1))
+form : (c : tie.Then1) → isByteForm (c .before .before .before .args .c) ≡ true
+form c = sym (c .before .is-byte-form .ensures) ∙ c .if1 .taken
 
-int32-bytes : (c : tie.At-match-keys2) → length (c .before .before .args .value .now) ≡ 4
-int32-bytes c = width-right _ _ (c .before .before .pre .0) 4 (rw (c .match .keys2))
+-- a whole number's length, and the weight of its first bit
+module _ (c : tie.Then2) where
+  abbrev start : tie.Start
+  start = c .before .before .before .before .before
 
-int64-bytes : (c : tie.At-match-keys3) → length (c .before .before .args .value .now) ≡ 8
-int64-bytes c = width-right _ _ (c .before .before .pre .0) 8 (rw (c .match .keys3))
+  abbrev bs : List ℕ
+  bs = start .args .value .now
 
-float-bytes : (c : tie.At-match-keys4) → length (c .before .before .args .value .now) ≡ 4
-float-bytes c = width-right _ _ (c .before .before .pre .0) 4 (rw (c .match .keys4))
+  whole : isWhole (start .args .c) ≡ true
+  whole = sym (c .before .is-whole .ensures) ∙ c .if2 .taken
 
-double-bytes : (c : tie.At-match-keys5) → length (c .before .before .args .value .now) ≡ 8
-double-bytes c = width-right _ _ (c .before .before .pre .0) 8 (rw (c .match .keys5))
+  few : length bs ≤ 8
+  few = whole-length (start .args .c) (length bs) (start .pre .0) whole .0
+
+  all : 256 ^ length bs ≡ 2 * signWeight (length bs)
+  all = whole-length (start .args .c) (length bs) (start .pre .0) whole .2
+
+weight : (c : tie.After-sign-weight) → c .sign-weight .result ≡ signWeight (length (bs (c .before .before)))
+weight c =
+    let s = start (c .before .before) in
+    c .sign-weight .ensures ∙ whole-length (s .args .c) (length (s .args .value .now)) (s .pre .0) (whole (c .before .before)) .1
+
+is-byte-form-requires : tie.Need-is-byte-form-requires
+is-byte-form-requires c κs = search needs
+
+read-bytes-requires : tie.Need-read-bytes-requires
+read-bytes-requires c κs = decimal-right _ _ (c .before .before .before .pre .0) (form c)
+
+returns : tie.Need-returns
+returns c =
+    let s = c .before .before .before .before in
+    c .read-bytes .ensures ∙ bytes-read (s .args .c) (s .args .value .now) (s .pre .1) (form (c .before))
+
+is-whole-requires : tie.Need-is-whole-requires
+is-whole-requires c κs = search needs
 
 little-requires : tie.Need-little-requires
-little-requires c κs = omega (arith, boolean-bytes c)
+little-requires c κs = few c
 
-read-truth-requires : tie.Need-read-truth-requires
-read-truth-requires c κs = search needs
-
-little-requires-2 : tie.Need-little-requires-2
-little-requires-2 c κs = omega (arith, int32-bytes c)
+sign-weight-requires : tie.Need-sign-weight-requires
+sign-weight-requires c κs = search needs
 
 read-whole-requires : tie.Need-read-whole-requires
 read-whole-requires c κs =
-    let e = int32-bytes (c .before) in
-    (subst (λ (n : ℕ). c .little2 .result < 256 ^ n) e (c .little2 .ensures .1), omega arith)
-
-little-requires-3 : tie.Need-little-requires-3
-little-requires-3 c κs = omega (arith, int64-bytes c)
-
-read-whole-requires-2 : tie.Need-read-whole-requires-2
-read-whole-requires-2 c κs = search needs
-
-little-requires-4 : tie.Need-little-requires-4
-little-requires-4 c κs = omega (arith, float-bytes c)
-
-cast-float-of : tie.Need-cast-float-of
-cast-float-of c =
-    let e = float-bytes (c .before) in
-    record { fits = subst (λ (n : ℕ). c .little4 .result < 256 ^ n) e (c .little4 .ensures .1) }
-
-float-of-requires : tie.Need-float-of-requires
-float-of-requires c κs = search needs
-
-little-requires-5 : tie.Need-little-requires-5
-little-requires-5 c κs = omega (arith, double-bytes c)
-
-double-of-requires : tie.Need-double-of-requires
-double-of-requires c κs = search needs
-
-read-bytes-requires : tie.Need-read-bytes-requires
-read-bytes-requires c κs = decimal-right _ _ (c .before .before .pre .0) (rw (c .match .keys6))
-
-read-bytes-requires-2 : tie.Need-read-bytes-requires-2
-read-bytes-requires-2 c κs = decimal-right _ _ (c .before .before .pre .0) (rw (c .match .keys7))
-
-stretch-requires : tie.Need-stretch-requires
-stretch-requires c κs = search needs
-
-returns : tie.Need-returns
-unfolding keeps valueOf
-returns c =
-    let s = c .before .before .before .before in
-    rw (s .pre .1, c .before .before .match .keys1, ← c .before .little .ensures .0) (c .read-truth .ensures)
+    let t = c .before .before in
+    let n = c .before .little .result in (
+      subst (λ (m : ℕ). n < m) (all t ∙ ap (λ (m : ℕ). 2 * m) (sym (weight c))) (c .before .little .ensures .1),
+      subst (λ (m : ℕ). m ≤ 2 ^ 63) (sym (weight c)) (pow-le-pow-right {n = 2} (omega arith) {i = 8 * length (bs t) - 1} {j = 63} (let h = few t in omega arith)),
+    )
 
 returns-2 : tie.Need-returns-2
-unfolding keeps wholeKeeps valueOf
 returns-2 c =
-    let s = c .before .before .before .before in
-    rw (s .pre .1, c .before .before .match .keys2, int32-bytes (c .before .before), ← c .before .little2 .ensures .0) (c .read-whole .ensures)
+    let k = c .before in
+    let t = k .before .before in
+    let s = start t in
+    c .read-whole .ensures
+    ∙ whole-read (s .args .c) (bs t) (s .pre .1) (k .before .little .result) (k .sign-weight .result) (whole t) (k .before .little .ensures .0) (weight k)
+
+read-other-requires : tie.Need-read-other-requires
+read-other-requires c κs =
+    let first = c .before .before in
+    let s = first .before .before .before in (
+      s .pre .0,
+      sym (c .before .is-whole .ensures) ∙ c .if2 .left,
+      sym (first .before .is-byte-form .ensures) ∙ first .if1 .left,
+      s .pre .1,
+    )
 
 returns-3 : tie.Need-returns-3
-unfolding keeps wholeKeeps valueOf
-returns-3 c =
-    let s = c .before .before .before .before in
-    rw (s .pre .1, c .before .before .match .keys3, int64-bytes (c .before .before), ← c .before .little3 .ensures .0) (c .read-whole2 .ensures)
-
-returns-4 : tie.Need-returns-4
-unfolding keeps valueOf
-returns-4 c =
-    let s = c .before .before .before .before in
-    rw (s .pre .1, c .before .before .match .keys4, ← c .before .little4 .ensures .0, c .float-of .ensures)
-
-returns-5 : tie.Need-returns-5
-unfolding keeps valueOf
-returns-5 c =
-    let s = c .before .before .before .before in
-    rw (s .pre .1, c .before .before .match .keys5, ← c .before .little5 .ensures .0, c .double-of .ensures)
-
-returns-6 : tie.Need-returns-6
-unfolding keeps bytesKeep valueOf
-returns-6 c =
-    let s = c .before .before .before in
-    rw (s .pre .1, c .before .match .keys6) (c .read-bytes .ensures)
-
-returns-7 : tie.Need-returns-7
-unfolding keeps bytesKeep valueOf
-returns-7 c =
-    let s = c .before .before .before in
-    rw (s .pre .1, c .before .match .keys7) (c .read-bytes2 .ensures)
-
-returns-8 : tie.Need-returns-8
-unfolding keeps valueOf
-returns-8 c =
-    let s = c .before .before .before in
-    let rest = c .before .match .rest in
-    rw (s .pre .1, ne-eqb _ _ (rest .0 .0 .0 .0 .0 .0 .1), ne-eqb _ _ (rest .0 .0 .0 .0 .0 .1), ne-eqb _ _ (rest .0 .0 .0 .0 .1), ne-eqb _ _ (rest .0 .0 .0 .1), ne-eqb _ _ (rest .0 .0 .1), ne-eqb _ _ (rest .0 .1), ne-eqb _ _ (rest .1), c .stretch .ensures)
+returns-3 c = search needs
 
 pub read-present-spec : {M : Type 1} → statement M
 read-present-spec =
     tie.close
     (tie.spec
-    little-requires
-    read-truth-requires
-    little-requires-2
-    read-whole-requires
-    little-requires-3
-    read-whole-requires-2
-    little-requires-4
-    cast-float-of
-    float-of-requires
-    little-requires-5
-    double-of-requires
+    is-byte-form-requires
     read-bytes-requires
-    read-bytes-requires-2
-    stretch-requires
     returns
+    is-whole-requires
+    little-requires
+    sign-weight-requires
+    read-whole-requires
     returns-2
-    returns-3
-    returns-4
-    returns-5
-    returns-6
-    returns-7
-    returns-8)
+    read-other-requires
+    returns-3)

@@ -10,6 +10,7 @@ use Rattle.column_type.specs.declared.types.ColumnType.{ColumnType}
 use Rattle.column_type.specs.Lawful.{isLawful}
 use Rattle.column.specs.Reading.{readOf}
 use Rattle.column.specs.declared.value.Read.{Read}
+use Rattle.column.proofs.ReadingLaws.{read-lawful}
 use Rattle.column_order.specs.Keys.{keyOf, keyOrder}
 use Rattle.column_order.specs.Order.{unlessRefused, orderOf}
 use Rattle.column_order.specs.Outcome.{outcomeOf, outcome}
@@ -33,14 +34,21 @@ no-order : (c : tie.Then2) → let s = c .before .before .before .before .before
 unfolding orderOf
 no-order c = rw (is-lawful (c .before .before), sym (c .before .has-order .ensures) ∙ not-true _ (c .if2 .taken))
 
+-- the first value, read behind the check of the column type
+read : (c : tie.After-read-lawful) → let s = c .before .before .before .before .before .before .before .args in
+    c .read-lawful .result ≡ readOf (s .c) (s .a .now)
+read c =
+    let s = c .before .before .before .before .before .before .before .args in
+    c .read-lawful .ensures ∙ read-lawful (s .c) (s .a .now) (is-lawful (c .before .before .before))
+
 -- past both checks of the column type the values decide
-judged : (c : tie.After-read) (r : Read) → c .read .result ≡ r
+judged : (c : tie.After-read-lawful) (r : Read) → c .read-lawful .result ≡ r
     → let s = c .before .before .before .before .before .before .before .args in
     unlessRefused r (unlessRefused (readOf (s .c) (s .b .now)) (keyOrder (keyOf (s .c) (s .a .now)) (keyOf (s .c) (s .b .now)))) ≡ orderOf (s .c) (s .a .now) (s .b .now)
 unfolding orderOf
 judged c r e =
     let second = c .before in
-    rw (is-lawful (second .before .before), sym (second .before .has-order .ensures) ∙ not-false _ (second .if2 .left), sym e ∙ c .read .ensures .0)
+    rw (is-lawful (second .before .before), sym (second .before .has-order .ensures) ∙ not-false _ (second .if2 .left), sym e ∙ read c)
 
 is-lawful-requires : tie.Need-is-lawful-requires
 is-lawful-requires c κs = search needs
@@ -58,14 +66,14 @@ returns-2 c =
     let s = c .before .before .before .before .before .before in
     answered (s .args .c) (s .args .a .now) (s .args .b .now) (no-order c)
 
-read-requires : tie.Need-read-requires
-read-requires c κs = search needs
+read-lawful-requires : tie.Need-read-lawful-requires
+read-lawful-requires c κs = search needs
 
 enum-known-x : tie.Need-enum-known-x
 enum-known-x c = search needs
 
 order-after-requires : tie.Need-order-after-requires
-order-after-requires c κs = sym (c .before .before .before .read .ensures .0) ∙ c .before .x .given .1
+order-after-requires c κs = sym (read (c .before .before .before)) ∙ c .before .x .given .1
 
 enum-told : tie.Need-enum-told
 enum-told c = search needs
@@ -105,7 +113,7 @@ order-spec =
     returns
     has-order-requires
     returns-2
-    read-requires
+    read-lawful-requires
     enum-known-x
     order-after-requires
     enum-told

@@ -10,20 +10,19 @@ returns : tie.Need-returns
 unfolding isLawful
 returns c = rw (sym (c .before .fits-slot .ensures) ∙ not-true _ (c .if1 .taken))
 
-slot-requires : tie.Need-slot-requires
-slot-requires c κs =
+rules-kept-requires : tie.Need-rules-kept-requires
+rules-kept-requires c κs =
     let at = c .before .before in
     sym (at .before .fits-slot .ensures) ∙ not-false _ (at .if1 .left)
 
 returns-2 : tie.Need-returns-2
 unfolding isLawful
 returns-2 c =
-    let at = c .before .before .before .before in
+    let at = c .before .before .before in
     rw (
-      c .before .before .before .is-leaf .ensures,
-      c .before .before .length-right .ensures,
-      c .annotation-right .ensures,
-      c .before .slot .ensures,
+      c .before .before .is-leaf .ensures,
+      c .before .length-right .ensures,
+      c .rules-kept .ensures,
       sym (at .before .fits-slot .ensures) ∙ not-false _ (at .if1 .left),
     )
 
@@ -35,6 +34,5 @@ is-lawful-spec =
     returns
     (λ c κs. search needs)
     (λ c κs. search needs)
-    slot-requires
-    (λ c κs. search needs)
+    rules-kept-requires
     returns-2)

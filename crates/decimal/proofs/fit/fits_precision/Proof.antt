@@ -29,23 +29,37 @@ is-length-requires c κs = search needs
 returns : tie.Need-returns
 returns c = answered (sym (fitOf-wrong _ _ (sym (c .before .is-length .ensures) ∙ not-true _ (c .if1 .taken))))
 
+fits-wide-requires : tie.Need-fits-wide-requires
+fits-wide-requires c κs = search needs
+
+returns-2 : tie.Need-returns-2
+returns-2 c = answered (c .fits-wide .ensures)
+
 significant-requires : tie.Need-significant-requires
 significant-requires c κs = search needs
 
 fits-by-length-requires : tie.Need-fits-by-length-requires
 fits-by-length-requires c κs = (
-  ap (λ (bs : List ℕ). isLength (length bs)) (c .significant .ensures) ∙ isLength-significant _ (is-length (c .before)),
+  ap (λ (bs : List ℕ). isLength (length bs)) (c .significant .ensures) ∙ isLength-significant _ (is-length (c .before .before)),
   ap significant (c .significant .ensures) ∙ significant-idem _ ∙ sym (c .significant .ensures),
 )
 
-returns-2 : tie.Need-returns-2
-returns-2 c =
-    let s = c .before .before .before .before .before in
+returns-3 : tie.Need-returns-3
+returns-3 c =
+    let first = c .before .before .before in
+    let s = first .before .before .before in
     answered
     (c .fits-by-length .ensures ∙ ap (λ (bs : List ℕ). fitOf bs (s .args .precision)) (c .before .significant .ensures)
-    ∙ fitOf-significant (s .args .number .now) (s .args .precision) (is-length (c .before .before)) (isLength-significant _ (is-length (c .before .before))))
+    ∙ fitOf-significant (s .args .number .now) (s .args .precision) (is-length first) (isLength-significant _ (is-length first)))
 
 pub fits-precision-spec : {M : Type 1} → statement M
 fits-precision-spec =
     tie.close
-    (tie.spec is-length-requires returns significant-requires fits-by-length-requires returns-2)
+    (tie.spec
+    is-length-requires
+    returns
+    fits-wide-requires
+    returns-2
+    significant-requires
+    fits-by-length-requires
+    returns-3)

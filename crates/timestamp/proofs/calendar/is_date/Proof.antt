@@ -1,28 +1,34 @@
--- `timestamp::calendar::is_date` meets its contract: the months are tested first, since only a month has days.
-use mathlib.Core.Path.{sym, ap, _∙_}
-use mathlib.Core.Bool.{_&&_}
-use lib.Dec.{leb}
+-- `timestamp::calendar::is_date` meets its contract: a day that its month has in every year is tested first, and then the leap day.
+use Prim.Native.Nat.{ℕ}
+use mathlib.Core.Path.{_≡_, sym, ap, ap₂, subst, _∙_}
+use mathlib.Core.Bool.{Bool, _&&_}
+use borrow.Author.Needs.{needs}
+use lib.Dec.{leb, eqb}
 use lib.IntN.{ℤ}
 use mir.Syntax.{w64}
 use mir.ValLaws.{toZ-ofZ}
-use Prim.Native.Nat.{ℕ}
-use Rattle.timestamp.specs.Calendar.{daysOfMonth}
-use Rattle.timestamp.proofs.CalendarLaws.{no-month, month-told, day-test}
+use Rattle.timestamp.specs.Calendar.{isLeap}
+use Rattle.timestamp.proofs.CalendarLaws.{common-days, common-date, leap-date}
 use Rattle.timestamp.proofs.calendar.is_date.Statement.{statement}
 use Rattle.timestamp.proofs.calendar.is_date.Tie as tie
 
-returns : tie.Need-returns
-returns c = let d = c .before .args .date in sym (no-month (d .year) (d .month) (d .day) (c .if1 .taken))
+-- the first test, over the days that a common year has
+common-told : (c : tie.After-common-days) (b : Bool) → let d = c .before .before .args .date in (leb 1 (d .day) && leb (d .day) (c .common-days .result)) ≡ b → (leb 1 (d .day) && leb (d .day) (common-days (d .month))) ≡ b
+common-told c b e = let d = c .before .before .args .date in ap (λ (n : ℕ). leb 1 (d .day) && leb (d .day) n) (sym (c .common-days .ensures)) ∙ e
 
-days-of-month-requires : tie.Need-days-of-month-requires
-days-of-month-requires c κs = let e = c .before .before in month-told (e .before .args .date .month) (e .if1 .left)
+returns : tie.Need-returns
+returns c =
+    let k = c .before .before in
+    let d = k .before .before .args .date in
+    sym (common-date (d .year) (d .month) (d .day) (common-told k _ (c .if1 .taken)))
 
 returns-2 : tie.Need-returns-2
 returns-2 c =
-    let e = c .before .before .before .before in
-    let d = e .before .args .date in
-    let month = month-told (d .month) (e .if1 .left) in
-    ap (λ (n : ℕ). leb 1 (d .day) && leb (d .day) n) (c .before .days-of-month .ensures ∙ ap (λ (y : ℤ). daysOfMonth y (d .month)) (toZ-ofZ w64 (d .year) (record { sfits = c .before .before .struct-told .given .0 .1 }))) ∙ sym (day-test (d .year) (d .month) (d .day) (month .0) (month .1))
+    let t = c .before in
+    let e = t .before .before .before in
+    let k = e .before .before in
+    let d = k .before .before .args .date in
+    ap (λ (b : Bool). eqb (d .month) 2 && eqb (d .day) 29 && b) (c .is-leap .ensures ∙ ap isLeap (toZ-ofZ w64 (d .year) (record { sfits = t .struct-told .given .0 .1 }))) ∙ leap-date (d .year) (d .month) (d .day) (common-told k _ (e .if1 .left))
 
 pub is-date-spec : {M : Type 1} → statement M
-is-date-spec = tie.close (tie.spec returns days-of-month-requires returns-2)
+is-date-spec = tie.close (tie.spec (λ c κs. search needs) returns (λ c κs. search needs) returns-2)

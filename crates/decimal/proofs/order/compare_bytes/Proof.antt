@@ -1,4 +1,4 @@
--- `decimal::order::compare_alike` meets its contract. The loop's invariant: the two numbers, with their sign in front up to one
+-- `decimal::order::compare_bytes` meets its contract. The loop's invariant: the two numbers, with their sign in front up to one
 -- width, agree before `at`. The measure is what is left of the width. Assumes nothing.
 use mathlib.Core.Path.{_≡_, refl, sym, subst₂, _∙_}
 use mathlib.Core.List.{_++_}
@@ -9,8 +9,8 @@ use lib.ListN.{take, replicate}
 use borrow.Author.Needs.{needs}
 use Rattle.decimal.proofs.UnsignedLaws.{Bytes-getD}
 use Rattle.decimal.proofs.OrderLaws.{Alike, widened-less, widened-greater, widened-equal, widened-next}
-use Rattle.decimal.proofs.order.compare_alike.Statement.{statement}
-use Rattle.decimal.proofs.order.compare_alike.Tie as tie
+use Rattle.decimal.proofs.order.compare_bytes.Statement.{statement}
+use Rattle.decimal.proofs.order.compare_bytes.Tie as tie
 
 abbrev Inv-loop : tie.InvT-loop
 Inv-loop a b sign width before-a before-b at₀ at =
@@ -91,8 +91,8 @@ returns-3 c =
     let l = c .before in
     sym (widened-equal (alike-a (l .before)) (alike-b (l .before)) (l .loop .at) (c .loop-test .left) (l .loop .inv .1))
 
-pub compare-alike-spec : {M : Type 1} → statement M
-compare-alike-spec =
+pub compare-bytes-spec : {M : Type 1} → statement M
+compare-bytes-spec =
     tie.close
     (tie.spec
     Inv-loop

@@ -1,0 +1,10 @@
+-- `column_type::lawful::fixed_holds` meets its contract: its result is the definition, with the lengths and the table of `decimal`.
+-- Assumes nothing.
+use Rattle.column_type.proofs.lawful.fixed_holds.Statement.{statement}
+use Rattle.column_type.proofs.lawful.fixed_holds.Tie as tie
+
+returns : tie.Need-returns
+returns c = rw (c .before .is-length .ensures, c .greatest-precision .ensures)
+
+pub fixed-holds-spec : {M : Type 1} → statement M
+fixed-holds-spec = tie.close (tie.spec (λ c κs. tt) (λ c κs. tt) returns)

@@ -1,0 +1,93 @@
+-- `timestamp::encoding::count_at_end` meets its contract: the count folds onto the ticks that its days fold onto, with the rest turned before 0.
+use Prim.Native.Nat.{ℕ, _+_, _*_, _-_, _<_, _≤_, _^_}
+use native.Mathlib.Nat.{le-div-iff-mul-le, div-lt-iff-lt-mul}
+use native.Mathlib.Omega.{arith}
+use mathlib.Core.Path.{_≡_, sym, ap, _∙_}
+use mathlib.Core.Bool.{Bool}
+use borrow.Author.Needs.{needs}
+use lib.IntN.{ℤ}
+use Rattle.timestamp.specs.Outcomes.{given}
+use Rattle.timestamp.proofs.CountLaws.{counted-fits, counted-beyond}
+use Rattle.timestamp.proofs.FloorLaws.{joined, joined-signed, turned-of, turned-below}
+use Rattle.timestamp.proofs.SignedLaws.{signed-of, signed-told, signed-back}
+use Rattle.timestamp.proofs.encoding.count_at_end.Statement.{statement}
+use Rattle.timestamp.proofs.encoding.count_at_end.Tie as tie
+
+is-negative-requires : tie.Need-is-negative-requires
+is-negative-requires c κs = search needs
+
+folded-requires : tie.Need-folded-requires
+folded-requires c κs = search needs
+
+div-if1 : tie.Need-div-if1
+div-if1 c = search needs
+
+-- what is passed in, the sign, and what the count folds onto
+abbrev start : tie.After-folded → tie.Start
+start m = m .before .before .before .before
+
+abbrev negative : tie.After-folded → Bool
+negative m = m .before .before .is-negative .result
+
+abbrev size : tie.After-folded → ℕ
+size m = m .folded .result * start m .args .ticks-per-day + turned-of (negative m) (start m .args .division .rest) (start m .args .ticks-per-day)
+
+count-is : (m : tie.After-folded) → joined (start m .args .division .day) (start m .args .ticks-per-day) (start m .args .division .rest) ≡ signed-of (negative m) (size m)
+count-is m =
+    let s = start m in
+    ap (λ (z : ℤ). joined z (s .args .ticks-per-day) (s .args .division .rest)) (signed-told {x = s .args .division .day} (record { sfits = m .before .before .before .struct-told .given .0 .1 }) (m .before .before .is-negative .ensures) (m .folded .ensures)) ∙ joined-signed (negative m) (m .folded .result) (s .args .ticks-per-day) (s .args .division .rest) (s .pre .0)
+
+returns : tie.Need-returns
+returns c =
+    let m = c .before in
+    let beyond = div-lt-iff-lt-mul {k = start m .args .ticks-per-day} {x = 2 ^ 63 - 1} {y = m .folded .result} (omega arith) .0 (c .if1 .taken) in
+    sym (counted-beyond _ (negative m) (size m) (count-is m) (omega (arith, beyond)))
+
+-- the days' ticks are not above the greatest number
+days-fit : (c : tie.Else1) → c .before .folded .result * start (c .before) .args .ticks-per-day ≤ 2 ^ 63 - 1
+days-fit c = le-div-iff-mul-le {k = start (c .before) .args .ticks-per-day} (omega arith) .0 (c .if1 .left)
+
+mul-size : tie.Need-mul-size
+mul-size c = omega (arith, days-fit c)
+
+turned-requires : tie.Need-turned-requires
+turned-requires c κs = search needs
+
+add-size : tie.Need-add-size
+add-size c =
+    let m = c .before .before in
+    omega (arith, days-fit (c .before), c .turned .ensures, turned-below (negative m) (start m .args .division .rest) (start m .args .ticks-per-day) (start m .pre .0), start m .pre .1)
+
+-- the sum of the code is what the count folds onto
+size-is : (c : tie.After-turned) → c .before .before .folded .result * start (c .before .before) .args .ticks-per-day + c .turned .result ≡ size (c .before .before)
+size-is c = ap (λ (r : ℕ). c .before .before .folded .result * start (c .before .before) .args .ticks-per-day + r) (c .turned .ensures)
+
+returns-2 : tie.Need-returns-2
+returns-2 c =
+    let m = c .before .before .before in
+    sym (counted-beyond _ (negative m) (size m) (count-is m) (omega (arith, size-is (c .before), c .if2 .taken)))
+
+signed-requires : tie.Need-signed-requires
+signed-requires c κs = search needs
+
+returns-3 : tie.Need-returns-3
+returns-3 c =
+    let t = c .before .before in
+    let m = t .before .before in
+    let fits : size m < 2 ^ 63 = omega (arith, size-is t, c .before .if2 .left) in
+    ap given (signed-back (negative m) (size m) (c .signed .ensures ∙ ap (signed-of (negative m)) (size-is t)) fits) ∙ sym (counted-fits _ (negative m) (size m) (count-is m) fits)
+
+pub count-at-end-spec : {M : Type 1} → statement M
+count-at-end-spec =
+    tie.close
+    (tie.spec
+    is-negative-requires
+    folded-requires
+    div-if1
+    returns
+    mul-size
+    turned-requires
+    add-size
+    returns-2
+    signed-requires
+    returns-3)
