@@ -42,4 +42,5 @@ put-read-spec =
     returns
     (λ c. search needs)
     returns-2)
+
 -- x

@@ -25,4 +25,5 @@ read-line-spec =
     (λ c. search needs)
     (λ c κs. tt)
     returns)
+
 -- x

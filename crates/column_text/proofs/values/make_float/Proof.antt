@@ -47,4 +47,5 @@ make-float-spec =
     float-to-bits
     (λ c κs. tt)
     returns-2)
+
 -- x

@@ -37,4 +37,5 @@ make-stretch-spec =
     (λ c κs. tt)
     (λ c κs. tt)
     returns)
+
 -- x

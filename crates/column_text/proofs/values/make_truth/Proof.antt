@@ -29,4 +29,5 @@ make-truth-spec =
     (λ c. search needs)
     (λ c κs. tt)
     returns-2)
+
 -- x

@@ -68,4 +68,5 @@ make-value-spec =
     returns-4
     returns-5
     returns-6)
+
 -- x
