@@ -9,7 +9,7 @@ use mir.Val.{toZ, ofZ}
 use mir.ValLaws.{toZ-ofZ}
 use Rattle.timestamp.proofs.CalendarLaws.{day-number-from, difference-most, raised-most}
 use Rattle.timestamp.proofs.DateLaws.{date-era}
-use Rattle.timestamp.proofs.SignedLaws.{read-back}
+use Rattle.laws.proofs.SignedLaws.{read-back}
 use Rattle.timestamp.proofs.calendar.date_of.Statement.{statement}
 use Rattle.timestamp.proofs.calendar.date_of.Tie as tie
 

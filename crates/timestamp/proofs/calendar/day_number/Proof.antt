@@ -10,7 +10,7 @@ use mir.Val.{toZ, ofZ}
 use mir.ValLaws.{toZ-ofZ}
 use Rattle.timestamp.proofs.CalendarLaws.{day-number-from, difference-most, raised-most, raised-least}
 use Rattle.timestamp.proofs.DateLaws.{date-era}
-use Rattle.timestamp.proofs.SignedLaws.{read-back}
+use Rattle.laws.proofs.SignedLaws.{read-back}
 use Rattle.timestamp.proofs.calendar.day_number.Statement.{statement}
 use Rattle.timestamp.proofs.calendar.day_number.Tie as tie
 

@@ -11,7 +11,8 @@ use mir.Val.{SFits, toZ, ofZ}
 use mir.ValLaws.{toZ-ofZ, toZ-pos}
 use Rattle.timestamp.specs.Outcomes.{given, notRepresentable}
 use Rattle.timestamp.proofs.FloorLaws.{joined, joined-fits, ticks-fit, signed-fits}
-use Rattle.timestamp.proofs.SignedLaws.{folded-told, read-back}
+use Rattle.laws.proofs.SignedLaws.{read-back}
+use Rattle.timestamp.proofs.SignedLaws.{folded-told}
 use Rattle.timestamp.proofs.encoding.count_of.Statement.{statement}
 use Rattle.timestamp.proofs.encoding.count_of.Tie as tie
 

@@ -5,7 +5,8 @@ use native.Mathlib.Omega.{arith}
 use mathlib.Core.Path.{sym, ap, _∙_}
 use borrow.Author.Needs.{needs}
 use lib.IntN.{natAbs}
-use Rattle.timestamp.proofs.SignedLaws.{negative-is, nonnegative-is, sign-told, folded-told}
+use Rattle.laws.proofs.SignedLaws.{negative-is, nonnegative-is, sign-told}
+use Rattle.timestamp.proofs.SignedLaws.{folded-told}
 use Rattle.timestamp.proofs.signed.absolute.Statement.{statement}
 use Rattle.timestamp.proofs.signed.absolute.Tie as tie
 

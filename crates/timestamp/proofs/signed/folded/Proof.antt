@@ -5,7 +5,7 @@ use lib.IntN.{pos, negsuc, natAbs, _-ℤ_}
 use lib.Signed.{mag}
 use mir.Syntax.{w64}
 use mir.Val.{SFits, toZ, ofZ}
-use Rattle.timestamp.proofs.SignedLaws.{read-back, cast-fits, sign-told, complement-read, nonnegative-read}
+use Rattle.laws.proofs.SignedLaws.{read-back, cast-fits, sign-told, complement-read, nonnegative-read}
 use Rattle.timestamp.proofs.signed.folded.Statement.{statement}
 use Rattle.timestamp.proofs.signed.folded.Tie as tie
 

@@ -4,7 +4,7 @@ use lib.IntN.{ℤ, pos}
 use lib.Signed.{ltZ}
 use mir.Syntax.{w64}
 use mir.ValLaws.{toZ-ofZ}
-use Rattle.timestamp.proofs.SignedLaws.{below-zero}
+use Rattle.laws.proofs.SignedLaws.{below-zero}
 use Rattle.timestamp.proofs.signed.is_negative.Statement.{statement}
 use Rattle.timestamp.proofs.signed.is_negative.Tie as tie
 

@@ -4,7 +4,7 @@ use mathlib.Core.Path.{sym, ap, _∙_}
 use borrow.Author.Needs.{needs}
 use lib.IntN.{negsuc}
 use Rattle.laws.proofs.DifferenceLaws.{sub-below, sub-above}
-use Rattle.timestamp.proofs.SignedLaws.{read-back}
+use Rattle.laws.proofs.SignedLaws.{read-back}
 use Rattle.timestamp.proofs.signed.lowered.Statement.{statement}
 use Rattle.timestamp.proofs.signed.lowered.Tie as tie
 

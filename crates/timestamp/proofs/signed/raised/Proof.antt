@@ -5,7 +5,8 @@ use mathlib.Core.Path.{_∙_}
 use borrow.Author.Needs.{needs}
 use lib.Signed.{mag}
 use Rattle.laws.proofs.DifferenceLaws.{pos-sub, negsuc-sub, sub-eq}
-use Rattle.timestamp.proofs.SignedLaws.{negative-is, nonnegative-is, sign-told, folded-told}
+use Rattle.laws.proofs.SignedLaws.{negative-is, nonnegative-is, sign-told}
+use Rattle.timestamp.proofs.SignedLaws.{folded-told}
 use Rattle.timestamp.proofs.signed.raised.Statement.{statement}
 use Rattle.timestamp.proofs.signed.raised.Tie as tie
 

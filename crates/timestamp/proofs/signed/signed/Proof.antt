@@ -6,7 +6,8 @@ use lib.IntN.{ℤ, negsuc, _-ℤ_}
 use mir.Syntax.{w64}
 use mir.Val.{SFits, toZ}
 use mir.ValLaws.{toZ-pos}
-use Rattle.timestamp.proofs.SignedLaws.{signed-of, complement-nonnegative, read-back}
+use Rattle.laws.proofs.SignedLaws.{read-back}
+use Rattle.timestamp.proofs.SignedLaws.{signed-of, complement-nonnegative}
 use Rattle.timestamp.proofs.signed.signed.Statement.{statement}
 use Rattle.timestamp.proofs.signed.signed.Tie as tie
 
