@@ -14,8 +14,7 @@ use Rattle.column_type.specs.Lawful.{isLawful}
 use Rattle.column.specs.Numbers.{little, signWeight, twosComplement}
 use Rattle.column.specs.Lengths.{isByteForm, lengthRight}
 use Rattle.column.specs.Annotations.{isWhole, wholeKeeps, bytesKeep, keeps}
-use Rattle.column.specs.Reading.{wholeValue, valueOf, checked, readOf}
-use Rattle.column.specs.Steps.{readLawful}
+use Rattle.column.specs.Reading.{wholeValue, valueOf, checked, readOf, readLawful}
 use Rattle.column.specs.declared.value.Value.{Value}
 use Rattle.column.specs.declared.value.Read.the-variants as read
 use Rattle.column.proofs.LengthLaws.{width-right}

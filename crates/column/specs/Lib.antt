@@ -4,4 +4,3 @@ pub mod Lengths
 pub mod Annotations
 pub mod Reading
 pub mod Outcome
-pub mod Steps

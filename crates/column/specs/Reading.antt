@@ -34,7 +34,10 @@ valueOf c bs =
 abbrev pub checked : Bool → Value → Read
 checked kept v = cond kept (read.Value v) read.BreaksAnnotation
 
+-- a value of a lawful column type: 15, then 16
+abbrev pub readLawful : ColumnType → List ℕ → Read
+readLawful c bs = cond (lengthRight c (length bs)) (checked (keeps c bs) (valueOf c bs)) read.WrongLength
+
 -- "One value is checked for 20, then 15, then 16"
 unfoldable pub readOf : ColumnType → List ℕ → Read
-readOf c bs =
-    cond (isLawful c) (cond (lengthRight c (length bs)) (checked (keeps c bs) (valueOf c bs)) read.WrongLength) read.Unlawful
+readOf c bs = cond (isLawful c) (readLawful c bs) read.Unlawful
