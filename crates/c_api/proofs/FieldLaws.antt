@@ -27,7 +27,7 @@ use Rattle.timestamp.proofs.CalendarLaws.{no-month}
 use Rattle.timestamp.proofs.ClockLaws.{Time, time-parts}
 use Rattle.timestamp.proofs.CountLaws.{date-time-parts, decodes-one, encoding-none}
 use Rattle.timestamp.proofs.DateLaws.{Date, date-parts}
-use Rattle.timestamp.proofs.SignedLaws.{negative-is}
+use Rattle.laws.proofs.SignedLaws.{negative-is}
 use Rattle.c_api.specs.Answers.{within, answer, left}
 use Rattle.c_api.specs.Timestamps.{fieldNumbers, decodeEffect, Decoding, FIELDS, at, isField, areFields, fieldsOf, encodingOf, encodeEffect, encoding}
 use Rattle.c_api.proofs.MostLaws.{AtMost, atMost-test, atMost-getD}

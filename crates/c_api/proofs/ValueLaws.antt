@@ -21,7 +21,7 @@ use Rattle.column.proofs.FloatLaws.{differs-nan}
 use Rattle.column_order.specs.Outcome as column_order
 use Rattle.column_order.specs.Order.{orderOf}
 use Rattle.column_order.specs.declared.answer.Order.{Order}
-use Rattle.timestamp.proofs.SignedLaws.{negative-is, nonnegative-is}
+use Rattle.laws.proofs.SignedLaws.{negative-is, nonnegative-is}
 use Rattle.c_api.specs.Answers.{within, answer}
 use Rattle.c_api.specs.Values.{caseOf, twosComplement64, quietNan, floatBits, numbersOf, readEffect, reading, orderEffect, ordering}
 

@@ -9,7 +9,7 @@ use lib.IntN.{ℤ, pos, natAbs}
 use lib.Signed.{mag, nonNeg, ltZ}
 use mir.Syntax.{w32, w64}
 use mir.Val.{Fits, toZ, ofZ}
-use Rattle.timestamp.proofs.SignedLaws.{below-zero, sign-told, nonnegative-is, nonnegative-read}
+use Rattle.laws.proofs.SignedLaws.{below-zero, sign-told, nonnegative-is, nonnegative-read}
 use Rattle.c_api.proofs.FieldLaws.{NO-FIELD, held, held-negative, held-great, held-small}
 use Rattle.c_api.proofs.timestamps.field.Statement.{statement}
 use Rattle.c_api.proofs.timestamps.field.Tie as tie

@@ -7,7 +7,7 @@ use lib.IntN.{pos, negsuc, natAbs, _-ℤ_}
 use lib.Signed.{mag, nonNeg}
 use mir.Syntax.{w64}
 use mir.Val.{SFits, toZ, ofZ}
-use Rattle.timestamp.proofs.SignedLaws.{below-zero, read-back, cast-fits, sign-told, complement-read, nonnegative-read}
+use Rattle.laws.proofs.SignedLaws.{below-zero, read-back, cast-fits, sign-told, complement-read, nonnegative-read}
 use Rattle.c_api.proofs.ValueLaws.{negative-bits, nonnegative-bits}
 use Rattle.c_api.proofs.values.twos_complement.Statement.{statement}
 use Rattle.c_api.proofs.values.twos_complement.Tie as tie

@@ -5,7 +5,7 @@ use mathlib.Core.Bool.{true}
 use native.Mathlib.Nat.{lt-of-lt-of-le}
 use borrow.Author.Tests.{not-true, not-false}
 use borrow.Author.Needs.{needs}
-use Rattle.timestamp.proofs.SignedLaws.{read-back}
+use Rattle.laws.proofs.SignedLaws.{read-back}
 use Rattle.column.specs.Numbers.{twosComplement}
 use Rattle.column.specs.Annotations.{wholeKeeps}
 use Rattle.column.proofs.NumberLaws.{twos-mag-<}
