@@ -68,10 +68,7 @@ fn encode_in(
         second: fields.second,
         fraction: fields.fraction,
     };
-    if !is_date(date) {
-        return Encoded::NoDateTime;
-    }
-    if !is_time(ticks_per_second, time) {
+    if !(is_date(date) & is_time(ticks_per_second, time)) {
         return Encoded::NoDateTime;
     }
     if folded(fields.year) >= YEARS_REACHED {

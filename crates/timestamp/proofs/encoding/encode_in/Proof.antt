@@ -1,8 +1,8 @@
 -- `timestamp::encoding::encode_in` meets its contract: 18 and far years test by test, and else the count of the day and the tick.
 use Prim.Native.Nat.{ℕ, _<_}
 use native.Mathlib.Omega.{arith}
-use mathlib.Core.Path.{_≡_, refl, sym, ap, subst, _∙_}
-use mathlib.Core.Bool.{Bool, true, cond, _&&_, and-false}
+use mathlib.Core.Path.{_≡_, sym, ap, subst, _∙_}
+use mathlib.Core.Bool.{true, cond, _&&_}
 use borrow.Author.Needs.{needs}
 use borrow.Author.Tests.{not-true, not-false}
 use lib.IntN.{ℤ}
@@ -11,10 +11,9 @@ use mir.Syntax.{w64}
 use mir.Val.{toZ, ofZ}
 use mir.ValLaws.{toZ-ofZ}
 use Rattle.timestamp.specs.Calendar.{isDate, dayNumber}
-use Rattle.timestamp.specs.Clock.{isTime, tickOfDay}
+use Rattle.timestamp.specs.Clock.{tickOfDay}
 use Rattle.timestamp.specs.Count.{isDateTime, countOf}
 use Rattle.timestamp.specs.Outcomes.{Outcome, encoded, isSigned64, given, notRepresentable}
-use Rattle.laws.proofs.BoolLaws.{both-and}
 use Rattle.timestamp.proofs.ClockLaws.{time-parts, tick-below}
 use Rattle.timestamp.proofs.CountLaws.{date-time-parts, date-time-told, encoding-none, encoding-formed, encoding-far}
 use Rattle.timestamp.proofs.FloorLaws.{joined}
@@ -22,63 +21,54 @@ use Rattle.timestamp.proofs.encoding.encode_in.Statement.{statement}
 use Rattle.timestamp.proofs.encoding.encode_in.Tie as tie
 
 -- what is passed in, and the year as it is passed on
-abbrev start : tie.After-is-date → tie.Start
-start c = c .before .before
+abbrev start : tie.After-is-time → tie.Start
+start c = c .before .before .before
 
-year-back : (c : tie.After-is-date) → toZ w64 (ofZ w64 (start c .args .fields .year)) ≡ start c .args .fields .year
-year-back c = toZ-ofZ w64 (start c .args .fields .year) (record { sfits = c .before .struct-told .given .0 .1 })
+year-back : (c : tie.After-is-time) → toZ w64 (ofZ w64 (start c .args .fields .year)) ≡ start c .args .fields .year
+year-back c = toZ-ofZ w64 (start c .args .fields .year) (record { sfits = c .before .before .struct-told .given .0 .1 })
 
--- the first two tests are whether the fields form a date and a time
-formed-told : (c : tie.After-is-date) {time : Bool} → time ≡ isTime (start c .args .ticks-per-second) (start c .args .fields .hour) (start c .args .fields .minute) (start c .args .fields .second) (start c .args .fields .fraction) → (c .is-date .result && time) ≡ isDateTime (start c .args .ticks-per-second) (start c .args .fields)
-formed-told c e = date-time-told (start c .args .ticks-per-second) (start c .args .fields) (year-back c) (c .is-date .ensures) e
+-- the first test is whether the fields form a date and time
+formed-told : (c : tie.After-is-time) → (c .before .is-date .result && c .is-time .result) ≡ isDateTime (start c .args .ticks-per-second) (start c .args .fields)
+formed-told c =
+    date-time-told (start c .args .ticks-per-second) (start c .args .fields) (year-back c) (c .before .is-date .ensures) (c .is-time .ensures)
 
-formed : (c : tie.Else2) → let s = start (c .before .before .before) in isDateTime (s .args .ticks-per-second) (s .args .fields) ≡ true
-formed c =
-    let d = c .before .before .before in
-    sym (formed-told d (c .before .is-time .ensures)) ∙ both-and (d .is-date .result) (c .before .is-time .result) (not-false (d .is-date .result) (c .before .before .if1 .left)) (not-false (c .before .is-time .result) (c .if2 .left))
+formed : (c : tie.Else1) → isDateTime (start (c .before) .args .ticks-per-second) (start (c .before) .args .fields) ≡ true
+formed c = sym (formed-told (c .before)) ∙ not-false _ (c .if1 .left)
 
 is-date-requires : tie.Need-is-date-requires
 is-date-requires c κs = search needs
 
-returns : tie.Need-returns
-returns c =
-    let d = c .before in
-    let s = start d in
-    sym (encoding-none (s .args .ticks-per-second) (s .args .fields) (sym (formed-told d refl) ∙ ap (λ (b : Bool). b && isTime (s .args .ticks-per-second) (s .args .fields .hour) (s .args .fields .minute) (s .args .fields .second) (s .args .fields .fraction)) (not-true (d .is-date .result) (c .if1 .taken))))
-
 is-time-requires : tie.Need-is-time-requires
 is-time-requires c κs = search needs
 
-returns-2 : tie.Need-returns-2
-returns-2 c =
-    let t = c .before in
-    let d = t .before .before in
-    let s = start d in
-    sym (encoding-none (s .args .ticks-per-second) (s .args .fields) (sym (formed-told d (t .is-time .ensures)) ∙ ap (λ (b : Bool). d .is-date .result && b) (not-true (t .is-time .result) (c .if2 .taken)) ∙ and-false (d .is-date .result)))
+returns : tie.Need-returns
+returns c =
+    let s = start (c .before) in
+    sym (encoding-none (s .args .ticks-per-second) (s .args .fields) (sym (formed-told (c .before)) ∙ not-true _ (c .if1 .taken)))
 
--- the third is whether the year is far
-abbrev passed : tie.After-folded → tie.Else2
+-- the second is whether the year is far
+abbrev passed : tie.After-folded → tie.Else1
 passed c = c .before .before
 
 abbrev given-at : tie.After-folded → tie.Start
-given-at c = start (passed c .before .before .before)
+given-at c = start (passed c .before)
 
 year-told : (c : tie.After-folded) → c .folded .result ≡ mag (given-at c .args .fields .year)
-year-told c = c .folded .ensures ∙ ap mag (year-back (passed c .before .before .before))
+year-told c = c .folded .ensures ∙ ap mag (year-back (passed c .before))
 
 folded-requires : tie.Need-folded-requires
 folded-requires c κs = search needs
 
-returns-3 : tie.Need-returns-3
-returns-3 c =
+returns-2 : tie.Need-returns-2
+returns-2 c =
     let s = given-at (c .before) in
-    sym (encoding-far (s .args .ticks-per-second) (s .args .fields) (formed (passed (c .before))) (omega (arith, year-told (c .before), c .if3 .taken)) (s .pre .0))
+    sym (encoding-far (s .args .ticks-per-second) (s .args .fields) (formed (passed (c .before))) (omega (arith, year-told (c .before), c .if2 .taken)) (s .pre .0))
 
 day-number-requires : tie.Need-day-number-requires
 day-number-requires c κs =
     let s = given-at (c .before) in
     let f = s .args .fields in
-    subst (λ (y : ℤ). (mag y < 300000000) × (isDate y (f .month) (f .day) ≡ true)) (sym (year-back (passed (c .before) .before .before .before))) (omega (arith, year-told (c .before), c .if3 .left), date-time-parts (s .args .ticks-per-second) f (formed (passed (c .before))) .0)
+    subst (λ (y : ℤ). (mag y < 300000000) × (isDate y (f .month) (f .day) ≡ true)) (sym (year-back (passed (c .before) .before))) (omega (arith, year-told (c .before), c .if2 .left), date-time-parts (s .args .ticks-per-second) f (formed (passed (c .before))) .0)
 
 tick-of-day-requires : tie.Need-tick-of-day-requires
 tick-of-day-requires c κs =
@@ -108,7 +98,7 @@ day-is : (c : tie.After-tick-of-day) → toZ w64 (ofZ w64 (c .before .day-number
 day-is c =
     let d = c .before in
     let f = counting c .args .fields in
-    toZ-ofZ w64 (d .day-number .result) (record { sfits = d .day-number .ok }) ∙ d .day-number .ensures ∙ ap (λ (y : ℤ). dayNumber y (f .month) (f .day)) (year-back (passed (d .before .before) .before .before .before))
+    toZ-ofZ w64 (d .day-number .result) (record { sfits = d .day-number .ok }) ∙ d .day-number .ensures ∙ ap (λ (y : ℤ). dayNumber y (f .month) (f .day)) (year-back (passed (d .before .before) .before))
 
 count-is : (c : tie.After-tick-of-day) → joined (toZ w64 (ofZ w64 (c .before .day-number .result))) (counting c .args .ticks-per-day) (c .tick-of-day .result) ≡ countOf (counting c .args .ticks-per-second) (counting c .args .fields)
 unfolding countOf
@@ -122,8 +112,8 @@ answered z = cond (isSigned64 z) (given z) notRepresentable
 count-told : (c : tie.After-count-of) → encoded (c .count-of .result) ≡ answered (joined (toZ w64 (ofZ w64 (c .before .before .day-number .result))) (counting (c .before) .args .ticks-per-day) (c .before .tick-of-day .result))
 count-told c = c .count-of .ensures
 
-returns-4 : tie.Need-returns-4
-returns-4 c =
+returns-3 : tie.Need-returns-3
+returns-3 c =
     let s = counting (c .before) in
     count-told c ∙ ap answered (count-is (c .before)) ∙ sym (encoding-formed (s .args .ticks-per-second) (s .args .fields) (formed (passed (c .before .before .before .before))))
 
@@ -132,12 +122,11 @@ encode-in-spec =
     tie.close
     (tie.spec
     is-date-requires
-    returns
     is-time-requires
-    returns-2
+    returns
     folded-requires
-    returns-3
+    returns-2
     day-number-requires
     tick-of-day-requires
     count-of-requires
-    returns-4)
+    returns-3)
