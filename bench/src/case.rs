@@ -1,5 +1,7 @@
 //! What is measured: the same work by several contenders.
 
+use std::hint::black_box;
+
 /// The name of the library's contender, which is the first of each case.
 pub const LIBRARY: &str = "griffeljol";
 /// The name of the independent reader's.
@@ -53,4 +55,18 @@ impl<'a> Contender<'a> {
         };
         Contender { name, run: Box::new(run) }
     }
+}
+
+/// Somebody who works through the inputs one after the other.
+pub fn contender<T: Clone + 'static, R>(
+    name: &'static str,
+    inputs: &[T],
+    work: impl Fn(&T) -> R + 'static,
+) -> Contender<'static> {
+    let inputs = inputs.to_vec();
+    Contender::new(name, move || {
+        for input in black_box(&inputs) {
+            black_box(work(input));
+        }
+    })
 }

@@ -6,7 +6,7 @@ use independent::codes::physical::{BYTE_ARRAY, FIXED, INT32, INT64};
 use independent::codes::{kind, logical};
 use independent::decimal::greatest_precision;
 
-use crate::case::{Case, Contender, Goal, INDEPENDENT, LIBRARY};
+use crate::case::{contender, Case, Contender, Goal, INDEPENDENT, LIBRARY};
 use crate::integers;
 use crate::linked::{self, answer, answer_of, ColumnType};
 use crate::random::Random;
@@ -211,20 +211,6 @@ fn readers(given: ColumnType, values: &[Value]) -> Vec<Contender<'static>> {
         }),
         contender(INDEPENDENT, values, move |value| independent::read(black_box(column(given)), value)),
     ]
-}
-
-/// Works through the inputs one after the other.
-fn contender<T: Clone + 'static, R>(
-    name: &'static str,
-    inputs: &[T],
-    work: impl Fn(&T) -> R + 'static,
-) -> Contender<'static> {
-    let inputs = inputs.to_vec();
-    Contender::new(name, move || {
-        for input in black_box(&inputs) {
-            black_box(work(input));
-        }
-    })
 }
 
 /// Whether a value is read, by the library and by the independent reader alike.

@@ -4,7 +4,7 @@ use std::hint::black_box;
 
 use independent::Fields;
 
-use crate::case::{Case, Contender, Goal, INDEPENDENT, LIBRARY};
+use crate::case::{contender, Case, Contender, Goal, INDEPENDENT, LIBRARY};
 use crate::linked::{self, answer};
 use crate::native;
 use crate::random::Random;
@@ -98,20 +98,6 @@ fn encoding<const UNIT: u32>(unit: &str, words: &str, counts: &[i64]) -> Case<'s
         }),
     ];
     case("encode", unit, words, contenders)
-}
-
-/// Works through the inputs one after the other.
-fn contender<T: Clone + 'static, R>(
-    name: &'static str,
-    inputs: &[T],
-    work: impl Fn(&T) -> R + 'static,
-) -> Contender<'static> {
-    let inputs = inputs.to_vec();
-    Contender::new(name, move || {
-        for input in black_box(&inputs) {
-            black_box(work(input));
-        }
-    })
 }
 
 /// The library's fields of a count.
