@@ -6,7 +6,7 @@ ghost use Rattle.schema.specs.Outcome.{outcome, written};
 use crate::output::short_output;
 use crate::roles::Parent;
 use crate::rows::ROW_WIDTH;
-use crate::rows::write_tree;
+use crate::rows::write_run;
 use tree::Judgement;
 use tree::Refusal;
 use tree::judge;
@@ -30,7 +30,7 @@ pub fn resolve(sheet: &[u8], rows: &mut [u32]) -> Resolved
             if rows.len() < ROW_WIDTH * total {
                 return Resolved::Refused(short_output());
             }
-            write_tree(sheet, rows, 0, 0, Parent::Other);
+            write_run(sheet, rows, 0, 1, 0, Parent::Other);
             Resolved::Rows(total)
         }
     }

@@ -33,13 +33,7 @@ struct Row {
 }
 
 // Writes the rows of the tree at a number, under the node at up, and answers where the next tree stands.
-pub(crate) fn write_tree(
-    sheet: &[u8],
-    rows: &mut [u32],
-    at: usize,
-    up: usize,
-    parent: Parent,
-) -> usize
+fn write_tree(sheet: &[u8], rows: &mut [u32], at: usize, up: usize, parent: Parent) -> usize
     requires { ⌜ Claimed (now sheet) ⌝ }
     requires { ⌜ at < totalOf (now sheet) ⌝ }
     requires { ⌜ up < totalOf (now sheet) ⌝ }
@@ -51,7 +45,7 @@ pub(crate) fn write_tree(
     let n = annotated(s);
     let kind = annotation::resolved_kind(n, is_map_parent(parent));
     let own = role(sheet, up, at, s, parent);
-    let next = write_run(
+    let next = write_fields(
         sheet,
         rows,
         at + 1,
@@ -77,8 +71,22 @@ pub(crate) fn write_tree(
     next
 }
 
+fn write_fields(
+    sheet: &[u8],
+    rows: &mut [u32],
+    start: usize,
+    count: usize,
+    up: usize,
+    parent: Parent,
+) -> usize {
+    if count == 0 {
+        return start;
+    }
+    write_run(sheet, rows, start, count, up, parent)
+}
+
 // Writes the rows of the run of so many fields at a number, one field after the other, and answers where the next tree stands.
-fn write_run(
+pub(crate) fn write_run(
     sheet: &[u8],
     rows: &mut [u32],
     start: usize,

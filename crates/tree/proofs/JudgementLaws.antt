@@ -1,30 +1,34 @@
 -- A sheet judged, from its parts.
-use Prim.Native.Nat.{ℕ, suc, _+_, _≤_, _<_}
+use Prim.Native.Nat.{ℕ, zero, suc, _+_, _*_, _/_, _%_, _≤_, _<_}
 use mathlib.Core.Path.{_≡_, refl, sym, ap, _∙_, subst}
 use mathlib.Core.Bool.{Bool, true, false}
 use mathlib.Core.List.{List, [], _∷_, map}
 use native.Mathlib.Omega.{arith}
 use lib.Dec.{leb}
-use lib.ListN.{length}
+use lib.ListN.{length, drop}
+use borrow.Author.Tests.{ne-eqb}
 use Rattle.sheet.specs.Block.{totalOf, mostNodes}
 use Rattle.sheet.specs.Opening as sheet
 use Rattle.sheet.specs.Slot.{slots}
 use Rattle.sheet.specs.declared.opening.Opened.{Opened}
 use Rattle.sheet.proofs.OpeningLaws.{openOf-total, openOf-least, openOf-most}
-use Rattle.tree.specs.Tree.{SlotBytes, Tree, size, depths, mostDepth}
+use Rattle.tree.specs.Tree.{SlotBytes, Tree, empty, count, size, depths, mostDepth}
 use Rattle.tree.specs.Faults.{faults}
-use Rattle.tree.specs.Reading.{treeOf}
+use Rattle.tree.specs.Reading.{trees, treeOf}
 use Rattle.tree.specs.Judgement.{orElse, refusal, leftOver, missing, firstFault, deepness, tooDeep, unlawful, treeRefusal, judgedAs, judgement}
-use Rattle.tree.specs.Steps.{Claimed, treeAt, secondOf, treeOrDeep, judgedTree, depthAt, judgedNodes, judgementOf}
+use Rattle.tree.specs.Steps.{Claimed, treeAt, runAt, lastOf, ruleWeight, faultFrom, firstOf, verdictOf, treeOrDeep, judgedTree, judgedOn, judgedRun, depthAt, judgedNodes, judgementOf}
 use Rattle.tree.specs.declared.place.Place.{Place}
 use Rattle.tree.specs.declared.refusal.Refusal.{Refusal}
 use Rattle.tree.specs.declared.refusal.Verdict.{Verdict}
 use Rattle.tree.specs.declared.judging.TreeJudged.{TreeJudged}
+use Rattle.tree.specs.declared.judging.RunJudged.{RunJudged}
 use Rattle.tree.specs.declared.judgement.Judgement.{Judgement}
 use Rattle.tree.proofs.FaultLaws.{none-orElse, orElse-assoc}
 use Rattle.tree.proofs.OpenPlacesLaws.{fills-trees}
 use Rattle.tree.proofs.TreeOfLaws.{accepted-fills, fills-listing}
-use Rattle.tree.proofs.StandingLaws.{treeAt-zero}
+use Rattle.tree.proofs.StandingLaws.{treeAt-zero, runAt-zero, runAt-suc, count-some}
+use Rattle.tree.proofs.VisitLaws.{tree-within}
+use Rattle.tree.proofs.JudgingLaws.{runBy, length-faults, judgedOn-empty, judgedOn-field}
 use Rattle.sheet.proofs.SlotLaws.{slots-length}
 
 -- the first depth that is too great is refused by 7
@@ -45,26 +49,75 @@ deep-refusal (d ∷ ds) k r e = on (leb d mostDepth) refl (deep-refusal ds (suc 
         let f : Verdict.Refused (refusal 7 k) ≡ Verdict.Refused r = subst (λ (n : ℕ). firstFault k (n ∷ map deepness ds) ≡ Verdict.Refused r) (deep q) e in
         cc
 
+-- a fault says the first rule that is broken, and its node, where the nodes' numbers stand below a rule's
+fault-verdict : (k : ℕ) (ns : List ℕ) → k + length ns ≤ ruleWeight → verdictOf (faultFrom k ns) ≡ firstFault k ns
+unfolding verdictOf faultFrom firstFault
+fault-verdict k [] h = refl
+fault-verdict k (zero ∷ ns) h = fault-verdict (suc k) ns (omega arith)
+fault-verdict k (suc n ∷ ns) h =
+    let some = ne-eqb (ruleWeight * suc n + k) 0 (λ e. omega arith) in
+    let rule : (ruleWeight * suc n + k) / ruleWeight ≡ suc n = omega arith in
+    let place : (ruleWeight * suc n + k) % ruleWeight ≡ k = omega arith in
+    rw (some, rule, place)
+
 -- the whole tree judged
 module _ (t : Tree) where
-  pub root-deep : (k : ℕ) → judgedTree 0 (suc mostDepth) Place.Root t ≡ TreeJudged.Deep k → Verdict.Refused (refusal 7 k) ≡ orElse (tooDeep t) (unlawful t)
+  root-deep : (k : ℕ) → judgedTree 0 (suc mostDepth) Place.Root t ≡ TreeJudged.Deep k → Verdict.Refused (refusal 7 k) ≡ orElse (tooDeep t) (unlawful t)
   unfolding judgedTree depthAt tooDeep
   root-deep k e = on (firstFault 0 (map deepness (depths 0 t))) refl e
     where
-      on : (v : Verdict) → firstFault 0 (map deepness (depths 0 t)) ≡ v → treeOrDeep v (TreeJudged.Judged (0 + size t) (secondOf 0 t) (firstFault 0 (faults Place.Root t))) ≡ TreeJudged.Deep k → Verdict.Refused (refusal 7 k) ≡ orElse (firstFault 0 (map deepness (depths 0 t))) (unlawful t)
+      on : (v : Verdict) → firstFault 0 (map deepness (depths 0 t)) ≡ v → treeOrDeep v (TreeJudged.Judged (0 + size t) (lastOf 0 t) (faultFrom 0 (faults Place.Root t))) ≡ TreeJudged.Deep k → Verdict.Refused (refusal 7 k) ≡ orElse (firstFault 0 (map deepness (depths 0 t))) (unlawful t)
       on Verdict.Lawful q w = absurd (unfold treeOrDeep in let z : _≡_ {A = ℕ} 0 1 = cc in omega arith)
       on (Verdict.Refused r) q w = unfold treeOrDeep orElse in rw q (let p : r .place ≡ k = cc in rw (← p) (deep-refusal (depths 0 t) 0 r q))
 
-  pub root-judged : (next second : ℕ) (v : Verdict) → judgedTree 0 (suc mostDepth) Place.Root t ≡ TreeJudged.Judged next second v → v ≡ orElse (tooDeep t) (unlawful t)
+  root-judged : size t ≤ ruleWeight → (next last f : ℕ) → judgedTree 0 (suc mostDepth) Place.Root t ≡ TreeJudged.Judged next last f → verdictOf f ≡ orElse (tooDeep t) (unlawful t)
   unfolding judgedTree depthAt tooDeep
-  root-judged next second v e = on (firstFault 0 (map deepness (depths 0 t))) refl e
+  root-judged h next last f e = on (firstFault 0 (map deepness (depths 0 t))) refl e
     where
-      on : (u : Verdict) → firstFault 0 (map deepness (depths 0 t)) ≡ u → treeOrDeep u (TreeJudged.Judged (0 + size t) (secondOf 0 t) (firstFault 0 (faults Place.Root t))) ≡ TreeJudged.Judged next second v → v ≡ orElse (firstFault 0 (map deepness (depths 0 t))) (unlawful t)
-      on Verdict.Lawful q w = unfold treeOrDeep orElse unlawful in rw q (let p : firstFault 0 (faults Place.Root t) ≡ v = cc in sym p)
+      verdict : verdictOf (faultFrom 0 (faults Place.Root t)) ≡ firstFault 0 (faults Place.Root t)
+      verdict = fault-verdict 0 (faults Place.Root t) (omega (arith, length-faults t Place.Root))
+
+      on : (u : Verdict) → firstFault 0 (map deepness (depths 0 t)) ≡ u → treeOrDeep u (TreeJudged.Judged (0 + size t) (lastOf 0 t) (faultFrom 0 (faults Place.Root t))) ≡ TreeJudged.Judged next last f → verdictOf f ≡ orElse (firstFault 0 (map deepness (depths 0 t))) (unlawful t)
+      on Verdict.Lawful q w = unfold treeOrDeep orElse unlawful in rw q (let p : faultFrom 0 (faults Place.Root t) ≡ f = cc in rw (← p) verdict)
       on (Verdict.Refused r) q w = absurd (unfold treeOrDeep in let z : _≡_ {A = ℕ} 0 1 = cc in omega arith)
 
-pub root-at : (ss : List SlotBytes) {v : Verdict} → v ≡ orElse (tooDeep (treeAt ss 0)) (unlawful (treeAt ss 0)) → v ≡ orElse (tooDeep (treeOf ss)) (unlawful (treeOf ss))
+root-at : (ss : List SlotBytes) {v : Verdict} → v ≡ orElse (tooDeep (treeAt ss 0)) (unlawful (treeAt ss 0)) → v ≡ orElse (tooDeep (treeOf ss)) (unlawful (treeOf ss))
 root-at ss e = rw treeAt-zero at e
+
+-- the run of the one tree of a sheet whose slots claim rightly
+module _ (b : List ℕ) (h : Claimed b) (l : 0 < totalOf b) where
+  root : Tree
+  root = treeAt (slots b) 0
+
+  pub root-claimed : 1 ≤ count (trees (drop 0 (slots b)))
+  root-claimed = count-some (slots b) 0 (omega (arith, h .total))
+
+  root-run : judgedRun 0 (suc mostDepth) Place.Root (runAt (slots b) 0 1) ≡ runBy (judgedTree 0 (suc mostDepth) Place.Root root) (λ next within later. RunJudged.Judged next 0 within later)
+  unfolding judgedRun root firstOf
+  root-run =
+      ap (judgedOn 0 (suc mostDepth) Place.Root 0 0 0) (runAt-suc (slots b) 0 0 (h .claims) root-claimed ∙ rw runAt-zero)
+      ∙ judgedOn-field 0 (suc mostDepth) Place.Root 0 0 0 root empty
+      ∙ simp judgedOn-empty
+
+  pub run-deep : (k : ℕ) → judgedRun 0 (suc mostDepth) Place.Root (runAt (slots b) 0 1) ≡ RunJudged.Deep k → Verdict.Refused (refusal 7 k) ≡ orElse (tooDeep (treeOf (slots b))) (unlawful (treeOf (slots b)))
+  unfolding runBy root
+  run-deep k e = root-at (slots b) (root-deep root k (on (judgedTree 0 (suc mostDepth) Place.Root root) (sym root-run ∙ e)))
+    where
+      on : (x : TreeJudged) → runBy x (λ next within later. RunJudged.Judged next 0 within later) ≡ RunJudged.Deep k → x ≡ TreeJudged.Deep k
+      on (TreeJudged.Deep i) q = cc
+      on (TreeJudged.Judged n w f) q = absurd (let z : _≡_ {A = ℕ} 0 1 = cc in omega arith)
+
+  pub run-judged : (next last inner f : ℕ) → judgedRun 0 (suc mostDepth) Place.Root (runAt (slots b) 0 1) ≡ RunJudged.Judged next last inner f → verdictOf f ≡ orElse (tooDeep (treeOf (slots b))) (unlawful (treeOf (slots b)))
+  unfolding runBy root
+  run-judged next last inner f e =
+      root-at (slots b) (root-judged root small next inner f (on (judgedTree 0 (suc mostDepth) Place.Root root) (sym root-run ∙ e)))
+    where
+      small : size root ≤ ruleWeight
+      small = omega (arith, tree-within b 0 h l, h .most)
+
+      on : (x : TreeJudged) → runBy x (λ next within later. RunJudged.Judged next 0 within later) ≡ RunJudged.Judged next last inner f → x ≡ TreeJudged.Judged next inner f
+      on (TreeJudged.Deep i) q = absurd (let z : _≡_ {A = ℕ} 0 1 = cc in omega arith)
+      on (TreeJudged.Judged n w g) q = cc
 
 -- refusals 5 and 6, then 7 to 13
 pub treeRefusal-places : (ss : List SlotBytes) → treeRefusal ss ≡ orElse (orElse (leftOver ss) (missing ss)) (orElse (tooDeep (treeOf ss)) (unlawful (treeOf ss)))

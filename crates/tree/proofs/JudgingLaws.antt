@@ -1,16 +1,16 @@
 -- How judging a tree goes on with judging its run, and judging a run with its first tree and the shorter run.
-use Prim.Native.Nat.{ℕ, zero, suc, _+_, _-_, _≤_}
-use mathlib.Core.Path.{_≡_, refl, ap, _∙_}
-use mathlib.Core.List.{List, _∷_, _++_, map, map-append}
+use Prim.Native.Nat.{ℕ, zero, suc, _+_, _*_, _-_, _≤_}
+use mathlib.Core.Path.{_≡_, refl, sym, ap, _∙_}
+use mathlib.Core.List.{List, [], _∷_, _++_, map, map-append}
 use native.Mathlib.Omega.{arith}
-use native.Mathlib.Nat.{add-zero}
+use native.Mathlib.Nat.{add-zero, add-suc, suc-add}
 use borrow.Author.Tests.{le-leb}
 use lib.ListN.{length, length-append, length-map}
 use Rattle.tree.specs.Tree.{SlotBytes, Tree, Fields, node, empty, field, listing, listings, size, depths, runDepths, mostDepth}
 use Rattle.tree.specs.Rules.{placeBelow}
 use Rattle.tree.specs.Faults.{broken, faults, runFaults}
-use Rattle.tree.specs.Judgement.{orElse, firstFault, refusal, deepness}
-use Rattle.tree.specs.Steps.{sizes, secondIn, secondOf, innerIn, depthAt, treeOrDeep, runOrDeep, judgedTree, judgedRun, ownFirst, runAfter}
+use Rattle.tree.specs.Judgement.{orElse, firstFault, deepness}
+use Rattle.tree.specs.Steps.{sizes, lastFrom, lastOf, innerFrom, ruleWeight, faultFrom, firstOf, depthAt, treeOrDeep, runOrDeep, judgedTree, judgedOn, judgedRun}
 use Rattle.tree.specs.declared.place.Place.{Place}
 use Rattle.tree.specs.declared.refusal.Verdict.{Verdict}
 use Rattle.tree.specs.declared.judging.TreeJudged.{TreeJudged}
@@ -38,6 +38,31 @@ mutual
   length-runFaults empty p = refl
   length-runFaults (field t fs) p = rw (length-append, length-append, length-faults t p, length-runFaults fs p)
 
+-- the first fault of two ---------------------------------------------------------------------------------------------------
+
+pub firstOf-some : (f g : ℕ) → (f ≡ 0 → ⊥) → firstOf f g ≡ f
+unfolding firstOf
+firstOf-some zero g n = absurd (n refl)
+firstOf-some (suc f) g n = refl
+
+firstOf-none : (f : ℕ) → firstOf f 0 ≡ f
+unfolding firstOf
+firstOf-none zero = refl
+firstOf-none (suc f) = refl
+
+firstOf-assoc : (f g h : ℕ) → firstOf (firstOf f g) h ≡ firstOf f (firstOf g h)
+unfolding firstOf
+firstOf-assoc zero g h = refl
+firstOf-assoc (suc f) g h = refl
+
+faultFrom-append : (k : ℕ) (ms ns : List ℕ) → faultFrom k (ms ++ ns) ≡ firstOf (faultFrom k ms) (faultFrom (k + length ms) ns)
+unfolding faultFrom firstOf
+faultFrom-append k [] ns = rw add-zero
+faultFrom-append k (zero ∷ ms) ns = rw (faultFrom-append (suc k) ms ns, add-suc, suc-add)
+faultFrom-append k (suc m ∷ ms) ns = sym (firstOf-some (ruleWeight * suc m + k) _ (λ e. omega arith))
+
+-- a tree and its run -------------------------------------------------------------------------------------------------------
+
 -- a tree that has no level left is too deep
 pub judgedTree-deep : (at : ℕ) (p : Place) (t : Tree) → judgedTree at 0 p t ≡ TreeJudged.Deep at
 unfolding judgedTree treeOrDeep depthAt depths firstFault deepness
@@ -46,7 +71,7 @@ judgedTree-deep at p (node s fs) = refl
 -- what a tree's run finds is what the tree finds, with the root's own fault first
 unfoldable pub treeBy : ℕ → ℕ → RunJudged → TreeJudged
 treeBy own at (RunJudged.Deep k) = TreeJudged.Deep k
-treeBy own at (RunJudged.Judged next second inner v) = TreeJudged.Judged next second (ownFirst own at v)
+treeBy own at (RunJudged.Judged next last inner f) = TreeJudged.Judged next last (firstOf (faultFrom at (own ∷ [])) f)
 
 not-deep : (l : ℕ) → deepness (depthAt (suc l)) ≡ 0
 unfolding deepness depthAt
@@ -56,15 +81,15 @@ deeper : (l : ℕ) → suc l ≤ suc mostDepth → suc (depthAt (suc l)) ≡ dep
 unfolding depthAt
 deeper l h = omega arith
 
-own-first : (own at : ℕ) (ns : List ℕ) → firstFault at (own ∷ ns) ≡ ownFirst own at (firstFault (suc at) ns)
-unfolding firstFault ownFirst
+own-first : (own at : ℕ) (ns : List ℕ) → faultFrom at (own ∷ ns) ≡ firstOf (faultFrom at (own ∷ [])) (faultFrom (suc at) ns)
+unfolding faultFrom firstOf
 own-first zero at ns = refl
-own-first (suc n) at ns = refl
+own-first (suc n) at ns = sym (firstOf-some (ruleWeight * suc n + at) _ (λ e. omega arith))
 
-tree-by : (v w : Verdict) (own at next second inner : ℕ) → treeOrDeep v (TreeJudged.Judged next second (ownFirst own at w)) ≡ treeBy own at (runOrDeep v (RunJudged.Judged next second inner w))
+tree-by : (v : Verdict) (own at next last inner f : ℕ) → treeOrDeep v (TreeJudged.Judged next last (firstOf (faultFrom at (own ∷ [])) f)) ≡ treeBy own at (runOrDeep v (RunJudged.Judged next last inner f))
 unfolding treeOrDeep runOrDeep treeBy
-tree-by Verdict.Lawful w own at next second inner = refl
-tree-by (Verdict.Refused r) w own at next second inner = refl
+tree-by Verdict.Lawful own at next last inner f = refl
+tree-by (Verdict.Refused r) own at next last inner f = refl
 
 deep-behind : (at l : ℕ) (fs : Fields) → suc l ≤ suc mostDepth → firstFault at (deepness (depthAt (suc l)) ∷ map deepness (runDepths (suc (depthAt (suc l))) fs)) ≡ firstFault (suc at) (map deepness (runDepths (depthAt l) fs))
 unfolding firstFault
@@ -74,28 +99,24 @@ node-end : (at : ℕ) (s : SlotBytes) (fs : Fields) → at + size (node s fs) �
 node-end at s fs = omega (arith, size-node s fs)
 
 pub judgedTree-node : (at l : ℕ) (p : Place) (s : SlotBytes) (fs : Fields) → suc l ≤ suc mostDepth → judgedTree at (suc l) p (node s fs) ≡ treeBy (broken p s fs) at (judgedRun (suc at) l (placeBelow p s) fs)
-unfolding judgedTree judgedRun depths faults secondOf
+unfolding judgedTree judgedRun judgedOn depths faults lastOf firstOf
 judgedTree-node at l p s fs h = rw (deep-behind at l fs h, own-first, node-end) (tree-by _ _ _ _ _ _ _)
 
-pub judgedRun-empty : (at l : ℕ) (p : Place) → judgedRun at l p empty ≡ RunJudged.Judged at at at Verdict.Lawful
-unfolding judgedRun runOrDeep runDepths firstFault sizes listings secondIn innerIn runFaults
-judgedRun-empty at l p = rw add-zero
+-- a run and its first tree -------------------------------------------------------------------------------------------------
+
+pub judgedOn-empty : (at l : ℕ) (p : Place) (last inner f : ℕ) → judgedOn at l p last inner f empty ≡ RunJudged.Judged at last inner f
+unfolding judgedOn runOrDeep runDepths firstFault sizes listings lastFrom innerFrom runFaults faultFrom
+judgedOn-empty at l p last inner f = rw (add-zero, firstOf-none)
 
 -- what a run's first tree and the shorter run find is what the run finds
-unfoldable pub runBy : TreeJudged → (ℕ → RunJudged) → RunJudged
+unfoldable pub runBy : TreeJudged → (ℕ → ℕ → ℕ → RunJudged) → RunJudged
 runBy (TreeJudged.Deep k) rest = RunJudged.Deep k
-runBy (TreeJudged.Judged next second v) rest = runAfter next second v (rest next)
+runBy (TreeJudged.Judged next within later) rest = rest next within later
 
-run-by : (a b v w : Verdict) (next second end third inner : ℕ) → runOrDeep (orElse a b) (RunJudged.Judged end next second (orElse v w)) ≡ runBy (treeOrDeep a (TreeJudged.Judged next second v)) (λ k. runOrDeep b (RunJudged.Judged end third inner w))
-unfolding runOrDeep treeOrDeep runBy runAfter orElse
-run-by Verdict.Lawful Verdict.Lawful v w next second end third inner = refl
-run-by Verdict.Lawful (Verdict.Refused r) v w next second end third inner = refl
-run-by (Verdict.Refused r) b v w next second end third inner = refl
-
-run-next : (a v : Verdict) (next second : ℕ) (f g : ℕ → RunJudged) → f next ≡ g next → runBy (treeOrDeep a (TreeJudged.Judged next second v)) f ≡ runBy (treeOrDeep a (TreeJudged.Judged next second v)) g
-unfolding treeOrDeep runBy
-run-next Verdict.Lawful v next second f g e = ap (runAfter next second v) e
-run-next (Verdict.Refused r) v next second f g e = refl
+run-by : (a b : Verdict) (next within later : ℕ) (found : RunJudged) (rest : ℕ → ℕ → ℕ → RunJudged) → rest next within later ≡ runOrDeep b found → runOrDeep (orElse a b) found ≡ runBy (treeOrDeep a (TreeJudged.Judged next within later)) rest
+unfolding runOrDeep treeOrDeep runBy orElse
+run-by Verdict.Lawful b next within later found rest e = sym e
+run-by (Verdict.Refused r) b next within later found rest e = refl
 
 deep-split : (at d : ℕ) (t : Tree) (fs : Fields) → firstFault at (map deepness (depths d t ++ runDepths d fs)) ≡ orElse (firstFault at (map deepness (depths d t))) (firstFault (at + size t) (map deepness (runDepths d fs)))
 deep-split at d t fs =
@@ -103,41 +124,36 @@ deep-split at d t fs =
     (firstFault-append at (map deepness (depths d t)) (map deepness (runDepths d fs))
     ∙ rw (length-map, length-depths))
 
-fault-split : (at : ℕ) (p : Place) (t : Tree) (fs : Fields) → firstFault at (faults p t ++ runFaults p fs) ≡ orElse (firstFault at (faults p t)) (firstFault (at + size t) (runFaults p fs))
-fault-split at p t fs = firstFault-append at (faults p t) (runFaults p fs) ∙ rw length-faults
+fault-split : (at f : ℕ) (p : Place) (t : Tree) (fs : Fields) → firstOf f (faultFrom at (faults p t ++ runFaults p fs)) ≡ firstOf (firstOf f (faultFrom at (faults p t))) (faultFrom (at + size t) (runFaults p fs))
+fault-split at f p t fs =
+    ap (firstOf f) (faultFrom-append at (faults p t) (runFaults p fs) ∙ rw length-faults)
+    ∙ sym (firstOf-assoc f (faultFrom at (faults p t)) (faultFrom (at + size t) (runFaults p fs)))
 
 field-end : (at : ℕ) (t : Tree) (fs : Fields) → at + sizes (field t fs) ≡ at + size t + sizes fs
 field-end at t fs = omega (arith, sizes-field t fs)
 
-run-parts : (a b v w : Verdict) (e f next second : ℕ) → a ≡ b → e ≡ f → v ≡ w → runOrDeep a (RunJudged.Judged e next second v) ≡ runOrDeep b (RunJudged.Judged f next second w)
-run-parts a b v w e f next second p q r = cc
+run-parts : (a b : Verdict) (e f last inner v w : ℕ) → a ≡ b → e ≡ f → v ≡ w → runOrDeep a (RunJudged.Judged e last inner v) ≡ runOrDeep b (RunJudged.Judged f last inner w)
+run-parts a b e f last inner v w p q r = cc
 
-pub judgedRun-field : (at l : ℕ) (p : Place) (t : Tree) (fs : Fields) → judgedRun at l p (field t fs) ≡ runBy (judgedTree at l p t) (λ k. judgedRun k l p fs)
-unfolding judgedTree judgedRun runDepths runFaults secondIn innerIn
-judgedRun-field at l p t fs =
-    run-parts _ _ _ _ _ _ _ _ (deep-split at (depthAt l) t fs) (field-end at t fs) (fault-split at p t fs)
-    ∙ run-by _ _ _ _ _ _ _ (secondIn (at + size t) fs) (innerIn (at + size t) fs)
-    ∙ run-next _ _ _ _ _ _ refl
+pub judgedOn-field : (at l : ℕ) (p : Place) (last inner f : ℕ) (t : Tree) (fs : Fields) → judgedOn at l p last inner f (field t fs) ≡ runBy (judgedTree at l p t) (λ next within later. judgedOn next l p at within (firstOf f later) fs)
+unfolding judgedTree judgedOn runDepths runFaults lastFrom innerFrom
+judgedOn-field at l p last inner f t fs =
+    run-parts _ _ _ _ _ _ _ _ (deep-split at (depthAt l) t fs) (field-end at t fs) (fault-split at f p t fs)
+    ∙ run-by _ _ _ _ _ _ _ refl
 
--- where a run is judged, the second field of its first field stands where it says
-pub judgedRun-inner : (at l : ℕ) (p : Place) (fs : Fields) (next second inner : ℕ) (v : Verdict) → judgedRun at l p fs ≡ RunJudged.Judged next second inner v → inner ≡ innerIn at fs
-unfolding judgedRun runOrDeep
-judgedRun-inner at l p fs next second inner v e = on (firstFault at (map deepness (runDepths (depthAt l) fs))) e
+-- where a run is judged, the last field of its last field stands where it says
+pub judgedRun-inner : (at l : ℕ) (p : Place) (fs : Fields) (next last inner f : ℕ) → judgedRun at l p fs ≡ RunJudged.Judged next last inner f → inner ≡ innerFrom at at fs
+unfolding judgedRun judgedOn runOrDeep
+judgedRun-inner at l p fs next last inner f e = on (firstFault at (map deepness (runDepths (depthAt l) fs))) e
   where
-    on : (w : Verdict) → runOrDeep w (RunJudged.Judged (at + sizes fs) (secondIn at fs) (innerIn at fs) (firstFault at (runFaults p fs))) ≡ RunJudged.Judged next second inner v → inner ≡ innerIn at fs
+    on : (w : Verdict) → runOrDeep w (RunJudged.Judged (at + sizes fs) (lastFrom at at fs) (innerFrom at at fs) (firstOf 0 (faultFrom at (runFaults p fs)))) ≡ RunJudged.Judged next last inner f → inner ≡ innerFrom at at fs
     on Verdict.Lawful q = cc
     on (Verdict.Refused r) q = absurd (let z : _≡_ {A = ℕ} 0 1 = cc in omega arith)
 
-pub judgedTree-next : (at l : ℕ) (p : Place) (t : Tree) (next second : ℕ) (v : Verdict) → judgedTree at l p t ≡ TreeJudged.Judged next second v → next ≡ at + size t
+pub judgedTree-next : (at l : ℕ) (p : Place) (t : Tree) (next last f : ℕ) → judgedTree at l p t ≡ TreeJudged.Judged next last f → next ≡ at + size t
 unfolding judgedTree treeOrDeep
-judgedTree-next at l p t next second v e = on (firstFault at (map deepness (depths (depthAt l) t))) e
+judgedTree-next at l p t next last f e = on (firstFault at (map deepness (depths (depthAt l) t))) e
   where
-    on : (w : Verdict) → treeOrDeep w (TreeJudged.Judged (at + size t) (secondOf at t) (firstFault at (faults p t))) ≡ TreeJudged.Judged next second v → next ≡ at + size t
+    on : (w : Verdict) → treeOrDeep w (TreeJudged.Judged (at + size t) (lastOf at t) (faultFrom at (faults p t))) ≡ TreeJudged.Judged next last f → next ≡ at + size t
     on Verdict.Lawful q = cc
     on (Verdict.Refused r) q = absurd (let z : _≡_ {A = ℕ} 0 1 = cc in omega arith)
-
--- a fault of the root's own is found
-pub ownFirst-some : (own at : ℕ) (v : Verdict) → (own ≡ 0 → ⊥) → Verdict.Refused (refusal own at) ≡ ownFirst own at v
-unfolding ownFirst
-ownFirst-some zero at v n = absurd (n refl)
-ownFirst-some (suc k) at v n = refl

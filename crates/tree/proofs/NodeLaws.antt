@@ -1,9 +1,11 @@
 -- The least rule that a visited node breaks, by its numbers.
-use Prim.Native.Nat.{ℕ}
+use Prim.Native.Nat.{ℕ, _≤_}
 use mathlib.Core.Path.{_≡_, refl, sym, ap, _∙_}
-use mathlib.Core.Bool.{Bool, true, false, cond}
+use mathlib.Core.Bool.{Bool, true, false, cond, not, _||_}
 use mathlib.Core.List.{List}
 use borrow.Author.Tests.{ne-eqb}
+use lib.Dec.{eqb}
+use native.Mathlib.Omega.{arith}
 use Rattle.sheet.specs.Slot.{slotAt, numbersOf}
 use Rattle.sheet.specs.declared.slots.Slot.{Slot as Numbers}
 use Rattle.parquet.specs.Logical as logical
@@ -19,7 +21,7 @@ use Rattle.tree.specs.Annotated.{annotatedBy, annotated, kind, rule9, ru
 use Rattle.tree.specs.Tree.{SlotBytes, Fields}
 use Rattle.tree.specs.Rules.{underMap, shape, rule8, isList, isMap, listKept, mapKept, rule12, rule13, placeUnder, placeBelow}
 use Rattle.tree.specs.Faults.{broken}
-use Rattle.tree.specs.Steps.{Visited, fieldsAt, structureBroken}
+use Rattle.tree.specs.Steps.{Visited, fieldsAt, brokenTo12, brokenWith13, listBroken}
 use Rattle.tree.specs.declared.place.Place.{Place}
 use Rattle.tree.proofs.VisitLaws.{count-fieldsAt}
 
@@ -37,12 +39,47 @@ broken-cases true true false k f = refl
 broken-cases true false c k f = refl
 broken-cases false b c k f = refl
 
--- rules 9 to 13 by the resolution of a slot's annotations
-broken-by : (p : Place) (s : SlotBytes) (fs : Fields) → broken p s fs ≡ cond (rule8 p s fs) (brokenBy (resolutionOf (annotated s) (underMap p)) (λ k. structureBroken (k .kind) s fs)) 8
-unfolding broken rule9 rule10 rule11 rule12 rule13 isList isMap kind structureBroken resolutionOf
-broken-by p s fs =
+-- rules 9 to 12 by the resolution of a slot's annotations
+to12-by : (p : Place) (s : SlotBytes) (fs : Fields) → brokenTo12 p s fs ≡ cond (rule8 p s fs) (brokenBy (resolutionOf (annotated s) (underMap p)) (λ k. listBroken (k .kind) s fs)) 8
+unfolding brokenTo12 rule9 rule10 rule11 rule12 isList kind listBroken resolutionOf
+to12-by p s fs =
     ap (λ (n : ℕ). cond (rule8 p s fs) n 8)
-    (broken-cases (nine.rule9 (annotated s)) (ten.rule10 (annotated s) (underMap p)) (eleven.rule11 (annotated s) (underMap p)) (kindOf (annotated s) (underMap p)) (λ k. structureBroken (k .kind) s fs))
+    (broken-cases (nine.rule9 (annotated s)) (ten.rule10 (annotated s) (underMap p)) (eleven.rule11 (annotated s) (underMap p)) (kindOf (annotated s) (underMap p)) (λ k. listBroken (k .kind) s fs))
+
+-- rule 13 behind the others
+with13-cases : (a b c d e m : Bool) → let n : ℕ = cond a (cond b (cond c (cond d (cond e 0 12) 11) 10) 9) 8 in cond (eqb n 0) (cond m 0 13) n ≡ cond a (cond b (cond c (cond d (cond e (cond m 0 13) 12) 11) 10) 9) 8
+with13-cases true true true true true m = refl
+with13-cases true true true true false m = refl
+with13-cases true true true false e m = refl
+with13-cases true true false d e m = refl
+with13-cases true false c d e m = refl
+with13-cases false b c d e m = refl
+
+under-place : (b : Bool) → underMap (cond b Place.MapField Place.Field) ≡ b
+under-place true = refl
+under-place false = refl
+
+broken-with13 : (p : Place) (s : SlotBytes) (fs : Fields) → brokenWith13 (brokenTo12 p s fs) (placeBelow p s) s fs ≡ broken p s fs
+unfolding brokenWith13 brokenTo12 broken rule13 isMap placeBelow
+broken-with13 p s fs =
+    rw under-place
+    (with13-cases (rule8 p s fs) (rule9 s) (rule10 (underMap p) s) (rule11 (underMap p) s) (rule12 p s fs) (not (eqb (kind (underMap p) s .kind) logical.MAP) || mapKept s fs))
+
+-- by what the code finds before and behind the node's run
+pub own-is : (p q : Place) (s : SlotBytes) (fs : Fields) (least own : ℕ) → least ≡ brokenTo12 p s fs → q ≡ placeBelow p s → own ≡ brokenWith13 least q s fs → own ≡ broken p s fs
+own-is p q s fs least own e d o = o ∙ rw (e, d) (broken-with13 p s fs)
+
+cond-most : {x y : ℕ} (b : Bool) → x ≤ 13 → y ≤ 13 → cond b x y ≤ 13
+cond-most true h k = h
+cond-most false h k = k
+
+-- the greatest number of a rule
+pub broken-most : (p : Place) (s : SlotBytes) (fs : Fields) → broken p s fs ≤ 13
+unfolding broken
+broken-most p s fs =
+    let r13 : cond (rule13 p s fs) 0 13 ≤ 13 = cond-most (rule13 p s fs) (omega arith) (omega arith) in
+    let r12 : cond (rule12 p s fs) (cond (rule13 p s fs) 0 13) 12 ≤ 13 = cond-most (rule12 p s fs) r13 (omega arith) in
+    cond-most (rule8 p s fs) (cond-most (rule9 s) (cond-most (rule10 (underMap p) s) (cond-most (rule11 (underMap p) s) r12 (omega arith)) (omega arith)) (omega arith)) (omega arith)
 
 module _ (b : List ℕ) (at : ℕ) (s : Numbers) (p : Place) (v : Visited b at s) where
   shape-is : rule8 p (slotAt b at) (fieldsAt b at) ≡ shape p s (s .children)
@@ -51,30 +88,24 @@ module _ (b : List ℕ) (at : ℕ) (s : Numbers) (p : Place) (v : Visited b at s
       ap (shape p (numbersOf (slotAt b at))) (count-fieldsAt b at (v .claimed) (v .below))
       ∙ ap (λ (n : Numbers). shape p n (n .children)) (sym (v .numbers))
 
-  pub broken-shape : shape p s (s .children) ≡ false → 8 ≡ broken p (slotAt b at) (fieldsAt b at)
-  broken-shape e = sym (broken-by p (slotAt b at) (fieldsAt b at) ∙ rw (shape-is ∙ e))
+  pub to12-shape : shape p s (s .children) ≡ false → 8 ≡ brokenTo12 p (slotAt b at) (fieldsAt b at)
+  to12-shape e = sym (to12-by p (slotAt b at) (fieldsAt b at) ∙ rw (shape-is ∙ e))
 
-  pub broken-resolved : (n : Annotated) (u : Bool) (r : Resolution) → shape p s (s .children) ≡ true → n ≡ annotatedBy s → u ≡ underMap p → r ≡ resolutionOf n u → broken p (slotAt b at) (fieldsAt b at) ≡ brokenBy r (λ k. structureBroken (k .kind) (slotAt b at) (fieldsAt b at))
+  pub to12-resolved : (r : Resolution) → shape p s (s .children) ≡ true → r ≡ resolutionOf (annotatedBy s) (underMap p) → brokenTo12 p (slotAt b at) (fieldsAt b at) ≡ brokenBy r (λ k. listBroken (k .kind) (slotAt b at) (fieldsAt b at))
   unfolding annotated
-  broken-resolved n u r e q w d =
-      broken-by p (slotAt b at) (fieldsAt b at)
-      ∙ rw (shape-is ∙ e, ← v .numbers, ← q, ← w, ← d)
+  to12-resolved r e d = to12-by p (slotAt b at) (fieldsAt b at) ∙ rw (shape-is ∙ e, ← v .numbers, ← d)
 
   -- the place of a node's fields
   pub placeBelow-is : (n : Annotated) (u : Bool) (k : Kind) → n ≡ annotatedBy s → u ≡ underMap p → k ≡ kindOf n u → placeUnder (k .kind) ≡ placeBelow p (slotAt b at)
   unfolding placeBelow kind annotated
   placeBelow-is n u k q w d = rw (d, q, w, v .numbers)
 
--- rules 12 and 13 at a kind
+-- rule 12 at a kind
 module _ (code : ℕ) (s : SlotBytes) (fs : Fields) where
-  pub structure-list : code ≡ logical.LIST → (r : Bool) → r ≡ listKept s fs → structureBroken code s fs ≡ cond r 0 12
-  unfolding structureBroken
-  structure-list e r q = rw (e, ← q)
+  pub list-broken : code ≡ logical.LIST → (r : Bool) → r ≡ listKept s fs → listBroken code s fs ≡ cond r 0 12
+  unfolding listBroken
+  list-broken e r q = rw (e, ← q)
 
-  pub structure-map : (code ≡ logical.LIST → ⊥) → code ≡ logical.MAP → (r : Bool) → r ≡ mapKept s fs → structureBroken code s fs ≡ cond r 0 13
-  unfolding structureBroken
-  structure-map n e r q = rw (e, ← q)
-
-  pub structure-other : (code ≡ logical.LIST → ⊥) → (code ≡ logical.MAP → ⊥) → structureBroken code s fs ≡ 0
-  unfolding structureBroken
-  structure-other n m = rw (ne-eqb _ _ n, ne-eqb _ _ m)
+  pub list-other : (code ≡ logical.LIST → ⊥) → listBroken code s fs ≡ 0
+  unfolding listBroken
+  list-other n = rw (ne-eqb _ _ n)

@@ -16,7 +16,7 @@ use Rattle.sheet.specs.declared.slots.Slot.{Slot as Numbers}
 use Rattle.parquet.specs.Repetition.{REQUIRED, REPEATED}
 use Rattle.parquet.specs.Physical as physical
 use Rattle.tree.specs.Reading.{trees}
-use Rattle.tree.specs.Steps.{Claimed, Visited, treeAt, runAt, fieldsAt, secondIn, secondOf, innerIn}
+use Rattle.tree.specs.Steps.{Claimed, Visited, treeAt, runAt, fieldsAt, lastFrom, lastOf, innerFrom}
 use Rattle.tree.proofs.StandingLaws.{runAt-suc, runAt-zero, runAt-end, size-positive}
 use Rattle.tree.proofs.VisitLaws.{treeAt-slot, count-fieldsAt, fieldsAt-first, first-below, rest-claimed, repetition-at, physical-at, children-at}
 use Rattle.tree.specs.Tree.{SlotBytes, Tree, Fields, node, empty, field, count, size}
@@ -211,13 +211,13 @@ module _ (b : List ℕ) (layer : ℕ) (s : Numbers) (h : Claimed b) (l : layer <
         value : ℕ
         value = suc layer + size (treeAt (slots b) (suc layer))
 
-        value-second : secondOf layer (treeAt (slots b) layer) ≡ value
-        unfolding secondOf secondIn value fields
-        value-second = rw (tree-is, fieldsAt-first b layer h l 1 claim)
-
         value-claimed : 1 ≤ count (trees (drop value (slots b)))
         unfolding value
         value-claimed = rest-claimed b layer h l 1 claim
+
+        value-last : lastOf layer (treeAt (slots b) layer) ≡ value
+        unfolding lastOf lastFrom value fields
+        value-last = rw (tree-is, fieldsAt-first b layer h l 1 claim, runAt-suc (slots b) value 0 (h .claims) value-claimed, runAt-zero)
 
         value-below : value < totalOf b
         value-below =
@@ -236,11 +236,11 @@ module _ (b : List ℕ) (layer : ℕ) (s : Numbers) (h : Claimed b) (l : layer <
         pub layer-optional : eqb (repetition (slotAt b (suc layer))) REQUIRED ≡ false → false ≡ mapRun (field (treeAt (slots b) layer) empty)
         layer-optional k = sym (layer-group ∙ rw two-fields (keyValue-optional (slotAt b (suc layer)) (slotAt b value) (fieldsAt b (suc layer)) (fieldsAt b value) k))
 
-        pub layer-both : eqb (repetition (slotAt b (suc layer))) REQUIRED ≡ true → mapRun (field (treeAt (slots b) layer) empty) ≡ isRequiredOrOptional (repetition (slotAt b (secondOf layer (treeAt (slots b) layer))))
+        pub layer-both : eqb (repetition (slotAt b (suc layer))) REQUIRED ≡ true → mapRun (field (treeAt (slots b) layer) empty) ≡ isRequiredOrOptional (repetition (slotAt b (lastOf layer (treeAt (slots b) layer))))
         layer-both k =
             layer-group
             ∙ rw two-fields (keyValue-both (slotAt b (suc layer)) (slotAt b value) (fieldsAt b (suc layer)) (fieldsAt b value) k)
-            ∙ ap (λ (i : ℕ). isRequiredOrOptional (repetition (slotAt b i))) (sym value-second)
+            ∙ ap (λ (i : ℕ). isRequiredOrOptional (repetition (slotAt b i))) (sym value-last)
 
       -- a key that is not required, alone or beside a value
       pub layer-key-optional : (s .children ≡ 0 → ⊥) → s .children ≤ 2 → (repetition (slotAt b (suc layer)) ≡ REQUIRED → ⊥) → false ≡ mapRun (field (treeAt (slots b) layer) empty)
@@ -298,7 +298,7 @@ module _ (b : List ℕ) (at : ℕ) (s : Numbers) (v : Visited b at s) where
   unfolding mapKept
   map-one n q = rw (either n, one-field q, add-one)
 
-  -- where the second field of the one child stands
-  pub map-inner : s .children ≡ 1 → innerIn (suc at) (fieldsAt b at) ≡ secondOf (at + 1) (treeAt (slots b) (at + 1))
-  unfolding innerIn
+  -- where the last field of the one child stands
+  pub map-inner : s .children ≡ 1 → innerFrom (suc at) (suc at) (fieldsAt b at) ≡ lastOf (at + 1) (treeAt (slots b) (at + 1))
+  unfolding innerFrom
   map-inner q = rw (one-field q, add-one)

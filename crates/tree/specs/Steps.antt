@@ -1,19 +1,20 @@
 -- What the steps of judging answer, which the contracts of private functions cite. Nothing here is a promise to a caller.
-use Prim.Native.Nat.{ℕ, zero, suc, _+_, _-_, _≤_, _<_}
+use Prim.Native.Nat.{ℕ, zero, suc, _+_, _*_, _-_, _/_, _%_, _≤_, _<_}
 use mathlib.Core.Path.{_≡_}
 use mathlib.Core.Bool.{cond, not, _||_}
-use mathlib.Core.List.{List, map}
+use mathlib.Core.List.{List, [], _∷_, map}
 use lib.Dec.{eqb}
 use lib.ListN.{length, drop}
 use Rattle.sheet.specs.Block.{totalOf, mostNodes}
 use Rattle.sheet.specs.Slot.{slots, slotAt, childCount, numbersOf}
 use Rattle.sheet.specs.declared.slots.Slot.{Slot as Numbers}
 use Rattle.tree.specs.Tree.{SlotBytes, Tree, Fields, node, empty, field, listings, size, depths, runDepths, ClaimsAll, mostDepth}
-use Rattle.tree.specs.Rules.{listKept, mapKept}
+use Rattle.tree.specs.Annotated.{rule9, rule10, rule11}
+use Rattle.tree.specs.Rules.{underMap, rule8, rule12, listKept, mapKept}
 use Rattle.tree.specs.Faults.{faults, runFaults}
 use Rattle.tree.specs.Reading.{trees, takeFields, firstTree}
 use Rattle.parquet.specs.Logical as logical
-use Rattle.tree.specs.Judgement.{deepness, firstFault, orElse, refusal, judgement}
+use Rattle.tree.specs.Judgement.{deepness, firstFault, refusal, judgement}
 use Rattle.tree.specs.declared.place.Place.{Place}
 use Rattle.tree.specs.declared.refusal.Verdict.{Verdict}
 use Rattle.tree.specs.declared.judging.TreeJudged.{TreeJudged}
@@ -48,19 +49,38 @@ pub record Visited (bytes : List ℕ) (k : ℕ) (s : Numbers) : Type 0 where
 unfoldable pub sizes : Fields → ℕ
 sizes fs = length (listings fs)
 
--- where the second field of a run stands whose first stands at k
-unfoldable pub secondIn : ℕ → Fields → ℕ
-secondIn k empty = k
-secondIn k (field t fs) = k + size t
+-- where the last field of a run stands whose first stands at k, and d where it has none
+unfoldable pub lastFrom : ℕ → ℕ → Fields → ℕ
+lastFrom d k empty = d
+lastFrom d k (field t fs) = lastFrom k (k + size t) fs
 
--- where the second field of a tree's root stands, the root at k
-unfoldable pub secondOf : ℕ → Tree → ℕ
-secondOf k (node s fs) = secondIn (suc k) fs
+-- where the last field of a tree's root stands, the root at k, and behind the root where it has none
+unfoldable pub lastOf : ℕ → Tree → ℕ
+lastOf k (node s fs) = lastFrom (suc k) (suc k) fs
 
--- where the second field of a run's first field stands
-unfoldable pub innerIn : ℕ → Fields → ℕ
-innerIn k empty = k
-innerIn k (field t fs) = secondOf k t
+-- where the last field of a run's last field stands, and d where the run has none
+unfoldable pub innerFrom : ℕ → ℕ → Fields → ℕ
+innerFrom d k empty = d
+innerFrom d k (field t fs) = innerFrom (lastOf k t) (k + size t) fs
+
+-- what a rule's number counts in a fault, which is one number: the rule's, and below it the node's
+abbrev pub ruleWeight : ℕ
+ruleWeight = 65536
+
+-- the first fault of nodes that break such rules, the first of them at k, and 0 where there is none
+unfoldable pub faultFrom : ℕ → List ℕ → ℕ
+faultFrom k [] = 0
+faultFrom k (zero ∷ ns) = faultFrom (suc k) ns
+faultFrom k (suc n ∷ ns) = ruleWeight * suc n + k
+
+-- the first fault of two
+unfoldable pub firstOf : ℕ → ℕ → ℕ
+firstOf zero g = g
+firstOf (suc f) g = suc f
+
+-- the refusal of a fault
+unfoldable pub verdictOf : ℕ → Verdict
+verdictOf f = cond (eqb f 0) Verdict.Lawful (Verdict.Refused (refusal (f / ruleWeight) (f % ruleWeight)))
 
 -- the depth at which so many levels are left
 unfoldable pub depthAt : ℕ → ℕ
@@ -77,29 +97,34 @@ runOrDeep (Verdict.Refused r) found = RunJudged.Deep (r .place)
 -- what judging finds of a tree whose root has the number `at`
 unfoldable pub judgedTree : ℕ → ℕ → Place → Tree → TreeJudged
 judgedTree at levels p t =
-    treeOrDeep (firstFault at (map deepness (depths (depthAt levels) t))) (TreeJudged.Judged (at + size t) (secondOf at t) (firstFault at (faults p t)))
+    treeOrDeep (firstFault at (map deepness (depths (depthAt levels) t))) (TreeJudged.Judged (at + size t) (lastOf at t) (faultFrom at (faults p t)))
 
--- and of a run whose first field has it
-unfoldable pub judgedRun : ℕ → ℕ → Place → Fields → RunJudged
-judgedRun at levels p fs =
+-- and of a run whose next field has it, where a last field, that field's last field and a first fault were found before
+unfoldable pub judgedOn : ℕ → ℕ → Place → ℕ → ℕ → ℕ → Fields → RunJudged
+judgedOn at levels p last inner fault fs =
     runOrDeep (firstFault at (map deepness (runDepths (depthAt levels) fs)))
-    (RunJudged.Judged (at + sizes fs) (secondIn at fs) (innerIn at fs) (firstFault at (runFaults p fs)))
+    (RunJudged.Judged (at + sizes fs) (lastFrom last at fs) (innerFrom inner at fs) (firstOf fault (faultFrom at (runFaults p fs))))
 
--- a fault of the root's own comes before those of its run
-unfoldable pub ownFirst : ℕ → ℕ → Verdict → Verdict
-ownFirst zero at v = v
-ownFirst (suc n) at v = Verdict.Refused (refusal (suc n) at)
+-- and of a whole run
+unfoldable pub judgedRun : ℕ → ℕ → Place → Fields → RunJudged
+judgedRun at levels p fs = judgedOn at levels p at at 0 fs
 
--- what a run finds, and the tree that stands before it
-unfoldable pub runAfter : ℕ → ℕ → Verdict → RunJudged → RunJudged
-runAfter next second v (RunJudged.Deep k) = RunJudged.Deep k
-runAfter next second v (RunJudged.Judged end third inner w) = RunJudged.Judged end next second (orElse v w)
+-- the least of rules 8 to 12 that a node breaks, and 0 where it keeps them all
+unfoldable pub brokenTo12 : Place → SlotBytes → Fields → ℕ
+brokenTo12 p s fs =
+    cond (rule8 p s fs)
+    (cond (rule9 s)
+    (cond (rule10 (underMap p) s)
+    (cond (rule11 (underMap p) s)
+    (cond (rule12 p s fs) 0 12) 11) 10) 9) 8
 
--- which of rules 12 and 13 a node of some kind breaks, and 0 where it breaks neither
-unfoldable pub structureBroken : ℕ → SlotBytes → Fields → ℕ
-structureBroken code s fs =
-    cond (not (eqb code logical.LIST) || listKept s fs)
-    (cond (not (eqb code logical.MAP) || mapKept s fs) 0 13) 12
+-- the least of all rules, where that is the least of rules 8 to 12 and the node's fields have such a place
+unfoldable pub brokenWith13 : ℕ → Place → SlotBytes → Fields → ℕ
+brokenWith13 least below s fs = cond (eqb least 0) (cond (not (underMap below) || mapKept s fs) 0 13) least
+
+-- whether a node of some kind breaks rule 12
+unfoldable pub listBroken : ℕ → SlotBytes → Fields → ℕ
+listBroken code s fs = cond (not (eqb code logical.LIST) || listKept s fs) 0 12
 
 -- what judging a sheet answers: its number of nodes, or the refusal
 unfoldable pub judgedNodes : Verdict → ℕ → Judgement

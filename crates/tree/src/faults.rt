@@ -1,13 +1,14 @@
 // The least rule of 8 to 13 that a node breaks.
 ghost use mathlib.Core.Path.{_≡_};
-ghost use Prim.Native.Nat.{suc};
+ghost use Prim.Native.Nat.{suc, _<_};
+ghost use Rattle.sheet.specs.Block.{totalOf};
 ghost use Rattle.sheet.specs.Slot.{slotAt};
 ghost use Rattle.annotation.specs.Outcome.{resolutionOf};
 ghost use Rattle.tree.specs.Annotated.{annotatedBy};
 ghost use Rattle.tree.specs.Rules.{underMap};
-ghost use Rattle.tree.specs.Faults.{broken as Faults·broken};
-ghost use Rattle.tree.specs.Steps.{Visited, fieldsAt, innerIn, structureBroken};
+ghost use Rattle.tree.specs.Steps.{Claimed, Visited, fieldsAt, innerFrom, brokenTo12, brokenWith13, listBroken};
 use crate::place::Place;
+use crate::place::under_map;
 use crate::shape::shape_kept;
 use crate::structure::list_kept;
 use crate::structure::map_kept;
@@ -27,32 +28,47 @@ const MAP_STRUCTURE: u32 = 13;
 
 const LIST: u32 = logical::LIST as u32;
 
-const MAP: u32 = logical::MAP as u32;
-
-// The number of the first rule that the node at a number breaks, or KEPT. Its annotations resolve so. Where it is a MAP, the second
-// field of its child stands at value.
-pub(crate) fn broken(
+// The number of the first of rules 8 to 12 that the node at a number breaks, or KEPT. Its annotations resolve so.
+pub(crate) fn broken_to_12(
     sheet: &[u8],
     at: usize,
     place: Place,
     s: Slot,
     resolution: Resolution,
-    value: usize,
 ) -> u32
     requires { ⌜ Visited (now sheet) at s ⌝ }
     requires { ⌜ resolution ≡ resolutionOf (annotatedBy s) (underMap place) ⌝ }
-    requires { ⌜ value ≡ innerIn (suc at) (fieldsAt (now sheet) at) ⌝ }
-    ensures { λ r. ⌜ r ≡ Faults·broken place (slotAt (now (sheet .entry)) at) (fieldsAt (now (sheet .entry)) at) ⌝ }
+    ensures { λ r. ⌜ r ≡ brokenTo12 place (slotAt (now (sheet .entry)) at) (fieldsAt (now (sheet .entry)) at) ⌝ }
 {
     if !shape_kept(place, s) {
         return SHAPE;
     }
     match resolution {
-        Resolution::Resolved(k) => structure_broken(sheet, at, s, k.kind, value),
+        Resolution::Resolved(k) => list_broken(sheet, at, s, k.kind),
         Resolution::Disagreement => annotation::refusal(resolution),
         Resolution::Misplaced => annotation::refusal(resolution),
         Resolution::BadDecimal => annotation::refusal(resolution),
     }
+}
+
+// The number of the first rule that the node at a number breaks, or KEPT: of rules 8 to 12 it is known, its fields have such a place,
+// and where it is a MAP, the last field of its child stands at value. Rule 13 waits for the node's run, which tells that.
+pub(crate) fn broken_with_13(sheet: &[u8], at: usize, below: Place, least: u32, value: usize) -> u32
+    requires { ⌜ Claimed (now sheet) ⌝ }
+    requires { ⌜ at < totalOf (now sheet) ⌝ }
+    requires { ⌜ value ≡ innerFrom (suc at) (suc at) (fieldsAt (now sheet) at) ⌝ }
+    ensures { λ r. ⌜ r ≡ brokenWith13 least below (slotAt (now (sheet .entry)) at) (fieldsAt (now (sheet .entry)) at) ⌝ }
+{
+    if least != KEPT {
+        return least;
+    }
+    if !under_map(below) {
+        return KEPT;
+    }
+    if map_kept(sheet, at, value) {
+        return KEPT;
+    }
+    MAP_STRUCTURE
 }
 
 // The numbers of a slot that its annotations go by.
@@ -71,23 +87,16 @@ pub fn annotated(s: Slot) -> Annotated
     }
 }
 
-// Rules 12 and 13 at a node of some kind.
-fn structure_broken(sheet: &[u8], at: usize, s: Slot, kind: u32, value: usize) -> u32
+// Rule 12 at a node of some kind.
+fn list_broken(sheet: &[u8], at: usize, s: Slot, kind: u32) -> u32
     requires { ⌜ Visited (now sheet) at s ⌝ }
-    requires { ⌜ value ≡ innerIn (suc at) (fieldsAt (now sheet) at) ⌝ }
-    ensures { λ r. ⌜ r ≡ structureBroken kind (slotAt (now (sheet .entry)) at) (fieldsAt (now (sheet .entry)) at) ⌝ }
+    ensures { λ r. ⌜ r ≡ listBroken kind (slotAt (now (sheet .entry)) at) (fieldsAt (now (sheet .entry)) at) ⌝ }
 {
-    if kind == LIST {
-        if list_kept(sheet, at, s) {
-            return KEPT;
-        }
-        return LIST_STRUCTURE;
+    if kind != LIST {
+        return KEPT;
     }
-    if kind == MAP {
-        if map_kept(sheet, at, s, value) {
-            return KEPT;
-        }
-        return MAP_STRUCTURE;
+    if list_kept(sheet, at, s) {
+        return KEPT;
     }
-    KEPT
+    LIST_STRUCTURE
 }

@@ -7,10 +7,12 @@ ghost use Rattle.sheet.specs.Slot.{slots};
 ghost use Rattle.sheet.specs.declared.opening.Opened.the-variants.{Nodes};
 ghost use Rattle.tree.specs.Reading.{treeOf};
 ghost use Rattle.tree.specs.Judgement.{orElse, tooDeep, unlawful, treeRefusal};
-ghost use Rattle.tree.specs.Steps.{Claimed, judgementOf, judgedNodes};
+ghost use Rattle.tree.specs.Steps.{Claimed, judgementOf, judgedNodes, verdictOf};
 use crate::judging::LEVELS;
-use crate::judging::TreeJudged;
-use crate::judging::judge_tree;
+use crate::judging::NO_FAULT;
+use crate::judging::RULE_WEIGHT;
+use crate::judging::RunJudged;
+use crate::judging::judge_run;
 use crate::place::Place;
 use crate::places::places_filled;
 use crate::refusal::Refusal;
@@ -83,16 +85,30 @@ fn judge_root(sheet: &[u8]) -> Verdict
     requires { ⌜ 0 < totalOf (now sheet) ⌝ }
     ensures { λ r. ⌜ r ≡ orElse (tooDeep (treeOf (slots (now (sheet .entry))))) (unlawful (treeOf (slots (now (sheet .entry))))) ⌝ }
 {
-    let judged = judge_tree(sheet, 0, LEVELS, Place::Root);
+    let judged = judge_run(sheet, 0, 1, LEVELS, Place::Root);
     match judged {
-        TreeJudged::Deep(node) => Verdict::Refused(Refusal {
+        RunJudged::Deep(node) => Verdict::Refused(Refusal {
             number: DEEP,
             place: node,
         }),
-        TreeJudged::Judged {
+        RunJudged::Judged {
             next: _,
-            second: _,
-            verdict,
-        } => verdict,
+            last: _,
+            inner: _,
+            fault,
+        } => verdict_of(fault),
     }
+}
+
+// The refusal of a fault.
+fn verdict_of(fault: u32) -> Verdict
+    ensures { λ r. ⌜ r ≡ verdictOf fault ⌝ }
+{
+    if fault == NO_FAULT {
+        return Verdict::Lawful;
+    }
+    Verdict::Refused(Refusal {
+        number: fault / RULE_WEIGHT,
+        place: (fault % RULE_WEIGHT) as usize,
+    })
 }

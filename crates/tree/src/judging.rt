@@ -2,48 +2,98 @@
 ghost use mathlib.Core.Path.{_≡_};
 ghost use Prim.Native.Nat.{suc, _≤_, _<_};
 ghost use lib.ListN.{drop};
-ghost use Rattle.sheet.specs.Block.{totalOf};
+ghost use Rattle.sheet.specs.Block.{totalOf, mostNodes};
 ghost use Rattle.sheet.specs.Slot.{slots};
+ghost use mathlib.Core.List.{[], _∷_};
 ghost use Rattle.tree.specs.Tree.{count as Tree·count, mostDepth};
 ghost use Rattle.tree.specs.Reading.{trees};
-ghost use Rattle.tree.specs.Steps.{Claimed, treeAt, runAt, judgedTree, judgedRun, ownFirst, runAfter};
+ghost use Rattle.tree.specs.Steps.{Claimed, treeAt, runAt, judgedTree, judgedRun, firstOf, faultFrom};
 use crate::faults::KEPT;
 use crate::faults::annotated;
-use crate::faults::broken;
+use crate::faults::broken_to_12;
+use crate::faults::broken_with_13;
 use crate::place::Place;
 use crate::place::place_below;
 use crate::place::under_map;
-use crate::refusal::Refusal;
-use crate::refusal::Verdict;
-use crate::refusal::or_else;
 
 // Levels that a tree may have: depths 0 to 32.
 pub(crate) const LEVELS: usize = 33;
 
-// What judging a tree finds: the first node that is too deep; or where the next tree and the root's second field stand, and
-// the first fault.
+// A fault is one number, so that it is handed on in a register: a rule's number counts so much in it, and the number of the node
+// that breaks the rule stands below.
+pub(crate) const RULE_WEIGHT: u32 = 0x1_0000;
+
+pub(crate) const NO_FAULT: u32 = 0;
+
+// What judging a tree finds: the first node that is too deep; or where the next tree and the root's last field stand, and the
+// first fault.
 pub enum TreeJudged {
     Deep(usize),
     Judged {
         next: usize,
-        second: usize,
-        verdict: Verdict,
+        last: usize,
+        fault: u32,
     },
 }
 
-// What judging a run finds: the same, with where the second field of its first field stands.
+// What judging a run finds: the same of its last field, with where the last field of that field stands.
 pub enum RunJudged {
     Deep(usize),
     Judged {
         next: usize,
-        second: usize,
+        last: usize,
         inner: usize,
-        verdict: Verdict,
+        fault: u32,
     },
 }
 
+// Judges the run of so many fields at a number, one after the other.
+pub(crate) fn judge_run(
+    sheet: &[u8],
+    start: usize,
+    count: usize,
+    levels: usize,
+    place: Place,
+) -> RunJudged
+    requires { ⌜ Claimed (now sheet) ⌝ }
+    requires { ⌜ count ≤ Tree·count (trees (drop start (slots (now sheet)))) ⌝ }
+    requires { ⌜ levels ≤ suc mostDepth ⌝ }
+    ensures { λ r. ⌜ r ≡ judgedRun start levels place (runAt (slots (now (sheet .entry))) start count) ⌝ }
+{
+    let mut at = start;
+    let mut left = count;
+    let mut last = start;
+    let mut inner = start;
+    let mut fault = NO_FAULT;
+    while left > 0 {
+        let tree = judge_tree(sheet, at, levels, place);
+        match tree {
+            TreeJudged::Deep(node) => {
+                return RunJudged::Deep(node);
+            }
+            TreeJudged::Judged {
+                next,
+                last: within,
+                fault: later,
+            } => {
+                fault = first_of(fault, later);
+                last = at;
+                inner = within;
+                at = next;
+                left = left - 1;
+            }
+        }
+    }
+    RunJudged::Judged {
+        next: at,
+        last: last,
+        inner: inner,
+        fault: fault,
+    }
+}
+
 // Judges the tree at a number, its root's place known, with so many levels left.
-pub(crate) fn judge_tree(sheet: &[u8], at: usize, levels: usize, place: Place) -> TreeJudged
+fn judge_tree(sheet: &[u8], at: usize, levels: usize, place: Place) -> TreeJudged
     requires { ⌜ Claimed (now sheet) ⌝ }
     requires { ⌜ at < totalOf (now sheet) ⌝ }
     requires { ⌜ levels ≤ suc mostDepth ⌝ }
@@ -54,33 +104,29 @@ pub(crate) fn judge_tree(sheet: &[u8], at: usize, levels: usize, place: Place) -
     }
     let s = sheet::slot_at(sheet, at);
     let resolution = annotation::resolve(annotated(s), under_map(place));
-    let run = judge_run(
-        sheet,
-        at + 1,
-        s.children as usize,
-        levels - 1,
-        place_below(resolution, s, place),
-    );
+    let below = place_below(resolution, s, place);
+    let least = broken_to_12(sheet, at, place, s, resolution);
+    let run = judge_fields(sheet, at + 1, s.children as usize, levels - 1, below);
     match run {
         RunJudged::Deep(node) => TreeJudged::Deep(node),
         RunJudged::Judged {
             next,
-            second,
+            last,
             inner,
-            verdict,
+            fault,
         } => {
-            let own = broken(sheet, at, place, s, resolution, inner);
+            let own = broken_with_13(sheet, at, below, least, inner);
             TreeJudged::Judged {
                 next: next,
-                second: second,
-                verdict: own_first(own, at, verdict),
+                last: last,
+                fault: own_first(own, at, fault),
             }
         }
     }
 }
 
-// Judges the run of so many fields at a number.
-fn judge_run(sheet: &[u8], at: usize, count: usize, levels: usize, place: Place) -> RunJudged
+// Judges the run of so many fields at a number: most nodes have none, and are judged without a call.
+fn judge_fields(sheet: &[u8], at: usize, count: usize, levels: usize, place: Place) -> RunJudged
     requires { ⌜ Claimed (now sheet) ⌝ }
     requires { ⌜ count ≤ Tree·count (trees (drop at (slots (now sheet)))) ⌝ }
     requires { ⌜ levels ≤ suc mostDepth ⌝ }
@@ -89,75 +135,32 @@ fn judge_run(sheet: &[u8], at: usize, count: usize, levels: usize, place: Place)
     if count == 0 {
         return RunJudged::Judged {
             next: at,
-            second: at,
+            last: at,
             inner: at,
-            verdict: Verdict::Lawful,
+            fault: NO_FAULT,
         };
     }
-    let first = judge_tree(sheet, at, levels, place);
-    match first {
-        TreeJudged::Deep(node) => RunJudged::Deep(node),
-        TreeJudged::Judged {
-            next,
-            second,
-            verdict,
-        } => judge_rest(sheet, next, count - 1, levels, place, second, verdict),
-    }
+    judge_run(sheet, at, count, levels, place)
 }
 
-// Judges the fields of a run behind the first, one after the other: the second stands at start, the second field of the first at
-// inner, and the first was judged so.
-fn judge_rest(
-    sheet: &[u8],
-    start: usize,
-    count: usize,
-    levels: usize,
-    place: Place,
-    inner: usize,
-    first: Verdict,
-) -> RunJudged
-    requires { ⌜ Claimed (now sheet) ⌝ }
-    requires { ⌜ count ≤ Tree·count (trees (drop start (slots (now sheet)))) ⌝ }
-    requires { ⌜ levels ≤ suc mostDepth ⌝ }
-    ensures { λ r. ⌜ r ≡ runAfter start inner first (judgedRun start levels place (runAt (slots (now (sheet .entry))) start count)) ⌝ }
+// The first fault of two.
+fn first_of(fault: u32, later: u32) -> u32
+    ensures { λ r. ⌜ r ≡ firstOf fault later ⌝ }
 {
-    let mut at = start;
-    let mut left = count;
-    let mut verdict = first;
-    while left > 0 {
-        let tree = judge_tree(sheet, at, levels, place);
-        match tree {
-            TreeJudged::Deep(node) => {
-                return RunJudged::Deep(node);
-            }
-            TreeJudged::Judged {
-                next,
-                second: _,
-                verdict: later,
-            } => {
-                verdict = or_else(verdict, later);
-                at = next;
-                left = left - 1;
-            }
-        }
+    if fault == NO_FAULT {
+        return later;
     }
-    RunJudged::Judged {
-        next: at,
-        second: start,
-        inner: inner,
-        verdict: verdict,
-    }
+    fault
 }
 
-// A node's own fault, if it has one, before those of its run.
-fn own_first(own: u32, at: usize, verdict: Verdict) -> Verdict
-    ensures { λ r. ⌜ r ≡ ownFirst own at verdict ⌝ }
+// The fault of a node that breaks a rule, or none, before those of its run.
+fn own_first(own: u32, at: usize, fault: u32) -> u32
+    requires { ⌜ own ≤ 13 ⌝ }
+    requires { ⌜ at < mostNodes ⌝ }
+    ensures { λ r. ⌜ r ≡ firstOf (faultFrom at (own ∷ [])) fault ⌝ }
 {
     if own == KEPT {
-        return verdict;
+        return fault;
     }
-    Verdict::Refused(Refusal {
-        number: own,
-        place: at,
-    })
+    RULE_WEIGHT * own + at as u32
 }

@@ -5,7 +5,7 @@ ghost use Rattle.sheet.specs.Block.{totalOf};
 ghost use Rattle.sheet.specs.Slot.{slots, slotAt};
 ghost use Rattle.tree.specs.Tree.{empty, field};
 ghost use Rattle.tree.specs.Rules.{namedElement, listKept, listChild, mapKept, mapRun};
-ghost use Rattle.tree.specs.Steps.{Claimed, Visited, treeAt, fieldsAt, innerIn, secondOf};
+ghost use Rattle.tree.specs.Steps.{Claimed, Visited, treeAt, fieldsAt, innerFrom, lastOf};
 use crate::repetitions::required_or_optional;
 use parquet::physical;
 use parquet::repetition;
@@ -61,12 +61,14 @@ pub fn named_element(sheet: &[u8], list: usize, layer: usize) -> bool
     sheet::name_is_with(sheet, layer, list, b"_tuple")
 }
 
-// Whether the MAP at a number keeps rule 13, where the second field of its child stands at value.
-pub(crate) fn map_kept(sheet: &[u8], at: usize, map: Slot, value: usize) -> bool
-    requires { ⌜ Visited (now sheet) at map ⌝ }
-    requires { ⌜ value ≡ innerIn (suc at) (fieldsAt (now sheet) at) ⌝ }
+// Whether the MAP at a number keeps rule 13, where the last field of its child stands at value.
+pub(crate) fn map_kept(sheet: &[u8], at: usize, value: usize) -> bool
+    requires { ⌜ Claimed (now sheet) ⌝ }
+    requires { ⌜ at < totalOf (now sheet) ⌝ }
+    requires { ⌜ value ≡ innerFrom (suc at) (suc at) (fieldsAt (now sheet) at) ⌝ }
     ensures { λ r. ⌜ r ≡ mapKept (slotAt (now (sheet .entry)) at) (fieldsAt (now (sheet .entry)) at) ⌝ }
 {
+    let map = sheet::slot_at(sheet, at);
     if !required_or_optional(map.repetition) {
         return false;
     }
@@ -80,7 +82,7 @@ pub(crate) fn map_kept(sheet: &[u8], at: usize, map: Slot, value: usize) -> bool
 fn map_child(sheet: &[u8], layer: usize, value: usize) -> bool
     requires { ⌜ Claimed (now sheet) ⌝ }
     requires { ⌜ layer < totalOf (now sheet) ⌝ }
-    requires { ⌜ value ≡ secondOf layer (treeAt (slots (now sheet)) layer) ⌝ }
+    requires { ⌜ value ≡ lastOf layer (treeAt (slots (now sheet)) layer) ⌝ }
     ensures { λ r. ⌜ r ≡ mapRun (field (treeAt (slots (now (sheet .entry))) layer) empty) ⌝ }
 {
     let s = sheet::slot_at(sheet, layer);

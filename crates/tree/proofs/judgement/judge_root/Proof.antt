@@ -1,14 +1,13 @@
--- `schema::judgement::judge_root` meets its contract, case by case.
-use Rattle.tree.proofs.JudgementLaws.{root-deep, root-judged, root-at}
-use Rattle.tree.specs.Steps.{treeAt}
-use Rattle.sheet.specs.Slot.{slots}
+-- `tree::judgement::judge_root` meets its contract, case by case.
+use Rattle.tree.proofs.JudgementLaws.{root-claimed, run-deep, run-judged}
 use mathlib.Core.Path.{sym, _∙_}
 use borrow.Author.Needs.{needs}
+use native.Mathlib.Omega.{arith}
 use Rattle.tree.proofs.judgement.judge_root.Statement.{statement}
 use Rattle.tree.proofs.judgement.judge_root.Tie as tie
 
-judge-tree-requires : tie.Need-judge-tree-requires
-judge-tree-requires c κs = search needs
+judge-run-requires : tie.Need-judge-run-requires
+judge-run-requires c κs = (c .before .pre .0, (root-claimed _ (c .before .pre .0) (c .before .pre .1), omega arith))
 
 enum-known-judged : tie.Need-enum-known-judged
 enum-known-judged c = search needs
@@ -16,13 +15,21 @@ enum-known-judged c = search needs
 enum-known-judged-2 : tie.Need-enum-known-judged-2
 enum-known-judged-2 c = search needs
 
+verdict-of-requires : tie.Need-verdict-of-requires
+verdict-of-requires c κs = search needs
+
 returns : tie.Need-returns
-returns c = root-at _ (root-deep (treeAt (slots (c .before .before .before .before .before .args .sheet .now)) 0) _ (sym (c .before .before .before .judge-tree .ensures) ∙ c .before .judged .given .1))
+returns c =
+    let start = c .before .before .before .before .before in
+    run-deep _ (start .pre .0) (start .pre .1) _ (sym (c .before .before .before .judge-run .ensures) ∙ c .before .judged .given .1)
 
 returns-2 : tie.Need-returns-2
-returns-2 c = root-at _ (root-judged (treeAt (slots (c .before .before .before .before .before .args .sheet .now)) 0) _ _ _ (sym (c .before .before .before .judge-tree .ensures) ∙ c .before .judged2 .given .1))
+returns-2 c =
+    let start = c .before .before .before .before .before .before in
+    c .verdict-of .ensures
+    ∙ run-judged _ (start .pre .0) (start .pre .1) _ _ _ _ (sym (c .before .before .before .before .judge-run .ensures) ∙ c .before .before .judged2 .given .1)
 
 pub judge-root-spec : {M : Type 1} → statement M
 judge-root-spec =
     tie.close
-    (tie.spec judge-tree-requires enum-known-judged enum-known-judged-2 returns returns-2)
+    (tie.spec judge-run-requires enum-known-judged enum-known-judged-2 verdict-of-requires returns returns-2)

@@ -1,23 +1,23 @@
--- `schema::faults::broken` meets its contract, answer by answer.
-use Rattle.tree.proofs.NodeLaws.{brokenBy, broken-shape, broken-resolved}
+-- `tree::faults::broken_to_12` meets its contract, answer by answer.
+use Rattle.tree.proofs.NodeLaws.{brokenBy, to12-shape, to12-resolved}
 use Rattle.annotation.specs.Outcome.{refusalOf}
 use borrow.Author.Tests.{not-true, not-false}
-use mathlib.Core.Path.{refl, sym, ap, _∙_}
+use mathlib.Core.Path.{sym, ap, _∙_}
 use borrow.Author.Needs.{needs}
-use Rattle.tree.proofs.faults.broken.Statement.{statement}
-use Rattle.tree.proofs.faults.broken.Tie as tie
+use Rattle.tree.proofs.faults.broken_to_12.Statement.{statement}
+use Rattle.tree.proofs.faults.broken_to_12.Tie as tie
 
 shape-kept-requires : tie.Need-shape-kept-requires
 shape-kept-requires c κs = search needs
 
 returns : tie.Need-returns
-returns c = broken-shape _ _ _ _ (c .before .before .before .pre .0) (sym (c .before .shape-kept .ensures) ∙ not-true _ (c .if1 .taken))
+returns c = to12-shape _ _ _ _ (c .before .before .before .pre .0) (sym (c .before .shape-kept .ensures) ∙ not-true _ (c .if1 .taken))
 
 enum-known-resolution : tie.Need-enum-known-resolution
 enum-known-resolution c = search needs
 
-structure-broken-requires : tie.Need-structure-broken-requires
-structure-broken-requires c κs = search needs
+list-broken-requires : tie.Need-list-broken-requires
+list-broken-requires c κs = search needs
 
 enum-told : tie.Need-enum-told
 enum-told c = search needs
@@ -43,7 +43,7 @@ returns-2 c =
     let test = c .before .before .before .before in
     let start = test .before .before .before in
     let kept = sym (test .before .shape-kept .ensures) ∙ not-false _ (test .if1 .left) in
-    c .structure-broken .ensures ∙ sym (broken-resolved _ _ _ _ (start .pre .0) _ _ _ kept refl refl (start .pre .1 .0) ∙ rw (c .before .before .resolution .given .1))
+    c .list-broken .ensures ∙ sym (to12-resolved _ _ _ _ (start .pre .0) _ kept (start .pre .1) ∙ rw (c .before .before .resolution .given .1))
 
 returns-3 : tie.Need-returns-3
 unfolding brokenBy
@@ -51,7 +51,7 @@ returns-3 c =
     let test = c .before .before .before in
     let start = test .before .before .before in
     let kept = sym (test .before .shape-kept .ensures) ∙ not-false _ (test .if1 .left) in
-    c .refusal .ensures ∙ ap refusalOf (c .before .enum-told .given .1) ∙ sym (broken-resolved _ _ _ _ (start .pre .0) _ _ _ kept refl refl (start .pre .1 .0) ∙ rw (c .before .enum-told .given .1))
+    c .refusal .ensures ∙ ap refusalOf (c .before .enum-told .given .1) ∙ sym (to12-resolved _ _ _ _ (start .pre .0) _ kept (start .pre .1) ∙ rw (c .before .enum-told .given .1))
 
 returns-4 : tie.Need-returns-4
 unfolding brokenBy
@@ -59,7 +59,7 @@ returns-4 c =
     let test = c .before .before .before in
     let start = test .before .before .before in
     let kept = sym (test .before .shape-kept .ensures) ∙ not-false _ (test .if1 .left) in
-    c .refusal2 .ensures ∙ ap refusalOf (c .before .enum-told2 .given .1) ∙ sym (broken-resolved _ _ _ _ (start .pre .0) _ _ _ kept refl refl (start .pre .1 .0) ∙ rw (c .before .enum-told2 .given .1))
+    c .refusal2 .ensures ∙ ap refusalOf (c .before .enum-told2 .given .1) ∙ sym (to12-resolved _ _ _ _ (start .pre .0) _ kept (start .pre .1) ∙ rw (c .before .enum-told2 .given .1))
 
 returns-5 : tie.Need-returns-5
 unfolding brokenBy
@@ -67,16 +67,16 @@ returns-5 c =
     let test = c .before .before .before in
     let start = test .before .before .before in
     let kept = sym (test .before .shape-kept .ensures) ∙ not-false _ (test .if1 .left) in
-    c .refusal3 .ensures ∙ ap refusalOf (c .before .enum-told3 .given .1) ∙ sym (broken-resolved _ _ _ _ (start .pre .0) _ _ _ kept refl refl (start .pre .1 .0) ∙ rw (c .before .enum-told3 .given .1))
+    c .refusal3 .ensures ∙ ap refusalOf (c .before .enum-told3 .given .1) ∙ sym (to12-resolved _ _ _ _ (start .pre .0) _ kept (start .pre .1) ∙ rw (c .before .enum-told3 .given .1))
 
-pub broken-spec : {M : Type 1} → statement M
-broken-spec =
+pub broken-to-12-spec : {M : Type 1} → statement M
+broken-to-12-spec =
     tie.close
     (tie.spec
     shape-kept-requires
     returns
     enum-known-resolution
-    structure-broken-requires
+    list-broken-requires
     enum-told
     refusal-requires
     enum-told-2

@@ -1,0 +1,663 @@
+-- The proof of the cycle of calls {judge_fields, judge_run, judge_tree}. Nodes fall: a tree at k hands on to the fields at k + 1, those to their run, and a run at k
+-- to trees at k and behind it. With r nodes from k on, a tree's measure is 3r, a run's 3r + 1, that of some fields 3r + 2.
+use Prim.Native.Nat.{ℕ, _+_, _*_, _-_, _<_}
+use mathlib.Core.Path.{_≡_, refl, sym, _∙_, ap, ap₂}
+use mathlib.Core.List.{[], _∷_}
+use borrow.Author.Needs.{needs}
+use native.Mathlib.Omega.{arith}
+use Rattle.sheet.specs.Block.{totalOf}
+use Rattle.sheet.specs.Slot.{slotAt}
+use Rattle.annotation.specs.Outcome.{resolutionOf}
+use Rattle.tree.specs.Steps.{Visited, fieldsAt, firstOf, faultFrom}
+use Rattle.tree.specs.declared.judging.TreeJudged.{TreeJudged}
+use Rattle.tree.proofs.JudgingSteps.{Judging, judging-start, judging-end, judging-deep, judging-next, run-empty, tree-deep, tree-inner, tree-run-deep, tree-judged, tree-falls, run-falls, fields-falls}
+use Rattle.tree.proofs.VisitLaws.{run-below, children-claimed}
+use Rattle.tree.proofs.NodeLaws.{placeBelow-is, own-is, broken-most}
+use borrow.Fn.Kinds.{In}
+use borrow.Fn.PlainCycle.{Measures, is, falls, and}
+use Rattle.tree.proofs.judging.judge_fields.Reads as judge-fields
+use Rattle.tree.proofs.judging.judge_fields.Kinds as judge-fields-kinds
+use Rattle.tree.proofs.judging.+judge_fields+judge_run+judge_tree.Lts-judge_fields as judge-fields-lts
+use Rattle.tree.proofs.judging.judge_run.Reads as judge-run
+use Rattle.tree.proofs.judging.judge_run.Kinds as judge-run-kinds
+use Rattle.tree.proofs.judging.+judge_fields+judge_run+judge_tree.Lts-judge_run as judge-run-lts
+use Rattle.tree.proofs.judging.judge_tree.Reads as judge-tree
+use Rattle.tree.proofs.judging.judge_tree.Kinds as judge-tree-kinds
+use Rattle.tree.proofs.judging.+judge_fields+judge_run+judge_tree.Lts-judge_tree as judge-tree-lts
+use Rattle.annotation.proofs.resolve.Reads as resolve-reads
+use Rattle.sheet.proofs.slot_at.Reads as slot-at-reads
+use Rattle.tree.proofs.faults.annotated.Reads as annotated-reads
+use Rattle.tree.proofs.faults.broken_to_12.Reads as broken-to-12-reads
+use Rattle.tree.proofs.faults.broken_with_13.Reads as broken-with-13-reads
+use Rattle.tree.proofs.judging.first_of.Reads as first-of-reads
+use Rattle.tree.proofs.judging.own_first.Reads as own-first-reads
+use Rattle.tree.proofs.place.place_below.Reads as place-below-reads
+use Rattle.tree.proofs.place.under_map.Reads as under-map-reads
+use Rattle.tree.proofs.judging.+judge_fields+judge_run+judge_tree.{statement}
+use Rattle.tree.proofs.judging.+judge_fields+judge_run+judge_tree.Tie.{close}
+
+abbrev μ-judge-fields : Measures 1 judge-fields-kinds.ps ℕ
+μ-judge-fields κs a = 3 * (totalOf (a .0 .now) - a .1 .0) + 2
+
+abbrev μ-judge-run : Measures 1 judge-run-kinds.ps ℕ
+μ-judge-run κs a = 3 * (totalOf (a .0 .now) - a .1 .0) + 1
+
+abbrev μ-judge-tree : Measures 1 judge-tree-kinds.ps ℕ
+μ-judge-tree κs a = 3 * (totalOf (a .0 .now) - a .1 .0)
+
+abbrev judge-fields-at : ℕ → In 1 judge-fields-kinds.ps
+judge-fields-at t =
+    and 1 judge-fields-kinds.ps (is 1 judge-fields-kinds.ps μ-judge-fields t) judge-fields.Pre
+
+abbrev judge-fields-below : ℕ → In 1 judge-fields-kinds.ps
+judge-fields-below t =
+    and
+    1
+    judge-fields-kinds.ps
+    (falls 1 judge-fields-kinds.ps _<_ μ-judge-fields t)
+    judge-fields.Pre
+
+abbrev judge-run-at : ℕ → In 1 judge-run-kinds.ps
+judge-run-at t = and 1 judge-run-kinds.ps (is 1 judge-run-kinds.ps μ-judge-run t) judge-run.Pre
+
+abbrev judge-run-below : ℕ → In 1 judge-run-kinds.ps
+judge-run-below t =
+    and 1 judge-run-kinds.ps (falls 1 judge-run-kinds.ps _<_ μ-judge-run t) judge-run.Pre
+
+abbrev judge-tree-at : ℕ → In 1 judge-tree-kinds.ps
+judge-tree-at t =
+    and 1 judge-tree-kinds.ps (is 1 judge-tree-kinds.ps μ-judge-tree t) judge-tree.Pre
+
+abbrev judge-tree-below : ℕ → In 1 judge-tree-kinds.ps
+judge-tree-below t =
+    and 1 judge-tree-kinds.ps (falls 1 judge-tree-kinds.ps _<_ μ-judge-tree t) judge-tree.Pre
+
+judge-fields-returns :
+    (t : ℕ) →
+    judge-fields-lts.Need-returns
+    (judge-run-below t, judge-run.Post)
+    (judge-fields-at t)
+    judge-fields.Post
+judge-fields-returns t c = run-empty _ _ _ _ _ (c .if1 .taken)
+
+judge-fields-judge-run-requires : (t : ℕ) → judge-fields-lts.Need-judge-run-requires (
+  judge-run-below t,
+  judge-run.Post,
+) (judge-fields-at t) judge-fields.Post
+judge-fields-judge-run-requires t c κs = (run-falls _ _ _ (c .before .before .pre .0), c .before .before .pre .1)
+
+judge-fields-returns-2 : (t : ℕ) → judge-fields-lts.Need-returns-2 (
+  judge-run-below t,
+  judge-run.Post,
+) (judge-fields-at t) judge-fields.Post
+judge-fields-returns-2 t c = c .judge-run .ensures
+
+abbrev judge-run-Inv-loop : judge-run-lts.InvT-loop
+judge-run-Inv-loop sheet start count levels place at₀ left₀ last₀ inner₀ fault₀ at left last inner fault =
+    Judging sheet start count levels place at left last inner fault
+
+abbrev judge-run-μ-loop : judge-run-lts.MeasureT-loop
+judge-run-μ-loop sheet start count levels place at₀ left₀ last₀ inner₀ fault₀ at left last inner fault =
+    left
+
+judge-run-loop-holds : (t : ℕ) → judge-run-lts.Need-loop-holds (
+  judge-tree-below t,
+  judge-tree.Post,
+  first-of-reads.Asked,
+  first-of-reads.Learnt,
+) (judge-run-at t) judge-run.Post judge-run-Inv-loop judge-run-μ-loop
+judge-run-loop-holds t c = judging-start _ _ _ _ _ (c .before .pre .1 .1 .0)
+
+judge-run-judge-tree-requires : (t : ℕ) → judge-run-lts.Need-judge-tree-requires (
+  judge-tree-below t,
+  judge-tree.Post,
+  first-of-reads.Asked,
+  first-of-reads.Learnt,
+) (judge-run-at t) judge-run.Post judge-run-Inv-loop judge-run-μ-loop
+judge-run-judge-tree-requires t c κs =
+    let start = c .before .before .before in
+    let judging = c .before .loop .inv in
+    let some : c .before .loop .left ≡ 0 → ⊥ = λ e. omega (arith, c .loop-test .taken) in
+    let below = run-below (start .args .sheet .now) (c .before .loop .at) (c .before .loop .left) (start .pre .1 .0) some (judging .claimed) in
+    (tree-falls _ _ _ _ (judging .reached) (start .pre .0), (start .pre .1 .0, (below, start .pre .1 .1 .1)))
+
+judge-run-enum-known-tree : (t : ℕ) → judge-run-lts.Need-enum-known-tree (
+  judge-tree-below t,
+  judge-tree.Post,
+  first-of-reads.Asked,
+  first-of-reads.Learnt,
+) (judge-run-at t) judge-run.Post judge-run-Inv-loop judge-run-μ-loop
+judge-run-enum-known-tree t c = search needs
+
+judge-run-returns : (t : ℕ) → judge-run-lts.Need-returns (
+  judge-tree-below t,
+  judge-tree.Post,
+  first-of-reads.Asked,
+  first-of-reads.Learnt,
+) (judge-run-at t) judge-run.Post judge-run-Inv-loop judge-run-μ-loop
+judge-run-returns t c =
+    let loop = c .before .before .before .before .before in
+    let some : loop .loop .left ≡ 0 → ⊥ = λ e. omega (arith, c .before .before .before .before .loop-test .taken) in
+    judging-deep _ _ _ _ _ _ _ _ _ _ (loop .loop .inv) (loop .before .before .pre .1 .0) some _ (sym (c .before .before .before .judge-tree .ensures) ∙ c .before .tree .given .1)
+
+judge-run-enum-known-tree-2 : (t : ℕ) → judge-run-lts.Need-enum-known-tree-2 (
+  judge-tree-below t,
+  judge-tree.Post,
+  first-of-reads.Asked,
+  first-of-reads.Learnt,
+) (judge-run-at t) judge-run.Post judge-run-Inv-loop judge-run-μ-loop
+judge-run-enum-known-tree-2 t c = search needs
+
+judge-run-first-of-requires : (t : ℕ) → judge-run-lts.Need-first-of-requires (
+  judge-tree-below t,
+  judge-tree.Post,
+  first-of-reads.Asked,
+  first-of-reads.Learnt,
+) (judge-run-at t) judge-run.Post judge-run-Inv-loop judge-run-μ-loop
+judge-run-first-of-requires t c κs = search needs
+
+judge-run-sub-left : (t : ℕ) → judge-run-lts.Need-sub-left (
+  judge-tree-below t,
+  judge-tree.Post,
+  first-of-reads.Asked,
+  first-of-reads.Learnt,
+) (judge-run-at t) judge-run.Post judge-run-Inv-loop judge-run-μ-loop
+judge-run-sub-left t c = omega (arith, c .before .before .before .before .before .loop-test .taken)
+
+judge-run-loop-less : (t : ℕ) → judge-run-lts.Need-loop-less (
+  judge-tree-below t,
+  judge-tree.Post,
+  first-of-reads.Asked,
+  first-of-reads.Learnt,
+) (judge-run-at t) judge-run.Post judge-run-Inv-loop judge-run-μ-loop
+judge-run-loop-less t c = omega (arith, c .before .before .before .before .before .loop-test .taken)
+
+judge-run-loop-again : (t : ℕ) → judge-run-lts.Need-loop-again (
+  judge-tree-below t,
+  judge-tree.Post,
+  first-of-reads.Asked,
+  first-of-reads.Learnt,
+) (judge-run-at t) judge-run.Post judge-run-Inv-loop judge-run-μ-loop
+judge-run-loop-again t c =
+    let loop = c .before .before .before .before .before .before in
+    let some : loop .loop .left ≡ 0 → ⊥ = λ e. omega (arith, c .before .before .before .before .before .loop-test .taken) in
+    judging-next _ _ _ _ _ _ _ _ _ _ (loop .loop .inv) (loop .before .before .pre .1 .0) some _ _ _ _ (sym (c .before .before .before .before .judge-tree .ensures) ∙ c .before .before .tree2 .given .1) (c .first-of .ensures)
+
+judge-run-returns-2 : (t : ℕ) → judge-run-lts.Need-returns-2 (
+  judge-tree-below t,
+  judge-tree.Post,
+  first-of-reads.Asked,
+  first-of-reads.Learnt,
+) (judge-run-at t) judge-run.Post judge-run-Inv-loop judge-run-μ-loop
+judge-run-returns-2 t c = judging-end _ _ _ _ _ _ _ _ _ _ (c .before .loop .inv) (omega (arith, c .loop-test .left))
+
+judge-tree-returns : (t : ℕ) → judge-tree-lts.Need-returns (
+  slot-at-reads.Asked,
+  slot-at-reads.Learnt,
+  annotated-reads.Asked,
+  annotated-reads.Learnt,
+  under-map-reads.Asked,
+  under-map-reads.Learnt,
+  resolve-reads.Asked,
+  resolve-reads.Learnt,
+  place-below-reads.Asked,
+  place-below-reads.Learnt,
+  broken-to-12-reads.Asked,
+  broken-to-12-reads.Learnt,
+  judge-fields-below t,
+  judge-fields.Post,
+  broken-with-13-reads.Asked,
+  broken-with-13-reads.Learnt,
+  own-first-reads.Asked,
+  own-first-reads.Learnt,
+) (judge-tree-at t) judge-tree.Post
+judge-tree-returns t c = tree-deep _ _ _ _ (c .if1 .taken)
+
+judge-tree-slot-at-requires : (t : ℕ) → judge-tree-lts.Need-slot-at-requires (
+  slot-at-reads.Asked,
+  slot-at-reads.Learnt,
+  annotated-reads.Asked,
+  annotated-reads.Learnt,
+  under-map-reads.Asked,
+  under-map-reads.Learnt,
+  resolve-reads.Asked,
+  resolve-reads.Learnt,
+  place-below-reads.Asked,
+  place-below-reads.Learnt,
+  broken-to-12-reads.Asked,
+  broken-to-12-reads.Learnt,
+  judge-fields-below t,
+  judge-fields.Post,
+  broken-with-13-reads.Asked,
+  broken-with-13-reads.Learnt,
+  own-first-reads.Asked,
+  own-first-reads.Learnt,
+) (judge-tree-at t) judge-tree.Post
+judge-tree-slot-at-requires t c κs = search needs
+
+judge-tree-annotated-requires : (t : ℕ) → judge-tree-lts.Need-annotated-requires (
+  slot-at-reads.Asked,
+  slot-at-reads.Learnt,
+  annotated-reads.Asked,
+  annotated-reads.Learnt,
+  under-map-reads.Asked,
+  under-map-reads.Learnt,
+  resolve-reads.Asked,
+  resolve-reads.Learnt,
+  place-below-reads.Asked,
+  place-below-reads.Learnt,
+  broken-to-12-reads.Asked,
+  broken-to-12-reads.Learnt,
+  judge-fields-below t,
+  judge-fields.Post,
+  broken-with-13-reads.Asked,
+  broken-with-13-reads.Learnt,
+  own-first-reads.Asked,
+  own-first-reads.Learnt,
+) (judge-tree-at t) judge-tree.Post
+judge-tree-annotated-requires t c κs = search needs
+
+judge-tree-under-map-requires : (t : ℕ) → judge-tree-lts.Need-under-map-requires (
+  slot-at-reads.Asked,
+  slot-at-reads.Learnt,
+  annotated-reads.Asked,
+  annotated-reads.Learnt,
+  under-map-reads.Asked,
+  under-map-reads.Learnt,
+  resolve-reads.Asked,
+  resolve-reads.Learnt,
+  place-below-reads.Asked,
+  place-below-reads.Learnt,
+  broken-to-12-reads.Asked,
+  broken-to-12-reads.Learnt,
+  judge-fields-below t,
+  judge-fields.Post,
+  broken-with-13-reads.Asked,
+  broken-with-13-reads.Learnt,
+  own-first-reads.Asked,
+  own-first-reads.Learnt,
+) (judge-tree-at t) judge-tree.Post
+judge-tree-under-map-requires t c κs = search needs
+
+judge-tree-resolve-requires : (t : ℕ) → judge-tree-lts.Need-resolve-requires (
+  slot-at-reads.Asked,
+  slot-at-reads.Learnt,
+  annotated-reads.Asked,
+  annotated-reads.Learnt,
+  under-map-reads.Asked,
+  under-map-reads.Learnt,
+  resolve-reads.Asked,
+  resolve-reads.Learnt,
+  place-below-reads.Asked,
+  place-below-reads.Learnt,
+  broken-to-12-reads.Asked,
+  broken-to-12-reads.Learnt,
+  judge-fields-below t,
+  judge-fields.Post,
+  broken-with-13-reads.Asked,
+  broken-with-13-reads.Learnt,
+  own-first-reads.Asked,
+  own-first-reads.Learnt,
+) (judge-tree-at t) judge-tree.Post
+judge-tree-resolve-requires t c κs = search needs
+
+judge-tree-place-below-requires : (t : ℕ) → judge-tree-lts.Need-place-below-requires (
+  slot-at-reads.Asked,
+  slot-at-reads.Learnt,
+  annotated-reads.Asked,
+  annotated-reads.Learnt,
+  under-map-reads.Asked,
+  under-map-reads.Learnt,
+  resolve-reads.Asked,
+  resolve-reads.Learnt,
+  place-below-reads.Asked,
+  place-below-reads.Learnt,
+  broken-to-12-reads.Asked,
+  broken-to-12-reads.Learnt,
+  judge-fields-below t,
+  judge-fields.Post,
+  broken-with-13-reads.Asked,
+  broken-with-13-reads.Learnt,
+  own-first-reads.Asked,
+  own-first-reads.Learnt,
+) (judge-tree-at t) judge-tree.Post
+judge-tree-place-below-requires t c κs = c .resolve .ensures .0 ∙ ap₂ resolutionOf (c .before .before .annotated .ensures) (c .before .under-map .ensures)
+
+judge-tree-broken-to-12-requires : (t : ℕ) → judge-tree-lts.Need-broken-to-12-requires (
+  slot-at-reads.Asked,
+  slot-at-reads.Learnt,
+  annotated-reads.Asked,
+  annotated-reads.Learnt,
+  under-map-reads.Asked,
+  under-map-reads.Learnt,
+  resolve-reads.Asked,
+  resolve-reads.Learnt,
+  place-below-reads.Asked,
+  place-below-reads.Learnt,
+  broken-to-12-reads.Asked,
+  broken-to-12-reads.Learnt,
+  judge-fields-below t,
+  judge-fields.Post,
+  broken-with-13-reads.Asked,
+  broken-with-13-reads.Learnt,
+  own-first-reads.Asked,
+  own-first-reads.Learnt,
+) (judge-tree-at t) judge-tree.Post
+judge-tree-broken-to-12-requires t c κs =
+    let start = c .before .before .before .before .before .before .before in
+    let resolved = c .before .resolve .ensures .0 ∙ ap₂ resolutionOf (c .before .before .before .annotated .ensures) (c .before .before .under-map .ensures) in
+    (record { claimed = start .pre .1 .0; below = start .pre .1 .1 .0; numbers = c .before .before .before .before .slot-at .ensures }, resolved)
+
+judge-tree-add-judge-fields : (t : ℕ) → judge-tree-lts.Need-add-judge-fields (
+  slot-at-reads.Asked,
+  slot-at-reads.Learnt,
+  annotated-reads.Asked,
+  annotated-reads.Learnt,
+  under-map-reads.Asked,
+  under-map-reads.Learnt,
+  resolve-reads.Asked,
+  resolve-reads.Learnt,
+  place-below-reads.Asked,
+  place-below-reads.Learnt,
+  broken-to-12-reads.Asked,
+  broken-to-12-reads.Learnt,
+  judge-fields-below t,
+  judge-fields.Post,
+  broken-with-13-reads.Asked,
+  broken-with-13-reads.Learnt,
+  own-first-reads.Asked,
+  own-first-reads.Learnt,
+) (judge-tree-at t) judge-tree.Post
+judge-tree-add-judge-fields t c = omega (arith, c .before .before .before .before .before .before .before .before .pre .1 .1 .0, c .before .before .before .before .before .before .before .before .pre .1 .0 .most)
+
+judge-tree-cast-judge-fields : (t : ℕ) → judge-tree-lts.Need-cast-judge-fields (
+  slot-at-reads.Asked,
+  slot-at-reads.Learnt,
+  annotated-reads.Asked,
+  annotated-reads.Learnt,
+  under-map-reads.Asked,
+  under-map-reads.Learnt,
+  resolve-reads.Asked,
+  resolve-reads.Learnt,
+  place-below-reads.Asked,
+  place-below-reads.Learnt,
+  broken-to-12-reads.Asked,
+  broken-to-12-reads.Learnt,
+  judge-fields-below t,
+  judge-fields.Post,
+  broken-with-13-reads.Asked,
+  broken-with-13-reads.Learnt,
+  own-first-reads.Asked,
+  own-first-reads.Learnt,
+) (judge-tree-at t) judge-tree.Post
+judge-tree-cast-judge-fields t c = search needs
+
+judge-tree-sub-judge-fields : (t : ℕ) → judge-tree-lts.Need-sub-judge-fields (
+  slot-at-reads.Asked,
+  slot-at-reads.Learnt,
+  annotated-reads.Asked,
+  annotated-reads.Learnt,
+  under-map-reads.Asked,
+  under-map-reads.Learnt,
+  resolve-reads.Asked,
+  resolve-reads.Learnt,
+  place-below-reads.Asked,
+  place-below-reads.Learnt,
+  broken-to-12-reads.Asked,
+  broken-to-12-reads.Learnt,
+  judge-fields-below t,
+  judge-fields.Post,
+  broken-with-13-reads.Asked,
+  broken-with-13-reads.Learnt,
+  own-first-reads.Asked,
+  own-first-reads.Learnt,
+) (judge-tree-at t) judge-tree.Post
+judge-tree-sub-judge-fields t c = omega (arith, c .before .before .before .before .before .before .before .if1 .left)
+
+judge-tree-judge-fields-requires : (t : ℕ) → judge-tree-lts.Need-judge-fields-requires (
+  slot-at-reads.Asked,
+  slot-at-reads.Learnt,
+  annotated-reads.Asked,
+  annotated-reads.Learnt,
+  under-map-reads.Asked,
+  under-map-reads.Learnt,
+  resolve-reads.Asked,
+  resolve-reads.Learnt,
+  place-below-reads.Asked,
+  place-below-reads.Learnt,
+  broken-to-12-reads.Asked,
+  broken-to-12-reads.Learnt,
+  judge-fields-below t,
+  judge-fields.Post,
+  broken-with-13-reads.Asked,
+  broken-with-13-reads.Learnt,
+  own-first-reads.Asked,
+  own-first-reads.Learnt,
+) (judge-tree-at t) judge-tree.Post
+judge-tree-judge-fields-requires t c κs =
+    let start = c .before .before .before .before .before .before .before .before .before in
+    let visited : Visited (start .args .sheet .now) (start .args .at) (c .before .before .before .before .before .before .slot-at .result) = record { claimed = start .pre .1 .0; below = start .pre .1 .1 .0; numbers = c .before .before .before .before .before .before .slot-at .ensures } in
+    (fields-falls _ _ _ (start .pre .1 .1 .0) (start .pre .0), (start .pre .1 .0, (children-claimed _ _ _ (visited .numbers) (visited .claimed) (visited .below), omega (arith, start .pre .1 .1 .1))))
+
+judge-tree-enum-known-run : (t : ℕ) → judge-tree-lts.Need-enum-known-run (
+  slot-at-reads.Asked,
+  slot-at-reads.Learnt,
+  annotated-reads.Asked,
+  annotated-reads.Learnt,
+  under-map-reads.Asked,
+  under-map-reads.Learnt,
+  resolve-reads.Asked,
+  resolve-reads.Learnt,
+  place-below-reads.Asked,
+  place-below-reads.Learnt,
+  broken-to-12-reads.Asked,
+  broken-to-12-reads.Learnt,
+  judge-fields-below t,
+  judge-fields.Post,
+  broken-with-13-reads.Asked,
+  broken-with-13-reads.Learnt,
+  own-first-reads.Asked,
+  own-first-reads.Learnt,
+) (judge-tree-at t) judge-tree.Post
+judge-tree-enum-known-run t c = search needs
+
+judge-tree-enum-known-run-2 : (t : ℕ) → judge-tree-lts.Need-enum-known-run-2 (
+  slot-at-reads.Asked,
+  slot-at-reads.Learnt,
+  annotated-reads.Asked,
+  annotated-reads.Learnt,
+  under-map-reads.Asked,
+  under-map-reads.Learnt,
+  resolve-reads.Asked,
+  resolve-reads.Learnt,
+  place-below-reads.Asked,
+  place-below-reads.Learnt,
+  broken-to-12-reads.Asked,
+  broken-to-12-reads.Learnt,
+  judge-fields-below t,
+  judge-fields.Post,
+  broken-with-13-reads.Asked,
+  broken-with-13-reads.Learnt,
+  own-first-reads.Asked,
+  own-first-reads.Learnt,
+) (judge-tree-at t) judge-tree.Post
+judge-tree-enum-known-run-2 t c = search needs
+
+judge-tree-broken-with-13-requires : (t : ℕ) → judge-tree-lts.Need-broken-with-13-requires (
+  slot-at-reads.Asked,
+  slot-at-reads.Learnt,
+  annotated-reads.Asked,
+  annotated-reads.Learnt,
+  under-map-reads.Asked,
+  under-map-reads.Learnt,
+  resolve-reads.Asked,
+  resolve-reads.Learnt,
+  place-below-reads.Asked,
+  place-below-reads.Learnt,
+  broken-to-12-reads.Asked,
+  broken-to-12-reads.Learnt,
+  judge-fields-below t,
+  judge-fields.Post,
+  broken-with-13-reads.Asked,
+  broken-with-13-reads.Learnt,
+  own-first-reads.Asked,
+  own-first-reads.Learnt,
+) (judge-tree-at t) judge-tree.Post
+judge-tree-broken-with-13-requires t c κs =
+    let start = c .before .before .before .before .before .before .before .before .before .before .before .before .before in
+    let visited : Visited (start .args .sheet .now) (start .args .at) (c .before .before .before .before .before .before .before .before .before .before .slot-at .result) = record { claimed = start .pre .1 .0; below = start .pre .1 .1 .0; numbers = c .before .before .before .before .before .before .before .before .before .before .slot-at .ensures } in
+    let below = c .before .before .before .before .before .before .place-below .ensures ∙ placeBelow-is _ _ _ (start .args .place) visited _ _ _ refl refl refl in
+    (start .pre .1 .0, (start .pre .1 .1 .0, tree-inner _ _ _ visited _ _ _ below (c .before .before .before .before .before .before .before .before .before .before .before .if1 .left) (start .pre .1 .1 .1) _ (c .before .before .before .judge-fields .ensures) _ _ _ _ (c .before .run2 .given .1)))
+
+judge-tree-own-first-requires : (t : ℕ) → judge-tree-lts.Need-own-first-requires (
+  slot-at-reads.Asked,
+  slot-at-reads.Learnt,
+  annotated-reads.Asked,
+  annotated-reads.Learnt,
+  under-map-reads.Asked,
+  under-map-reads.Learnt,
+  resolve-reads.Asked,
+  resolve-reads.Learnt,
+  place-below-reads.Asked,
+  place-below-reads.Learnt,
+  broken-to-12-reads.Asked,
+  broken-to-12-reads.Learnt,
+  judge-fields-below t,
+  judge-fields.Post,
+  broken-with-13-reads.Asked,
+  broken-with-13-reads.Learnt,
+  own-first-reads.Asked,
+  own-first-reads.Learnt,
+) (judge-tree-at t) judge-tree.Post
+judge-tree-own-first-requires t c κs =
+    let start = c .before .before .before .before .before .before .before .before .before .before .before .before .before .before in
+    let visited : Visited (start .args .sheet .now) (start .args .at) (c .before .before .before .before .before .before .before .before .before .before .before .slot-at .result) = record { claimed = start .pre .1 .0; below = start .pre .1 .1 .0; numbers = c .before .before .before .before .before .before .before .before .before .before .before .slot-at .ensures } in
+    let below = c .before .before .before .before .before .before .before .place-below .ensures ∙ placeBelow-is _ _ _ (start .args .place) visited _ _ _ refl refl refl in
+    let own = own-is _ _ _ _ _ _ (c .before .before .before .before .before .before .broken-to-12 .ensures) below (c .broken-with-13 .ensures) in
+    (omega (arith, own, broken-most (start .args .place) (slotAt (start .args .sheet .now) (start .args .at)) (fieldsAt (start .args .sheet .now) (start .args .at))), omega (arith, visited .below, visited .claimed .most))
+
+judge-tree-returns-2 : (t : ℕ) → judge-tree-lts.Need-returns-2 (
+  slot-at-reads.Asked,
+  slot-at-reads.Learnt,
+  annotated-reads.Asked,
+  annotated-reads.Learnt,
+  under-map-reads.Asked,
+  under-map-reads.Learnt,
+  resolve-reads.Asked,
+  resolve-reads.Learnt,
+  place-below-reads.Asked,
+  place-below-reads.Learnt,
+  broken-to-12-reads.Asked,
+  broken-to-12-reads.Learnt,
+  judge-fields-below t,
+  judge-fields.Post,
+  broken-with-13-reads.Asked,
+  broken-with-13-reads.Learnt,
+  own-first-reads.Asked,
+  own-first-reads.Learnt,
+) (judge-tree-at t) judge-tree.Post
+judge-tree-returns-2 t c =
+    let start = c .before .before .before .before .before .before .before .before .before .before .before .before .before in
+    let visited : Visited (start .args .sheet .now) (start .args .at) (c .before .before .before .before .before .before .before .before .before .before .slot-at .result) = record { claimed = start .pre .1 .0; below = start .pre .1 .1 .0; numbers = c .before .before .before .before .before .before .before .before .before .before .slot-at .ensures } in
+    let below = c .before .before .before .before .before .before .place-below .ensures ∙ placeBelow-is _ _ _ (start .args .place) visited _ _ _ refl refl refl in
+    tree-run-deep _ _ _ visited _ _ _ below (c .before .before .before .before .before .before .before .before .before .before .before .if1 .left) (start .pre .1 .1 .1) _ (c .before .before .before .judge-fields .ensures) _ (c .before .run .given .1)
+
+judge-tree-returns-3 : (t : ℕ) → judge-tree-lts.Need-returns-3 (
+  slot-at-reads.Asked,
+  slot-at-reads.Learnt,
+  annotated-reads.Asked,
+  annotated-reads.Learnt,
+  under-map-reads.Asked,
+  under-map-reads.Learnt,
+  resolve-reads.Asked,
+  resolve-reads.Learnt,
+  place-below-reads.Asked,
+  place-below-reads.Learnt,
+  broken-to-12-reads.Asked,
+  broken-to-12-reads.Learnt,
+  judge-fields-below t,
+  judge-fields.Post,
+  broken-with-13-reads.Asked,
+  broken-with-13-reads.Learnt,
+  own-first-reads.Asked,
+  own-first-reads.Learnt,
+) (judge-tree-at t) judge-tree.Post
+judge-tree-returns-3 t c =
+    let start = c .before .before .before .before .before .before .before .before .before .before .before .before .before .before .before in
+    let visited : Visited (start .args .sheet .now) (start .args .at) (c .before .before .before .before .before .before .before .before .before .before .before .before .slot-at .result) = record { claimed = start .pre .1 .0; below = start .pre .1 .1 .0; numbers = c .before .before .before .before .before .before .before .before .before .before .before .before .slot-at .ensures } in
+    let below = c .before .before .before .before .before .before .before .before .place-below .ensures ∙ placeBelow-is _ _ _ (start .args .place) visited _ _ _ refl refl refl in
+    let own = own-is _ _ _ _ _ _ (c .before .before .before .before .before .before .before .broken-to-12 .ensures) below (c .before .broken-with-13 .ensures) in
+    let run = c .before .before .before .run2 .given in
+    ap (TreeJudged.Judged (run .0 .0) (run .0 .1 .0)) (c .own-first .ensures ∙ ap (λ (n : ℕ). firstOf (faultFrom (start .args .at) (n ∷ [])) (run .0 .1 .1 .1 .0)) own)
+    ∙ sym (tree-judged _ _ _ visited _ _ _ below (c .before .before .before .before .before .before .before .before .before .before .before .before .before .if1 .left) (start .pre .1 .1 .1) _ (c .before .before .before .before .before .judge-fields .ensures) _ _ _ _ (run .1))
+
+pub +judge-fields+judge-run+judge-tree-spec : {M : Type 1} → statement M
++judge-fields+judge-run+judge-tree-spec =
+    close μ-judge-fields μ-judge-run μ-judge-tree (λ t. judge-fields-lts.spec (
+      judge-run-below t,
+      judge-run.Post,
+    )
+    (judge-fields-at t)
+    judge-fields.Post
+    (judge-fields-returns t)
+    (judge-fields-judge-run-requires t)
+    (judge-fields-returns-2 t))
+    (λ t. judge-run-lts.spec (
+      judge-tree-below t,
+      judge-tree.Post,
+      first-of-reads.Asked,
+      first-of-reads.Learnt,
+    )
+    (judge-run-at t)
+    judge-run.Post
+    judge-run-Inv-loop
+    judge-run-μ-loop
+    (judge-run-loop-holds t)
+    (judge-run-judge-tree-requires t)
+    (judge-run-enum-known-tree t)
+    (judge-run-returns t)
+    (judge-run-enum-known-tree-2 t)
+    (judge-run-first-of-requires t)
+    (judge-run-sub-left t)
+    (judge-run-loop-less t)
+    (judge-run-loop-again t)
+    (judge-run-returns-2 t))
+    λ t. judge-tree-lts.spec (
+      slot-at-reads.Asked,
+      slot-at-reads.Learnt,
+      annotated-reads.Asked,
+      annotated-reads.Learnt,
+      under-map-reads.Asked,
+      under-map-reads.Learnt,
+      resolve-reads.Asked,
+      resolve-reads.Learnt,
+      place-below-reads.Asked,
+      place-below-reads.Learnt,
+      broken-to-12-reads.Asked,
+      broken-to-12-reads.Learnt,
+      judge-fields-below t,
+      judge-fields.Post,
+      broken-with-13-reads.Asked,
+      broken-with-13-reads.Learnt,
+      own-first-reads.Asked,
+      own-first-reads.Learnt,
+    )
+    (judge-tree-at t)
+    judge-tree.Post
+    (judge-tree-returns t)
+    (judge-tree-slot-at-requires t)
+    (judge-tree-annotated-requires t)
+    (judge-tree-under-map-requires t)
+    (judge-tree-resolve-requires t)
+    (judge-tree-place-below-requires t)
+    (judge-tree-broken-to-12-requires t)
+    (judge-tree-add-judge-fields t)
+    (judge-tree-cast-judge-fields t)
+    (judge-tree-sub-judge-fields t)
+    (judge-tree-judge-fields-requires t)
+    (judge-tree-enum-known-run t)
+    (judge-tree-enum-known-run-2 t)
+    (judge-tree-broken-with-13-requires t)
+    (judge-tree-own-first-requires t)
+    (judge-tree-returns-2 t)
+    (judge-tree-returns-3 t)
