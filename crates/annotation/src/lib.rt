@@ -17,5 +17,6 @@ pub use resolution::resolved_kind;
 pub use rewriting::Rewriting;
 pub use rewriting::Written;
 pub use rewriting::rewrite;
+pub use rewriting::written_of;
 pub use slot::Annotated;
 pub use slot::type_length;

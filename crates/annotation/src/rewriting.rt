@@ -1,6 +1,6 @@
 // What the rewritten sheet says of a node.
 ghost use mathlib.Core.Path.{_≡_};
-ghost use Rattle.annotation.specs.Rewriting.{rewritingOf, outcomeOf, outcome, writtenAs, convertedWritten, logicalWritten};
+ghost use Rattle.annotation.specs.Rewriting.{rewritingOf, outcomeOf, outcome, writtenOf, writtenAs, convertedWritten, logicalWritten};
 use crate::resolution::Resolution;
 use crate::resolution::refusal;
 use crate::resolution::resolve_as;
@@ -42,6 +42,13 @@ pub fn rewrite(n: Annotated, under_map: bool) -> Rewriting
         Resolution::Misplaced => Rewriting::Refused(refusal(resolution)),
         Resolution::BadDecimal => Rewriting::Refused(refusal(resolution)),
     }
+}
+
+// What is written for the numbers of a slot, whatever else is wrong with them: none where they cannot be read.
+pub fn written_of(n: Annotated, under_map: bool) -> Written
+    ensures { λ r. ⌜ r ≡ writtenOf n «under_map» ⌝ }
+{
+    written_as(annotation_of(n, under_map))
 }
 
 // What is written for an annotation.

@@ -5,8 +5,8 @@ pub mod ResolvingLaws
 pub mod DemandLaws
 pub mod RolesLaws
 pub mod RowsSteps
-pub mod RewritingSteps
 pub mod RewrittenSlotLaws
+pub mod RewritingSteps
 pub mod RewrittenTreeLaws
 pub mod RewrittenRowsLaws
 pub mod RewrittenLaws

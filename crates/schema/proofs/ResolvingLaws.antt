@@ -1,7 +1,7 @@
 -- A sheet resolved, by what judging answers.
 use Prim.Native.Nat.{ℕ, _+_, _*_, _≤_, _<_}
 use mathlib.Core.Path.{_≡_, refl, sym, ap, _∙_}
-use mathlib.Core.List.{List, [], _++_}
+use mathlib.Core.List.{List, [], _++_, append-nil}
 use native.Mathlib.Omega.{arith}
 use native.Mathlib.Nat.{zero-add}
 use borrow.Author.Tests.{lt-ltb, le-ltb}
@@ -10,17 +10,18 @@ use Rattle.sheet.specs.Block.{totalOf}
 use Rattle.sheet.specs.Opening as sheet
 use Rattle.sheet.specs.Slot.{slots, slotAt}
 use Rattle.tree.specs.Tree.{SlotBytes, Tree, node}
-use Rattle.schema.specs.Rows.{rowsFrom, row, parentOf, role, rows, rowWidth}
+use Rattle.schema.specs.Rows.{rowsFrom, runRowsFrom, row, parentOf, role, rows, rowWidth}
 use Rattle.tree.specs.Reading.{treeOf}
 use Rattle.tree.specs.Judgement.{refusal}
 use Rattle.schema.specs.Outcome.{answer, outcome, written}
-use Rattle.tree.specs.Steps.{treeAt, judgementOf}
+use Rattle.tree.specs.Steps.{treeAt, runAt, judgementOf}
 use Rattle.schema.specs.Steps.{placed}
 use Rattle.schema.specs.declared.roles.Parent.{Parent}
 use Rattle.tree.specs.declared.refusal.Refusal.{Refusal}
 use Rattle.tree.specs.declared.judgement.Judgement.{Judgement}
 use Rattle.schema.specs.declared.resolving.Resolved.{Resolved}
-use Rattle.tree.proofs.JudgementLaws.{judged-refused, judged-lawful, judged-total, tree-size}
+use Rattle.tree.proofs.JudgementLaws.{judged-refused, judged-lawful, judged-total, judged-some, judged-claimed, tree-size}
+use Rattle.tree.proofs.VisitLaws.{root-alone}
 use Rattle.tree.proofs.StandingLaws.{treeAt-zero}
 use Rattle.schema.proofs.RowsLaws.{length-rowsFrom}
 
@@ -47,10 +48,16 @@ module _ (b : List ℕ) where
     unfolding outcome answer
     resolve-rows lent h = rw (judged-lawful b n e .0, le-ltb (length lent) (rowWidth * totalOf b) (omega (arith, judged-total b n e))) (ap Resolved.Rows (sym (judged-total b n e)))
 
-    pub written-rows : (lent r : List ℕ) → rowWidth * n ≤ length lent → r ≡ placed lent (rowWidth * 0) (rowsFrom 0 0 Parent.Other (slotAt b 0) (treeAt (slots b) 0)) → r ≡ written (outcome b (length lent)) b lent
+    -- the run of the one tree
+    root-rows : runRowsFrom 0 0 Parent.Other (slotAt b 0) (runAt (slots b) 0 1) ≡ rowsFrom 0 0 Parent.Other (slotAt b 0) (treeAt (slots b) 0)
+    unfolding runRowsFrom
+    root-rows = rw (root-alone b (judged-claimed b n e) (judged-some b n e)) (append-nil (rowsFrom 0 0 Parent.Other (slotAt b 0) (treeAt (slots b) 0)))
+
+    pub written-rows : (lent r : List ℕ) → rowWidth * n ≤ length lent → r ≡ placed lent (rowWidth * 0) (runRowsFrom 0 0 Parent.Other (slotAt b 0) (runAt (slots b) 0 1)) → r ≡ written (outcome b (length lent)) b lent
     unfolding written placed rows
     written-rows lent r h q =
         q
+        ∙ ap (placed lent (rowWidth * 0)) root-rows
         ∙ ap (λ (t : Tree). placed lent (rowWidth * 0) (rowsFrom 0 0 Parent.Other (slotAt b 0) t)) (treeAt-zero (slots b))
         ∙ ap (placed lent (rowWidth * 0)) (other-above (treeOf (slots b)) (slotAt b 0) [])
         ∙ ap (λ (k : ℕ). rows (treeOf (slots b)) ++ drop k lent) (zero-add _ ∙ length-rowsFrom (treeOf (slots b)) 0 0 Parent.Other [] ∙ ap (λ (k : ℕ). rowWidth * k) (tree-size b n e))

@@ -1,37 +1,33 @@
--- The steps of rewriting at the numbers of a sheet: a tree's annotations are its root's and its run's, a run's those of its first tree and of the shorter run.
-use Prim.Native.Nat.{ℕ, suc, _+_, _-_, _≤_}
+-- The steps of rewriting: what is written of a tree that keeps the rules, one node after the other. A MAP's one child stands right behind it, and no other node's
+-- parent is a MAP.
 use mathlib.Core.Path.{_≡_, refl, sym, ap, _∙_}
-use mathlib.Core.Bool.{Bool}
-use mathlib.Core.List.{List, [], _∷_, _++_}
+use mathlib.Core.Bool.{Bool, true, false}
+use mathlib.Core.List.{List, [], _∷_, _++_, append-assoc, append-nil}
+use Prim.Native.Nat.{ℕ, suc, _+_, _≤_, _<_}
 use native.Mathlib.Omega.{arith}
-use native.Mathlib.Nat.{add-zero, add-suc, suc-add, le-refl}
 use native.Mathlib.Numerals.{add-one}
-use lib.ListN.{length, drop, length-append}
-use Rattle.sheet.specs.Slot.{slots}
-use Rattle.sheet.specs.declared.slots.Slot.{Slot as Numbers}
-use Rattle.annotation.specs.Kinds.{kindOf}
-use Rattle.annotation.specs.Rewriting.{rewritingOf}
-use Rattle.annotation.specs.declared.slot.Annotated.{Annotated}
-use Rattle.annotation.specs.declared.resolution.Kind.{Kind}
+use Rattle.laws.proofs.BoolLaws.{and-right, implied}
+use lib.ListN.{length, length-append, drop, drop-of-length-le}
+use Rattle.sheet.specs.Block.{totalOf}
+use Rattle.sheet.specs.Slot.{repetition, slots, slotAt}
+use Rattle.sheet.proofs.SlotLaws.{slots-length, slots-drop}
+use Rattle.annotation.specs.Rewriting.{writtenOf}
 use Rattle.annotation.specs.declared.rewriting.Rewriting.{Rewriting}
-use Rattle.tree.specs.Annotated.{annotatedBy, annotated, kind}
-use Rattle.tree.specs.Tree.{Tree, Fields, node, empty, field, listings, count, size}
-use Rattle.tree.specs.Rules.{underMap, placeUnder, placeBelow}
-use Rattle.tree.specs.Reading.{trees}
-use Rattle.schema.specs.Rewriting.{rewriting, rewritings, runRewritings, withRewriting, withRewritings}
-use Rattle.tree.specs.Steps.{Claimed, Visited, treeAt, runAt, sizes}
+use Rattle.annotation.proofs.RewritingLaws.{written-kind}
+use Rattle.tree.specs.Annotated.{annotated, kind}
+use Rattle.tree.specs.Tree.{SlotBytes, Tree, Fields, node, empty, field, listing, listings, size}
+use Rattle.tree.specs.Rules.{underMap, placeBelow, isMap, isRequiredOrOptional, mapRun, mapKept, rule13, KeepsAt, Keeps, KeepsAll}
+use Rattle.tree.specs.Reading.{treeOf}
+use Rattle.tree.specs.Steps.{sizes, judgementOf}
 use Rattle.tree.specs.declared.place.Place.{Place}
-use Rattle.tree.proofs.StandingLaws.{runAt-zero, sizes-field, size-node}
-use Rattle.tree.proofs.VisitLaws.{treeAt-slot, run-at, next-after, next-claimed, run-split, run-end, run-end-empty}
-use Rattle.tree.proofs.NodeLaws.{placeBelow-is}
-
--- what follows a list of rewritings stands behind it
-pub withRewritings-append : (us vs : List Rewriting) (l : List ℕ) (k : ℕ) → withRewritings l k (us ++ vs) ≡ withRewritings (withRewritings l k us) (k + length us) vs
-unfolding withRewritings
-withRewritings-append [] vs l k = ap (λ (i : ℕ). withRewritings l i vs) (sym (add-zero k))
-withRewritings-append (u ∷ us) vs l k =
-    withRewritings-append us vs (withRewriting l k u) (suc k)
-    ∙ ap (λ (i : ℕ). withRewritings (withRewritings (withRewriting l k u) (suc k) us) i vs) (suc-add k (length us) ∙ sym (add-suc k (length us)))
+use Rattle.tree.specs.declared.place.Place.the-variants.{Root}
+use Rattle.tree.specs.declared.judgement.Judgement.{Judgement}
+use Rattle.tree.proofs.StandingLaws.{sizes-field, size-node}
+use Rattle.tree.proofs.NodeLaws.{under-below}
+use Rattle.tree.proofs.JudgementLaws.{judged-keeps, judged-listing}
+use Rattle.schema.specs.Rewriting.{rewriting, rewritings, runRewritings, withRewriting, withRewritings}
+use Rattle.schema.specs.Steps.{isWrittenMap, writtenInOrder}
+use Rattle.schema.proofs.RewrittenSlotLaws.{kept-written}
 
 mutual
   unfolding rewritings sizes listings
@@ -40,60 +36,100 @@ mutual
   pub length-rewritings : (t : Tree) (p : Place) → length (rewritings p t) ≡ size t
   length-rewritings (node s fs) p = ap suc (length-runRewritings fs (placeBelow p s)) ∙ sym (size-node s fs)
 
-  pub length-runRewritings : (fs : Fields) (p : Place) → length (runRewritings p fs) ≡ sizes fs
+  length-runRewritings : (fs : Fields) (p : Place) → length (runRewritings p fs) ≡ sizes fs
   length-runRewritings empty p = refl
   length-runRewritings (field t fs) p =
       length-append (rewritings p t) (runRewritings p fs)
       ∙ (let a = length-rewritings t p in let b = length-runRewritings fs p in omega (arith, sizes-field t fs))
 
-module _ (b l : List ℕ) (at n : ℕ) (p : Place) where
-  run-rewritten-empty : n ≡ 0 → withRewritings l at (runRewritings p (runAt (slots b) at n)) ≡ l
-  unfolding runRewritings withRewritings
-  run-rewritten-empty e = rw (e, runAt-zero)
+-- a run under a MAP is one field alone
+Alone : Bool → Fields → Type 0
+Alone false fs = Unit {0}
+Alone true empty = ⊥
+Alone true (field t empty) = Unit {0}
+Alone true (field t (field u fs)) = ⊥
 
-  -- a run's annotations are its first tree's and the shorter run's
-  run-rewritten : (h : Claimed b) (k : n ≡ 0 → ⊥) (c : n ≤ count (trees (drop at (slots b)))) (next : ℕ) (e : next ≡ at + size (treeAt (slots b) at)) (m : List ℕ) → m ≡ withRewritings l at (rewritings p (treeAt (slots b) at)) → withRewritings l at (runRewritings p (runAt (slots b) at n)) ≡ withRewritings m next (runRewritings p (runAt (slots b) next (n - 1)))
-  unfolding runRewritings
-  run-rewritten h k c next e m w =
-      let first = rewritings p (treeAt (slots b) at) in
-      let others = runRewritings p (runAt (slots b) next (n - 1)) in
-      ap (λ (fs : Fields). withRewritings l at (runRewritings p fs)) (run-split b at n h k c next e)
-      ∙ withRewritings-append first others l at
-      ∙ ap (λ (i : ℕ). withRewritings (withRewritings l at first) i others) (omega (arith, e, length-rewritings (treeAt (slots b) at) p))
-      ∙ ap (λ (x : List ℕ). withRewritings x next others) (sym w)
+different : true ≡ false → ⊥
+different e = let z : _≡_ {A = ℕ} 0 1 = cc in omega arith
 
--- a run rewritten up to one of its fields: with the others it is the run
-pub record Behind (b lent : List ℕ) (start n : ℕ) (p : Place) (out : List ℕ) (at left : ℕ) : Type 0 where
-  pub reached : start ≤ at
-  pub claimed : left ≤ count (trees (drop at (slots b)))
+mapRun-alone : (fs : Fields) → mapRun fs ≡ true → Alone true fs
+unfolding mapRun Alone
+mapRun-alone empty e = different (sym e)
+mapRun-alone (field (node s fs) empty) e = tt
+mapRun-alone (field (node s fs) (field u gs)) e = different (sym e)
+
+kept-alone : (p : Place) (s : SlotBytes) (fs : Fields) (b : Bool) → isMap p s ≡ b → rule13 p s fs ≡ true → Alone b fs
+unfolding Alone rule13 mapKept
+kept-alone p s fs false e r = tt
+kept-alone p s fs true e r =
+    mapRun-alone fs (and-right (isRequiredOrOptional (repetition s)) (mapRun fs) (implied (isMap p s) (mapKept s fs) r e))
+
+module _ (p : Place) (s : SlotBytes) (fs : Fields) (k : KeepsAt p s fs) where
+  written : rewriting (underMap p) s ≡ Rewriting.Written (writtenOf (annotated s) (underMap p))
+  written = kept-written (underMap p) s (k .agreement) (k .placement) (k .decimals)
+
+  -- the place of a kept node's fields is told by what is written of it
+  map-below : isWrittenMap (underMap p) s ≡ underMap (placeBelow p s)
+  unfolding isWrittenMap rewriting kind isMap
+  map-below = written-kind (annotated s) (underMap p) _ written ∙ sym (under-below p s)
+
+-- a run's first tree, and what follows it
+order-first : (t : Tree) (fs : Fields) (p : Place) (rest : List SlotBytes) (b : Bool) → underMap p ≡ b → writtenInOrder (underMap p) (listing t ++ (listings fs ++ rest)) ≡ rewritings p t ++ writtenInOrder false (listings fs ++ rest) → writtenInOrder b ((listing t ++ listings fs) ++ rest) ≡ rewritings p t ++ writtenInOrder false (listings fs ++ rest)
+order-first t fs p rest b e h =
+    ap (writtenInOrder b) (append-assoc (listing t) (listings fs) rest)
+    ∙ ap (λ (c : Bool). writtenInOrder c (listing t ++ (listings fs ++ rest))) (sym e)
+    ∙ h
+
+mutual
+  unfolding listing rewritings writtenInOrder Keeps Alone
+
+  order-tree : (t : Tree) (p : Place) (rest : List SlotBytes) → Keeps p t → writtenInOrder (underMap p) (listing t ++ rest) ≡ rewritings p t ++ writtenInOrder false rest
+  order-tree (node s fs) p rest k =
+      let own = Rewriting.Written (writtenOf (annotated s) (underMap p)) in
+      let below = map-below p s fs (k .0) in
+      ap (λ (b : Bool). own ∷ writtenInOrder b (listings fs ++ rest)) below
+      ∙ ap (λ (rs : List Rewriting). own ∷ rs) (order-run fs (placeBelow p s) rest (underMap (placeBelow p s)) refl (kept-alone p s fs (underMap (placeBelow p s)) (sym (under-below p s)) (k .0 .maps)) (k .1))
+      ∙ ap (λ (r : Rewriting). r ∷ (runRewritings (placeBelow p s) fs ++ writtenInOrder false rest)) (sym (written p s fs (k .0)))
+
+  order-run : (fs : Fields) (p : Place) (rest : List SlotBytes) (b : Bool) → underMap p ≡ b → Alone b fs → KeepsAll p fs → writtenInOrder b (listings fs ++ rest) ≡ runRewritings p fs ++ writtenInOrder false rest
+  order-run empty p rest false e a k = refl
+  order-run empty p rest true e a k = absurd a
+  order-run (field t fs) p rest false e a k =
+      order-first t fs p rest false e (order-tree t p (listings fs ++ rest) (k .0))
+      ∙ ap (λ (rs : List Rewriting). rewritings p t ++ rs) (order-run fs p rest false e tt (k .1))
+      ∙ sym (append-assoc (rewritings p t) (runRewritings p fs) (writtenInOrder false rest))
+  order-run (field t empty) p rest true e a k =
+      order-first t empty p rest true e (order-tree t p rest (k .0))
+      ∙ sym (append-assoc (rewritings p t) [] (writtenInOrder false rest))
+  order-run (field t (field u fs)) p rest true e a k = absurd a
+
+-- of an accepted sheet it is what is rewritten of its tree
+pub order-accepted : (b : List ℕ) (n : ℕ) → judgementOf b ≡ Judgement.Nodes n → writtenInOrder false (slots b) ≡ rewritings Root (treeOf (slots b))
+unfolding writtenInOrder
+order-accepted b n e =
+    ap (writtenInOrder false) (sym (append-nil (listing (treeOf (slots b))) ∙ judged-listing b n e))
+    ∙ order-tree (treeOf (slots b)) Root [] (judged-keeps b n e)
+    ∙ append-nil (rewritings Root (treeOf (slots b)))
+
+-- the nodes written up to one of them: with the others they are all
+pub record Written (b lent : List ℕ) (out : List ℕ) (k : ℕ) (under : Bool) : Type 0 where
+  pub within : k ≤ totalOf b
   pub long : length out ≡ length lent
-  pub ended : start + sizes (runAt (slots b) start n) ≡ at + sizes (runAt (slots b) at left)
-  pub found : withRewritings lent start (runRewritings p (runAt (slots b) start n)) ≡ withRewritings out at (runRewritings p (runAt (slots b) at left))
+  pub found : withRewritings lent 0 (writtenInOrder false (slots b)) ≡ withRewritings out k (writtenInOrder under (drop k (slots b)))
 
-pub behind-start : (b lent : List ℕ) (start n : ℕ) (p : Place) → n ≤ count (trees (drop start (slots b))) → Behind b lent start n p lent start n
-behind-start b lent start n p c =
-    record { reached = le-refl start; claimed = c; long = refl; ended = refl; found = refl }
+pub written-start : (b lent : List ℕ) → Written b lent lent 0 false
+written-start b lent = record { within = omega arith; long = refl; found = refl }
 
-module _ (b lent : List ℕ) (start n : ℕ) (p : Place) (out : List ℕ) (at left : ℕ) (r : Behind b lent start n p out at left) where
-  pub behind-end : left ≡ 0 → (at ≡ start + sizes (runAt (slots b) start n)) × (out ≡ withRewritings lent start (runRewritings p (runAt (slots b) start n)))
-  behind-end e = (
-    run-end-empty b at left e ∙ sym (r .ended),
-    sym (r .found ∙ run-rewritten-empty b out at left p e),
-  )
+module _ (b lent out : List ℕ) (k : ℕ) (under : Bool) (r : Written b lent out k under) where
+  pub written-end : totalOf b ≤ k → out ≡ withRewritings lent 0 (writtenInOrder false (slots b))
+  unfolding writtenInOrder withRewritings
+  written-end h = sym (r .found ∙ rw (drop-of-length-le (slots b) {i = k} (omega (arith, slots-length b))))
 
-  pub behind-next : Claimed b → (left ≡ 0 → ⊥) → (next : ℕ) (m : List ℕ) → next ≡ at + size (treeAt (slots b) at) → m ≡ withRewritings out at (rewritings p (treeAt (slots b) at)) → length m ≡ length out → Behind b lent start n p m next (left - 1)
-  behind-next h k next m e w long =
+  pub written-next : k < totalOf b → (m : List ℕ) (c : Bool) → m ≡ withRewriting out k (Rewriting.Written (writtenOf (annotated (slotAt b k)) under)) → c ≡ isWrittenMap under (slotAt b k) → length m ≡ length out → Written b lent m (k + 1) c
+  unfolding writtenInOrder withRewritings
+  written-next h m c em ec long =
       record {
-        reached = omega (arith, r .reached, next-after b at left h k (r .claimed) next e);
-        claimed = next-claimed b at left h k (r .claimed) next e;
+        within = omega arith;
         long = long ∙ r .long;
-        ended = r .ended ∙ run-end b at left h k (r .claimed) next e;
-        found = r .found ∙ run-rewritten b out at left p h k (r .claimed) next e m w;
+        found = r .found ∙ rw (slots-drop b k h, em, ec, add-one);
       }
-
--- a tree's annotations are its root's and its run's
-pub tree-rewritten : (b l : List ℕ) (at : ℕ) (s : Numbers) (p : Place) → Visited b at s → (n : Annotated) (u : Bool) (w : Rewriting) (k : Kind) (q : Place) (m r : List ℕ) → n ≡ annotatedBy s → u ≡ underMap p → w ≡ rewritingOf n u → m ≡ withRewriting l at w → k ≡ kindOf n u → q ≡ placeUnder (k .kind) → r ≡ withRewritings m (at + 1) (runRewritings q (runAt (slots b) (at + 1) (s .children))) → r ≡ withRewritings l at (rewritings p (treeAt (slots b) at))
-unfolding rewritings rewriting withRewritings annotated
-tree-rewritten b l at s p v n u w k q m r en eu ew em ek eq er =
-    er
-    ∙ rw (run-at b at s (v .numbers), eq, placeBelow-is b at s p v n u k en eu ek, em, ew, en, eu, v .numbers, add-one, treeAt-slot b at (v .claimed) (v .below))

@@ -107,6 +107,11 @@ written-listed (Annotation.Logical l) = logical-listed l
 written-listed Annotation.Interval = (refl, refl)
 written-listed Annotation.Unreadable = (refl, refl)
 
+-- a slot that keeps rules 9, 10 and 11 is rewritten to what is written for its annotation
+pub kept-written : (under : Bool) (s : SlotBytes) → rule9 s ≡ true → rule10 under s ≡ true → rule11 under s ≡ true → rewriting under s ≡ Rewriting.Written (writtenOf (annotated s) under)
+unfolding rewriting rewritingOf rule9 rule10 rule11
+kept-written under s nine ten eleven = rw (resolved-of-keeps (annotated s) under (record { nine = nine; ten = ten; eleven = eleven }))
+
 -- a slot that is long enough to have annotations, and keeps rules 9, 10 and 11
 pub record Resolves (under : Bool) (s : SlotBytes) : Type 0 where
   pub long : childCountAt ≤ length s
@@ -122,10 +127,8 @@ module _ (under : Bool) (s : SlotBytes) (h : Resolves under s) where
   resolved : resolutionOf (annotated s) under ≡ Resolution.Resolved (kindOf (annotated s) under)
   resolved = resolved-of-keeps (annotated s) under keeps
 
-  -- it is rewritten to what is written for its annotation
-  pub rewriting-written : rewriting under s ≡ Rewriting.Written (writtenOf (annotated s) under)
-  unfolding rewriting rewritingOf
-  rewriting-written = rw resolved
+  rewriting-written : rewriting under s ≡ Rewriting.Written (writtenOf (annotated s) under)
+  rewriting-written = kept-written under s (h .nine) (h .ten) (h .eleven)
 
   w : Written
   w = writtenOf (annotated s) under

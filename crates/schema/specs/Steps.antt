@@ -1,7 +1,14 @@
--- What the steps of writing rows answer, which the contracts of private functions cite. Nothing here is a promise to a caller.
+-- What the steps of writing rows and of rewriting answer, which the contracts of private functions cite. Nothing here is a promise to a caller.
 use Prim.Native.Nat.{ℕ, _+_}
 use mathlib.Core.List.{List, [], _∷_, _++_}
 use lib.ListN.{length, take, drop}
+use mathlib.Core.Bool.{Bool}
+use lib.Dec.{eqb}
+use Rattle.parquet.specs.Logical as logical
+use Rattle.annotation.specs.Rewriting.{writtenOf}
+use Rattle.annotation.specs.declared.rewriting.Rewriting.{Rewriting}
+use Rattle.tree.specs.Annotated.{annotated}
+use Rattle.tree.specs.Tree.{SlotBytes}
 use Rattle.schema.specs.declared.rows.Row.{Row}
 
 -- a list with some numbers in place of those from i on
@@ -12,3 +19,12 @@ placed l i vs = take i l ++ vs ++ drop (i + length vs) l
 unfoldable pub rowNumbers : Row → List ℕ
 rowNumbers r =
     r .physical ∷ r .«type_length» ∷ r .repetition ∷ r .kind ∷ r .p1 ∷ r .p2 ∷ r .parent ∷ r .end ∷ r .role ∷ []
+
+-- whether a node, its parent a resolved MAP or not, is written as a MAP
+unfoldable pub isWrittenMap : Bool → SlotBytes → Bool
+isWrittenMap under s = eqb (writtenOf (annotated s) under .logical) logical.MAP
+
+-- what is written of nodes one after the other, where the parent of the first is a resolved MAP or not, and that of each other is one where the node before it is
+unfoldable pub writtenInOrder : Bool → List SlotBytes → List Rewriting
+writtenInOrder under [] = []
+writtenInOrder under (s ∷ ss) = Rewriting.Written (writtenOf (annotated s) under) ∷ writtenInOrder (isWrittenMap under s) ss

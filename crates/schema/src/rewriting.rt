@@ -1,26 +1,21 @@
-// A sheet rewritten with both annotations at every node, from a node to its run and back.
+// A sheet rewritten with both annotations at every node.
 ghost use mathlib.Core.Path.{_≡_};
-ghost use Prim.Native.Nat.{_+_, _≤_, _<_};
-ghost use lib.ListN.{length, drop};
+ghost use mathlib.Core.Bool.{false};
+ghost use lib.ListN.{length};
 ghost use Rattle.sheet.specs.Block.{totalOf};
-ghost use Rattle.sheet.specs.Slot.{slots};
-ghost use Rattle.tree.specs.Tree.{count as Tree·count, size};
-ghost use Rattle.tree.specs.Reading.{trees};
-ghost use Rattle.schema.specs.Rewriting.{rewritings, runRewritings, withRewriting, withRewritings, rewritten, rewriteOutcome, rewriteWritten};
-ghost use Rattle.annotation.specs.Kinds.{kindOf};
-ghost use Rattle.annotation.specs.Rewriting.{rewritingOf};
-ghost use Rattle.tree.specs.Rules.{placeUnder};
-ghost use Rattle.tree.specs.Steps.{Claimed, treeAt, runAt, sizes};
+ghost use Rattle.sheet.specs.Slot.{slots, slotAt};
+ghost use Rattle.annotation.specs.Rewriting.{writtenOf};
+ghost use Rattle.annotation.specs.declared.rewriting.Rewriting.{Rewriting};
+ghost use Rattle.tree.specs.Annotated.{annotated};
+ghost use Rattle.tree.specs.Steps.{judgementOf};
+ghost use Rattle.schema.specs.Rewriting.{withRewriting, withRewritings, rewritten, rewriteOutcome, rewriteWritten};
+ghost use Rattle.schema.specs.Steps.{isWrittenMap, writtenInOrder};
 use crate::output::short_output;
-use annotation::Annotated;
-use annotation::Rewriting;
+use parquet::logical;
 use tree::Judgement;
-use tree::Place;
 use tree::Refusal;
 use tree::annotated;
 use tree::judge;
-use tree::place_under;
-use tree::under_map;
 
 // What rewriting answers: how many bytes are written, or the refusal.
 pub enum Rewritten {
@@ -37,7 +32,7 @@ pub fn rewrite(sheet: &[u8], out: &mut [u8], start: usize) -> Rewritten
     let judgement = judge(sheet);
     match judgement {
         Judgement::Refused(r) => Rewritten::Refused(r),
-        Judgement::Nodes(_) => {
+        Judgement::Nodes(total) => {
             if out.len() < start {
                 return Rewritten::Refused(short_output());
             }
@@ -45,83 +40,44 @@ pub fn rewrite(sheet: &[u8], out: &mut [u8], start: usize) -> Rewritten
                 return Rewritten::Refused(short_output());
             }
             let end = start + sheet.len();
-            write_sheet(sheet, &mut out[start..end]);
+            write_sheet(sheet, &mut out[start..end], total);
             Rewritten::Bytes(sheet.len())
         }
     }
 }
 
-// Writes the rewritten sheet into an output of its length.
-fn write_sheet(sheet: &[u8], out: &mut [u8])
-    requires { ⌜ Claimed (now sheet) ⌝ }
-    requires { ⌜ 0 < totalOf (now sheet) ⌝ }
+// Writes the rewritten sheet, which has so many nodes, into an output of its length.
+fn write_sheet(sheet: &[u8], out: &mut [u8], total: usize)
+    requires { ⌜ judgementOf (now sheet) ≡ Judgement.Nodes total ⌝ }
     requires { ⌜ length (now out) ≡ length (now sheet) ⌝ }
     ensures { λ _. ⌜ now (out .exit) ≡ rewritten (now (sheet .entry)) ⌝ }
 {
     bytes::copy(sheet, out);
-    write_tree(sheet, out, 0, Place::Root);
+    write_nodes(sheet, out, total);
     sheet::renew_checks(out);
 }
 
-// Writes the annotations of the tree at a number, its root's place known, and answers where the next tree stands.
-fn write_tree(sheet: &[u8], out: &mut [u8], at: usize, place: Place) -> usize
-    requires { ⌜ Claimed (now sheet) ⌝ }
-    requires { ⌜ at < totalOf (now sheet) ⌝ }
-    ensures { λ r. ⌜ r ≡ at + size (treeAt (slots (now (sheet .entry))) at) ⌝ }
-    ensures { λ _. ⌜ now (out .exit) ≡ withRewritings (now (out .entry)) at (rewritings place (treeAt (slots (now (sheet .entry))) at)) ⌝ }
+// Writes the annotations of all nodes, one after the other. Of an accepted sheet, a MAP's one child stands right behind it, and no other
+// node has a MAP as its parent.
+fn write_nodes(sheet: &[u8], out: &mut [u8], total: usize)
+    requires { ⌜ total ≡ totalOf (now sheet) ⌝ }
+    ensures { λ _. ⌜ now (out .exit) ≡ withRewritings (now (out .entry)) 0 (writtenInOrder false (slots (now (sheet .entry)))) ⌝ }
 {
-    let s = sheet::slot_at(sheet, at);
-    let n = annotated(s);
-    let under = under_map(place);
-    let rewriting = annotation::rewrite(n, under);
-    write_slot(out, at, rewriting);
-    write_run(
-        sheet,
-        out,
-        at + 1,
-        s.children as usize,
-        place_below(rewriting, n, under),
-    )
-}
-
-// Writes the annotations of the run of so many fields at a number, one field after the other, and answers where the next tree stands.
-fn write_run(sheet: &[u8], out: &mut [u8], start: usize, count: usize, place: Place) -> usize
-    requires { ⌜ Claimed (now sheet) ⌝ }
-    requires { ⌜ count ≤ Tree·count (trees (drop start (slots (now sheet)))) ⌝ }
-    ensures { λ r. ⌜ r ≡ start + sizes (runAt (slots (now (sheet .entry))) start count) ⌝ }
-    ensures { λ _. ⌜ now (out .exit) ≡ withRewritings (now (out .entry)) start (runRewritings place (runAt (slots (now (sheet .entry))) start count)) ⌝ }
-{
-    let mut at = start;
-    let mut left = count;
-    while left > 0 {
-        at = write_tree(sheet, out, at, place);
-        left = left - 1;
-    }
-    at
-}
-
-// The place of the fields of a node that is rewritten so.
-fn place_below(rewriting: Rewriting, n: Annotated, under: bool) -> Place
-    requires { ⌜ rewriting ≡ rewritingOf n under ⌝ }
-    ensures { λ r. ⌜ r ≡ placeUnder (kindOf n under .kind) ⌝ }
-{
-    match rewriting {
-        Rewriting::Written(w) => place_under(w.logical as u32),
-        Rewriting::Refused(_) => {
-            let kind = annotation::resolved_kind(n, under);
-            place_under(kind.kind)
-        }
+    let mut under_map = false;
+    let mut node = 0;
+    while node < total {
+        under_map = write_node(sheet, out, node, under_map);
+        node += 1;
     }
 }
 
-// Writes what is rewritten of one node.
-fn write_slot(out: &mut [u8], at: usize, rewriting: Rewriting)
-    ensures { λ _. ⌜ now (out .exit) ≡ withRewriting (now (out .entry)) at rewriting ⌝ }
+// Writes the annotations of a node, its parent a resolved MAP or not, and answers whether it is a MAP itself.
+fn write_node(sheet: &[u8], out: &mut [u8], node: usize, under_map: bool) -> bool
+    ensures { λ r. ⌜ r ≡ isWrittenMap «under_map» (slotAt (now (sheet .entry)) node) ⌝ }
+    ensures { λ _. ⌜ now (out .exit) ≡ withRewriting (now (out .entry)) node (Rewriting.Written (writtenOf (annotated (slotAt (now (sheet .entry)) node)) «under_map»)) ⌝ }
 {
-    match rewriting {
-        Rewriting::Written(w) => {
-            sheet::write_annotation(out, at, w.converted, w.logical, w.a, w.b);
-        }
-        Rewriting::Refused(_) => {}
-    }
+    let s = sheet::slot_at(sheet, node);
+    let w = annotation::written_of(annotated(s), under_map);
+    sheet::write_annotation(out, node, w.converted, w.logical, w.a, w.b);
+    w.logical == logical::MAP
 }

@@ -32,6 +32,34 @@ struct Row {
     role: u32,
 }
 
+// Writes the rows of the run of so many fields at a number, one field after the other, under the node at up, and answers where the
+// next tree stands.
+pub(crate) fn write_run(
+    sheet: &[u8],
+    rows: &mut [u32],
+    start: usize,
+    count: usize,
+    up: usize,
+    parent: Parent,
+) -> usize
+    requires { ⌜ Claimed (now sheet) ⌝ }
+    requires { ⌜ count ≤ Tree·count (trees (drop start (slots (now sheet)))) ⌝ }
+    requires { ⌜ up < totalOf (now sheet) ⌝ }
+    requires { ⌜ rowWidth * totalOf (now sheet) ≤ length (now rows) ⌝ }
+    ensures { λ r. ⌜ r ≡ start + sizes (runAt (slots (now (sheet .entry))) start count) ⌝ }
+    ensures { λ _. ⌜ now (rows .exit) ≡ placed (now (rows .entry)) (rowWidth * start) (runRowsFrom start up parent (slotAt (now (sheet .entry)) up) (runAt (slots (now (sheet .entry))) start count)) ⌝ }
+{
+    let mut at = start;
+    let mut left = count;
+    let mut above = parent;
+    while left > 0 {
+        at = write_tree(sheet, rows, at, up, above);
+        above = after_first(above);
+        left = left - 1;
+    }
+    at
+}
+
 // Writes the rows of the tree at a number, under the node at up, and answers where the next tree stands.
 fn write_tree(sheet: &[u8], rows: &mut [u32], at: usize, up: usize, parent: Parent) -> usize
     requires { ⌜ Claimed (now sheet) ⌝ }
@@ -71,45 +99,27 @@ fn write_tree(sheet: &[u8], rows: &mut [u32], at: usize, up: usize, parent: Pare
     next
 }
 
+// Writes the rows of the run of so many fields at a number, and answers where the next tree stands: most nodes have no field, and
+// are written without a call.
 fn write_fields(
     sheet: &[u8],
     rows: &mut [u32],
-    start: usize,
-    count: usize,
-    up: usize,
-    parent: Parent,
-) -> usize {
-    if count == 0 {
-        return start;
-    }
-    write_run(sheet, rows, start, count, up, parent)
-}
-
-// Writes the rows of the run of so many fields at a number, one field after the other, and answers where the next tree stands.
-pub(crate) fn write_run(
-    sheet: &[u8],
-    rows: &mut [u32],
-    start: usize,
+    at: usize,
     count: usize,
     up: usize,
     parent: Parent,
 ) -> usize
     requires { ⌜ Claimed (now sheet) ⌝ }
-    requires { ⌜ count ≤ Tree·count (trees (drop start (slots (now sheet)))) ⌝ }
+    requires { ⌜ count ≤ Tree·count (trees (drop at (slots (now sheet)))) ⌝ }
     requires { ⌜ up < totalOf (now sheet) ⌝ }
     requires { ⌜ rowWidth * totalOf (now sheet) ≤ length (now rows) ⌝ }
-    ensures { λ r. ⌜ r ≡ start + sizes (runAt (slots (now (sheet .entry))) start count) ⌝ }
-    ensures { λ _. ⌜ now (rows .exit) ≡ placed (now (rows .entry)) (rowWidth * start) (runRowsFrom start up parent (slotAt (now (sheet .entry)) up) (runAt (slots (now (sheet .entry))) start count)) ⌝ }
+    ensures { λ r. ⌜ r ≡ at + sizes (runAt (slots (now (sheet .entry))) at count) ⌝ }
+    ensures { λ _. ⌜ now (rows .exit) ≡ placed (now (rows .entry)) (rowWidth * at) (runRowsFrom at up parent (slotAt (now (sheet .entry)) up) (runAt (slots (now (sheet .entry))) at count)) ⌝ }
 {
-    let mut at = start;
-    let mut left = count;
-    let mut above = parent;
-    while left > 0 {
-        at = write_tree(sheet, rows, at, up, above);
-        above = after_first(above);
-        left = left - 1;
+    if count == 0 {
+        return at;
     }
-    at
+    write_run(sheet, rows, at, count, up, parent)
 }
 
 // Writes a row's numbers from base on.

@@ -5,16 +5,17 @@ use mathlib.Core.Bool.{Bool, true, false}
 use mathlib.Core.List.{List, [], _∷_, map}
 use native.Mathlib.Omega.{arith}
 use lib.Dec.{leb}
-use lib.ListN.{length, drop}
+use lib.ListN.{length}
 use borrow.Author.Tests.{ne-eqb}
 use Rattle.sheet.specs.Block.{totalOf, mostNodes}
 use Rattle.sheet.specs.Opening as sheet
 use Rattle.sheet.specs.Slot.{slots}
 use Rattle.sheet.specs.declared.opening.Opened.{Opened}
 use Rattle.sheet.proofs.OpeningLaws.{openOf-total, openOf-least, openOf-most}
-use Rattle.tree.specs.Tree.{SlotBytes, Tree, empty, count, size, depths, mostDepth}
+use Rattle.tree.specs.Tree.{SlotBytes, Tree, empty, listing, size, depths, mostDepth}
+use Rattle.tree.specs.Rules.{Keeps}
 use Rattle.tree.specs.Faults.{faults}
-use Rattle.tree.specs.Reading.{trees, treeOf}
+use Rattle.tree.specs.Reading.{treeOf}
 use Rattle.tree.specs.Judgement.{orElse, refusal, leftOver, missing, firstFault, deepness, tooDeep, unlawful, treeRefusal, judgedAs, judgement}
 use Rattle.tree.specs.Steps.{Claimed, treeAt, runAt, lastOf, ruleWeight, faultFrom, firstOf, verdictOf, treeOrDeep, judgedTree, judgedOn, judgedRun, depthAt, judgedNodes, judgementOf}
 use Rattle.tree.specs.declared.place.Place.{Place}
@@ -23,11 +24,11 @@ use Rattle.tree.specs.declared.refusal.Verdict.{Verdict}
 use Rattle.tree.specs.declared.judging.TreeJudged.{TreeJudged}
 use Rattle.tree.specs.declared.judging.RunJudged.{RunJudged}
 use Rattle.tree.specs.declared.judgement.Judgement.{Judgement}
-use Rattle.tree.proofs.FaultLaws.{none-orElse, orElse-assoc}
+use Rattle.tree.proofs.FaultLaws.{none-orElse, orElse-assoc, none-keeps}
 use Rattle.tree.proofs.OpenPlacesLaws.{fills-trees}
 use Rattle.tree.proofs.TreeOfLaws.{accepted-fills, fills-listing}
-use Rattle.tree.proofs.StandingLaws.{treeAt-zero, runAt-zero, runAt-suc, count-some}
-use Rattle.tree.proofs.VisitLaws.{tree-within}
+use Rattle.tree.proofs.StandingLaws.{treeAt-zero}
+use Rattle.tree.proofs.VisitLaws.{tree-within, root-alone}
 use Rattle.tree.proofs.JudgingLaws.{runBy, length-faults, judgedOn-empty, judgedOn-field}
 use Rattle.sheet.proofs.SlotLaws.{slots-length}
 
@@ -89,13 +90,10 @@ module _ (b : List ℕ) (h : Claimed b) (l : 0 < totalOf b) where
   root : Tree
   root = treeAt (slots b) 0
 
-  pub root-claimed : 1 ≤ count (trees (drop 0 (slots b)))
-  root-claimed = count-some (slots b) 0 (omega (arith, h .total))
-
   root-run : judgedRun 0 (suc mostDepth) Place.Root (runAt (slots b) 0 1) ≡ runBy (judgedTree 0 (suc mostDepth) Place.Root root) (λ next within later. RunJudged.Judged next 0 within later)
   unfolding judgedRun root firstOf
   root-run =
-      ap (judgedOn 0 (suc mostDepth) Place.Root 0 0 0) (runAt-suc (slots b) 0 0 (h .claims) root-claimed ∙ rw runAt-zero)
+      ap (judgedOn 0 (suc mostDepth) Place.Root 0 0 0) (root-alone b h l)
       ∙ judgedOn-field 0 (suc mostDepth) Place.Root 0 0 0 root empty
       ∙ simp judgedOn-empty
 
@@ -216,8 +214,19 @@ module _ (b : List ℕ) where
     pub judged-claimed : Claimed b
     judged-claimed = places-claimed b (opened .0) (opened .1) no-places
 
+    no-faults : orElse (tooDeep (treeOf (slots b))) (unlawful (treeOf (slots b))) ≡ Verdict.Lawful
+    no-faults =
+        none-orElse _ _ (sym (treeRefusal-places (slots b)) ∙ sym (judgement-nodes b (opened .0) (opened .1)) ∙ judged-lawful .0) .1
+
+    -- its tree keeps every rule and lists its slots
+    pub judged-keeps : Keeps Place.Root (treeOf (slots b))
+    judged-keeps = none-keeps (treeOf (slots b)) (none-orElse _ _ no-faults .1)
+
+    pub judged-listing : listing (treeOf (slots b)) ≡ slots b
+    judged-listing =
+        let q = none-orElse _ _ no-places in
+        fills-listing (slots b) (accepted-fills (slots b) (q .0) (q .1))
+
     pub tree-size : size (treeOf (slots b)) ≡ n
     unfolding size
-    tree-size =
-        let q = none-orElse _ _ no-places in
-        ap length (fills-listing (slots b) (accepted-fills (slots b) (q .0) (q .1))) ∙ slots-length b ∙ sym judged-total
+    tree-size = ap length judged-listing ∙ slots-length b ∙ sym judged-total

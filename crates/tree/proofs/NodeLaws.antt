@@ -59,11 +59,16 @@ under-place : (b : Bool) → underMap (cond b Place.MapField Place.Field) ≡ b
 under-place true = refl
 under-place false = refl
 
+-- a node's fields are under a MAP where it is one
+pub under-below : (p : Place) (s : SlotBytes) → underMap (placeBelow p s) ≡ isMap p s
+unfolding placeBelow isMap
+under-below p s = under-place (eqb (kind (underMap p) s .kind) logical.MAP)
+
 broken-with13 : (p : Place) (s : SlotBytes) (fs : Fields) → brokenWith13 (brokenTo12 p s fs) (placeBelow p s) s fs ≡ broken p s fs
-unfolding brokenWith13 brokenTo12 broken rule13 isMap placeBelow
+unfolding brokenWith13 brokenTo12 broken rule13
 broken-with13 p s fs =
-    rw under-place
-    (with13-cases (rule8 p s fs) (rule9 s) (rule10 (underMap p) s) (rule11 (underMap p) s) (rule12 p s fs) (not (eqb (kind (underMap p) s .kind) logical.MAP) || mapKept s fs))
+    rw under-below
+    (with13-cases (rule8 p s fs) (rule9 s) (rule10 (underMap p) s) (rule11 (underMap p) s) (rule12 p s fs) (not (isMap p s) || mapKept s fs))
 
 -- by what the code finds before and behind the node's run
 pub own-is : (p q : Place) (s : SlotBytes) (fs : Fields) (least own : ℕ) → least ≡ brokenTo12 p s fs → q ≡ placeBelow p s → own ≡ brokenWith13 least q s fs → own ≡ broken p s fs

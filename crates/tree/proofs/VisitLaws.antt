@@ -10,7 +10,7 @@ use Rattle.sheet.specs.Block.{totalOf}
 use Rattle.sheet.specs.Slot.{slots, slotAt, childCount, physical, repetition, numbersOf}
 use Rattle.sheet.proofs.SlotLaws.{slots-at}
 use Rattle.sheet.specs.declared.slots.Slot.{Slot as Numbers}
-use Rattle.tree.specs.Tree.{SlotBytes, node, field, count, size}
+use Rattle.tree.specs.Tree.{SlotBytes, node, empty, field, count, size}
 use Rattle.tree.specs.Reading.{trees}
 use Rattle.tree.specs.Steps.{treeAt, runAt, fieldsAt, sizes, Claimed, Visited}
 use Rattle.tree.proofs.StandingLaws.{treeAt-node, runAt-zero, runAt-suc, runAt-end, claimed-at, count-runAt, count-behind, count-some, size-positive, sizes-empty, sizes-field, size-node}
@@ -128,3 +128,11 @@ tree-within b at h l =
 pub tree-end : (b : List ℕ) (at : ℕ) (s : Numbers) → Visited b at s → (next : ℕ) → next ≡ at + 1 + sizes (runAt (slots b) (at + 1) (s .children)) → next ≡ at + size (treeAt (slots b) at)
 tree-end b at s v next e =
     rw (treeAt-slot b at (v .claimed) (v .below), size-node) (omega (arith, e, ap sizes (run-at b at s (v .numbers))))
+
+-- one tree stands in a sheet, and the run of it is that tree alone
+module _ (b : List ℕ) (h : Claimed b) (l : 0 < totalOf b) where
+  pub root-claimed : 1 ≤ count (trees (drop 0 (slots b)))
+  root-claimed = count-some (slots b) 0 (omega (arith, h .total))
+
+  pub root-alone : runAt (slots b) 0 1 ≡ field (treeAt (slots b) 0) empty
+  root-alone = runAt-suc (slots b) 0 0 (h .claims) root-claimed ∙ rw runAt-zero

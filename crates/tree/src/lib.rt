@@ -13,8 +13,6 @@ pub use faults::annotated;
 pub use judgement::Judgement;
 pub use judgement::judge;
 pub use place::Place;
-pub use place::place_under;
-pub use place::under_map;
 pub use refusal::Refusal;
 pub use refusal::Verdict;
 pub use structure::named_element;

@@ -20,7 +20,7 @@ pub enum Place {
 const MAP: u32 = logical::MAP as u32;
 
 // Whether a node's parent is a resolved MAP.
-pub fn under_map(place: Place) -> bool
+pub(crate) fn under_map(place: Place) -> bool
     ensures { λ r. ⌜ r ≡ underMap place ⌝ }
 {
     match place {
@@ -31,7 +31,7 @@ pub fn under_map(place: Place) -> bool
 }
 
 // The place of the fields of a node of some kind.
-pub fn place_under(kind: u32) -> Place
+pub(crate) fn place_under(kind: u32) -> Place
     ensures { λ r. ⌜ r ≡ placeUnder kind ⌝ }
 {
     if kind == MAP {

@@ -1,5 +1,6 @@
 -- `schema::resolving::resolve` meets its contract: refused before anything is written, or the rows of its tree.
 use Rattle.tree.proofs.JudgementLaws.{judged-total, judged-some, judged-claimed}
+use Rattle.tree.proofs.VisitLaws.{root-claimed}
 use Rattle.schema.proofs.ResolvingLaws.{resolve-short, resolve-refused, resolve-rows, written-refused, written-rows}
 use native.Mathlib.Omega.{arith}
 use mathlib.Core.Path.{sym, ap, _∙_}
@@ -28,11 +29,11 @@ returns c =
     let short = resolve-short _ _ (sym (c .before .before .before .before .before .judge .ensures) ∙ c .before .before .before .judgement2 .given .1) (c .before .before .before .before .before .before .before .before .args .rows .now) (c .before .if1 .taken) in
     (ap Resolved.Refused (c .short-output .ensures) ∙ sym short, written-refused _ _ _ short)
 
-write-tree-requires : tie.Need-write-tree-requires
-write-tree-requires c κs =
+write-run-requires : tie.Need-write-run-requires
+write-run-requires c κs =
     let nodes = sym (c .before .before .before .before .before .judge .ensures) ∙ c .before .before .before .judgement2 .given .1 in
     let some = judged-some _ _ nodes in
-    (judged-claimed _ _ nodes, (some, (some, omega (arith, judged-total _ _ nodes, c .before .if1 .left))))
+    (judged-claimed _ _ nodes, (root-claimed _ (judged-claimed _ _ nodes) some, (some, omega (arith, judged-total _ _ nodes, c .before .if1 .left))))
 
 returns-2 : tie.Need-returns-2
 returns-2 c =
@@ -46,7 +47,7 @@ returns-3 : tie.Need-returns-3
 returns-3 c =
     let nodes = sym (c .before .before .before .before .before .before .before .before .judge .ensures) ∙ c .before .before .before .before .before .before .judgement2 .given .1 in
     let enough = c .before .before .before .before .if1 .left in
-    (sym (resolve-rows _ _ nodes (c .before .before .before .before .before .before .before .before .before .before .before .args .rows .now) enough), written-rows _ _ nodes _ _ enough (c .before .before .write-tree .ensures .1))
+    (sym (resolve-rows _ _ nodes (c .before .before .before .before .before .before .before .before .before .before .before .args .rows .now) enough), written-rows _ _ nodes _ _ enough (c .before .before .write-run .ensures .1))
 
 pub resolve-spec : {M : Type 1} → statement M
 resolve-spec =
@@ -58,7 +59,7 @@ resolve-spec =
     mul-if1
     short-output-requires
     returns
-    write-tree-requires
+    write-run-requires
     returns-2
     same-length
     returns-3)

@@ -3,7 +3,6 @@ use native.Mathlib.Omega.{arith}
 use mathlib.Core.Path.{sym, ap, _∙_}
 use lib.ListN.{length-take, length-drop}
 use Rattle.schema.specs.declared.rewriting.Rewritten.{Rewritten}
-use Rattle.tree.proofs.JudgementLaws.{judged-some, judged-claimed}
 use Rattle.schema.proofs.RewriteLaws.{rewrite-refused, rewrite-kept, rewrite-short, rewrite-bytes, rewrite-written}
 use borrow.Author.Needs.{needs}
 use Rattle.schema.proofs.rewriting.rewrite.Statement.{statement}
@@ -15,16 +14,16 @@ judge-requires c κs = search needs
 enum-known-judgement : tie.Need-enum-known-judgement
 enum-known-judgement c = search needs
 
-enum-told : tie.Need-enum-told
-enum-told c = search needs
+enum-known-judgement-2 : tie.Need-enum-known-judgement-2
+enum-known-judgement-2 c = search needs
 
 short-output-requires : tie.Need-short-output-requires
 short-output-requires c κs = search needs
 
 returns : tie.Need-returns
 returns c =
-    let start = c .before .before .before .before .before .before .before in
-    let nodes = sym (c .before .before .before .before .judge .ensures) ∙ c .before .before .enum-told .given .1 in
+    let start = c .before .before .before .before .before .before .before .before in
+    let nodes = sym (c .before .before .before .before .before .judge .ensures) ∙ c .before .before .before .judgement2 .given .1 in
     let short = rewrite-short (start .args .sheet .now) (start .args .out .now) (start .args .start) _ nodes (omega (arith, c .before .if1 .taken)) in
     (ap Rewritten.Refused (c .short-output .ensures) ∙ sym short, sym (rewrite-kept _ _ _ _ short))
 
@@ -36,8 +35,8 @@ short-output-requires-2 c κs = search needs
 
 returns-2 : tie.Need-returns-2
 returns-2 c =
-    let start = c .before .before .before .before .before .before .before .before in
-    let nodes = sym (c .before .before .before .before .before .judge .ensures) ∙ c .before .before .before .enum-told .given .1 in
+    let start = c .before .before .before .before .before .before .before .before .before in
+    let nodes = sym (c .before .before .before .before .before .before .judge .ensures) ∙ c .before .before .before .before .judgement2 .given .1 in
     let short = rewrite-short (start .args .sheet .now) (start .args .out .now) (start .args .start) _ nodes (omega (arith, c .before .if2 .taken)) in
     (ap Rewritten.Refused (c .short-output2 .ensures) ∙ sym short, sym (rewrite-kept _ _ _ _ short))
 
@@ -55,8 +54,8 @@ part-write-sheet-end c = search needs
 
 write-sheet-requires : tie.Need-write-sheet-requires
 write-sheet-requires c κs =
-    let nodes = sym (c .before .before .before .before .before .judge .ensures) ∙ c .before .before .before .enum-told .given .1 in
-    (judged-claimed _ _ nodes, (judged-some _ _ nodes, simp (length-take, length-drop) (omega arith)))
+    let nodes = sym (c .before .before .before .before .before .before .judge .ensures) ∙ c .before .before .before .before .judgement2 .given .1 in
+    (nodes, simp (length-take, length-drop) (omega arith))
 
 returns-3 : tie.Need-returns-3
 returns-3 c =
@@ -69,8 +68,8 @@ same-length c = search needs
 
 returns-4 : tie.Need-returns-4
 returns-4 c =
-    let start = c .before .before .before .before .before .before .before .before .before .before .before in
-    let nodes = sym (c .before .before .before .before .before .before .before .before .judge .ensures) ∙ c .before .before .before .before .before .before .enum-told .given .1 in
+    let start = c .before .before .before .before .before .before .before .before .before .before .before .before in
+    let nodes = sym (c .before .before .before .before .before .before .before .before .before .judge .ensures) ∙ c .before .before .before .before .before .before .before .judgement2 .given .1 in
     (sym (rewrite-bytes (start .args .sheet .now) (start .args .out .now) (start .args .start) _ nodes (omega arith)), rewrite-written (start .args .sheet .now) (start .args .out .now) (start .args .start) _ nodes (omega arith) _ (c .before .before .write-sheet .ensures))
 
 pub rewrite-spec : {M : Type 1} → statement M
@@ -79,7 +78,7 @@ rewrite-spec =
     (tie.spec
     judge-requires
     enum-known-judgement
-    enum-told
+    enum-known-judgement-2
     short-output-requires
     returns
     sub-if2

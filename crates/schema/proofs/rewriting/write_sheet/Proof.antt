@@ -6,11 +6,10 @@ use native.Mathlib.Nat.{le-of-eq}
 use lib.ListN.{length, take, drop, drop-of-length-le}
 use lib.Seq.{take-length}
 use Rattle.sheet.specs.Check.{renewed}
-use Rattle.sheet.specs.Slot.{slots}
-use Rattle.tree.specs.Tree.{Tree}
-use Rattle.schema.specs.Rewriting.{rewritings, withRewritings, rewritten}
-use Rattle.tree.specs.declared.place.Place.the-variants.{Root}
-use Rattle.tree.proofs.StandingLaws.{treeAt-zero}
+use Rattle.annotation.specs.declared.rewriting.Rewriting.{Rewriting}
+use Rattle.tree.proofs.JudgementLaws.{judged-total}
+use Rattle.schema.specs.Rewriting.{withRewritings, rewritten}
+use Rattle.schema.proofs.RewritingSteps.{order-accepted}
 use borrow.Author.Needs.{needs}
 use Rattle.schema.proofs.rewriting.write_sheet.Statement.{statement}
 use Rattle.schema.proofs.rewriting.write_sheet.Tie as tie
@@ -18,8 +17,8 @@ use Rattle.schema.proofs.rewriting.write_sheet.Tie as tie
 copy-requires : tie.Need-copy-requires
 copy-requires c κs = search needs
 
-write-tree-requires : tie.Need-write-tree-requires
-write-tree-requires c κs = search needs
+write-nodes-requires : tie.Need-write-nodes-requires
+write-nodes-requires c κs = judged-total _ _ (c .before .before .before .before .before .before .before .pre .0)
 
 renew-checks-requires : tie.Need-renew-checks-requires
 renew-checks-requires c κs = search needs
@@ -35,12 +34,12 @@ whole-copy source room copy e q =
 returns : tie.Need-returns
 unfolding rewritten
 returns c =
-    let a = c .before .before .before .before .before .before .before .before .before .before .before .before .before .before .args in
-    let copied = whole-copy (a .sheet .now) (a .out .now) _ (c .before .before .before .before .before .before .before .before .before .before .before .before .before .before .pre .1 .1) (c .before .before .before .before .before .before .before .before .before .before .copy .ensures .1) in
+    let start = c .before .before .before .before .before .before .before .before .before .before .before .before .before .before in
+    let copied = whole-copy (start .args .sheet .now) (start .args .out .now) _ (start .pre .1) (c .before .before .before .before .before .before .before .before .before .before .copy .ensures .1) in
     c .before .before .renew-checks .ensures
-    ∙ ap renewed (c .before .before .before .before .before .before .write-tree .ensures .1 ∙ ap₂ (λ (l : List ℕ) (t : Tree). withRewritings l 0 (rewritings Root t)) copied (treeAt-zero (slots (a .sheet .now))))
+    ∙ ap renewed (c .before .before .before .before .before .before .write-nodes .ensures ∙ ap₂ (λ (l : List ℕ) (rs : List Rewriting). withRewritings l 0 rs) copied (order-accepted (start .args .sheet .now) _ (start .pre .0)))
 
 pub write-sheet-spec : {M : Type 1} → statement M
 write-sheet-spec =
     tie.close
-    (tie.spec copy-requires write-tree-requires renew-checks-requires same-length returns)
+    (tie.spec copy-requires write-nodes-requires renew-checks-requires same-length returns)

@@ -1,5 +1,6 @@
 -- `tree::judgement::judge_root` meets its contract, case by case.
-use Rattle.tree.proofs.JudgementLaws.{root-claimed, run-deep, run-judged}
+use Rattle.tree.proofs.JudgementLaws.{run-deep, run-judged}
+use Rattle.tree.proofs.VisitLaws.{root-claimed}
 use mathlib.Core.Path.{sym, _∙_}
 use borrow.Author.Needs.{needs}
 use native.Mathlib.Omega.{arith}

@@ -1,41 +1,59 @@
--- The proof of the cycle of calls {write_run, write_tree}. Nodes fall as they do in judging: with r nodes from k on, a tree's measure is 2r and a
--- run's 2r + 1.
-use Rattle.schema.proofs.RowsSteps.{Behind, behind-start, behind-end, behind-next, tree-rows, parent-is, row-is, long-enough, row-fits}
-use Rattle.tree.proofs.JudgingSteps.{later-falls, run-falls}
-use Rattle.tree.proofs.VisitLaws.{run-below, children-claimed, tree-end, tree-within}
-use Rattle.tree.specs.Steps.{Visited}
-use Rattle.schema.specs.Steps.{rowNumbers}
-use Rattle.sheet.specs.Slot.{slotAt}
-use Rattle.sheet.specs.Block.{totalOf}
+-- The proof of the cycle of calls {write_fields, write_run, write_tree}. Nodes fall as they do in judging: with r nodes from k on, a tree's measure is 3r, a run's
+-- 3r + 1, that of some fields 3r + 2.
+use Prim.Native.Nat.{ℕ, _+_, _*_, _-_, _<_}
+use mathlib.Core.Path.{_≡_, _∙_}
 use borrow.Author.Needs.{needs}
 use native.Mathlib.Omega.{arith}
-use mathlib.Core.Path.{_≡_, _∙_}
-use Prim.Native.Nat.{ℕ, _+_, _*_, _-_, _<_}
+use Rattle.sheet.specs.Block.{totalOf}
+use Rattle.sheet.specs.Slot.{slotAt}
+use Rattle.tree.specs.Steps.{Visited}
+use Rattle.tree.proofs.JudgingSteps.{tree-falls, run-falls, fields-falls}
+use Rattle.tree.proofs.VisitLaws.{run-below, children-claimed, tree-end, tree-within, run-end-empty}
+use Rattle.schema.specs.Steps.{rowNumbers}
+use Rattle.schema.proofs.RowsSteps.{Behind, behind-start, behind-end, behind-next, run-rows-empty, tree-rows, parent-is, row-is, long-enough, row-fits}
 use borrow.Fn.Kinds.{In}
 use borrow.Fn.PlainCycle.{Measures, is, falls, and}
+use Rattle.schema.proofs.rows.write_fields.Reads as write-fields
+use Rattle.schema.proofs.rows.write_fields.Kinds as write-fields-kinds
+use Rattle.schema.proofs.rows.+write_fields+write_run+write_tree.Lts-write_fields as write-fields-lts
 use Rattle.schema.proofs.rows.write_run.Reads as write-run
 use Rattle.schema.proofs.rows.write_run.Kinds as write-run-kinds
-use Rattle.schema.proofs.rows.+write_run+write_tree.Lts-write_run as write-run-lts
+use Rattle.schema.proofs.rows.+write_fields+write_run+write_tree.Lts-write_run as write-run-lts
 use Rattle.schema.proofs.rows.write_tree.Reads as write-tree
 use Rattle.schema.proofs.rows.write_tree.Kinds as write-tree-kinds
-use Rattle.schema.proofs.rows.+write_run+write_tree.Lts-write_tree as write-tree-lts
+use Rattle.schema.proofs.rows.+write_fields+write_run+write_tree.Lts-write_tree as write-tree-lts
 use Rattle.annotation.proofs.resolved_kind.Reads as resolved-kind-reads
-use Rattle.annotation.proofs.type_length.Reads as length-reads
-use Rattle.tree.proofs.annotated.Reads as annotated-reads
+use Rattle.annotation.proofs.type_length.Reads as type-length-reads
 use Rattle.schema.proofs.roles.after_first.Reads as after-first-reads
 use Rattle.schema.proofs.roles.is_map_parent.Reads as is-map-parent-reads
 use Rattle.schema.proofs.roles.parent_by.Reads as parent-by-reads
 use Rattle.schema.proofs.roles.role.Reads as role-reads
 use Rattle.schema.proofs.rows.write_row.Reads as write-row-reads
 use Rattle.sheet.proofs.slot_at.Reads as slot-at-reads
-use Rattle.schema.proofs.rows.+write_run+write_tree.{statement}
-use Rattle.schema.proofs.rows.+write_run+write_tree.Tie.{close}
+use Rattle.tree.proofs.annotated.Reads as annotated-reads
+use Rattle.schema.proofs.rows.+write_fields+write_run+write_tree.{statement}
+use Rattle.schema.proofs.rows.+write_fields+write_run+write_tree.Tie.{close}
+
+abbrev μ-write-fields : Measures 2 write-fields-kinds.ps ℕ
+μ-write-fields κs a = 3 * (totalOf (a .0 .now) - a .1 .1 .0) + 2
 
 abbrev μ-write-run : Measures 2 write-run-kinds.ps ℕ
-μ-write-run κs a = 2 * (totalOf (a .0 .now) - a .1 .1 .0) + 1
+μ-write-run κs a = 3 * (totalOf (a .0 .now) - a .1 .1 .0) + 1
 
 abbrev μ-write-tree : Measures 2 write-tree-kinds.ps ℕ
-μ-write-tree κs a = 2 * (totalOf (a .0 .now) - a .1 .1 .0)
+μ-write-tree κs a = 3 * (totalOf (a .0 .now) - a .1 .1 .0)
+
+abbrev write-fields-at : ℕ → In 2 write-fields-kinds.ps
+write-fields-at t =
+    and 2 write-fields-kinds.ps (is 2 write-fields-kinds.ps μ-write-fields t) write-fields.Pre
+
+abbrev write-fields-below : ℕ → In 2 write-fields-kinds.ps
+write-fields-below t =
+    and
+    2
+    write-fields-kinds.ps
+    (falls 2 write-fields-kinds.ps _<_ μ-write-fields t)
+    write-fields.Pre
 
 abbrev write-run-at : ℕ → In 2 write-run-kinds.ps
 write-run-at t = and 2 write-run-kinds.ps (is 2 write-run-kinds.ps μ-write-run t) write-run.Pre
@@ -51,6 +69,34 @@ write-tree-at t =
 abbrev write-tree-below : ℕ → In 2 write-tree-kinds.ps
 write-tree-below t =
     and 2 write-tree-kinds.ps (falls 2 write-tree-kinds.ps _<_ μ-write-tree t) write-tree.Pre
+
+write-fields-returns :
+    (t : ℕ) →
+    write-fields-lts.Need-returns
+    (write-run-below t, write-run.Post)
+    (write-fields-at t)
+    write-fields.Post
+write-fields-returns t c = (run-end-empty _ _ _ (c .if1 .taken), run-rows-empty _ _ _ _ _ _ _ (c .if1 .taken))
+
+write-fields-write-run-requires : (t : ℕ) → write-fields-lts.Need-write-run-requires (
+  write-run-below t,
+  write-run.Post,
+) (write-fields-at t) write-fields.Post
+write-fields-write-run-requires t c κs =
+    let start = c .before .before .before .before in
+    (run-falls _ _ _ (start .pre .0), start .pre .1)
+
+write-fields-same-length : (t : ℕ) → write-fields-lts.Need-same-length (
+  write-run-below t,
+  write-run.Post,
+) (write-fields-at t) write-fields.Post
+write-fields-same-length t c = c .before .before .write-run .kept .1 .0
+
+write-fields-returns-2 : (t : ℕ) → write-fields-lts.Need-returns-2 (
+  write-run-below t,
+  write-run.Post,
+) (write-fields-at t) write-fields.Post
+write-fields-returns-2 t c = c .before .before .write-run .ensures
 
 abbrev write-run-Inv-loop : write-run-lts.InvT-loop
 write-run-Inv-loop sheet rows₀ start count up at₀ left₀ above₀ rows at left above = Behind sheet rows₀ start count up above₀ (slotAt sheet up) rows at left above
@@ -77,7 +123,7 @@ write-run-write-tree-requires t c κs =
     let loop = c .before .before .loop in
     let some : loop .left ≡ 0 → ⊥ = λ e. omega (arith, c .before .loop-test .taken) in
     let below = run-below (start .args .sheet .now) (loop .at) (loop .left) (start .pre .1 .0) some (loop .inv .claimed) in
-    (later-falls _ _ _ _ (loop .inv .reached) (start .pre .0), (start .pre .1 .0, (below, (start .pre .1 .1 .1 .0, long-enough _ _ _ (start .pre .1 .1 .1 .1) (loop .inv .long)))))
+    (tree-falls _ _ _ _ (loop .inv .reached) (start .pre .0), (start .pre .1 .0, (below, (start .pre .1 .1 .1 .0, long-enough _ _ _ (start .pre .1 .1 .1 .1) (loop .inv .long)))))
 
 write-run-after-first-requires : (t : ℕ) → write-run-lts.Need-after-first-requires (
   write-tree-below t,
@@ -145,10 +191,10 @@ write-tree-slot-at-requires : (t : ℕ) → write-tree-lts.Need-slot-at-requires
   role-reads.Learnt,
   parent-by-reads.Asked,
   parent-by-reads.Learnt,
-  write-run-below t,
-  write-run.Post,
-  length-reads.Asked,
-  length-reads.Learnt,
+  write-fields-below t,
+  write-fields.Post,
+  type-length-reads.Asked,
+  type-length-reads.Learnt,
   write-row-reads.Asked,
   write-row-reads.Learnt,
 ) (write-tree-at t) write-tree.Post
@@ -167,10 +213,10 @@ write-tree-annotated-requires : (t : ℕ) → write-tree-lts.Need-annotated-requ
   role-reads.Learnt,
   parent-by-reads.Asked,
   parent-by-reads.Learnt,
-  write-run-below t,
-  write-run.Post,
-  length-reads.Asked,
-  length-reads.Learnt,
+  write-fields-below t,
+  write-fields.Post,
+  type-length-reads.Asked,
+  type-length-reads.Learnt,
   write-row-reads.Asked,
   write-row-reads.Learnt,
 ) (write-tree-at t) write-tree.Post
@@ -189,10 +235,10 @@ write-tree-is-map-parent-requires : (t : ℕ) → write-tree-lts.Need-is-map-par
   role-reads.Learnt,
   parent-by-reads.Asked,
   parent-by-reads.Learnt,
-  write-run-below t,
-  write-run.Post,
-  length-reads.Asked,
-  length-reads.Learnt,
+  write-fields-below t,
+  write-fields.Post,
+  type-length-reads.Asked,
+  type-length-reads.Learnt,
   write-row-reads.Asked,
   write-row-reads.Learnt,
 ) (write-tree-at t) write-tree.Post
@@ -211,10 +257,10 @@ write-tree-resolved-kind-requires : (t : ℕ) → write-tree-lts.Need-resolved-k
   role-reads.Learnt,
   parent-by-reads.Asked,
   parent-by-reads.Learnt,
-  write-run-below t,
-  write-run.Post,
-  length-reads.Asked,
-  length-reads.Learnt,
+  write-fields-below t,
+  write-fields.Post,
+  type-length-reads.Asked,
+  type-length-reads.Learnt,
   write-row-reads.Asked,
   write-row-reads.Learnt,
 ) (write-tree-at t) write-tree.Post
@@ -233,16 +279,16 @@ write-tree-role-requires : (t : ℕ) → write-tree-lts.Need-role-requires (
   role-reads.Learnt,
   parent-by-reads.Asked,
   parent-by-reads.Learnt,
-  write-run-below t,
-  write-run.Post,
-  length-reads.Asked,
-  length-reads.Learnt,
+  write-fields-below t,
+  write-fields.Post,
+  type-length-reads.Asked,
+  type-length-reads.Learnt,
   write-row-reads.Asked,
   write-row-reads.Learnt,
 ) (write-tree-at t) write-tree.Post
 write-tree-role-requires t c κs = record { claimed = c .before .before .before .before .before .before .pre .1 .0; below = c .before .before .before .before .before .before .pre .1 .1 .0; numbers = c .before .before .before .slot-at .ensures }
 
-write-tree-add-write-run : (t : ℕ) → write-tree-lts.Need-add-write-run (
+write-tree-add-write-fields : (t : ℕ) → write-tree-lts.Need-add-write-fields (
   slot-at-reads.Asked,
   slot-at-reads.Learnt,
   annotated-reads.Asked,
@@ -255,16 +301,16 @@ write-tree-add-write-run : (t : ℕ) → write-tree-lts.Need-add-write-run (
   role-reads.Learnt,
   parent-by-reads.Asked,
   parent-by-reads.Learnt,
-  write-run-below t,
-  write-run.Post,
-  length-reads.Asked,
-  length-reads.Learnt,
+  write-fields-below t,
+  write-fields.Post,
+  type-length-reads.Asked,
+  type-length-reads.Learnt,
   write-row-reads.Asked,
   write-row-reads.Learnt,
 ) (write-tree-at t) write-tree.Post
-write-tree-add-write-run t c = omega (arith, c .before .before .before .before .before .before .before .before .pre .1 .1 .0, c .before .before .before .before .before .before .before .before .pre .1 .0 .most)
+write-tree-add-write-fields t c = omega (arith, c .before .before .before .before .before .before .before .before .pre .1 .1 .0, c .before .before .before .before .before .before .before .before .pre .1 .0 .most)
 
-write-tree-cast-write-run : (t : ℕ) → write-tree-lts.Need-cast-write-run (
+write-tree-cast-write-fields : (t : ℕ) → write-tree-lts.Need-cast-write-fields (
   slot-at-reads.Asked,
   slot-at-reads.Learnt,
   annotated-reads.Asked,
@@ -277,14 +323,14 @@ write-tree-cast-write-run : (t : ℕ) → write-tree-lts.Need-cast-write-run (
   role-reads.Learnt,
   parent-by-reads.Asked,
   parent-by-reads.Learnt,
-  write-run-below t,
-  write-run.Post,
-  length-reads.Asked,
-  length-reads.Learnt,
+  write-fields-below t,
+  write-fields.Post,
+  type-length-reads.Asked,
+  type-length-reads.Learnt,
   write-row-reads.Asked,
   write-row-reads.Learnt,
 ) (write-tree-at t) write-tree.Post
-write-tree-cast-write-run t c = search needs
+write-tree-cast-write-fields t c = search needs
 
 write-tree-parent-by-requires : (t : ℕ) → write-tree-lts.Need-parent-by-requires (
   slot-at-reads.Asked,
@@ -299,16 +345,16 @@ write-tree-parent-by-requires : (t : ℕ) → write-tree-lts.Need-parent-by-requ
   role-reads.Learnt,
   parent-by-reads.Asked,
   parent-by-reads.Learnt,
-  write-run-below t,
-  write-run.Post,
-  length-reads.Asked,
-  length-reads.Learnt,
+  write-fields-below t,
+  write-fields.Post,
+  type-length-reads.Asked,
+  type-length-reads.Learnt,
   write-row-reads.Asked,
   write-row-reads.Learnt,
 ) (write-tree-at t) write-tree.Post
 write-tree-parent-by-requires t c κs = search needs
 
-write-tree-write-run-requires : (t : ℕ) → write-tree-lts.Need-write-run-requires (
+write-tree-write-fields-requires : (t : ℕ) → write-tree-lts.Need-write-fields-requires (
   slot-at-reads.Asked,
   slot-at-reads.Learnt,
   annotated-reads.Asked,
@@ -321,17 +367,17 @@ write-tree-write-run-requires : (t : ℕ) → write-tree-lts.Need-write-run-requ
   role-reads.Learnt,
   parent-by-reads.Asked,
   parent-by-reads.Learnt,
-  write-run-below t,
-  write-run.Post,
-  length-reads.Asked,
-  length-reads.Learnt,
+  write-fields-below t,
+  write-fields.Post,
+  type-length-reads.Asked,
+  type-length-reads.Learnt,
   write-row-reads.Asked,
   write-row-reads.Learnt,
 ) (write-tree-at t) write-tree.Post
-write-tree-write-run-requires t c κs =
+write-tree-write-fields-requires t c κs =
     let start = c .before .before .before .before .before .before .before .before .before .before in
     let visited : Visited (start .args .sheet .now) (start .args .at) (c .before .before .before .before .before .before .before .slot-at .result) = record { claimed = start .pre .1 .0; below = start .pre .1 .1 .0; numbers = c .before .before .before .before .before .before .before .slot-at .ensures } in
-    (run-falls _ _ _ (start .pre .1 .1 .0) (start .pre .0), (start .pre .1 .0, (children-claimed _ _ _ (visited .numbers) (visited .claimed) (visited .below), (start .pre .1 .1 .0, start .pre .1 .1 .1 .1))))
+    (fields-falls _ _ _ (start .pre .1 .1 .0) (start .pre .0), (start .pre .1 .0, (children-claimed _ _ _ (visited .numbers) (visited .claimed) (visited .below), (start .pre .1 .1 .0, start .pre .1 .1 .1 .1))))
 
 write-tree-mul-write-row : (t : ℕ) → write-tree-lts.Need-mul-write-row (
   slot-at-reads.Asked,
@@ -346,10 +392,10 @@ write-tree-mul-write-row : (t : ℕ) → write-tree-lts.Need-mul-write-row (
   role-reads.Learnt,
   parent-by-reads.Asked,
   parent-by-reads.Learnt,
-  write-run-below t,
-  write-run.Post,
-  length-reads.Asked,
-  length-reads.Learnt,
+  write-fields-below t,
+  write-fields.Post,
+  type-length-reads.Asked,
+  type-length-reads.Learnt,
   write-row-reads.Asked,
   write-row-reads.Learnt,
 ) (write-tree-at t) write-tree.Post
@@ -368,16 +414,16 @@ write-tree-cast-t20 : (t : ℕ) → write-tree-lts.Need-cast-t20 (
   role-reads.Learnt,
   parent-by-reads.Asked,
   parent-by-reads.Learnt,
-  write-run-below t,
-  write-run.Post,
-  length-reads.Asked,
-  length-reads.Learnt,
+  write-fields-below t,
+  write-fields.Post,
+  type-length-reads.Asked,
+  type-length-reads.Learnt,
   write-row-reads.Asked,
   write-row-reads.Learnt,
 ) (write-tree-at t) write-tree.Post
 write-tree-cast-t20 t c = search needs
 
-write-tree-length-requires : (t : ℕ) → write-tree-lts.Need-type-length-requires (
+write-tree-type-length-requires : (t : ℕ) → write-tree-lts.Need-type-length-requires (
   slot-at-reads.Asked,
   slot-at-reads.Learnt,
   annotated-reads.Asked,
@@ -390,14 +436,14 @@ write-tree-length-requires : (t : ℕ) → write-tree-lts.Need-type-length-requi
   role-reads.Learnt,
   parent-by-reads.Asked,
   parent-by-reads.Learnt,
-  write-run-below t,
-  write-run.Post,
-  length-reads.Asked,
-  length-reads.Learnt,
+  write-fields-below t,
+  write-fields.Post,
+  type-length-reads.Asked,
+  type-length-reads.Learnt,
   write-row-reads.Asked,
   write-row-reads.Learnt,
 ) (write-tree-at t) write-tree.Post
-write-tree-length-requires t c κs = search needs
+write-tree-type-length-requires t c κs = search needs
 
 write-tree-cast-t22 : (t : ℕ) → write-tree-lts.Need-cast-t22 (
   slot-at-reads.Asked,
@@ -412,10 +458,10 @@ write-tree-cast-t22 : (t : ℕ) → write-tree-lts.Need-cast-t22 (
   role-reads.Learnt,
   parent-by-reads.Asked,
   parent-by-reads.Learnt,
-  write-run-below t,
-  write-run.Post,
-  length-reads.Asked,
-  length-reads.Learnt,
+  write-fields-below t,
+  write-fields.Post,
+  type-length-reads.Asked,
+  type-length-reads.Learnt,
   write-row-reads.Asked,
   write-row-reads.Learnt,
 ) (write-tree-at t) write-tree.Post
@@ -434,10 +480,10 @@ write-tree-cast-t23 : (t : ℕ) → write-tree-lts.Need-cast-t23 (
   role-reads.Learnt,
   parent-by-reads.Asked,
   parent-by-reads.Learnt,
-  write-run-below t,
-  write-run.Post,
-  length-reads.Asked,
-  length-reads.Learnt,
+  write-fields-below t,
+  write-fields.Post,
+  type-length-reads.Asked,
+  type-length-reads.Learnt,
   write-row-reads.Asked,
   write-row-reads.Learnt,
 ) (write-tree-at t) write-tree.Post
@@ -456,17 +502,17 @@ write-tree-cast-t24 : (t : ℕ) → write-tree-lts.Need-cast-t24 (
   role-reads.Learnt,
   parent-by-reads.Asked,
   parent-by-reads.Learnt,
-  write-run-below t,
-  write-run.Post,
-  length-reads.Asked,
-  length-reads.Learnt,
+  write-fields-below t,
+  write-fields.Post,
+  type-length-reads.Asked,
+  type-length-reads.Learnt,
   write-row-reads.Asked,
   write-row-reads.Learnt,
 ) (write-tree-at t) write-tree.Post
 write-tree-cast-t24 t c =
     let start = c .before .before .before .before .before .before .before .before .before .before .before .before .before .before .before .before .before in
     let visited : Visited (start .args .sheet .now) (start .args .at) (c .before .before .before .before .before .before .before .before .before .before .before .before .before .before .slot-at .result) = record { claimed = start .pre .1 .0; below = start .pre .1 .1 .0; numbers = c .before .before .before .before .before .before .before .before .before .before .before .before .before .before .slot-at .ensures } in
-    let end = tree-end (start .args .sheet .now) (start .args .at) _ visited _ (c .before .before .before .before .before .before .write-run .ensures .0) in
+    let end = tree-end (start .args .sheet .now) (start .args .at) _ visited _ (c .before .before .before .before .before .before .write-fields .ensures .0) in
     omega (arith, tree-within (start .args .sheet .now) (start .args .at) (start .pre .1 .0) (start .pre .1 .1 .0), start .pre .1 .0 .most, end)
 
 write-tree-write-row-requires : (t : ℕ) → write-tree-lts.Need-write-row-requires (
@@ -482,14 +528,14 @@ write-tree-write-row-requires : (t : ℕ) → write-tree-lts.Need-write-row-requ
   role-reads.Learnt,
   parent-by-reads.Asked,
   parent-by-reads.Learnt,
-  write-run-below t,
-  write-run.Post,
-  length-reads.Asked,
-  length-reads.Learnt,
+  write-fields-below t,
+  write-fields.Post,
+  type-length-reads.Asked,
+  type-length-reads.Learnt,
   write-row-reads.Asked,
   write-row-reads.Learnt,
 ) (write-tree-at t) write-tree.Post
-write-tree-write-row-requires t c κs = row-fits _ _ _ _ (c .before .before .before .before .before .before .before .before .before .before .before .before .before .before .before .before .before .pre .1 .1 .0) (c .before .before .before .before .before .before .before .before .before .before .before .before .before .before .before .before .before .pre .1 .1 .1 .1) (c .before .before .before .before .before .before .write-run .kept .1 .0)
+write-tree-write-row-requires t c κs = row-fits _ _ _ _ (c .before .before .before .before .before .before .before .before .before .before .before .before .before .before .before .before .before .pre .1 .1 .0) (c .before .before .before .before .before .before .before .before .before .before .before .before .before .before .before .before .before .pre .1 .1 .1 .1) (c .before .before .before .before .before .before .write-fields .kept .1 .0)
 
 write-tree-same-length : (t : ℕ) → write-tree-lts.Need-same-length (
   slot-at-reads.Asked,
@@ -504,14 +550,14 @@ write-tree-same-length : (t : ℕ) → write-tree-lts.Need-same-length (
   role-reads.Learnt,
   parent-by-reads.Asked,
   parent-by-reads.Learnt,
-  write-run-below t,
-  write-run.Post,
-  length-reads.Asked,
-  length-reads.Learnt,
+  write-fields-below t,
+  write-fields.Post,
+  type-length-reads.Asked,
+  type-length-reads.Learnt,
   write-row-reads.Asked,
   write-row-reads.Learnt,
 ) (write-tree-at t) write-tree.Post
-write-tree-same-length t c = c .before .before .write-row .kept .0 ∙ c .before .before .before .before .before .before .before .before .before .write-run .kept .1 .0
+write-tree-same-length t c = c .before .before .write-row .kept .0 ∙ c .before .before .before .before .before .before .before .before .before .write-fields .kept .1 .0
 
 write-tree-returns : (t : ℕ) → write-tree-lts.Need-returns (
   slot-at-reads.Asked,
@@ -526,10 +572,10 @@ write-tree-returns : (t : ℕ) → write-tree-lts.Need-returns (
   role-reads.Learnt,
   parent-by-reads.Asked,
   parent-by-reads.Learnt,
-  write-run-below t,
-  write-run.Post,
-  length-reads.Asked,
-  length-reads.Learnt,
+  write-fields-below t,
+  write-fields.Post,
+  type-length-reads.Asked,
+  type-length-reads.Learnt,
   write-row-reads.Asked,
   write-row-reads.Learnt,
 ) (write-tree-at t) write-tree.Post
@@ -537,20 +583,31 @@ unfolding rowNumbers
 write-tree-returns t c =
     let start = c .before .before .before .before .before .before .before .before .before .before .before .before .before .before .before .before .before .before .before .before in
     let visited : Visited (start .args .sheet .now) (start .args .at) (c .before .before .before .before .before .before .before .before .before .before .before .before .before .before .before .before .before .slot-at .result) = record { claimed = start .pre .1 .0; below = start .pre .1 .1 .0; numbers = c .before .before .before .before .before .before .before .before .before .before .before .before .before .before .before .before .before .slot-at .ensures } in
-    let run = c .before .before .before .before .before .before .before .before .before .write-run in
+    let run = c .before .before .before .before .before .before .before .before .before .write-fields in
     let end = tree-end (start .args .sheet .now) (start .args .at) _ visited _ (run .ensures .0) in
     let own = c .before .before .before .before .before .before .before .before .before .before .before .before .before .role .ensures in
     let above = parent-is (start .args .sheet .now) (start .args .rows .now) (start .args .at) (start .args .up) _ (start .args .parent) (slotAt (start .args .sheet .now) (start .args .up)) visited _ _ _ _ _ (c .before .before .before .before .before .before .before .before .before .before .before .before .before .before .before .before .annotated .ensures) (c .before .before .before .before .before .before .before .before .before .before .before .before .before .before .before .is-map-parent .ensures) (c .before .before .before .before .before .before .before .before .before .before .before .before .before .before .resolved-kind .ensures) own (c .before .before .before .before .before .before .before .before .before .before .parent-by .ensures) in
     let numbers = row-is (start .args .sheet .now) (start .args .rows .now) (start .args .at) (start .args .up) _ (start .args .parent) (slotAt (start .args .sheet .now) (start .args .up)) visited _ _ _ _ _ _ (c .before .before .before .before .before .before .before .before .before .before .before .before .before .before .before .before .annotated .ensures) (c .before .before .before .before .before .before .before .before .before .before .before .before .before .before .before .is-map-parent .ensures) (c .before .before .before .before .before .before .before .before .before .before .before .before .before .before .resolved-kind .ensures) own end (c .before .before .before .before .type-length .ensures) in
     (end, tree-rows (start .args .sheet .now) (start .args .rows .now) (start .args .at) (start .args .up) _ (start .args .parent) (slotAt (start .args .sheet .now) (start .args .up)) visited (start .pre .1 .1 .1 .1) _ above _ (run .ensures .1) _ _ numbers (c .before .before .write-row .ensures))
 
-pub +write-run+write-tree-spec : {M : Type 1} → statement M
-+write-run+write-tree-spec = close μ-write-run μ-write-tree (λ t. write-run-lts.spec (
-  write-tree-below t,
-  write-tree.Post,
-  after-first-reads.Asked,
-  after-first-reads.Learnt,
-)
+pub +write-fields+write-run+write-tree-spec : {M : Type 1} → statement M
++write-fields+write-run+write-tree-spec =
+    close μ-write-fields μ-write-run μ-write-tree (λ t. write-fields-lts.spec (
+      write-run-below t,
+      write-run.Post,
+    )
+    (write-fields-at t)
+    write-fields.Post
+    (write-fields-returns t)
+    (write-fields-write-run-requires t)
+    (write-fields-same-length t)
+    (write-fields-returns-2 t))
+    (λ t. write-run-lts.spec (
+      write-tree-below t,
+      write-tree.Post,
+      after-first-reads.Asked,
+      after-first-reads.Learnt,
+    )
     (write-run-at t)
     write-run.Post
     write-run-Inv-loop
@@ -576,10 +633,10 @@ pub +write-run+write-tree-spec : {M : Type 1} → statement M
       role-reads.Learnt,
       parent-by-reads.Asked,
       parent-by-reads.Learnt,
-      write-run-below t,
-      write-run.Post,
-      length-reads.Asked,
-      length-reads.Learnt,
+      write-fields-below t,
+      write-fields.Post,
+      type-length-reads.Asked,
+      type-length-reads.Learnt,
       write-row-reads.Asked,
       write-row-reads.Learnt,
     )
@@ -590,13 +647,13 @@ pub +write-run+write-tree-spec : {M : Type 1} → statement M
     (write-tree-is-map-parent-requires t)
     (write-tree-resolved-kind-requires t)
     (write-tree-role-requires t)
-    (write-tree-add-write-run t)
-    (write-tree-cast-write-run t)
+    (write-tree-add-write-fields t)
+    (write-tree-cast-write-fields t)
     (write-tree-parent-by-requires t)
-    (write-tree-write-run-requires t)
+    (write-tree-write-fields-requires t)
     (write-tree-mul-write-row t)
     (write-tree-cast-t20 t)
-    (write-tree-length-requires t)
+    (write-tree-type-length-requires t)
     (write-tree-cast-t22 t)
     (write-tree-cast-t23 t)
     (write-tree-cast-t24 t)

@@ -1,0 +1,31 @@
+-- `schema::rewriting::write_node` meets its contract.
+use borrow.Author.Needs.{needs}
+use mathlib.Core.Path.{ap, _∙_}
+use lib.Dec.{eqb}
+use Rattle.parquet.specs.Logical as logical
+use Rattle.sheet.specs.Slot.{withAnnotation}
+use Rattle.annotation.specs.Rewriting.{writtenOf}
+use Rattle.annotation.specs.declared.slot.Annotated.{Annotated}
+use Rattle.annotation.specs.declared.rewriting.Written.{Written}
+use Rattle.tree.specs.Annotated.{annotatedBy, annotated}
+use Rattle.schema.specs.Steps.{isWrittenMap}
+use Rattle.schema.proofs.rewriting.write_node.Statement.{statement}
+use Rattle.schema.proofs.rewriting.write_node.Tie as tie
+
+returns : tie.Need-returns
+unfolding isWrittenMap annotated
+returns c =
+    let start = c .before .before .before .before .before .before .before .before .before .before in
+    let w = c .before .before .before .before .before .written-of .ensures ∙ ap (λ (n : Annotated). writtenOf n (start .args .under-map)) (c .before .before .before .before .before .before .annotated .ensures ∙ ap annotatedBy (c .before .before .before .before .before .before .before .slot-at .ensures)) in
+    (ap (λ (v : Written). eqb (v .logical) logical.MAP) w, c .before .before .before .write-annotation .ensures ∙ ap (λ (v : Written). withAnnotation (start .args .out .now) (start .args .node) (v .converted) (v .logical) (v .a) (v .b)) w)
+
+pub write-node-spec : {M : Type 1} → statement M
+write-node-spec =
+    tie.close
+    (tie.spec
+    (λ c κs. search needs)
+    (λ c κs. search needs)
+    (λ c κs. search needs)
+    (λ c κs. search needs)
+    (λ c. search needs)
+    returns)
