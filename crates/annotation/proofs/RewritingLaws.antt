@@ -178,27 +178,18 @@ pub with-outcome : (n : Annotated) (underMap : Bool) (r : Rewriting) → r ≡ r
 unfolding outcome
 with-outcome n underMap r e = (e, ap outcomeOf e)
 
--- a node without annotation is no MAP
-plain-map : (group : Bool) → false ≡ eqb (cond group (bareKind PLAIN-GROUP) (bareKind PLAIN-LEAF) .kind) logical.MAP
-plain-map true = refl
-plain-map false = refl
+-- what is written of the numbers of a slot says whether their kind is a code, but for the codes of nodes without logical type
+module _ (code : ℕ) (none : eqb logical.NONE code ≡ false) (group : eqb PLAIN-GROUP code ≡ false) (interval : eqb converted.INTERVAL code ≡ false) where
+  plain-code : (t : Bool) → eqb logical.NONE code ≡ eqb (cond t (bareKind PLAIN-GROUP) (bareKind PLAIN-LEAF) .kind) code
+  plain-code true = none ∙ sym group
+  plain-code false = refl
 
--- what an annotation is written as says whether its kind is MAP
-written-map : (says : Annotation) (n : Annotated) → eqb (writtenAs says .logical) logical.MAP ≡ eqb (kindAs says n .kind) logical.MAP
-written-map Annotation.Plain n = plain-map (eqb (n .physical) physical.GROUP)
-written-map (Annotation.Logical l) n = ap (λ (code : ℕ). eqb code logical.MAP) (sym (kind-logical l n))
-written-map Annotation.Interval n = refl
-written-map Annotation.Unreadable n = plain-map (eqb (n .physical) physical.GROUP)
+  written-code : (says : Annotation) (n : Annotated) → eqb (writtenAs says .logical) code ≡ eqb (kindAs says n .kind) code
+  written-code Annotation.Plain n = plain-code (eqb (n .physical) physical.GROUP)
+  written-code (Annotation.Logical l) n = ap (λ (c : ℕ). eqb c code) (sym (kind-logical l n))
+  written-code Annotation.Interval n = none ∙ sym interval
+  written-code Annotation.Unreadable n = plain-code (eqb (n .physical) physical.GROUP)
 
--- what is answered is what is written
-written-of : (r : Resolution) (v w : Written) → rewritingAs r v ≡ Rewriting.Written w → v ≡ w
-written-of (Resolution.Resolved k) v w e = (cc)
-written-of Resolution.Disagreement v w e = (cc)
-written-of Resolution.Misplaced v w e = (cc)
-written-of Resolution.BadDecimal v w e = (cc)
-
--- and so does what rewriting answers for the numbers of a slot
-pub written-kind : (n : Annotated) (underMap : Bool) (w : Written) → rewritingOf n underMap ≡ Rewriting.Written w → eqb (w .logical) logical.MAP ≡ eqb (kindOf n underMap .kind) logical.MAP
-unfolding rewritingOf writtenOf kindOf
-written-kind n underMap w e =
-    ap (λ (v : Written). eqb (v .logical) logical.MAP) (sym (written-of (resolutionOf n underMap) _ w e)) ∙ written-map (annotationOf n underMap) n
+  pub written-kind : (n : Annotated) (underMap : Bool) → eqb (writtenOf n underMap .logical) code ≡ eqb (kindOf n underMap .kind) code
+  unfolding writtenOf kindOf
+  written-kind n underMap = written-code (annotationOf n underMap) n

@@ -9,8 +9,10 @@ mod resolution; // the rules in order, and the kind
 mod rewriting; // what the rewritten sheet says of a node
 mod slot; // the numbers of a slot that say its type, and what its annotations mean
 
+pub use resolution::Judged;
 pub use resolution::Kind;
 pub use resolution::Resolution;
+pub use resolution::judge;
 pub use resolution::refusal;
 pub use resolution::resolve;
 pub use resolution::resolved_kind;

@@ -2,11 +2,13 @@
 ghost use mathlib.Core.Path.{_≡_};
 ghost use Rattle.annotation.specs.Kinds.{kindOf, kindAs, bareKind, plainKind, decimalKind, logicalKind};
 ghost use Rattle.annotation.specs.Outcome.{resolutionOf, refusalOf, outcomeOf, outcome};
+ghost use Rattle.annotation.specs.Rewriting.{writtenOf};
 ghost use Rattle.annotation.specs.Steps.{StatedIn, resolutionAs};
 use crate::agreement::rule9;
 use crate::decimals::digits_allowed;
 use crate::decimals::is_decimal;
 use crate::placement::annotation_on;
+use crate::rewriting::written_as;
 use crate::slot::Annotated;
 use crate::slot::annotation_of;
 use crate::slot::precision;
@@ -34,6 +36,13 @@ pub enum Resolution {
     Misplaced,
     // Refusal 11: DECIMAL scale or precision.
     BadDecimal,
+}
+
+// What judging the numbers of a slot finds: the number of the refusal, 9, 10 or 11, or 0 where they resolve; and the logical type that
+// they say, whatever else is wrong with them.
+pub struct Judged {
+    pub refusal: u32,
+    pub logical: u8,
 }
 
 // Document 01's numbers of the refusals.
@@ -81,6 +90,20 @@ pub fn resolved_kind(n: Annotated, under_map: bool) -> Kind
     ensures { λ r. ⌜ r ≡ kindOf n «under_map» ⌝ }
 {
     kind_as(annotation_of(n, under_map), n)
+}
+
+// Judges the numbers of a slot.
+pub fn judge(n: Annotated, under_map: bool) -> Judged
+    ensures { λ r. ⌜ r .refusal ≡ refusalOf (resolutionOf n «under_map») ⌝ }
+    ensures { λ r. ⌜ r .logical ≡ writtenOf n «under_map» .logical ⌝ }
+{
+    let says = annotation_of(n, under_map);
+    let number = refusal(resolve_as(says, n));
+    let written = written_as(says);
+    Judged {
+        refusal: number,
+        logical: written.logical,
+    }
 }
 
 // The number of a refusal: 9, 10 or 11, and 0 for numbers that resolve.

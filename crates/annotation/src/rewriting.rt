@@ -52,7 +52,7 @@ pub fn written_of(n: Annotated, under_map: bool) -> Written
 }
 
 // What is written for an annotation.
-fn written_as(annotation: Annotation) -> Written
+pub(crate) fn written_as(annotation: Annotation) -> Written
     ensures { λ r. ⌜ r ≡ writtenAs annotation ⌝ }
 {
     match annotation {

@@ -11,12 +11,13 @@ use lib.ListN.{length, length-append, drop, drop-of-length-le}
 use Rattle.sheet.specs.Block.{totalOf}
 use Rattle.sheet.specs.Slot.{repetition, slots, slotAt}
 use Rattle.sheet.proofs.SlotLaws.{slots-length, slots-drop}
+use Rattle.parquet.specs.Logical as logical
 use Rattle.annotation.specs.Rewriting.{writtenOf}
 use Rattle.annotation.specs.declared.rewriting.Rewriting.{Rewriting}
 use Rattle.annotation.proofs.RewritingLaws.{written-kind}
 use Rattle.tree.specs.Annotated.{annotated, kind}
 use Rattle.tree.specs.Tree.{SlotBytes, Tree, Fields, node, empty, field, listing, listings, size}
-use Rattle.tree.specs.Rules.{underMap, placeBelow, isMap, isRequiredOrOptional, mapRun, mapKept, rule13, KeepsAt, Keeps, KeepsAll}
+use Rattle.tree.specs.Rules.{underMap, placeBelow, isMap, isRequiredOrOptional, mapRun, mapKept, rule13, Keeps, KeepsAll}
 use Rattle.tree.specs.Reading.{treeOf}
 use Rattle.tree.specs.Steps.{sizes, judgementOf}
 use Rattle.tree.specs.declared.place.Place.{Place}
@@ -25,7 +26,7 @@ use Rattle.tree.specs.declared.judgement.Judgement.{Judgement}
 use Rattle.tree.proofs.StandingLaws.{sizes-field, size-node}
 use Rattle.tree.proofs.NodeLaws.{under-below}
 use Rattle.tree.proofs.JudgementLaws.{judged-keeps, judged-listing}
-use Rattle.schema.specs.Rewriting.{rewriting, rewritings, runRewritings, withRewriting, withRewritings}
+use Rattle.schema.specs.Rewriting.{rewritings, runRewritings, withRewriting, withRewritings}
 use Rattle.schema.specs.Steps.{isWrittenMap, writtenInOrder}
 use Rattle.schema.proofs.RewrittenSlotLaws.{kept-written}
 
@@ -64,14 +65,10 @@ kept-alone p s fs false e r = tt
 kept-alone p s fs true e r =
     mapRun-alone fs (and-right (isRequiredOrOptional (repetition s)) (mapRun fs) (implied (isMap p s) (mapKept s fs) r e))
 
-module _ (p : Place) (s : SlotBytes) (fs : Fields) (k : KeepsAt p s fs) where
-  written : rewriting (underMap p) s ≡ Rewriting.Written (writtenOf (annotated s) (underMap p))
-  written = kept-written (underMap p) s (k .agreement) (k .placement) (k .decimals)
-
-  -- the place of a kept node's fields is told by what is written of it
-  map-below : isWrittenMap (underMap p) s ≡ underMap (placeBelow p s)
-  unfolding isWrittenMap rewriting kind isMap
-  map-below = written-kind (annotated s) (underMap p) _ written ∙ sym (under-below p s)
+-- the place of a node's fields is told by what is written of it
+map-below : (p : Place) (s : SlotBytes) → isWrittenMap (underMap p) s ≡ underMap (placeBelow p s)
+unfolding isWrittenMap kind isMap
+map-below p s = written-kind logical.MAP refl refl refl (annotated s) (underMap p) ∙ sym (under-below p s)
 
 -- a run's first tree, and what follows it
 order-first : (t : Tree) (fs : Fields) (p : Place) (rest : List SlotBytes) (b : Bool) → underMap p ≡ b → writtenInOrder (underMap p) (listing t ++ (listings fs ++ rest)) ≡ rewritings p t ++ writtenInOrder false (listings fs ++ rest) → writtenInOrder b ((listing t ++ listings fs) ++ rest) ≡ rewritings p t ++ writtenInOrder false (listings fs ++ rest)
@@ -86,10 +83,10 @@ mutual
   order-tree : (t : Tree) (p : Place) (rest : List SlotBytes) → Keeps p t → writtenInOrder (underMap p) (listing t ++ rest) ≡ rewritings p t ++ writtenInOrder false rest
   order-tree (node s fs) p rest k =
       let own = Rewriting.Written (writtenOf (annotated s) (underMap p)) in
-      let below = map-below p s fs (k .0) in
-      ap (λ (b : Bool). own ∷ writtenInOrder b (listings fs ++ rest)) below
+      let written = kept-written (underMap p) s (k .0 .agreement) (k .0 .placement) (k .0 .decimals) in
+      ap (λ (b : Bool). own ∷ writtenInOrder b (listings fs ++ rest)) (map-below p s)
       ∙ ap (λ (rs : List Rewriting). own ∷ rs) (order-run fs (placeBelow p s) rest (underMap (placeBelow p s)) refl (kept-alone p s fs (underMap (placeBelow p s)) (sym (under-below p s)) (k .0 .maps)) (k .1))
-      ∙ ap (λ (r : Rewriting). r ∷ (runRewritings (placeBelow p s) fs ++ writtenInOrder false rest)) (sym (written p s fs (k .0)))
+      ∙ ap (λ (r : Rewriting). r ∷ (runRewritings (placeBelow p s) fs ++ writtenInOrder false rest)) (sym written)
 
   order-run : (fs : Fields) (p : Place) (rest : List SlotBytes) (b : Bool) → underMap p ≡ b → Alone b fs → KeepsAll p fs → writtenInOrder b (listings fs ++ rest) ≡ runRewritings p fs ++ writtenInOrder false rest
   order-run empty p rest false e a k = refl

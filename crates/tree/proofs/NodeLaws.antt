@@ -13,7 +13,10 @@ use Rattle.annotation.specs.Kinds.{kindOf}
 use Rattle.annotation.specs.Rule9 as nine
 use Rattle.annotation.specs.Rule10 as ten
 use Rattle.annotation.specs.Rule11 as eleven
-use Rattle.annotation.specs.Outcome.{resolutionOf}
+use Rattle.annotation.specs.Outcome.{resolutionOf, refusalOf}
+use Rattle.annotation.specs.Rewriting.{writtenOf}
+use Rattle.annotation.proofs.OutcomeLaws.{kind-of-resolved}
+use Rattle.annotation.proofs.RewritingLaws.{written-kind}
 use Rattle.annotation.specs.declared.slot.Annotated.{Annotated}
 use Rattle.annotation.specs.declared.resolution.Kind.{Kind}
 use Rattle.annotation.specs.declared.resolution.Resolution.{Resolution}
@@ -38,6 +41,28 @@ broken-cases true true true k f = refl
 broken-cases true true false k f = refl
 broken-cases true false c k f = refl
 broken-cases false b c k f = refl
+
+brokenBy-refused : (r : Resolution) (f : Kind → ℕ) → (refusalOf r ≡ 0 → ⊥) → brokenBy r f ≡ refusalOf r
+unfolding brokenBy
+brokenBy-refused (Resolution.Resolved k) f n = absurd (n refl)
+brokenBy-refused Resolution.Disagreement f n = refl
+brokenBy-refused Resolution.Misplaced f n = refl
+brokenBy-refused Resolution.BadDecimal f n = refl
+
+brokenBy-resolved : (n : Annotated) (u : Bool) (f : Kind → ℕ) → refusalOf (resolutionOf n u) ≡ 0 → brokenBy (resolutionOf n u) f ≡ f (kindOf n u)
+unfolding brokenBy
+brokenBy-resolved n u f z = on (resolutionOf n u) refl z
+  where
+    on : (r : Resolution) → resolutionOf n u ≡ r → refusalOf r ≡ 0 → brokenBy r f ≡ f (kindOf n u)
+    on (Resolution.Resolved k) e q = ap f (sym (kind-of-resolved n u k e))
+    on Resolution.Disagreement e q = absurd (omega arith)
+    on Resolution.Misplaced e q = absurd (omega arith)
+    on Resolution.BadDecimal e q = absurd (omega arith)
+
+-- rule 12 at what is written of a node is rule 12 at its kind
+listBroken-kind : (n : Annotated) (u : Bool) (s : SlotBytes) (fs : Fields) → listBroken (writtenOf n u .logical) s fs ≡ listBroken (kindOf n u .kind) s fs
+unfolding listBroken
+listBroken-kind n u s fs = rw (written-kind logical.LIST refl refl refl n u)
 
 -- rules 9 to 12 by the resolution of a slot's annotations
 to12-by : (p : Place) (s : SlotBytes) (fs : Fields) → brokenTo12 p s fs ≡ cond (rule8 p s fs) (brokenBy (resolutionOf (annotated s) (underMap p)) (λ k. listBroken (k .kind) s fs)) 8
@@ -96,14 +121,28 @@ module _ (b : List ℕ) (at : ℕ) (s : Numbers) (p : Place) (v : Visited b at s
   pub to12-shape : shape p s (s .children) ≡ false → 8 ≡ brokenTo12 p (slotAt b at) (fieldsAt b at)
   to12-shape e = sym (to12-by p (slotAt b at) (fieldsAt b at) ∙ rw (shape-is ∙ e))
 
-  pub to12-resolved : (r : Resolution) → shape p s (s .children) ≡ true → r ≡ resolutionOf (annotatedBy s) (underMap p) → brokenTo12 p (slotAt b at) (fieldsAt b at) ≡ brokenBy r (λ k. listBroken (k .kind) (slotAt b at) (fieldsAt b at))
-  unfolding annotated
-  to12-resolved r e d = to12-by p (slotAt b at) (fieldsAt b at) ∙ rw (shape-is ∙ e, ← v .numbers, ← d)
+  -- by the refusal and the logical type that the numbers are judged by
+  module _ (e : shape p s (s .children) ≡ true) (refusal logical : ℕ) (d : refusal ≡ refusalOf (resolutionOf (annotatedBy s) (underMap p))) where
+    to12-judged : brokenTo12 p (slotAt b at) (fieldsAt b at) ≡ brokenBy (resolutionOf (annotatedBy s) (underMap p)) (λ k. listBroken (k .kind) (slotAt b at) (fieldsAt b at))
+    unfolding annotated
+    to12-judged = to12-by p (slotAt b at) (fieldsAt b at) ∙ rw (shape-is ∙ e, ← v .numbers)
+
+    pub to12-refused : (refusal ≡ 0 → ⊥) → refusal ≡ brokenTo12 p (slotAt b at) (fieldsAt b at)
+    to12-refused n = d ∙ sym (to12-judged ∙ brokenBy-refused _ _ (λ z. n (d ∙ z)))
+
+    pub to12-resolved : refusal ≡ 0 → logical ≡ writtenOf (annotatedBy s) (underMap p) .logical → listBroken logical (slotAt b at) (fieldsAt b at) ≡ brokenTo12 p (slotAt b at) (fieldsAt b at)
+    to12-resolved z w =
+        ap (λ (code : ℕ). listBroken code (slotAt b at) (fieldsAt b at)) w
+        ∙ listBroken-kind (annotatedBy s) (underMap p) (slotAt b at) (fieldsAt b at)
+        ∙ sym (to12-judged ∙ brokenBy-resolved (annotatedBy s) (underMap p) _ (sym d ∙ z))
 
   -- the place of a node's fields
-  pub placeBelow-is : (n : Annotated) (u : Bool) (k : Kind) → n ≡ annotatedBy s → u ≡ underMap p → k ≡ kindOf n u → placeUnder (k .kind) ≡ placeBelow p (slotAt b at)
+  pub placeBelow-is : (logical : ℕ) → logical ≡ writtenOf (annotatedBy s) (underMap p) .logical → placeUnder logical ≡ placeBelow p (slotAt b at)
   unfolding placeBelow kind annotated
-  placeBelow-is n u k q w d = rw (d, q, w, v .numbers)
+  placeBelow-is code w =
+      ap placeUnder w
+      ∙ ap (λ (t : Bool). cond t Place.MapField Place.Field) (written-kind logical.MAP refl refl refl (annotatedBy s) (underMap p))
+      ∙ rw (v .numbers)
 
 -- rule 12 at a kind
 module _ (code : ℕ) (s : SlotBytes) (fs : Fields) where

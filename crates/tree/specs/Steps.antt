@@ -122,7 +122,7 @@ brokenTo12 p s fs =
 unfoldable pub brokenWith13 : ℕ → Place → SlotBytes → Fields → ℕ
 brokenWith13 least below s fs = cond (eqb least 0) (cond (not (underMap below) || mapKept s fs) 0 13) least
 
--- whether a node of some kind breaks rule 12
+-- which rule, 12 or none, a node of some logical type breaks there
 unfoldable pub listBroken : ℕ → SlotBytes → Fields → ℕ
 listBroken code s fs = cond (not (eqb code logical.LIST) || listKept s fs) 0 12
 

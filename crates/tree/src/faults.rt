@@ -3,7 +3,8 @@ ghost use mathlib.Core.Path.{_≡_};
 ghost use Prim.Native.Nat.{suc, _<_};
 ghost use Rattle.sheet.specs.Block.{totalOf};
 ghost use Rattle.sheet.specs.Slot.{slotAt};
-ghost use Rattle.annotation.specs.Outcome.{resolutionOf};
+ghost use Rattle.annotation.specs.Outcome.{resolutionOf, refusalOf};
+ghost use Rattle.annotation.specs.Rewriting.{writtenOf};
 ghost use Rattle.tree.specs.Annotated.{annotatedBy};
 ghost use Rattle.tree.specs.Rules.{underMap};
 ghost use Rattle.tree.specs.Steps.{Claimed, Visited, fieldsAt, innerFrom, brokenTo12, brokenWith13, listBroken};
@@ -13,7 +14,7 @@ use crate::shape::shape_kept;
 use crate::structure::list_kept;
 use crate::structure::map_kept;
 use annotation::Annotated;
-use annotation::Resolution;
+use annotation::Judged;
 use parquet::logical;
 use sheet::Slot;
 
@@ -26,29 +27,20 @@ const LIST_STRUCTURE: u32 = 12;
 
 const MAP_STRUCTURE: u32 = 13;
 
-const LIST: u32 = logical::LIST as u32;
-
-// The number of the first of rules 8 to 12 that the node at a number breaks, or KEPT. Its annotations resolve so.
-pub(crate) fn broken_to_12(
-    sheet: &[u8],
-    at: usize,
-    place: Place,
-    s: Slot,
-    resolution: Resolution,
-) -> u32
+// The number of the first of rules 8 to 12 that the node at a number breaks, or KEPT. Its annotations are judged so.
+pub(crate) fn broken_to_12(sheet: &[u8], at: usize, place: Place, s: Slot, judged: Judged) -> u32
     requires { ⌜ Visited (now sheet) at s ⌝ }
-    requires { ⌜ resolution ≡ resolutionOf (annotatedBy s) (underMap place) ⌝ }
+    requires { ⌜ judged .refusal ≡ refusalOf (resolutionOf (annotatedBy s) (underMap place)) ⌝ }
+    requires { ⌜ judged .logical ≡ writtenOf (annotatedBy s) (underMap place) .logical ⌝ }
     ensures { λ r. ⌜ r ≡ brokenTo12 place (slotAt (now (sheet .entry)) at) (fieldsAt (now (sheet .entry)) at) ⌝ }
 {
     if !shape_kept(place, s) {
         return SHAPE;
     }
-    match resolution {
-        Resolution::Resolved(k) => list_broken(sheet, at, s, k.kind),
-        Resolution::Disagreement => annotation::refusal(resolution),
-        Resolution::Misplaced => annotation::refusal(resolution),
-        Resolution::BadDecimal => annotation::refusal(resolution),
+    if judged.refusal != KEPT {
+        return judged.refusal;
     }
+    list_broken(sheet, at, s, judged.logical)
 }
 
 // The number of the first rule that the node at a number breaks, or KEPT: of rules 8 to 12 it is known, its fields have such a place,
@@ -87,12 +79,12 @@ pub fn annotated(s: Slot) -> Annotated
     }
 }
 
-// Rule 12 at a node of some kind.
-fn list_broken(sheet: &[u8], at: usize, s: Slot, kind: u32) -> u32
+// Rule 12 at a node of some logical type.
+fn list_broken(sheet: &[u8], at: usize, s: Slot, logical: u8) -> u32
     requires { ⌜ Visited (now sheet) at s ⌝ }
-    ensures { λ r. ⌜ r ≡ listBroken kind (slotAt (now (sheet .entry)) at) (fieldsAt (now (sheet .entry)) at) ⌝ }
+    ensures { λ r. ⌜ r ≡ listBroken logical (slotAt (now (sheet .entry)) at) (fieldsAt (now (sheet .entry)) at) ⌝ }
 {
-    if kind != LIST {
+    if logical != logical::LIST {
         return KEPT;
     }
     if list_kept(sheet, at, s) {

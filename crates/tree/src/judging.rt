@@ -13,7 +13,7 @@ use crate::faults::annotated;
 use crate::faults::broken_to_12;
 use crate::faults::broken_with_13;
 use crate::place::Place;
-use crate::place::place_below;
+use crate::place::place_under;
 use crate::place::under_map;
 
 // Levels that a tree may have: depths 0 to 32.
@@ -103,9 +103,9 @@ fn judge_tree(sheet: &[u8], at: usize, levels: usize, place: Place) -> TreeJudge
         return TreeJudged::Deep(at);
     }
     let s = sheet::slot_at(sheet, at);
-    let resolution = annotation::resolve(annotated(s), under_map(place));
-    let below = place_below(resolution, s, place);
-    let least = broken_to_12(sheet, at, place, s, resolution);
+    let judged = annotation::judge(annotated(s), under_map(place));
+    let below = place_under(judged.logical);
+    let least = broken_to_12(sheet, at, place, s, judged);
     let run = judge_fields(sheet, at + 1, s.children as usize, levels - 1, below);
     match run {
         RunJudged::Deep(node) => TreeJudged::Deep(node),

@@ -1,13 +1,7 @@
 // Where a node stands, as far as rules 8 to 13 look above it.
 ghost use mathlib.Core.Path.{_≡_};
-ghost use Rattle.annotation.specs.Kinds.{kindOf};
-ghost use Rattle.annotation.specs.Outcome.{resolutionOf};
-ghost use Rattle.tree.specs.Annotated.{annotatedBy};
 ghost use Rattle.tree.specs.Rules.{underMap, placeUnder};
-use crate::faults::annotated;
-use annotation::Resolution;
 use parquet::logical;
-use sheet::Slot;
 
 pub enum Place {
     Root,
@@ -16,8 +10,6 @@ pub enum Place {
     // A field of a resolved MAP.
     MapField,
 }
-
-const MAP: u32 = logical::MAP as u32;
 
 // Whether a node's parent is a resolved MAP.
 pub(crate) fn under_map(place: Place) -> bool
@@ -30,27 +22,13 @@ pub(crate) fn under_map(place: Place) -> bool
     }
 }
 
-// The place of the fields of a node of some kind.
-pub(crate) fn place_under(kind: u32) -> Place
-    ensures { λ r. ⌜ r ≡ placeUnder kind ⌝ }
+// The place of the fields of a node of some logical type.
+pub(crate) fn place_under(logical: u8) -> Place
+    ensures { λ r. ⌜ r ≡ placeUnder logical ⌝ }
 {
-    if kind == MAP {
+    if logical == logical::MAP {
         Place::MapField
     } else {
         Place::Field
-    }
-}
-
-// The place of the fields of a node whose annotations resolve so.
-pub(crate) fn place_below(resolution: Resolution, s: Slot, place: Place) -> Place
-    requires { ⌜ resolution ≡ resolutionOf (annotatedBy s) (underMap place) ⌝ }
-    ensures { λ r. ⌜ r ≡ placeUnder (kindOf (annotatedBy s) (underMap place) .kind) ⌝ }
-{
-    match resolution {
-        Resolution::Resolved(k) => place_under(k.kind),
-        _ => {
-            let kind = annotation::resolved_kind(annotated(s), under_map(place));
-            place_under(kind.kind)
-        }
     }
 }

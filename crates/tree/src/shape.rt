@@ -12,9 +12,13 @@ use sheet::Slot;
 pub(crate) fn shape_kept(place: Place, s: Slot) -> bool
     ensures { λ r. ⌜ r ≡ shape place s (s .children) ⌝ }
 {
-    place_shape(place, s)
-        & length_shape(s.physical, s.type_length)
-        & decimal_shape(s.converted, s.logical, s.scale, s.precision)
+    if !place_shape(place, s) {
+        return false;
+    }
+    if !length_shape(s.physical, s.type_length) {
+        return false;
+    }
+    decimal_shape(s.converted, s.logical, s.scale, s.precision)
 }
 
 fn place_shape(place: Place, s: Slot) -> bool
@@ -64,9 +68,10 @@ fn length_shape(physical: u8, type_length: i32) -> bool
 fn decimal_shape(converted: u8, logical: u8, scale: i32, precision: i32) -> bool
     ensures { λ r. ⌜ r ≡ decimalShape converted logical scale precision ⌝ }
 {
-    (converted == converted::DECIMAL)
-        | (logical == logical::DECIMAL)
-        | (is_nought(scale) & is_nought(precision))
+    if is_nought(scale) & is_nought(precision) {
+        return true;
+    }
+    (converted == converted::DECIMAL) | (logical == logical::DECIMAL)
 }
 
 fn is_nought(x: i32) -> bool

@@ -2,12 +2,15 @@
 -- to trees at k and behind it. With r nodes from k on, a tree's measure is 3r, a run's 3r + 1, that of some fields 3r + 2.
 use Prim.Native.Nat.{ℕ, _+_, _*_, _-_, _<_}
 use mathlib.Core.Path.{_≡_, refl, sym, _∙_, ap, ap₂}
+use mathlib.Core.Bool.{Bool}
 use mathlib.Core.List.{[], _∷_}
 use borrow.Author.Needs.{needs}
 use native.Mathlib.Omega.{arith}
 use Rattle.sheet.specs.Block.{totalOf}
 use Rattle.sheet.specs.Slot.{slotAt}
-use Rattle.annotation.specs.Outcome.{resolutionOf}
+use Rattle.annotation.specs.Outcome.{resolutionOf, refusalOf}
+use Rattle.annotation.specs.Rewriting.{writtenOf}
+use Rattle.annotation.specs.declared.slot.Annotated.{Annotated}
 use Rattle.tree.specs.Steps.{Visited, fieldsAt, firstOf, faultFrom}
 use Rattle.tree.specs.declared.judging.TreeJudged.{TreeJudged}
 use Rattle.tree.proofs.JudgingSteps.{Judging, judging-start, judging-end, judging-deep, judging-next, run-empty, tree-deep, tree-inner, tree-run-deep, tree-judged, tree-falls, run-falls, fields-falls}
@@ -24,14 +27,14 @@ use Rattle.tree.proofs.judging.+judge_fields+judge_run+judge_tree.Lts-j
 use Rattle.tree.proofs.judging.judge_tree.Reads as judge-tree
 use Rattle.tree.proofs.judging.judge_tree.Kinds as judge-tree-kinds
 use Rattle.tree.proofs.judging.+judge_fields+judge_run+judge_tree.Lts-judge_tree as judge-tree-lts
-use Rattle.annotation.proofs.resolve.Reads as resolve-reads
+use Rattle.annotation.proofs.judge.Reads as judge-reads
 use Rattle.sheet.proofs.slot_at.Reads as slot-at-reads
 use Rattle.tree.proofs.faults.annotated.Reads as annotated-reads
 use Rattle.tree.proofs.faults.broken_to_12.Reads as broken-to-12-reads
 use Rattle.tree.proofs.faults.broken_with_13.Reads as broken-with-13-reads
 use Rattle.tree.proofs.judging.first_of.Reads as first-of-reads
 use Rattle.tree.proofs.judging.own_first.Reads as own-first-reads
-use Rattle.tree.proofs.place.place_below.Reads as place-below-reads
+use Rattle.tree.proofs.place.place_under.Reads as place-under-reads
 use Rattle.tree.proofs.place.under_map.Reads as under-map-reads
 use Rattle.tree.proofs.judging.+judge_fields+judge_run+judge_tree.{statement}
 use Rattle.tree.proofs.judging.+judge_fields+judge_run+judge_tree.Tie.{close}
@@ -93,12 +96,10 @@ judge-fields-returns-2 : (t : ℕ) → judge-fields-lts.Need-returns-2 (
 judge-fields-returns-2 t c = c .judge-run .ensures
 
 abbrev judge-run-Inv-loop : judge-run-lts.InvT-loop
-judge-run-Inv-loop sheet start count levels place at₀ left₀ last₀ inner₀ fault₀ at left last inner fault =
-    Judging sheet start count levels place at left last inner fault
+judge-run-Inv-loop sheet start count levels place at₀ left₀ last₀ inner₀ fault₀ at left last inner fault = Judging sheet start count levels place at left last inner fault
 
 abbrev judge-run-μ-loop : judge-run-lts.MeasureT-loop
-judge-run-μ-loop sheet start count levels place at₀ left₀ last₀ inner₀ fault₀ at left last inner fault =
-    left
+judge-run-μ-loop sheet start count levels place at₀ left₀ last₀ inner₀ fault₀ at left last inner fault = left
 
 judge-run-loop-holds : (t : ℕ) → judge-run-lts.Need-loop-holds (
   judge-tree-below t,
@@ -198,10 +199,10 @@ judge-tree-returns : (t : ℕ) → judge-tree-lts.Need-returns (
   annotated-reads.Learnt,
   under-map-reads.Asked,
   under-map-reads.Learnt,
-  resolve-reads.Asked,
-  resolve-reads.Learnt,
-  place-below-reads.Asked,
-  place-below-reads.Learnt,
+  judge-reads.Asked,
+  judge-reads.Learnt,
+  place-under-reads.Asked,
+  place-under-reads.Learnt,
   broken-to-12-reads.Asked,
   broken-to-12-reads.Learnt,
   judge-fields-below t,
@@ -220,10 +221,10 @@ judge-tree-slot-at-requires : (t : ℕ) → judge-tree-lts.Need-slot-at-requires
   annotated-reads.Learnt,
   under-map-reads.Asked,
   under-map-reads.Learnt,
-  resolve-reads.Asked,
-  resolve-reads.Learnt,
-  place-below-reads.Asked,
-  place-below-reads.Learnt,
+  judge-reads.Asked,
+  judge-reads.Learnt,
+  place-under-reads.Asked,
+  place-under-reads.Learnt,
   broken-to-12-reads.Asked,
   broken-to-12-reads.Learnt,
   judge-fields-below t,
@@ -242,10 +243,10 @@ judge-tree-annotated-requires : (t : ℕ) → judge-tree-lts.Need-annotated-requ
   annotated-reads.Learnt,
   under-map-reads.Asked,
   under-map-reads.Learnt,
-  resolve-reads.Asked,
-  resolve-reads.Learnt,
-  place-below-reads.Asked,
-  place-below-reads.Learnt,
+  judge-reads.Asked,
+  judge-reads.Learnt,
+  place-under-reads.Asked,
+  place-under-reads.Learnt,
   broken-to-12-reads.Asked,
   broken-to-12-reads.Learnt,
   judge-fields-below t,
@@ -264,10 +265,10 @@ judge-tree-under-map-requires : (t : ℕ) → judge-tree-lts.Need-under-map-requ
   annotated-reads.Learnt,
   under-map-reads.Asked,
   under-map-reads.Learnt,
-  resolve-reads.Asked,
-  resolve-reads.Learnt,
-  place-below-reads.Asked,
-  place-below-reads.Learnt,
+  judge-reads.Asked,
+  judge-reads.Learnt,
+  place-under-reads.Asked,
+  place-under-reads.Learnt,
   broken-to-12-reads.Asked,
   broken-to-12-reads.Learnt,
   judge-fields-below t,
@@ -279,17 +280,17 @@ judge-tree-under-map-requires : (t : ℕ) → judge-tree-lts.Need-under-map-requ
 ) (judge-tree-at t) judge-tree.Post
 judge-tree-under-map-requires t c κs = search needs
 
-judge-tree-resolve-requires : (t : ℕ) → judge-tree-lts.Need-resolve-requires (
+judge-tree-judge-requires : (t : ℕ) → judge-tree-lts.Need-judge-requires (
   slot-at-reads.Asked,
   slot-at-reads.Learnt,
   annotated-reads.Asked,
   annotated-reads.Learnt,
   under-map-reads.Asked,
   under-map-reads.Learnt,
-  resolve-reads.Asked,
-  resolve-reads.Learnt,
-  place-below-reads.Asked,
-  place-below-reads.Learnt,
+  judge-reads.Asked,
+  judge-reads.Learnt,
+  place-under-reads.Asked,
+  place-under-reads.Learnt,
   broken-to-12-reads.Asked,
   broken-to-12-reads.Learnt,
   judge-fields-below t,
@@ -299,19 +300,19 @@ judge-tree-resolve-requires : (t : ℕ) → judge-tree-lts.Need-resolve-requires
   own-first-reads.Asked,
   own-first-reads.Learnt,
 ) (judge-tree-at t) judge-tree.Post
-judge-tree-resolve-requires t c κs = search needs
+judge-tree-judge-requires t c κs = search needs
 
-judge-tree-place-below-requires : (t : ℕ) → judge-tree-lts.Need-place-below-requires (
+judge-tree-place-under-requires : (t : ℕ) → judge-tree-lts.Need-place-under-requires (
   slot-at-reads.Asked,
   slot-at-reads.Learnt,
   annotated-reads.Asked,
   annotated-reads.Learnt,
   under-map-reads.Asked,
   under-map-reads.Learnt,
-  resolve-reads.Asked,
-  resolve-reads.Learnt,
-  place-below-reads.Asked,
-  place-below-reads.Learnt,
+  judge-reads.Asked,
+  judge-reads.Learnt,
+  place-under-reads.Asked,
+  place-under-reads.Learnt,
   broken-to-12-reads.Asked,
   broken-to-12-reads.Learnt,
   judge-fields-below t,
@@ -321,7 +322,7 @@ judge-tree-place-below-requires : (t : ℕ) → judge-tree-lts.Need-place-below-
   own-first-reads.Asked,
   own-first-reads.Learnt,
 ) (judge-tree-at t) judge-tree.Post
-judge-tree-place-below-requires t c κs = c .resolve .ensures .0 ∙ ap₂ resolutionOf (c .before .before .annotated .ensures) (c .before .under-map .ensures)
+judge-tree-place-under-requires t c κs = search needs
 
 judge-tree-broken-to-12-requires : (t : ℕ) → judge-tree-lts.Need-broken-to-12-requires (
   slot-at-reads.Asked,
@@ -330,10 +331,10 @@ judge-tree-broken-to-12-requires : (t : ℕ) → judge-tree-lts.Need-broken-to-1
   annotated-reads.Learnt,
   under-map-reads.Asked,
   under-map-reads.Learnt,
-  resolve-reads.Asked,
-  resolve-reads.Learnt,
-  place-below-reads.Asked,
-  place-below-reads.Learnt,
+  judge-reads.Asked,
+  judge-reads.Learnt,
+  place-under-reads.Asked,
+  place-under-reads.Learnt,
   broken-to-12-reads.Asked,
   broken-to-12-reads.Learnt,
   judge-fields-below t,
@@ -345,8 +346,9 @@ judge-tree-broken-to-12-requires : (t : ℕ) → judge-tree-lts.Need-broken-to-1
 ) (judge-tree-at t) judge-tree.Post
 judge-tree-broken-to-12-requires t c κs =
     let start = c .before .before .before .before .before .before .before in
-    let resolved = c .before .resolve .ensures .0 ∙ ap₂ resolutionOf (c .before .before .before .annotated .ensures) (c .before .before .under-map .ensures) in
-    (record { claimed = start .pre .1 .0; below = start .pre .1 .1 .0; numbers = c .before .before .before .before .slot-at .ensures }, resolved)
+    let refusal = c .before .judge .ensures .0 ∙ ap₂ (λ (n : Annotated) (u : Bool). refusalOf (resolutionOf n u)) (c .before .before .before .annotated .ensures) (c .before .before .under-map .ensures) in
+    let logical = c .before .judge .ensures .1 ∙ ap₂ (λ (n : Annotated) (u : Bool). writtenOf n u .logical) (c .before .before .before .annotated .ensures) (c .before .before .under-map .ensures) in
+    (record { claimed = start .pre .1 .0; below = start .pre .1 .1 .0; numbers = c .before .before .before .before .slot-at .ensures }, (refusal, logical))
 
 judge-tree-add-judge-fields : (t : ℕ) → judge-tree-lts.Need-add-judge-fields (
   slot-at-reads.Asked,
@@ -355,10 +357,10 @@ judge-tree-add-judge-fields : (t : ℕ) → judge-tree-lts.Need-add-judge-fields
   annotated-reads.Learnt,
   under-map-reads.Asked,
   under-map-reads.Learnt,
-  resolve-reads.Asked,
-  resolve-reads.Learnt,
-  place-below-reads.Asked,
-  place-below-reads.Learnt,
+  judge-reads.Asked,
+  judge-reads.Learnt,
+  place-under-reads.Asked,
+  place-under-reads.Learnt,
   broken-to-12-reads.Asked,
   broken-to-12-reads.Learnt,
   judge-fields-below t,
@@ -377,10 +379,10 @@ judge-tree-cast-judge-fields : (t : ℕ) → judge-tree-lts.Need-cast-judge-fiel
   annotated-reads.Learnt,
   under-map-reads.Asked,
   under-map-reads.Learnt,
-  resolve-reads.Asked,
-  resolve-reads.Learnt,
-  place-below-reads.Asked,
-  place-below-reads.Learnt,
+  judge-reads.Asked,
+  judge-reads.Learnt,
+  place-under-reads.Asked,
+  place-under-reads.Learnt,
   broken-to-12-reads.Asked,
   broken-to-12-reads.Learnt,
   judge-fields-below t,
@@ -399,10 +401,10 @@ judge-tree-sub-judge-fields : (t : ℕ) → judge-tree-lts.Need-sub-judge-fields
   annotated-reads.Learnt,
   under-map-reads.Asked,
   under-map-reads.Learnt,
-  resolve-reads.Asked,
-  resolve-reads.Learnt,
-  place-below-reads.Asked,
-  place-below-reads.Learnt,
+  judge-reads.Asked,
+  judge-reads.Learnt,
+  place-under-reads.Asked,
+  place-under-reads.Learnt,
   broken-to-12-reads.Asked,
   broken-to-12-reads.Learnt,
   judge-fields-below t,
@@ -421,10 +423,10 @@ judge-tree-judge-fields-requires : (t : ℕ) → judge-tree-lts.Need-judge-field
   annotated-reads.Learnt,
   under-map-reads.Asked,
   under-map-reads.Learnt,
-  resolve-reads.Asked,
-  resolve-reads.Learnt,
-  place-below-reads.Asked,
-  place-below-reads.Learnt,
+  judge-reads.Asked,
+  judge-reads.Learnt,
+  place-under-reads.Asked,
+  place-under-reads.Learnt,
   broken-to-12-reads.Asked,
   broken-to-12-reads.Learnt,
   judge-fields-below t,
@@ -446,10 +448,10 @@ judge-tree-enum-known-run : (t : ℕ) → judge-tree-lts.Need-enum-known-run (
   annotated-reads.Learnt,
   under-map-reads.Asked,
   under-map-reads.Learnt,
-  resolve-reads.Asked,
-  resolve-reads.Learnt,
-  place-below-reads.Asked,
-  place-below-reads.Learnt,
+  judge-reads.Asked,
+  judge-reads.Learnt,
+  place-under-reads.Asked,
+  place-under-reads.Learnt,
   broken-to-12-reads.Asked,
   broken-to-12-reads.Learnt,
   judge-fields-below t,
@@ -468,10 +470,10 @@ judge-tree-enum-known-run-2 : (t : ℕ) → judge-tree-lts.Need-enum-known-run-2
   annotated-reads.Learnt,
   under-map-reads.Asked,
   under-map-reads.Learnt,
-  resolve-reads.Asked,
-  resolve-reads.Learnt,
-  place-below-reads.Asked,
-  place-below-reads.Learnt,
+  judge-reads.Asked,
+  judge-reads.Learnt,
+  place-under-reads.Asked,
+  place-under-reads.Learnt,
   broken-to-12-reads.Asked,
   broken-to-12-reads.Learnt,
   judge-fields-below t,
@@ -490,10 +492,10 @@ judge-tree-broken-with-13-requires : (t : ℕ) → judge-tree-lts.Need-broken-wi
   annotated-reads.Learnt,
   under-map-reads.Asked,
   under-map-reads.Learnt,
-  resolve-reads.Asked,
-  resolve-reads.Learnt,
-  place-below-reads.Asked,
-  place-below-reads.Learnt,
+  judge-reads.Asked,
+  judge-reads.Learnt,
+  place-under-reads.Asked,
+  place-under-reads.Learnt,
   broken-to-12-reads.Asked,
   broken-to-12-reads.Learnt,
   judge-fields-below t,
@@ -506,7 +508,8 @@ judge-tree-broken-with-13-requires : (t : ℕ) → judge-tree-lts.Need-broken-wi
 judge-tree-broken-with-13-requires t c κs =
     let start = c .before .before .before .before .before .before .before .before .before .before .before .before .before in
     let visited : Visited (start .args .sheet .now) (start .args .at) (c .before .before .before .before .before .before .before .before .before .before .slot-at .result) = record { claimed = start .pre .1 .0; below = start .pre .1 .1 .0; numbers = c .before .before .before .before .before .before .before .before .before .before .slot-at .ensures } in
-    let below = c .before .before .before .before .before .before .place-below .ensures ∙ placeBelow-is _ _ _ (start .args .place) visited _ _ _ refl refl refl in
+    let logical = c .before .before .before .before .before .before .before .judge .ensures .1 ∙ ap₂ (λ (n : Annotated) (u : Bool). writtenOf n u .logical) (c .before .before .before .before .before .before .before .before .before .annotated .ensures) (c .before .before .before .before .before .before .before .before .under-map .ensures) in
+    let below = c .before .before .before .before .before .before .place-under .ensures ∙ placeBelow-is _ _ _ (start .args .place) visited _ logical in
     (start .pre .1 .0, (start .pre .1 .1 .0, tree-inner _ _ _ visited _ _ _ below (c .before .before .before .before .before .before .before .before .before .before .before .if1 .left) (start .pre .1 .1 .1) _ (c .before .before .before .judge-fields .ensures) _ _ _ _ (c .before .run2 .given .1)))
 
 judge-tree-own-first-requires : (t : ℕ) → judge-tree-lts.Need-own-first-requires (
@@ -516,10 +519,10 @@ judge-tree-own-first-requires : (t : ℕ) → judge-tree-lts.Need-own-first-requ
   annotated-reads.Learnt,
   under-map-reads.Asked,
   under-map-reads.Learnt,
-  resolve-reads.Asked,
-  resolve-reads.Learnt,
-  place-below-reads.Asked,
-  place-below-reads.Learnt,
+  judge-reads.Asked,
+  judge-reads.Learnt,
+  place-under-reads.Asked,
+  place-under-reads.Learnt,
   broken-to-12-reads.Asked,
   broken-to-12-reads.Learnt,
   judge-fields-below t,
@@ -532,7 +535,8 @@ judge-tree-own-first-requires : (t : ℕ) → judge-tree-lts.Need-own-first-requ
 judge-tree-own-first-requires t c κs =
     let start = c .before .before .before .before .before .before .before .before .before .before .before .before .before .before in
     let visited : Visited (start .args .sheet .now) (start .args .at) (c .before .before .before .before .before .before .before .before .before .before .before .slot-at .result) = record { claimed = start .pre .1 .0; below = start .pre .1 .1 .0; numbers = c .before .before .before .before .before .before .before .before .before .before .before .slot-at .ensures } in
-    let below = c .before .before .before .before .before .before .before .place-below .ensures ∙ placeBelow-is _ _ _ (start .args .place) visited _ _ _ refl refl refl in
+    let logical = c .before .before .before .before .before .before .before .before .judge .ensures .1 ∙ ap₂ (λ (n : Annotated) (u : Bool). writtenOf n u .logical) (c .before .before .before .before .before .before .before .before .before .before .annotated .ensures) (c .before .before .before .before .before .before .before .before .before .under-map .ensures) in
+    let below = c .before .before .before .before .before .before .before .place-under .ensures ∙ placeBelow-is _ _ _ (start .args .place) visited _ logical in
     let own = own-is _ _ _ _ _ _ (c .before .before .before .before .before .before .broken-to-12 .ensures) below (c .broken-with-13 .ensures) in
     (omega (arith, own, broken-most (start .args .place) (slotAt (start .args .sheet .now) (start .args .at)) (fieldsAt (start .args .sheet .now) (start .args .at))), omega (arith, visited .below, visited .claimed .most))
 
@@ -543,10 +547,10 @@ judge-tree-returns-2 : (t : ℕ) → judge-tree-lts.Need-returns-2 (
   annotated-reads.Learnt,
   under-map-reads.Asked,
   under-map-reads.Learnt,
-  resolve-reads.Asked,
-  resolve-reads.Learnt,
-  place-below-reads.Asked,
-  place-below-reads.Learnt,
+  judge-reads.Asked,
+  judge-reads.Learnt,
+  place-under-reads.Asked,
+  place-under-reads.Learnt,
   broken-to-12-reads.Asked,
   broken-to-12-reads.Learnt,
   judge-fields-below t,
@@ -559,7 +563,8 @@ judge-tree-returns-2 : (t : ℕ) → judge-tree-lts.Need-returns-2 (
 judge-tree-returns-2 t c =
     let start = c .before .before .before .before .before .before .before .before .before .before .before .before .before in
     let visited : Visited (start .args .sheet .now) (start .args .at) (c .before .before .before .before .before .before .before .before .before .before .slot-at .result) = record { claimed = start .pre .1 .0; below = start .pre .1 .1 .0; numbers = c .before .before .before .before .before .before .before .before .before .before .slot-at .ensures } in
-    let below = c .before .before .before .before .before .before .place-below .ensures ∙ placeBelow-is _ _ _ (start .args .place) visited _ _ _ refl refl refl in
+    let logical = c .before .before .before .before .before .before .before .judge .ensures .1 ∙ ap₂ (λ (n : Annotated) (u : Bool). writtenOf n u .logical) (c .before .before .before .before .before .before .before .before .before .annotated .ensures) (c .before .before .before .before .before .before .before .before .under-map .ensures) in
+    let below = c .before .before .before .before .before .before .place-under .ensures ∙ placeBelow-is _ _ _ (start .args .place) visited _ logical in
     tree-run-deep _ _ _ visited _ _ _ below (c .before .before .before .before .before .before .before .before .before .before .before .if1 .left) (start .pre .1 .1 .1) _ (c .before .before .before .judge-fields .ensures) _ (c .before .run .given .1)
 
 judge-tree-returns-3 : (t : ℕ) → judge-tree-lts.Need-returns-3 (
@@ -569,10 +574,10 @@ judge-tree-returns-3 : (t : ℕ) → judge-tree-lts.Need-returns-3 (
   annotated-reads.Learnt,
   under-map-reads.Asked,
   under-map-reads.Learnt,
-  resolve-reads.Asked,
-  resolve-reads.Learnt,
-  place-below-reads.Asked,
-  place-below-reads.Learnt,
+  judge-reads.Asked,
+  judge-reads.Learnt,
+  place-under-reads.Asked,
+  place-under-reads.Learnt,
   broken-to-12-reads.Asked,
   broken-to-12-reads.Learnt,
   judge-fields-below t,
@@ -585,7 +590,8 @@ judge-tree-returns-3 : (t : ℕ) → judge-tree-lts.Need-returns-3 (
 judge-tree-returns-3 t c =
     let start = c .before .before .before .before .before .before .before .before .before .before .before .before .before .before .before in
     let visited : Visited (start .args .sheet .now) (start .args .at) (c .before .before .before .before .before .before .before .before .before .before .before .before .slot-at .result) = record { claimed = start .pre .1 .0; below = start .pre .1 .1 .0; numbers = c .before .before .before .before .before .before .before .before .before .before .before .before .slot-at .ensures } in
-    let below = c .before .before .before .before .before .before .before .before .place-below .ensures ∙ placeBelow-is _ _ _ (start .args .place) visited _ _ _ refl refl refl in
+    let logical = c .before .before .before .before .before .before .before .before .before .judge .ensures .1 ∙ ap₂ (λ (n : Annotated) (u : Bool). writtenOf n u .logical) (c .before .before .before .before .before .before .before .before .before .before .before .annotated .ensures) (c .before .before .before .before .before .before .before .before .before .before .under-map .ensures) in
+    let below = c .before .before .before .before .before .before .before .before .place-under .ensures ∙ placeBelow-is _ _ _ (start .args .place) visited _ logical in
     let own = own-is _ _ _ _ _ _ (c .before .before .before .before .before .before .before .broken-to-12 .ensures) below (c .before .broken-with-13 .ensures) in
     let run = c .before .before .before .run2 .given in
     ap (TreeJudged.Judged (run .0 .0) (run .0 .1 .0)) (c .own-first .ensures ∙ ap (λ (n : ℕ). firstOf (faultFrom (start .args .at) (n ∷ [])) (run .0 .1 .1 .1 .0)) own)
@@ -629,10 +635,10 @@ pub +judge-fields+judge-run+judge-tree-spec : {M : Type 1} → statement M
       annotated-reads.Learnt,
       under-map-reads.Asked,
       under-map-reads.Learnt,
-      resolve-reads.Asked,
-      resolve-reads.Learnt,
-      place-below-reads.Asked,
-      place-below-reads.Learnt,
+      judge-reads.Asked,
+      judge-reads.Learnt,
+      place-under-reads.Asked,
+      place-under-reads.Learnt,
       broken-to-12-reads.Asked,
       broken-to-12-reads.Learnt,
       judge-fields-below t,
@@ -648,8 +654,8 @@ pub +judge-fields+judge-run+judge-tree-spec : {M : Type 1} → statement M
     (judge-tree-slot-at-requires t)
     (judge-tree-annotated-requires t)
     (judge-tree-under-map-requires t)
-    (judge-tree-resolve-requires t)
-    (judge-tree-place-below-requires t)
+    (judge-tree-judge-requires t)
+    (judge-tree-place-under-requires t)
     (judge-tree-broken-to-12-requires t)
     (judge-tree-add-judge-fields t)
     (judge-tree-cast-judge-fields t)
