@@ -5,7 +5,7 @@ ghost use lib.ListN.{length, drop};
 ghost use Rattle.sheet.specs.Block.{totalOf};
 ghost use Rattle.sheet.specs.Slot.{slots, slotAt};
 ghost use Rattle.tree.specs.Tree.{count as Tree·count, size};
-ghost use Rattle.schema.specs.Rows.{rowWidth, rowsFrom, runRowsFrom};
+ghost use Rattle.schema.specs.Rows.{rowWidth, rowsFrom, runRowsFrom, parentBy};
 ghost use Rattle.tree.specs.Reading.{trees};
 ghost use Rattle.tree.specs.Steps.{Claimed, treeAt, runAt, sizes};
 ghost use Rattle.schema.specs.Steps.{placed, rowNumbers};
@@ -73,14 +73,7 @@ fn write_tree(sheet: &[u8], rows: &mut [u32], at: usize, up: usize, parent: Pare
     let n = annotated(s);
     let kind = annotation::resolved_kind(n, is_map_parent(parent));
     let own = role(sheet, up, at, s, parent);
-    let next = write_fields(
-        sheet,
-        rows,
-        at + 1,
-        s.children as usize,
-        at,
-        parent_by(kind.kind, own),
-    );
+    let next = write_fields(sheet, rows, at + 1, s.children as usize, at, kind.kind, own);
     write_row(
         rows,
         ROW_WIDTH * at,
@@ -99,27 +92,28 @@ fn write_tree(sheet: &[u8], rows: &mut [u32], at: usize, up: usize, parent: Pare
     next
 }
 
-// Writes the rows of the run of so many fields at a number, and answers where the next tree stands: most nodes have no field, and
-// are written without a call.
+// Writes the rows of the run of so many fields at a number, under the node at up of some kind and role, and answers where the next
+// tree stands: most nodes have no field, and are written without a call.
 fn write_fields(
     sheet: &[u8],
     rows: &mut [u32],
     at: usize,
     count: usize,
     up: usize,
-    parent: Parent,
+    kind: u32,
+    own: u32,
 ) -> usize
     requires { ⌜ Claimed (now sheet) ⌝ }
     requires { ⌜ count ≤ Tree·count (trees (drop at (slots (now sheet)))) ⌝ }
     requires { ⌜ up < totalOf (now sheet) ⌝ }
     requires { ⌜ rowWidth * totalOf (now sheet) ≤ length (now rows) ⌝ }
     ensures { λ r. ⌜ r ≡ at + sizes (runAt (slots (now (sheet .entry))) at count) ⌝ }
-    ensures { λ _. ⌜ now (rows .exit) ≡ placed (now (rows .entry)) (rowWidth * at) (runRowsFrom at up parent (slotAt (now (sheet .entry)) up) (runAt (slots (now (sheet .entry))) at count)) ⌝ }
+    ensures { λ _. ⌜ now (rows .exit) ≡ placed (now (rows .entry)) (rowWidth * at) (runRowsFrom at up (parentBy kind own) (slotAt (now (sheet .entry)) up) (runAt (slots (now (sheet .entry))) at count)) ⌝ }
 {
     if count == 0 {
         return at;
     }
-    write_run(sheet, rows, at, count, up, parent)
+    write_run(sheet, rows, at, count, up, parent_by(kind, own))
 }
 
 // Writes a row's numbers from base on.

@@ -1,7 +1,7 @@
 -- The proof of the cycle of calls {write_fields, write_run, write_tree}. Nodes fall as they do in judging: with r nodes from k on, a tree's measure is 3r, a run's
 -- 3r + 1, that of some fields 3r + 2.
 use Prim.Native.Nat.{ℕ, _+_, _*_, _-_, _<_}
-use mathlib.Core.Path.{_≡_, _∙_}
+use mathlib.Core.Path.{_≡_, refl, _∙_}
 use borrow.Author.Needs.{needs}
 use native.Mathlib.Omega.{arith}
 use Rattle.sheet.specs.Block.{totalOf}
@@ -70,33 +70,47 @@ abbrev write-tree-below : ℕ → In 2 write-tree-kinds.ps
 write-tree-below t =
     and 2 write-tree-kinds.ps (falls 2 write-tree-kinds.ps _<_ μ-write-tree t) write-tree.Pre
 
-write-fields-returns :
-    (t : ℕ) →
-    write-fields-lts.Need-returns
-    (write-run-below t, write-run.Post)
-    (write-fields-at t)
-    write-fields.Post
+write-fields-returns : (t : ℕ) → write-fields-lts.Need-returns (
+  parent-by-reads.Asked,
+  parent-by-reads.Learnt,
+  write-run-below t,
+  write-run.Post,
+) (write-fields-at t) write-fields.Post
 write-fields-returns t c = (run-end-empty _ _ _ (c .if1 .taken), run-rows-empty _ _ _ _ _ _ _ (c .if1 .taken))
 
+write-fields-parent-by-requires : (t : ℕ) → write-fields-lts.Need-parent-by-requires (
+  parent-by-reads.Asked,
+  parent-by-reads.Learnt,
+  write-run-below t,
+  write-run.Post,
+) (write-fields-at t) write-fields.Post
+write-fields-parent-by-requires t c κs = search needs
+
 write-fields-write-run-requires : (t : ℕ) → write-fields-lts.Need-write-run-requires (
+  parent-by-reads.Asked,
+  parent-by-reads.Learnt,
   write-run-below t,
   write-run.Post,
 ) (write-fields-at t) write-fields.Post
 write-fields-write-run-requires t c κs =
-    let start = c .before .before .before .before in
+    let start = c .before .before .before .before .before in
     (run-falls _ _ _ (start .pre .0), start .pre .1)
 
 write-fields-same-length : (t : ℕ) → write-fields-lts.Need-same-length (
+  parent-by-reads.Asked,
+  parent-by-reads.Learnt,
   write-run-below t,
   write-run.Post,
 ) (write-fields-at t) write-fields.Post
 write-fields-same-length t c = c .before .before .write-run .kept .1 .0
 
 write-fields-returns-2 : (t : ℕ) → write-fields-lts.Need-returns-2 (
+  parent-by-reads.Asked,
+  parent-by-reads.Learnt,
   write-run-below t,
   write-run.Post,
 ) (write-fields-at t) write-fields.Post
-write-fields-returns-2 t c = c .before .before .write-run .ensures
+write-fields-returns-2 t c = rw (c .before .before .before .parent-by .ensures) at (c .before .before .write-run .ensures)
 
 abbrev write-run-Inv-loop : write-run-lts.InvT-loop
 write-run-Inv-loop sheet rows₀ start count up at₀ left₀ above₀ rows at left above = Behind sheet rows₀ start count up above₀ (slotAt sheet up) rows at left above
@@ -189,8 +203,6 @@ write-tree-slot-at-requires : (t : ℕ) → write-tree-lts.Need-slot-at-requires
   resolved-kind-reads.Learnt,
   role-reads.Asked,
   role-reads.Learnt,
-  parent-by-reads.Asked,
-  parent-by-reads.Learnt,
   write-fields-below t,
   write-fields.Post,
   type-length-reads.Asked,
@@ -211,8 +223,6 @@ write-tree-annotated-requires : (t : ℕ) → write-tree-lts.Need-annotated-requ
   resolved-kind-reads.Learnt,
   role-reads.Asked,
   role-reads.Learnt,
-  parent-by-reads.Asked,
-  parent-by-reads.Learnt,
   write-fields-below t,
   write-fields.Post,
   type-length-reads.Asked,
@@ -233,8 +243,6 @@ write-tree-is-map-parent-requires : (t : ℕ) → write-tree-lts.Need-is-map-par
   resolved-kind-reads.Learnt,
   role-reads.Asked,
   role-reads.Learnt,
-  parent-by-reads.Asked,
-  parent-by-reads.Learnt,
   write-fields-below t,
   write-fields.Post,
   type-length-reads.Asked,
@@ -255,8 +263,6 @@ write-tree-resolved-kind-requires : (t : ℕ) → write-tree-lts.Need-resolved-k
   resolved-kind-reads.Learnt,
   role-reads.Asked,
   role-reads.Learnt,
-  parent-by-reads.Asked,
-  parent-by-reads.Learnt,
   write-fields-below t,
   write-fields.Post,
   type-length-reads.Asked,
@@ -277,8 +283,6 @@ write-tree-role-requires : (t : ℕ) → write-tree-lts.Need-role-requires (
   resolved-kind-reads.Learnt,
   role-reads.Asked,
   role-reads.Learnt,
-  parent-by-reads.Asked,
-  parent-by-reads.Learnt,
   write-fields-below t,
   write-fields.Post,
   type-length-reads.Asked,
@@ -299,8 +303,6 @@ write-tree-add-write-fields : (t : ℕ) → write-tree-lts.Need-add-write-fields
   resolved-kind-reads.Learnt,
   role-reads.Asked,
   role-reads.Learnt,
-  parent-by-reads.Asked,
-  parent-by-reads.Learnt,
   write-fields-below t,
   write-fields.Post,
   type-length-reads.Asked,
@@ -321,8 +323,6 @@ write-tree-cast-write-fields : (t : ℕ) → write-tree-lts.Need-cast-write-fiel
   resolved-kind-reads.Learnt,
   role-reads.Asked,
   role-reads.Learnt,
-  parent-by-reads.Asked,
-  parent-by-reads.Learnt,
   write-fields-below t,
   write-fields.Post,
   type-length-reads.Asked,
@@ -331,28 +331,6 @@ write-tree-cast-write-fields : (t : ℕ) → write-tree-lts.Need-cast-write-fiel
   write-row-reads.Learnt,
 ) (write-tree-at t) write-tree.Post
 write-tree-cast-write-fields t c = search needs
-
-write-tree-parent-by-requires : (t : ℕ) → write-tree-lts.Need-parent-by-requires (
-  slot-at-reads.Asked,
-  slot-at-reads.Learnt,
-  annotated-reads.Asked,
-  annotated-reads.Learnt,
-  is-map-parent-reads.Asked,
-  is-map-parent-reads.Learnt,
-  resolved-kind-reads.Asked,
-  resolved-kind-reads.Learnt,
-  role-reads.Asked,
-  role-reads.Learnt,
-  parent-by-reads.Asked,
-  parent-by-reads.Learnt,
-  write-fields-below t,
-  write-fields.Post,
-  type-length-reads.Asked,
-  type-length-reads.Learnt,
-  write-row-reads.Asked,
-  write-row-reads.Learnt,
-) (write-tree-at t) write-tree.Post
-write-tree-parent-by-requires t c κs = search needs
 
 write-tree-write-fields-requires : (t : ℕ) → write-tree-lts.Need-write-fields-requires (
   slot-at-reads.Asked,
@@ -365,8 +343,6 @@ write-tree-write-fields-requires : (t : ℕ) → write-tree-lts.Need-write-field
   resolved-kind-reads.Learnt,
   role-reads.Asked,
   role-reads.Learnt,
-  parent-by-reads.Asked,
-  parent-by-reads.Learnt,
   write-fields-below t,
   write-fields.Post,
   type-length-reads.Asked,
@@ -375,8 +351,8 @@ write-tree-write-fields-requires : (t : ℕ) → write-tree-lts.Need-write-field
   write-row-reads.Learnt,
 ) (write-tree-at t) write-tree.Post
 write-tree-write-fields-requires t c κs =
-    let start = c .before .before .before .before .before .before .before .before .before .before in
-    let visited : Visited (start .args .sheet .now) (start .args .at) (c .before .before .before .before .before .before .before .slot-at .result) = record { claimed = start .pre .1 .0; below = start .pre .1 .1 .0; numbers = c .before .before .before .before .before .before .before .slot-at .ensures } in
+    let start = c .before .before .before .before .before .before .before .before .before in
+    let visited : Visited (start .args .sheet .now) (start .args .at) (c .before .before .before .before .before .before .slot-at .result) = record { claimed = start .pre .1 .0; below = start .pre .1 .1 .0; numbers = c .before .before .before .before .before .before .slot-at .ensures } in
     (fields-falls _ _ _ (start .pre .1 .1 .0) (start .pre .0), (start .pre .1 .0, (children-claimed _ _ _ (visited .numbers) (visited .claimed) (visited .below), (start .pre .1 .1 .0, start .pre .1 .1 .1 .1))))
 
 write-tree-mul-write-row : (t : ℕ) → write-tree-lts.Need-mul-write-row (
@@ -390,8 +366,6 @@ write-tree-mul-write-row : (t : ℕ) → write-tree-lts.Need-mul-write-row (
   resolved-kind-reads.Learnt,
   role-reads.Asked,
   role-reads.Learnt,
-  parent-by-reads.Asked,
-  parent-by-reads.Learnt,
   write-fields-below t,
   write-fields.Post,
   type-length-reads.Asked,
@@ -399,9 +373,9 @@ write-tree-mul-write-row : (t : ℕ) → write-tree-lts.Need-mul-write-row (
   write-row-reads.Asked,
   write-row-reads.Learnt,
 ) (write-tree-at t) write-tree.Post
-write-tree-mul-write-row t c = omega (arith, c .before .before .before .before .before .before .before .before .before .before .before .before .before .before .pre .1 .1 .0, c .before .before .before .before .before .before .before .before .before .before .before .before .before .before .pre .1 .0 .most)
+write-tree-mul-write-row t c = omega (arith, c .before .before .before .before .before .before .before .before .before .before .before .before .before .pre .1 .1 .0, c .before .before .before .before .before .before .before .before .before .before .before .before .before .pre .1 .0 .most)
 
-write-tree-cast-t20 : (t : ℕ) → write-tree-lts.Need-cast-t20 (
+write-tree-cast-t19 : (t : ℕ) → write-tree-lts.Need-cast-t19 (
   slot-at-reads.Asked,
   slot-at-reads.Learnt,
   annotated-reads.Asked,
@@ -412,8 +386,6 @@ write-tree-cast-t20 : (t : ℕ) → write-tree-lts.Need-cast-t20 (
   resolved-kind-reads.Learnt,
   role-reads.Asked,
   role-reads.Learnt,
-  parent-by-reads.Asked,
-  parent-by-reads.Learnt,
   write-fields-below t,
   write-fields.Post,
   type-length-reads.Asked,
@@ -421,7 +393,7 @@ write-tree-cast-t20 : (t : ℕ) → write-tree-lts.Need-cast-t20 (
   write-row-reads.Asked,
   write-row-reads.Learnt,
 ) (write-tree-at t) write-tree.Post
-write-tree-cast-t20 t c = search needs
+write-tree-cast-t19 t c = search needs
 
 write-tree-type-length-requires : (t : ℕ) → write-tree-lts.Need-type-length-requires (
   slot-at-reads.Asked,
@@ -434,8 +406,6 @@ write-tree-type-length-requires : (t : ℕ) → write-tree-lts.Need-type-length-
   resolved-kind-reads.Learnt,
   role-reads.Asked,
   role-reads.Learnt,
-  parent-by-reads.Asked,
-  parent-by-reads.Learnt,
   write-fields-below t,
   write-fields.Post,
   type-length-reads.Asked,
@@ -444,6 +414,26 @@ write-tree-type-length-requires : (t : ℕ) → write-tree-lts.Need-type-length-
   write-row-reads.Learnt,
 ) (write-tree-at t) write-tree.Post
 write-tree-type-length-requires t c κs = search needs
+
+write-tree-cast-t21 : (t : ℕ) → write-tree-lts.Need-cast-t21 (
+  slot-at-reads.Asked,
+  slot-at-reads.Learnt,
+  annotated-reads.Asked,
+  annotated-reads.Learnt,
+  is-map-parent-reads.Asked,
+  is-map-parent-reads.Learnt,
+  resolved-kind-reads.Asked,
+  resolved-kind-reads.Learnt,
+  role-reads.Asked,
+  role-reads.Learnt,
+  write-fields-below t,
+  write-fields.Post,
+  type-length-reads.Asked,
+  type-length-reads.Learnt,
+  write-row-reads.Asked,
+  write-row-reads.Learnt,
+) (write-tree-at t) write-tree.Post
+write-tree-cast-t21 t c = search needs
 
 write-tree-cast-t22 : (t : ℕ) → write-tree-lts.Need-cast-t22 (
   slot-at-reads.Asked,
@@ -456,8 +446,6 @@ write-tree-cast-t22 : (t : ℕ) → write-tree-lts.Need-cast-t22 (
   resolved-kind-reads.Learnt,
   role-reads.Asked,
   role-reads.Learnt,
-  parent-by-reads.Asked,
-  parent-by-reads.Learnt,
   write-fields-below t,
   write-fields.Post,
   type-length-reads.Asked,
@@ -465,7 +453,7 @@ write-tree-cast-t22 : (t : ℕ) → write-tree-lts.Need-cast-t22 (
   write-row-reads.Asked,
   write-row-reads.Learnt,
 ) (write-tree-at t) write-tree.Post
-write-tree-cast-t22 t c = search needs
+write-tree-cast-t22 t c = omega (arith, c .before .before .before .before .before .before .before .before .before .before .before .before .before .before .before .before .pre .1 .1 .1 .0, c .before .before .before .before .before .before .before .before .before .before .before .before .before .before .before .before .pre .1 .0 .most)
 
 write-tree-cast-t23 : (t : ℕ) → write-tree-lts.Need-cast-t23 (
   slot-at-reads.Asked,
@@ -478,8 +466,6 @@ write-tree-cast-t23 : (t : ℕ) → write-tree-lts.Need-cast-t23 (
   resolved-kind-reads.Learnt,
   role-reads.Asked,
   role-reads.Learnt,
-  parent-by-reads.Asked,
-  parent-by-reads.Learnt,
   write-fields-below t,
   write-fields.Post,
   type-length-reads.Asked,
@@ -487,31 +473,9 @@ write-tree-cast-t23 : (t : ℕ) → write-tree-lts.Need-cast-t23 (
   write-row-reads.Asked,
   write-row-reads.Learnt,
 ) (write-tree-at t) write-tree.Post
-write-tree-cast-t23 t c = omega (arith, c .before .before .before .before .before .before .before .before .before .before .before .before .before .before .before .before .before .pre .1 .1 .1 .0, c .before .before .before .before .before .before .before .before .before .before .before .before .before .before .before .before .before .pre .1 .0 .most)
-
-write-tree-cast-t24 : (t : ℕ) → write-tree-lts.Need-cast-t24 (
-  slot-at-reads.Asked,
-  slot-at-reads.Learnt,
-  annotated-reads.Asked,
-  annotated-reads.Learnt,
-  is-map-parent-reads.Asked,
-  is-map-parent-reads.Learnt,
-  resolved-kind-reads.Asked,
-  resolved-kind-reads.Learnt,
-  role-reads.Asked,
-  role-reads.Learnt,
-  parent-by-reads.Asked,
-  parent-by-reads.Learnt,
-  write-fields-below t,
-  write-fields.Post,
-  type-length-reads.Asked,
-  type-length-reads.Learnt,
-  write-row-reads.Asked,
-  write-row-reads.Learnt,
-) (write-tree-at t) write-tree.Post
-write-tree-cast-t24 t c =
-    let start = c .before .before .before .before .before .before .before .before .before .before .before .before .before .before .before .before .before in
-    let visited : Visited (start .args .sheet .now) (start .args .at) (c .before .before .before .before .before .before .before .before .before .before .before .before .before .before .slot-at .result) = record { claimed = start .pre .1 .0; below = start .pre .1 .1 .0; numbers = c .before .before .before .before .before .before .before .before .before .before .before .before .before .before .slot-at .ensures } in
+write-tree-cast-t23 t c =
+    let start = c .before .before .before .before .before .before .before .before .before .before .before .before .before .before .before .before in
+    let visited : Visited (start .args .sheet .now) (start .args .at) (c .before .before .before .before .before .before .before .before .before .before .before .before .before .slot-at .result) = record { claimed = start .pre .1 .0; below = start .pre .1 .1 .0; numbers = c .before .before .before .before .before .before .before .before .before .before .before .before .before .slot-at .ensures } in
     let end = tree-end (start .args .sheet .now) (start .args .at) _ visited _ (c .before .before .before .before .before .before .write-fields .ensures .0) in
     omega (arith, tree-within (start .args .sheet .now) (start .args .at) (start .pre .1 .0) (start .pre .1 .1 .0), start .pre .1 .0 .most, end)
 
@@ -526,8 +490,6 @@ write-tree-write-row-requires : (t : ℕ) → write-tree-lts.Need-write-row-requ
   resolved-kind-reads.Learnt,
   role-reads.Asked,
   role-reads.Learnt,
-  parent-by-reads.Asked,
-  parent-by-reads.Learnt,
   write-fields-below t,
   write-fields.Post,
   type-length-reads.Asked,
@@ -535,7 +497,7 @@ write-tree-write-row-requires : (t : ℕ) → write-tree-lts.Need-write-row-requ
   write-row-reads.Asked,
   write-row-reads.Learnt,
 ) (write-tree-at t) write-tree.Post
-write-tree-write-row-requires t c κs = row-fits _ _ _ _ (c .before .before .before .before .before .before .before .before .before .before .before .before .before .before .before .before .before .pre .1 .1 .0) (c .before .before .before .before .before .before .before .before .before .before .before .before .before .before .before .before .before .pre .1 .1 .1 .1) (c .before .before .before .before .before .before .write-fields .kept .1 .0)
+write-tree-write-row-requires t c κs = row-fits _ _ _ _ (c .before .before .before .before .before .before .before .before .before .before .before .before .before .before .before .before .pre .1 .1 .0) (c .before .before .before .before .before .before .before .before .before .before .before .before .before .before .before .before .pre .1 .1 .1 .1) (c .before .before .before .before .before .before .write-fields .kept .1 .0)
 
 write-tree-same-length : (t : ℕ) → write-tree-lts.Need-same-length (
   slot-at-reads.Asked,
@@ -548,8 +510,6 @@ write-tree-same-length : (t : ℕ) → write-tree-lts.Need-same-length (
   resolved-kind-reads.Learnt,
   role-reads.Asked,
   role-reads.Learnt,
-  parent-by-reads.Asked,
-  parent-by-reads.Learnt,
   write-fields-below t,
   write-fields.Post,
   type-length-reads.Asked,
@@ -570,8 +530,6 @@ write-tree-returns : (t : ℕ) → write-tree-lts.Need-returns (
   resolved-kind-reads.Learnt,
   role-reads.Asked,
   role-reads.Learnt,
-  parent-by-reads.Asked,
-  parent-by-reads.Learnt,
   write-fields-below t,
   write-fields.Post,
   type-length-reads.Asked,
@@ -581,24 +539,31 @@ write-tree-returns : (t : ℕ) → write-tree-lts.Need-returns (
 ) (write-tree-at t) write-tree.Post
 unfolding rowNumbers
 write-tree-returns t c =
-    let start = c .before .before .before .before .before .before .before .before .before .before .before .before .before .before .before .before .before .before .before .before in
-    let visited : Visited (start .args .sheet .now) (start .args .at) (c .before .before .before .before .before .before .before .before .before .before .before .before .before .before .before .before .before .slot-at .result) = record { claimed = start .pre .1 .0; below = start .pre .1 .1 .0; numbers = c .before .before .before .before .before .before .before .before .before .before .before .before .before .before .before .before .before .slot-at .ensures } in
+    let start = c .before .before .before .before .before .before .before .before .before .before .before .before .before .before .before .before .before .before .before in
+    let visited : Visited (start .args .sheet .now) (start .args .at) (c .before .before .before .before .before .before .before .before .before .before .before .before .before .before .before .before .slot-at .result) = record { claimed = start .pre .1 .0; below = start .pre .1 .1 .0; numbers = c .before .before .before .before .before .before .before .before .before .before .before .before .before .before .before .before .slot-at .ensures } in
     let run = c .before .before .before .before .before .before .before .before .before .write-fields in
     let end = tree-end (start .args .sheet .now) (start .args .at) _ visited _ (run .ensures .0) in
-    let own = c .before .before .before .before .before .before .before .before .before .before .before .before .before .role .ensures in
-    let above = parent-is (start .args .sheet .now) (start .args .rows .now) (start .args .at) (start .args .up) _ (start .args .parent) (slotAt (start .args .sheet .now) (start .args .up)) visited _ _ _ _ _ (c .before .before .before .before .before .before .before .before .before .before .before .before .before .before .before .before .annotated .ensures) (c .before .before .before .before .before .before .before .before .before .before .before .before .before .before .before .is-map-parent .ensures) (c .before .before .before .before .before .before .before .before .before .before .before .before .before .before .resolved-kind .ensures) own (c .before .before .before .before .before .before .before .before .before .before .parent-by .ensures) in
-    let numbers = row-is (start .args .sheet .now) (start .args .rows .now) (start .args .at) (start .args .up) _ (start .args .parent) (slotAt (start .args .sheet .now) (start .args .up)) visited _ _ _ _ _ _ (c .before .before .before .before .before .before .before .before .before .before .before .before .before .before .before .before .annotated .ensures) (c .before .before .before .before .before .before .before .before .before .before .before .before .before .before .before .is-map-parent .ensures) (c .before .before .before .before .before .before .before .before .before .before .before .before .before .before .resolved-kind .ensures) own end (c .before .before .before .before .type-length .ensures) in
-    (end, tree-rows (start .args .sheet .now) (start .args .rows .now) (start .args .at) (start .args .up) _ (start .args .parent) (slotAt (start .args .sheet .now) (start .args .up)) visited (start .pre .1 .1 .1 .1) _ above _ (run .ensures .1) _ _ numbers (c .before .before .write-row .ensures))
+    let above = slotAt (start .args .sheet .now) (start .args .up) in
+    let numbers = c .before .before .before .before .before .before .before .before .before .before .before .before .before .before .before .annotated .ensures in
+    let map = c .before .before .before .before .before .before .before .before .before .before .before .before .before .before .is-map-parent .ensures in
+    let kind = c .before .before .before .before .before .before .before .before .before .before .before .before .before .resolved-kind .ensures in
+    let own = c .before .before .before .before .before .before .before .before .before .before .before .before .role .ensures in
+    let below = parent-is (start .args .sheet .now) (start .args .rows .now) (start .args .at) (start .args .up) _ (start .args .parent) above visited _ _ _ _ _ numbers map kind own refl in
+    let row = row-is (start .args .sheet .now) (start .args .rows .now) (start .args .at) (start .args .up) _ (start .args .parent) above visited _ _ _ _ _ _ numbers map kind own end (c .before .before .before .before .type-length .ensures) in
+    (end, tree-rows (start .args .sheet .now) (start .args .rows .now) (start .args .at) (start .args .up) _ (start .args .parent) above visited (start .pre .1 .1 .1 .1) _ below _ (run .ensures .1) _ _ row (c .before .before .write-row .ensures))
 
 pub +write-fields+write-run+write-tree-spec : {M : Type 1} → statement M
 +write-fields+write-run+write-tree-spec =
     close μ-write-fields μ-write-run μ-write-tree (λ t. write-fields-lts.spec (
+      parent-by-reads.Asked,
+      parent-by-reads.Learnt,
       write-run-below t,
       write-run.Post,
     )
     (write-fields-at t)
     write-fields.Post
     (write-fields-returns t)
+    (write-fields-parent-by-requires t)
     (write-fields-write-run-requires t)
     (write-fields-same-length t)
     (write-fields-returns-2 t))
@@ -631,8 +596,6 @@ pub +write-fields+write-run+write-tree-spec : {M : Type 1} → statement M
       resolved-kind-reads.Learnt,
       role-reads.Asked,
       role-reads.Learnt,
-      parent-by-reads.Asked,
-      parent-by-reads.Learnt,
       write-fields-below t,
       write-fields.Post,
       type-length-reads.Asked,
@@ -649,14 +612,13 @@ pub +write-fields+write-run+write-tree-spec : {M : Type 1} → statement M
     (write-tree-role-requires t)
     (write-tree-add-write-fields t)
     (write-tree-cast-write-fields t)
-    (write-tree-parent-by-requires t)
     (write-tree-write-fields-requires t)
     (write-tree-mul-write-row t)
-    (write-tree-cast-t20 t)
+    (write-tree-cast-t19 t)
     (write-tree-type-length-requires t)
+    (write-tree-cast-t21 t)
     (write-tree-cast-t22 t)
     (write-tree-cast-t23 t)
-    (write-tree-cast-t24 t)
     (write-tree-write-row-requires t)
     (write-tree-same-length t)
     (write-tree-returns t)
