@@ -1,18 +1,14 @@
 // What the rewritten sheet says of a node.
 ghost use mathlib.Core.Path.{_≡_};
-ghost use Rattle.annotation.specs.Rewriting.{rewritingOf, outcomeOf, outcome, writtenAs, convertedWritten, logicalWritten};
-use crate::resolution::Resolution;
-use crate::resolution::refusal;
-use crate::resolution::resolve_as;
+ghost use Rattle.annotation.specs.Rewriting.{rewritingOf, outcomeOf, outcome};
+ghost use Rattle.annotation.specs.Steps.{writtenBy};
+use crate::rules::NO_REFUSAL;
+use crate::rules::fault;
+use crate::rules::stands;
 use crate::slot::Annotated;
 use crate::slot::annotation_of;
-use logical_type::Annotation;
-use logical_type::LogicalType;
-use logical_type::forward_of;
-use logical_type::parameters;
-use logical_type::spelling_of;
-use parquet::converted;
-use parquet::logical;
+use logical_type::number;
+use logical_type::paired;
 
 // The annotation numbers of a rewritten slot.
 pub struct Written {
@@ -34,48 +30,26 @@ pub fn rewrite(n: Annotated, under_map: bool) -> Rewriting
     ensures { λ r. ⌜ r ≡ rewritingOf n «under_map» ⌝ }
     ensures { λ r. ⌜ outcomeOf r ≡ outcome n «under_map» ⌝ }
 {
-    let says = annotation_of(n, under_map);
-    let resolution = resolve_as(says, n);
-    match resolution {
-        Resolution::Resolved(_) => Rewriting::Written(written_as(says)),
-        Resolution::Disagreement => Rewriting::Refused(refusal(resolution)),
-        Resolution::Misplaced => Rewriting::Refused(refusal(resolution)),
-        Resolution::BadDecimal => Rewriting::Refused(refusal(resolution)),
+    let says = annotation_of(n.converted, n.logical, paired(n.a, n.b), under_map);
+    let broken = if stands(says, n.physical as u64) {
+        NO_REFUSAL
+    } else {
+        fault(says, n.physical, n.type_length, n.precision, n.scale)
+    };
+    if broken == NO_REFUSAL {
+        return Rewriting::Written(written_as(says));
     }
+    Rewriting::Refused(broken)
 }
 
-// What is written for an annotation.
-fn written_as(annotation: Annotation) -> Written
-    ensures { λ r. ⌜ r ≡ writtenAs annotation ⌝ }
-{
-    match annotation {
-        Annotation::Plain => converted_written(converted::NONE),
-        Annotation::Logical(l) => logical_written(l),
-        Annotation::Interval => converted_written(converted::INTERVAL),
-        Annotation::Unreadable => converted_written(converted::NONE),
-    }
-}
-
-// A converted type alone, or none.
-fn converted_written(converted: u8) -> Written
-    ensures { λ r. ⌜ r ≡ convertedWritten converted ⌝ }
+// What is written for a number of what the annotations say.
+fn written_as(says: u64) -> Written
+    ensures { λ r. ⌜ r ≡ writtenBy says ⌝ }
 {
     Written {
-        converted,
-        logical: logical::NONE,
-        a: parameters::UNUSED,
-        b: parameters::UNUSED,
-    }
-}
-
-fn logical_written(l: LogicalType) -> Written
-    ensures { λ r. ⌜ r ≡ logicalWritten l ⌝ }
-{
-    let spelling = spelling_of(l);
-    Written {
-        converted: forward_of(l),
-        logical: spelling.logical,
-        a: spelling.a,
-        b: spelling.b,
+        converted: number::converted(says),
+        logical: number::logical(says),
+        a: number::a(says),
+        b: number::b(says),
     }
 }
