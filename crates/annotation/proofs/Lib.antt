@@ -1,6 +1,6 @@
 -- Laws that other crates cite, and those that the proofs here share.
 pub mod OutcomeLaws
-mod StatedLaws
+mod NumberLaws
 pub mod PlacementLaws
 pub mod RewritingLaws
 mod SignedLaws

@@ -2,11 +2,12 @@
 -- Assumes nothing.
 use mathlib.Core.Path.{_≡_, refl, ap}
 use mathlib.Core.Bool.{Bool, true, false, cond}
+use native.Mathlib.Omega.{arith}
 use Rattle.annotation.specs.Rule9.{rule9}
 use Rattle.annotation.specs.Rule10.{rule10}
 use Rattle.annotation.specs.Rule11.{rule11}
 use Rattle.annotation.specs.Kinds.{kindOf}
-use Rattle.annotation.specs.Outcome.{resolutionOf, outcomeOf, outcome}
+use Rattle.annotation.specs.Outcome.{resolutionOf, refusalOf, outcomeOf, outcome}
 use Rattle.annotation.specs.declared.slot.Annotated.{Annotated}
 use Rattle.annotation.specs.declared.resolution.Kind.{Kind}
 use Rattle.annotation.specs.declared.resolution.Resolution.{Resolution}
@@ -61,3 +62,33 @@ refused-ten n underMap e f = rw (e, f)
 pub refused-eleven : (n : Annotated) (underMap : Bool) → rule9 n ≡ true → rule10 n underMap ≡ true → rule11 n underMap ≡ false → resolutionOf n underMap ≡ Resolution.BadDecimal
 unfolding resolutionOf
 refused-eleven n underMap e f g = rw (e, f, g)
+
+-- numbers that are not refused resolve to their kind
+pub resolved-of-refusal : (n : Annotated) (underMap : Bool) → 0 ≡ refusalOf (resolutionOf n underMap) → resolutionOf n underMap ≡ Resolution.Resolved (kindOf n underMap)
+unfolding resolutionOf InOrder
+resolved-of-refusal n underMap e = cases (rule9 n) (rule10 n underMap) (rule11 n underMap) e
+  where
+    cases : (nine ten eleven : Bool) → 0 ≡ refusalOf (InOrder nine ten eleven (kindOf n underMap)) → InOrder nine ten eleven (kindOf n underMap) ≡ Resolution.Resolved (kindOf n underMap)
+    cases true true true z = refl
+    cases true true false z = absurd (omega arith)
+    cases true false eleven z = absurd (omega arith)
+    cases false ten eleven z = absurd (omega arith)
+
+-- a refusal is told by its number
+pub refusal-nine : (r : Resolution) → 9 ≡ refusalOf r → Resolution.Disagreement ≡ r
+refusal-nine (Resolution.Resolved k) e = absurd (omega arith)
+refusal-nine Resolution.Disagreement e = refl
+refusal-nine Resolution.Misplaced e = absurd (omega arith)
+refusal-nine Resolution.BadDecimal e = absurd (omega arith)
+
+pub refusal-ten : (r : Resolution) → 10 ≡ refusalOf r → Resolution.Misplaced ≡ r
+refusal-ten (Resolution.Resolved k) e = absurd (omega arith)
+refusal-ten Resolution.Disagreement e = absurd (omega arith)
+refusal-ten Resolution.Misplaced e = refl
+refusal-ten Resolution.BadDecimal e = absurd (omega arith)
+
+pub refusal-eleven : (r : Resolution) → (refusalOf r ≡ 0 → ⊥) → (refusalOf r ≡ 9 → ⊥) → (refusalOf r ≡ 10 → ⊥) → Resolution.BadDecimal ≡ r
+refusal-eleven (Resolution.Resolved k) h i j = absurd (h refl)
+refusal-eleven Resolution.Disagreement h i j = absurd (i refl)
+refusal-eleven Resolution.Misplaced h i j = absurd (j refl)
+refusal-eleven Resolution.BadDecimal h i j = refl

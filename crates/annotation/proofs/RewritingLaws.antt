@@ -18,7 +18,7 @@ use Rattle.annotation.specs.Rule9.{rule9}
 use Rattle.annotation.specs.Rule10.{annotationOn, rule10}
 use Rattle.annotation.specs.Rule11.{isDecimal, decimalHolds, rule11}
 use Rattle.annotation.specs.Kinds.{PLAIN-LEAF, PLAIN-GROUP, bareKind, kindAs, kindOf}
-use Rattle.annotation.specs.Outcome.{resolutionOf}
+use Rattle.annotation.specs.Outcome.{refusalOf, resolutionOf}
 use Rattle.annotation.specs.Rewriting.{writtenAs, writtenOf, rewritingAs, rewritingOf, outcomeOf, outcome, withWritten, rewritten}
 use Rattle.logical_type.specs.declared.types.LogicalType.{LogicalType}
 use Rattle.logical_type.specs.declared.types.Annotation.{Annotation}
@@ -30,7 +30,7 @@ use Rattle.annotation.specs.declared.rewriting.Rewriting.{Rewriting}
 use Rattle.logical_type.proofs.ConversionLaws.{forward-decimal}
 use Rattle.logical_type.proofs.SpellingLaws.{stated-spelled}
 use Rattle.annotation.proofs.PlacementLaws.{kind-logical, code-stands}
-use Rattle.annotation.proofs.OutcomeLaws.{resolved-of-keeps, keeps-of-resolved, kind-of-resolved}
+use Rattle.annotation.proofs.OutcomeLaws.{resolved-of-keeps, keeps-of-resolved, kind-of-resolved, resolved-of-refusal}
 
 -- an annotation as it is after rewriting: what cannot be read is written as none
 abbrev settled : Annotation → Annotation
@@ -193,3 +193,19 @@ module _ (code : ℕ) (none : eqb logical.NONE code ≡ false) (group : eqb PLAI
   pub written-kind : (n : Annotated) (underMap : Bool) → eqb (writtenOf n underMap .logical) code ≡ eqb (kindOf n underMap .kind) code
   unfolding writtenOf kindOf
   written-kind n underMap = written-code (annotationOf n underMap) n
+
+-- what rewriting answers for numbers that are not refused
+pub written-rewriting : (n : Annotated) (underMap : Bool) (w : Written) → 0 ≡ refusalOf (resolutionOf n underMap) → w ≡ writtenOf n underMap → Rewriting.Written w ≡ rewritingOf n underMap
+unfolding rewritingOf
+written-rewriting n underMap w e same = rw (resolved-of-refusal n underMap e) (ap Rewriting.Written same)
+
+-- and for those that are
+pub refused-rewriting : (n : Annotated) (underMap : Bool) (number : ℕ) → number ≡ refusalOf (resolutionOf n underMap) → (number ≡ 0 → ⊥) → Rewriting.Refused number ≡ rewritingOf n underMap
+unfolding rewritingOf
+refused-rewriting n underMap number e h = cases (resolutionOf n underMap) e
+  where
+    cases : (r : Resolution) → number ≡ refusalOf r → Rewriting.Refused number ≡ rewritingAs r (writtenOf n underMap)
+    cases (Resolution.Resolved k) same = absurd (h same)
+    cases Resolution.Disagreement same = ap Rewriting.Refused same
+    cases Resolution.Misplaced same = ap Rewriting.Refused same
+    cases Resolution.BadDecimal same = ap Rewriting.Refused same

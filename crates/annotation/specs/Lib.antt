@@ -6,5 +6,5 @@ pub mod Rule10
 pub mod Rule11
 pub mod Kinds
 pub mod Outcome
-pub mod Steps
 pub mod Rewriting
+pub mod Steps

@@ -1,23 +1,24 @@
 // Rule 9: converted and logical agree.
+ghost use Prim.Native.Nat.{_<_};
+ghost use mathlib.Core.Bool.{_||_};
 ghost use mathlib.Core.Path.{_≡_};
-ghost use Rattle.annotation.specs.Rule9.{rule9};
-ghost use Rattle.annotation.specs.Steps.{StatedIn};
-use crate::slot::Annotated;
-use logical_type::Annotation;
-use logical_type::image_of;
+ghost use lib.Dec.{eqb};
+ghost use Rattle.parquet.specs.Converted.{NONE};
+ghost use Rattle.logical_type.specs.Steps.{MARK, convertedPart};
+ghost use Rattle.annotation.specs.Steps.{marked};
+use logical_type::number;
 use parquet::converted;
-use parquet::logical;
 
-// Whether, where both annotations stand, converted is the forward image of logical. The annotations of the slot say so.
-pub(crate) fn rule9(n: Annotated, says: Annotation) -> bool
-    requires { ⌜ StatedIn n says ⌝ }
-    ensures { λ r. ⌜ r ≡ rule9 n ⌝ }
+// The number of a logical type, marked where a converted type stands beside it that is not its forward image.
+pub(crate) fn agreed(says: u64, converted: u8) -> u64
+    requires { ⌜ says < MARK ⌝ }
+    ensures { λ r. ⌜ r ≡ marked (eqb converted NONE || eqb (convertedPart says) converted) says ⌝ }
 {
-    if n.converted == converted::NONE {
-        return true;
+    if converted == converted::NONE {
+        return says;
     }
-    if n.logical == logical::NONE {
-        return true;
+    if number::converted(says) == converted {
+        return says;
     }
-    image_of(says) == n.converted
+    says + number::MARK
 }

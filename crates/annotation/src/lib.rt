@@ -4,9 +4,10 @@
 // numbers of a slot that say its type.
 mod agreement; // rule 9: converted and logical agree
 mod decimals; // rule 11: precision and scale
-mod placement; // rule 10: physical type and length
-mod resolution; // the rules in order, and the kind
+mod placement; // rule 10 of the annotations that ask for more than one physical type
+mod resolution; // the outcome, and the kind
 mod rewriting; // what the rewritten sheet says of a node
+mod rules; // rules 9, 10 and 11 in order
 mod slot; // the numbers of a slot that say its type, and what its annotations mean
 
 pub use resolution::Judged;

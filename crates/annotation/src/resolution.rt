@@ -1,22 +1,20 @@
 // The outcome of the numbers of a slot: their kind as rows have it, or the first of the rules 9, 10 and 11 that they break.
 ghost use mathlib.Core.Path.{_≡_};
-ghost use Rattle.annotation.specs.Kinds.{kindOf, kindAs, bareKind, plainKind, decimalKind, logicalKind};
+ghost use Rattle.annotation.specs.Kinds.{kindOf, bareKind, plainKind, decimalKind};
 ghost use Rattle.annotation.specs.Outcome.{resolutionOf, refusalOf, outcomeOf, outcome};
 ghost use Rattle.annotation.specs.Rewriting.{writtenOf};
-ghost use Rattle.annotation.specs.Steps.{StatedIn, resolutionAs};
-use crate::agreement::rule9;
-use crate::decimals::digits_allowed;
-use crate::decimals::is_decimal;
-use crate::placement::annotation_on;
-use crate::rewriting::written_as;
+ghost use Rattle.annotation.specs.Steps.{kindBy, loneKind, logicalKindBy};
+use crate::rules::BAD_DECIMAL;
+use crate::rules::DISAGREEMENT;
+use crate::rules::MISPLACED;
+use crate::rules::NO_REFUSAL;
+use crate::rules::broken;
 use crate::slot::Annotated;
 use crate::slot::annotation_of;
 use crate::slot::precision;
 use crate::slot::scale;
-use crate::slot::type_length;
-use logical_type::Annotation;
-use logical_type::LogicalType;
-use logical_type::spelling_of;
+use logical_type::number;
+use logical_type::paired;
 use parquet::converted;
 use parquet::logical;
 use parquet::physical;
@@ -45,15 +43,6 @@ pub struct Judged {
     pub logical: u8,
 }
 
-// Document 01's numbers of the refusals.
-const NO_REFUSAL: u32 = 0;
-
-const DISAGREEMENT: u32 = 9;
-
-const MISPLACED: u32 = 10;
-
-const BAD_DECIMAL: u32 = 11;
-
 // The kinds of nodes without annotation.
 const PLAIN_LEAF: u32 = 0;
 
@@ -65,31 +54,24 @@ pub fn resolve(n: Annotated, under_map: bool) -> Resolution
     ensures { λ r. ⌜ r ≡ resolutionOf n «under_map» ⌝ }
     ensures { λ r. ⌜ outcomeOf r ≡ outcome n «under_map» ⌝ }
 {
-    resolve_as(annotation_of(n, under_map), n)
-}
-
-// Resolves the numbers of a slot whose annotations say so.
-pub(crate) fn resolve_as(says: Annotation, n: Annotated) -> Resolution
-    requires { ⌜ StatedIn n says ⌝ }
-    ensures { λ r. ⌜ r ≡ resolutionAs says n ⌝ }
-{
-    if !rule9(n, says) {
-        return Resolution::Disagreement;
+    let says = annotation_of(n.converted, n.logical, paired(n.a, n.b), under_map);
+    let number = broken(says, n);
+    match number {
+        NO_REFUSAL => Resolution::Resolved(kind_as(says, n)),
+        DISAGREEMENT => Resolution::Disagreement,
+        MISPLACED => Resolution::Misplaced,
+        _ => Resolution::BadDecimal,
     }
-    if !annotation_on(says, n.physical, type_length(n)) {
-        return Resolution::Misplaced;
-    }
-    if !digits_allowed(says, n) {
-        return Resolution::BadDecimal;
-    }
-    Resolution::Resolved(kind_as(says, n))
 }
 
 // The kind that the numbers of a slot say, whatever else is wrong with them: that of no annotation where they cannot be read.
 pub fn resolved_kind(n: Annotated, under_map: bool) -> Kind
     ensures { λ r. ⌜ r ≡ kindOf n «under_map» ⌝ }
 {
-    kind_as(annotation_of(n, under_map), n)
+    kind_as(
+        annotation_of(n.converted, n.logical, paired(n.a, n.b), under_map),
+        n,
+    )
 }
 
 // Judges the numbers of a slot.
@@ -97,12 +79,10 @@ pub fn judge(n: Annotated, under_map: bool) -> Judged
     ensures { λ r. ⌜ r .refusal ≡ refusalOf (resolutionOf n «under_map») ⌝ }
     ensures { λ r. ⌜ r .logical ≡ writtenOf n «under_map» .logical ⌝ }
 {
-    let says = annotation_of(n, under_map);
-    let number = refusal(resolve_as(says, n));
-    let written = written_as(says);
+    let says = annotation_of(n.converted, n.logical, paired(n.a, n.b), under_map);
     Judged {
-        refusal: number,
-        logical: written.logical,
+        refusal: broken(says, n),
+        logical: number::logical(says),
     }
 }
 
@@ -118,22 +98,28 @@ pub fn refusal(r: Resolution) -> u32
     }
 }
 
-// The kind of an annotation beside the numbers of its slot.
-fn kind_as(says: Annotation, n: Annotated) -> Kind
-    ensures { λ r. ⌜ r ≡ kindAs says n ⌝ }
+// The kind of a node by the number of what its annotations say.
+fn kind_as(says: u64, n: Annotated) -> Kind
+    ensures { λ r. ⌜ r ≡ kindBy says n ⌝ }
 {
-    match says {
-        Annotation::Plain => plain_kind(n.physical),
-        Annotation::Logical(l) => {
-            if is_decimal(says) {
-                decimal_kind(n)
-            } else {
-                logical_kind(l)
-            }
-        }
-        Annotation::Interval => bare_kind(converted::INTERVAL as u32),
-        Annotation::Unreadable => plain_kind(n.physical),
+    let logical = number::logical(says);
+    if logical == logical::NONE {
+        return lone_kind(number::converted(says), n.physical);
     }
+    if logical == logical::DECIMAL {
+        return decimal_kind(n);
+    }
+    logical_kind(says)
+}
+
+// The kind of a node without logical type.
+fn lone_kind(converted: u8, physical: u8) -> Kind
+    ensures { λ r. ⌜ r ≡ loneKind converted physical ⌝ }
+{
+    if converted == converted::INTERVAL {
+        return bare_kind(converted::INTERVAL as u32);
+    }
+    plain_kind(physical)
 }
 
 fn plain_kind(physical: u8) -> Kind
@@ -155,14 +141,13 @@ fn decimal_kind(n: Annotated) -> Kind
     Kind { kind, p1, p2 }
 }
 
-fn logical_kind(l: LogicalType) -> Kind
-    ensures { λ r. ⌜ r ≡ logicalKind l ⌝ }
+fn logical_kind(says: u64) -> Kind
+    ensures { λ r. ⌜ r ≡ logicalKindBy says ⌝ }
 {
-    let spelling = spelling_of(l);
     Kind {
-        kind: spelling.logical as u32,
-        p1: spelling.a as u32,
-        p2: spelling.b as u32,
+        kind: number::logical(says) as u32,
+        p1: number::a(says) as u32,
+        p2: number::b(says) as u32,
     }
 }
 

@@ -1,18 +1,13 @@
 // What the rewritten sheet says of a node.
 ghost use mathlib.Core.Path.{_≡_};
-ghost use Rattle.annotation.specs.Rewriting.{rewritingOf, outcomeOf, outcome, writtenOf, writtenAs, convertedWritten, logicalWritten};
-use crate::resolution::Resolution;
-use crate::resolution::refusal;
-use crate::resolution::resolve_as;
+ghost use Rattle.annotation.specs.Rewriting.{rewritingOf, outcomeOf, outcome, writtenOf};
+ghost use Rattle.annotation.specs.Steps.{writtenBy};
+use crate::rules::NO_REFUSAL;
+use crate::rules::broken;
 use crate::slot::Annotated;
 use crate::slot::annotation_of;
-use logical_type::Annotation;
-use logical_type::LogicalType;
-use logical_type::forward_of;
-use logical_type::parameters;
-use logical_type::spelling_of;
-use parquet::converted;
-use parquet::logical;
+use logical_type::number;
+use logical_type::paired;
 
 // The annotation numbers of a rewritten slot.
 pub struct Written {
@@ -34,55 +29,29 @@ pub fn rewrite(n: Annotated, under_map: bool) -> Rewriting
     ensures { λ r. ⌜ r ≡ rewritingOf n «under_map» ⌝ }
     ensures { λ r. ⌜ outcomeOf r ≡ outcome n «under_map» ⌝ }
 {
-    let says = annotation_of(n, under_map);
-    let resolution = resolve_as(says, n);
-    match resolution {
-        Resolution::Resolved(_) => Rewriting::Written(written_as(says)),
-        Resolution::Disagreement => Rewriting::Refused(refusal(resolution)),
-        Resolution::Misplaced => Rewriting::Refused(refusal(resolution)),
-        Resolution::BadDecimal => Rewriting::Refused(refusal(resolution)),
+    let says = annotation_of(n.converted, n.logical, paired(n.a, n.b), under_map);
+    let number = broken(says, n);
+    if number == NO_REFUSAL {
+        return Rewriting::Written(written_as(says));
     }
+    Rewriting::Refused(number)
 }
 
 // What is written for the numbers of a slot, whatever else is wrong with them: none where they cannot be read.
 pub fn written_of(n: Annotated, under_map: bool) -> Written
     ensures { λ r. ⌜ r ≡ writtenOf n «under_map» ⌝ }
 {
-    written_as(annotation_of(n, under_map))
+    written_as(annotation_of(n.converted, n.logical, paired(n.a, n.b), under_map))
 }
 
-// What is written for an annotation.
-pub(crate) fn written_as(annotation: Annotation) -> Written
-    ensures { λ r. ⌜ r ≡ writtenAs annotation ⌝ }
-{
-    match annotation {
-        Annotation::Plain => converted_written(converted::NONE),
-        Annotation::Logical(l) => logical_written(l),
-        Annotation::Interval => converted_written(converted::INTERVAL),
-        Annotation::Unreadable => converted_written(converted::NONE),
-    }
-}
-
-// A converted type alone, or none.
-fn converted_written(converted: u8) -> Written
-    ensures { λ r. ⌜ r ≡ convertedWritten converted ⌝ }
+// What is written for a number of what the annotations say.
+fn written_as(says: u64) -> Written
+    ensures { λ r. ⌜ r ≡ writtenBy says ⌝ }
 {
     Written {
-        converted,
-        logical: logical::NONE,
-        a: parameters::UNUSED,
-        b: parameters::UNUSED,
-    }
-}
-
-fn logical_written(l: LogicalType) -> Written
-    ensures { λ r. ⌜ r ≡ logicalWritten l ⌝ }
-{
-    let spelling = spelling_of(l);
-    Written {
-        converted: forward_of(l),
-        logical: spelling.logical,
-        a: spelling.a,
-        b: spelling.b,
+        converted: number::converted(says),
+        logical: number::logical(says),
+        a: number::a(says),
+        b: number::b(says),
     }
 }

@@ -1,11 +1,15 @@
 // The numbers of a slot that say its type, and what its annotations mean.
 ghost use mathlib.Core.Path.{_≡_};
+ghost use Rattle.parquet.specs.Logical.{NONE};
+ghost use Rattle.logical_type.specs.Steps.{numberOf, pairA, pairB};
 ghost use Rattle.annotation.specs.Signed.{natural};
-ghost use Rattle.annotation.specs.Meaning.{annotationOf, convertedAlone};
-use logical_type::Annotation;
+ghost use Rattle.annotation.specs.Meaning.{convertedAlone};
+ghost use Rattle.annotation.specs.Steps.{annotatedBy, readingOf};
+use crate::agreement::agreed;
 use logical_type::backward_of;
+use logical_type::number;
+use logical_type::parameters;
 use logical_type::stated_of;
-use logical_type::valid_parameters;
 use parquet::logical;
 
 // Physical GROUP is a group, converted NONE and logical NONE are no annotation; any other number may stand in a field.
@@ -20,26 +24,25 @@ pub struct Annotated {
     pub precision: i32,
 }
 
-// The logical type where one stands, else what the converted type means. under_map says that the parent's resolved kind is
-// MAP, where MAP_KEY_VALUE counts as no annotation.
-pub(crate) fn annotation_of(n: Annotated, under_map: bool) -> Annotation
-    ensures { λ r. ⌜ r ≡ annotationOf n «under_map» ⌝ }
+// The number of the logical type where one stands, marked where rule 9 does not hold, else of what the converted type means.
+// pair is a and b. under_map says that the parent's resolved kind is MAP, where MAP_KEY_VALUE counts as no annotation.
+pub(crate) fn annotation_of(converted: u8, logical: u8, pair: u32, under_map: bool) -> u64
+    ensures { λ r. ⌜ r ≡ readingOf (annotatedBy converted logical (pairA pair) (pairB pair)) «under_map» ⌝ }
 {
-    if n.logical == logical::NONE {
-        return converted_alone(n, under_map);
+    if logical == logical::NONE {
+        return converted_alone(converted, pair, under_map);
     }
-    stated_of(n.logical, n.a, n.b)
+    agreed(stated_of(logical, pair), converted)
 }
 
 // Where no logical type stands there are no parameters either.
-fn converted_alone(n: Annotated, under_map: bool) -> Annotation
-    ensures { λ r. ⌜ r ≡ convertedAlone n «under_map» ⌝ }
+fn converted_alone(converted: u8, pair: u32, under_map: bool) -> u64
+    ensures { λ r. ⌜ r ≡ numberOf (convertedAlone (annotatedBy converted NONE (pairA pair) (pairB pair)) «under_map») ⌝ }
 {
-    if valid_parameters(logical::NONE, n.a, n.b) {
-        backward_of(n.converted, under_map)
-    } else {
-        Annotation::Unreadable
+    if pair == parameters::NO_PAIR {
+        return backward_of(converted, under_map);
     }
+    number::UNREADABLE
 }
 
 // The type length as a natural number, 0 where it is negative.
@@ -64,7 +67,7 @@ pub(crate) fn scale(n: Annotated) -> u32
 }
 
 // A signed number as a natural number, 0 where it is negative.
-fn natural(x: i32) -> u32
+pub(crate) fn natural(x: i32) -> u32
     ensures { λ r. ⌜ r ≡ natural x ⌝ }
 {
     if x < 0 { 0 } else { x as u32 }

@@ -3,3 +3,4 @@ pub mod ConversionLaws
 pub mod SpellingLaws
 mod TableLaws
 pub mod ReadingLaws
+pub mod NumberLaws

@@ -85,17 +85,17 @@ Spells (Annotation.Logical l) code a b = (codeOf l ≡ code) × (aOf l ≡ a) ×
 Spells Annotation.Interval code a b = ⊥
 Spells Annotation.Unreadable code a b = Unit {0}
 
-unused-spelled : (a b : ℕ) → eqb a UNUSED && eqb b UNUSED ≡ true → (UNUSED ≡ a) × (UNUSED ≡ b)
+pub unused-spelled : (a b : ℕ) → eqb a UNUSED && eqb b UNUSED ≡ true → (UNUSED ≡ a) × (UNUSED ≡ b)
 unused-spelled a b e =
     let both = and-eq-true-iff (eqb a UNUSED) (eqb b UNUSED) .0 e in
     (sym (eqb-true a UNUSED (both .0)), sym (eqb-true b UNUSED (both .1)))
 
-unit-flag-spelled : (a b : ℕ) → validUnit a && validFlag b ≡ true → (unitCode (unitOf a) ≡ a) × (flagCode (flagOf b) ≡ b)
+pub unit-flag-spelled : (a b : ℕ) → validUnit a && validFlag b ≡ true → (unitCode (unitOf a) ≡ a) × (flagCode (flagOf b) ≡ b)
 unit-flag-spelled a b e =
     let both = and-eq-true-iff (validUnit a) (validFlag b) .0 e in
     (unit-spelled a (both .0), flag-spelled b (both .1))
 
-width-flag-spelled : (a b : ℕ) → validBitWidth a && validFlag b ≡ true → (bitWidthCode (bitWidthOf a) ≡ a) × (flagCode (flagOf b) ≡ b)
+pub width-flag-spelled : (a b : ℕ) → validBitWidth a && validFlag b ≡ true → (bitWidthCode (bitWidthOf a) ≡ a) × (flagCode (flagOf b) ≡ b)
 width-flag-spelled a b e =
     let both = and-eq-true-iff (validBitWidth a) (validFlag b) .0 e in
     (bit-width-spelled a (both .0), flag-spelled b (both .1))

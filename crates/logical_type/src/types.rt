@@ -1,5 +1,5 @@
-// Logical types with their parameters, and what the annotations of a slot say.
-ghost use mathlib.Core.Path.{_≡_};
+// Logical types with their parameters, and what the annotations of a slot say. Contracts speak of these, the code goes by their
+// numbers.
 
 pub enum TimeUnit {
     Millis,
@@ -48,32 +48,4 @@ pub enum Annotation {
     Interval,
     // A code outside the lists, or parameters that the type does not have.
     Unreadable,
-}
-
-// The annotations that are a logical type with parameters.
-pub(crate) fn time(unit: TimeUnit, is_adjusted_to_utc: bool) -> Annotation
-    ensures { λ r. ⌜ r ≡ Annotation.Logical (LogicalType.Time unit «is_adjusted_to_utc») ⌝ }
-{
-    Annotation::Logical(LogicalType::Time {
-        unit,
-        is_adjusted_to_utc,
-    })
-}
-
-pub(crate) fn timestamp(unit: TimeUnit, is_adjusted_to_utc: bool) -> Annotation
-    ensures { λ r. ⌜ r ≡ Annotation.Logical (LogicalType.Timestamp unit «is_adjusted_to_utc») ⌝ }
-{
-    Annotation::Logical(LogicalType::Timestamp {
-        unit,
-        is_adjusted_to_utc,
-    })
-}
-
-pub(crate) fn integer(bit_width: BitWidth, is_signed: bool) -> Annotation
-    ensures { λ r. ⌜ r ≡ Annotation.Logical (LogicalType.Integer «bit_width» «is_signed») ⌝ }
-{
-    Annotation::Logical(LogicalType::Integer {
-        bit_width,
-        is_signed,
-    })
 }

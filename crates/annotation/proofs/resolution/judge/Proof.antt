@@ -1,19 +1,19 @@
--- `annotation::resolution::judge` meets its contract.
+-- `annotation::resolution::judge` meets its contract: the number of what the annotations say has both.
 use mathlib.Core.Path.{ap, _∙_}
-use Rattle.annotation.specs.Outcome.{refusalOf}
-use Rattle.annotation.specs.Rewriting.{writtenAs, writtenOf}
 use Rattle.annotation.specs.declared.rewriting.Written.{Written}
-use Rattle.annotation.proofs.StatedLaws.{stated-in, resolution-as}
+use Rattle.annotation.proofs.NumberLaws.{written-read, fault-read}
 use Rattle.annotation.proofs.resolution.judge.Statement.{statement}
 use Rattle.annotation.proofs.resolution.judge.Tie as tie
 
 returns : tie.Need-returns
-unfolding writtenOf
 returns c =
-    let says = c .before .before .before .annotation-of .ensures in (
-      c .before .refusal .ensures ∙ ap refusalOf (resolution-as _ _ _ _ says (c .before .before .resolve-as .ensures)),
-      ap (λ (w : Written). w .logical) (c .written-as .ensures ∙ ap writtenAs says),
+    let asked = c .before .before in
+    let pair = asked .before .paired .ensures in
+    let read = asked .annotation-of .ensures in
+    let broken = c .before .broken .ensures in (
+      broken .0 ∙ fault-read _ _ _ _ pair read (broken .1),
+      c .logical .ensures ∙ ap (λ (w : Written). w .logical) (written-read (asked .before .before .args .n) (asked .before .before .args .under-map) _ _ pair read),
     )
 
 pub judge-spec : {M : Type 1} → statement M
-judge-spec = tie.close (tie.spec (λ c κs. tt) (λ c κs. stated-in _ _ _ (c .annotation-of .ensures)) (λ c κs. tt) (λ c κs. tt) returns)
+judge-spec = tie.close (tie.spec (λ c κs. tt) (λ c κs. tt) (λ c κs. tt) (λ c κs. tt) returns)

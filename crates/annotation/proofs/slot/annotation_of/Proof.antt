@@ -1,17 +1,30 @@
--- `annotation::slot::annotation_of` meets its contract: each branch rewrites with the test that led there.
+-- `annotation::slot::annotation_of` meets its contract: one annotation alone agrees, and beside another stands its image.
 -- Assumes nothing.
+use mathlib.Core.Bool.{or-true, or-false}
 use borrow.Author.Tests.{ne-eqb}
+use Rattle.logical_type.proofs.NumberLaws.{number-bound}
 use Rattle.annotation.specs.Meaning.{annotationOf}
+use Rattle.annotation.specs.Rule9.{rule9}
+use Rattle.annotation.specs.Steps.{readingOf}
+use Rattle.annotation.proofs.NumberLaws.{stated-image}
 use Rattle.annotation.proofs.slot.annotation_of.Statement.{statement}
 use Rattle.annotation.proofs.slot.annotation_of.Tie as tie
 
 returns : tie.Need-returns
-unfolding annotationOf
-returns c = rw (c .before .if1 .taken, c .converted-alone .ensures)
+unfolding readingOf rule9 annotationOf
+returns c = rw (c .before .if1 .taken, or-true, c .converted-alone .ensures)
 
 returns-2 : tie.Need-returns-2
-unfolding annotationOf
-returns-2 c = rw (ne-eqb _ _ (c .before .if1 .left), c .stated-of .ensures)
+unfolding readingOf rule9 annotationOf
+returns-2 c =
+    rw (ne-eqb _ _ (c .before .before .if1 .left), c .agreed .ensures, c .before .stated-of .ensures, stated-image, or-false)
 
 pub annotation-of-spec : {M : Type 1} → statement M
-annotation-of-spec = tie.close (tie.spec (λ c κs. tt) returns (λ c κs. tt) returns-2)
+annotation-of-spec =
+    tie.close
+    (tie.spec
+    (λ c κs. tt)
+    returns
+    (λ c κs. tt)
+    (λ c κs. rw (c .stated-of .ensures) (number-bound _))
+    returns-2)

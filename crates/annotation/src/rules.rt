@@ -1,0 +1,78 @@
+// Rules 9, 10 and 11 in order.
+ghost use mathlib.Core.Path.{_≡_};
+ghost use Prim.Native.Nat.{_<_, _^_};
+ghost use Rattle.annotation.specs.Steps.{faultBy, ownFault, standsBy};
+use crate::decimals::digits_hold;
+use crate::placement::own_on;
+use crate::slot::Annotated;
+use crate::slot::natural;
+use logical_type::number;
+use parquet::logical;
+
+// Document 01's numbers of the refusals.
+pub(crate) const NO_REFUSAL: u32 = 0;
+
+pub(crate) const DISAGREEMENT: u32 = 9;
+
+pub(crate) const MISPLACED: u32 = 10;
+
+pub(crate) const BAD_DECIMAL: u32 = 11;
+
+// The number of the first rule that the numbers of a slot break, or NO_REFUSAL, by the number of what its annotations say.
+pub(crate) fn broken(says: u64, n: Annotated) -> u32
+    ensures { λ r. ⌜ r ≡ faultBy says (n .physical) (n .«type_length») (n .precision) (n .scale) ⌝ }
+    ensures { λ _. ⌜ n .physical < 2 ^ 8 ⌝ }
+{
+    if stands(says, n.physical as u64) {
+        return NO_REFUSAL;
+    }
+    fault(says, n.physical, n.type_length, n.precision, n.scale)
+}
+
+// Whether the number of what the annotations say tells at once that the rules are kept, as it does for most slots: it asks for this
+// physical type alone, or no annotation stands.
+fn stands(says: u64, physical: u64) -> bool
+    ensures { λ r. ⌜ r ≡ standsBy says physical ⌝ }
+{
+    (physical == number::demand(says)) | (says == number::PLAIN)
+}
+
+// The same, whatever the number tells.
+fn fault(says: u64, physical: u8, type_length: i32, precision: i32, scale: i32) -> u32
+    ensures { λ r. ⌜ r ≡ faultBy says physical «type_length» precision scale ⌝ }
+{
+    if says >= number::MARK {
+        return DISAGREEMENT;
+    }
+    let demand = number::demand(says);
+    if physical as u64 == demand {
+        return NO_REFUSAL;
+    }
+    match demand {
+        number::ANY => NO_REFUSAL,
+        number::OWN => own_fault(
+            number::logical(says),
+            physical,
+            natural(type_length),
+            precision,
+            scale,
+        ),
+        _ => MISPLACED,
+    }
+}
+
+// The same of rules 10 and 11 for an annotation that asks for more than one physical type.
+fn own_fault(logical: u8, physical: u8, length: u32, precision: i32, scale: i32) -> u32
+    ensures { λ r. ⌜ r ≡ ownFault logical physical length precision scale ⌝ }
+{
+    if !own_on(logical, physical, length) {
+        return MISPLACED;
+    }
+    if logical != logical::DECIMAL {
+        return NO_REFUSAL;
+    }
+    if digits_hold(physical, length, precision, scale) {
+        return NO_REFUSAL;
+    }
+    BAD_DECIMAL
+}

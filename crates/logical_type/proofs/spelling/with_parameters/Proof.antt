@@ -1,0 +1,31 @@
+-- `logical_type::spelling::with_parameters` meets its contract: each arm knows the code, and the last that the type has no parameters.
+-- Assumes nothing.
+use borrow.Author.Tests.{ne-eqb}
+use Rattle.logical_type.specs.Parameters.{validParameters}
+use Rattle.logical_type.specs.Spelling.{statedOf}
+use Rattle.logical_type.specs.Steps.{numberOf}
+use Rattle.logical_type.proofs.NumberLaws.{unused-pair}
+use Rattle.logical_type.proofs.spelling.with_parameters.Statement.{statement}
+use Rattle.logical_type.proofs.spelling.with_parameters.Tie as tie
+
+returns-4 : tie.Need-returns-4
+unfolding statedOf validParameters numberOf
+returns-4 c =
+    rw (
+      ne-eqb _ _ (c .match .rest .1),
+      ne-eqb _ _ (c .match .rest .0 .0 .1),
+      ne-eqb _ _ (c .match .rest .0 .1),
+      unused-pair _ (c .before .pre),
+    )
+
+pub with-parameters-spec : {M : Type 1} → statement M
+with-parameters-spec =
+    tie.close
+    (tie.spec
+    (λ c κs. tt)
+    (λ c κs. tt)
+    (λ c κs. tt)
+    (λ c. rw (c .before .match .keys1, c .time .ensures))
+    (λ c. rw (c .before .match .keys2, c .timestamp .ensures))
+    (λ c. rw (c .before .match .keys3, c .integer .ensures))
+    returns-4)
