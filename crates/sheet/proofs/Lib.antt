@@ -2,6 +2,7 @@
 pub mod TestLaws
 pub mod PartLaws
 pub mod NumberLaws
+pub mod ZeroLaws
 pub mod CheckLaws
 pub mod BlockLaws
 pub mod RenewalLaws

@@ -17,17 +17,6 @@ use Rattle.parquet.specs.Converted as converted
 use Rattle.parquet.specs.Logical as logical
 use Rattle.sheet.specs.Sound.{listed, physicalListed, repetitionListed, convertedListed, logicalListed, mostNameLength, nameLengthRight, allZero, reservedZero, tailZero, codesListed, nameRight, slotSound, slotRight}
 
-pub allZero-true : (bytes : List ℕ) → ((k : ℕ) → k < length bytes → getD bytes k 0 ≡ 0) → allZero bytes ≡ true
-unfolding allZero
-allZero-true [] zeros = refl
-allZero-true (byte ∷ bytes) zeros = rw (eq-eqb byte 0 (zeros 0 (omega arith))) (allZero-true bytes (λ k h. zeros (suc k) (omega arith)))
-
-pub allZero-false : (bytes : List ℕ) (k : ℕ) → (getD bytes k 0 ≡ 0 → ⊥) → allZero bytes ≡ false
-unfolding allZero
-allZero-false [] k other = absurd (other refl)
-allZero-false (byte ∷ bytes) zero other = rw (ne-eqb byte 0 other) refl
-allZero-false (byte ∷ bytes) (suc k) other = ap (λ (t : Bool). eqb byte 0 && t) (allZero-false bytes k other) ∙ and-false (eqb byte 0)
-
 -- the slot of a node is right where it is sound
 pub slotRight-used : (sheet : List ℕ) (k : ℕ) → k < totalOf sheet → slotRight sheet k ≡ slotSound (slotAt sheet k)
 unfolding slotRight

@@ -2,11 +2,16 @@
 ghost use mathlib.Core.Path.{_≡_};
 ghost use Prim.Native.Nat.{_+_, _≤_, _<_, _^_};
 ghost use lib.ListN.{length};
-ghost use Rattle.sheet.specs.Number.{number16 as Number·number16, number32 as Number·number32, signed32 as Number·signed32};
+ghost use Rattle.sheet.specs.Number.{numberAt, number16 as Number·number16, number32 as Number·number32, signed32 as Number·signed32};
 
 const BYTE: u32 = 256;
 
 const HALF: u32 = 0x8000_0000;
+
+// How many numbers the lower four bytes of eight stand for, and their size.
+const LOW_HALF: u64 = 0x1_0000_0000;
+
+const LOW_BYTES: usize = 4;
 
 const WHOLE: i64 = 0x1_0000_0000;
 
@@ -25,6 +30,14 @@ pub(crate) fn number32(s: &[u8], at: usize) -> u32
     ensures { λ r. ⌜ r ≡ Number·number32 (now (s .entry)) at ⌝ }
 {
     wide(s[at]) + BYTE * (wide(s[at + 1]) + BYTE * (wide(s[at + 2]) + BYTE * wide(s[at + 3])))
+}
+
+// The number of eight bytes from at on.
+pub(crate) fn number64(s: &[u8], at: usize) -> u64
+    requires { ⌜ at + 8 ≤ length (now s) ⌝ }
+    ensures { λ r. ⌜ r ≡ numberAt (now (s .entry)) at 8 ⌝ }
+{
+    number32(s, at) as u64 + LOW_HALF * number32(s, at + LOW_BYTES) as u64
 }
 
 // The signed number that the 32 bits of n stand for.
