@@ -4,6 +4,7 @@ pub mod PartLaws
 pub mod NumberLaws
 pub mod ZeroLaws
 pub mod CheckLaws
+pub mod ColumnLaws
 pub mod BlockLaws
 pub mod RenewalLaws
 pub mod SlotLaws

@@ -1,6 +1,6 @@
 -- Laws of bytes that are zero.
 use mathlib.Core.Path.{_≡_, refl, sym, ap, _∙_}
-use mathlib.Core.Bool.{Bool, true, false, _&&_, and-false, and-eq-true-iff}
+use mathlib.Core.Bool.{true, and-eq-true-iff}
 use mathlib.Core.List.{List, [], _∷_}
 use Prim.Native.Nat.{ℕ, zero, suc, _+_, _-_, _≤_, _<_}
 use native.Mathlib.Decide.{decLt}
@@ -8,14 +8,14 @@ use native.Mathlib.Omega.{arith}
 use lib.Dec.{eqb}
 use lib.ListN.{length, getD, take, drop, length-take, length-drop}
 use lib.Seq.{getD-take, getD-drop}
-use borrow.Author.Tests.{eq-eqb, ne-eqb, eqb-true}
+use borrow.Author.Tests.{eq-eqb, eqb-true}
 use Rattle.sheet.specs.Number.{numberAt}
 use Rattle.sheet.specs.Sound.{allZero}
 use Rattle.sheet.specs.Steps.{stretchZero}
 use Rattle.sheet.proofs.NumberLaws.{Zeros, numberAt-zero, numberAt-none}
 use Rattle.sheet.proofs.TestLaws.{same-test}
 
-pub allZero-true : (bytes : List ℕ) → ((k : ℕ) → k < length bytes → getD bytes k 0 ≡ 0) → allZero bytes ≡ true
+allZero-true : (bytes : List ℕ) → ((k : ℕ) → k < length bytes → getD bytes k 0 ≡ 0) → allZero bytes ≡ true
 unfolding allZero
 allZero-true [] zeros = refl
 allZero-true (byte ∷ bytes) zeros = rw (eq-eqb byte 0 (zeros 0 (omega arith))) (allZero-true bytes (λ k h. zeros (suc k) (omega arith)))

@@ -8,10 +8,10 @@ const BYTE: u32 = 256;
 
 const HALF: u32 = 0x8000_0000;
 
-// How many numbers the lower four bytes of eight stand for, and their size.
-const LOW_HALF: u64 = 0x1_0000_0000;
+// The lower bytes of a number of eight, and how many numbers they stand for.
+const LOWER_SIZE: usize = 4;
 
-const LOW_BYTES: usize = 4;
+const LOWER_COUNT: u64 = 0x1_0000_0000;
 
 const WHOLE: i64 = 0x1_0000_0000;
 
@@ -37,7 +37,7 @@ pub(crate) fn number64(s: &[u8], at: usize) -> u64
     requires { ⌜ at + 8 ≤ length (now s) ⌝ }
     ensures { λ r. ⌜ r ≡ numberAt (now (s .entry)) at 8 ⌝ }
 {
-    number32(s, at) as u64 + LOW_HALF * number32(s, at + LOW_BYTES) as u64
+    number32(s, at) as u64 + LOWER_COUNT * number32(s, at + LOWER_SIZE) as u64
 }
 
 // The signed number that the 32 bits of n stand for.
@@ -56,4 +56,12 @@ pub(crate) fn wide(byte: u8) -> u32
     ensures { λ r. ⌜ r < 256 ⌝ }
 {
     byte as u32
+}
+
+// A number of 16 bits as one of 32.
+pub(crate) fn wide32(n: u16) -> u32
+    ensures { λ r. ⌜ r ≡ n ⌝ }
+    ensures { λ r. ⌜ r < 2 ^ 16 ⌝ }
+{
+    n as u32
 }

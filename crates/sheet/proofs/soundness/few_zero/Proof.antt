@@ -1,9 +1,8 @@
 -- `sheet::soundness::few_zero` meets its contract. The invariant: every byte passed is zero.
-use mathlib.Core.Path.{_≡_, sym}
-use Prim.Native.Nat.{ℕ, _≤_, _-_, _+_}
+use mathlib.Core.Path.{sym}
+use Prim.Native.Nat.{_≤_, _-_, _+_}
 use native.Mathlib.Omega.{arith}
 use lib.ListN.{length}
-use borrow.Author.Needs.{needs}
 use borrow.Author.Tests.{eq-eqb, ne-eqb}
 use Rattle.sheet.proofs.NumberLaws.{Zeros}
 use Rattle.sheet.proofs.TestLaws.{fails-with}

@@ -1,5 +1,5 @@
 -- `sheet::soundness::pair_zero` meets its contract: the bytes are zero just where both numbers are.
-use mathlib.Core.Path.{_≡_, sym, ap, _∙_}
+use mathlib.Core.Path.{sym, ap, _∙_}
 use Prim.Native.Nat.{ℕ, _+_}
 use native.Mathlib.Omega.{arith}
 use lib.Dec.{eqb}

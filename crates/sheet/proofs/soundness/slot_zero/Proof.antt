@@ -1,5 +1,5 @@
 -- `sheet::soundness::slot_zero` meets its contract: the two pairs of words and the rest are all of the slot.
-use mathlib.Core.Path.{_≡_, sym, _∙_}
+use mathlib.Core.Path.{sym, _∙_}
 use native.Mathlib.Omega.{arith}
 use borrow.Author.Needs.{needs}
 use Rattle.sheet.specs.Block.{slotSize}

@@ -1,5 +1,5 @@
 -- `sheet::soundness::zero_from` meets its contract: each pair of words lies in the rest, and together they are all of it.
-use mathlib.Core.Path.{_≡_, sym, _∙_}
+use mathlib.Core.Path.{sym, _∙_}
 use native.Mathlib.Omega.{arith}
 use borrow.Author.Needs.{needs}
 use Rattle.sheet.specs.Steps.{pairSize}
