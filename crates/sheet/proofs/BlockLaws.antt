@@ -1,12 +1,13 @@
 -- Laws of a sheet's blocks.
-use mathlib.Core.Path.{_≡_, refl, ap, ap₂, _∙_}
+use mathlib.Core.Path.{_≡_, ap, _∙_}
 use mathlib.Core.List.{List}
-use Prim.Native.Nat.{ℕ, zero, suc, _+_, _*_, _%_, _≤_, _<_}
+use Prim.Native.Nat.{ℕ, _+_, _*_, _%_, _≤_, _<_}
 use native.Mathlib.Omega.{arith}
 use lib.ListN.{length, getD, drop}
 use lib.Seq.{getD-take, getD-drop}
 use Rattle.sheet.specs.Block.{blockSize, checkAt, blockCount, blockAt}
-use Rattle.sheet.specs.Check.{checkModulus, sumBelow, weighted, check}
+use Rattle.sheet.specs.Check.{checkModulus, weighted, check}
+use Rattle.sheet.proofs.CheckLaws.{sumBelow-same}
 
 -- a byte of a block is a byte of the sheet
 pub blockAt-byte : (sheet : List ℕ) (i j : ℕ) → j < blockSize → getD (blockAt sheet i) j 0 ≡ getD sheet (blockSize * i + j) 0
@@ -22,11 +23,6 @@ blockCount-same sheet other e = rw e
 pub blocks-within : (sheet : List ℕ) → blockSize * blockCount sheet ≤ length sheet
 unfolding blockCount
 blocks-within sheet = omega arith
-
-sumBelow-same : (f g : ℕ → ℕ) (n : ℕ) → ((i : ℕ) → i < n → f i ≡ g i) → sumBelow f n ≡ sumBelow g n
-unfolding sumBelow
-sumBelow-same f g zero same = refl
-sumBelow-same f g (suc n) same = ap₂ _+_ (sumBelow-same f g n (λ i h. same i (omega arith))) (same n (omega arith))
 
 -- blocks that agree before their stored checks have one check
 pub check-same : (block other : List ℕ) → ((i : ℕ) → i < checkAt → getD block i 0 ≡ getD other i 0) → check block ≡ check other

@@ -1,19 +1,13 @@
 -- Laws of a block's check.
 use mathlib.Core.Path.{_≡_, refl, sym, ap, ap₂, _∙_}
 use mathlib.Core.List.{List}
-use Prim.Native.Nat.{ℕ, zero, suc, _+_, _*_, _≤_, _<_}
-use native.Mathlib.Nat.{le-trans, add-zero, add-suc, add-mul, mul-add, mul-le-mul-left, mul-le-mul-right}
+use Prim.Native.Nat.{ℕ, zero, suc, _+_, _*_, _<_}
+use native.Mathlib.Nat.{add-zero, add-suc, add-mul, mul-add}
 use native.Mathlib.Numerals.{add-one}
 use native.Mathlib.Omega.{arith}
-use Rattle.sheet.specs.Block.{checkAt}
-use lib.ListN.{getD, take, drop}
-use lib.Seq.{getD-take, getD-drop}
+use lib.ListN.{getD}
 use Rattle.sheet.specs.Check.{sumBelow, weighted}
-use Rattle.sheet.specs.Steps.{weightedFrom}
-
--- a byte times its weight is at most 510 times 255
-pub weight-le : (i byte : ℕ) → i < checkAt → byte < 256 → (i + 1) * byte ≤ checkAt * 255
-weight-le i byte h l = le-trans (mul-le-mul-right byte (omega arith)) (mul-le-mul-left {n = 255} checkAt (omega arith))
+use Rattle.sheet.specs.Steps.{rowSize, wordsInRow, pairOf, pairWeight}
 
 -- a sum over one number more
 pub sumBelow-more : (f : ℕ → ℕ) (n : ℕ) → sumBelow f (n + 1) ≡ sumBelow f n + f n
@@ -27,39 +21,102 @@ sumBelow-add f a zero = simp add-zero refl
 sumBelow-add f a (suc n) = simp (add-suc, sumBelow-add f a n) (omega arith)
 
 -- sums of what agrees below n
-sumBelow-same : (f g : ℕ → ℕ) (n : ℕ) → ((j : ℕ) → j < n → f j ≡ g j) → sumBelow f n ≡ sumBelow g n
+pub sumBelow-same : (f g : ℕ → ℕ) (n : ℕ) → ((j : ℕ) → j < n → f j ≡ g j) → sumBelow f n ≡ sumBelow g n
 unfolding sumBelow
 sumBelow-same f g zero same = refl
 sumBelow-same f g (suc n) same =
     ap₂ _+_ (sumBelow-same f g n (λ j h. same j (omega arith))) (same n (omega arith))
 
--- a byte's weight in its block is that from its part's start
-weighted-part : (block : List ℕ) (a n j : ℕ) → j < n → weighted block (a + j) ≡ weightedFrom a (take n (drop a block)) j
-unfolding weighted weightedFrom
-weighted-part block a n j h =
-    ap (λ (byte : ℕ). (a + j + 1) * byte) (sym (getD-take n (drop a block) j 0 h ∙ getD-drop a block j 0))
+-- a sum of sums
+sumBelow-plus : (f g h : ℕ → ℕ) (n : ℕ) → ((j : ℕ) → j < n → f j ≡ g j + h j) → sumBelow f n ≡ sumBelow g n + sumBelow h n
+unfolding sumBelow
+sumBelow-plus f g h zero both = refl
+sumBelow-plus f g h (suc n) both = omega (arith, sumBelow-plus f g h n (λ j l. both j (omega arith)), both n (omega arith))
 
--- a block's sum over a part more, by the part's bytes alone
-pub sumBelow-part : (block : List ℕ) (a n : ℕ)
-    → sumBelow (weighted block) (a + n) ≡ sumBelow (weighted block) a + sumBelow (weightedFrom a (take n (drop a block))) n
-sumBelow-part block a n =
-    sumBelow-add (weighted block) a n
-    ∙ ap (λ (part : ℕ). sumBelow (weighted block) a + part) (sumBelow-same _ _ n (weighted-part block a n))
+-- a sum of multiples
+sumBelow-times : (f : ℕ → ℕ) (n : ℕ) → sumBelow (λ j. rowSize * f j) n ≡ rowSize * sumBelow f n
+unfolding sumBelow
+sumBelow-times f zero = refl
+sumBelow-times f (suc n) = omega (arith, sumBelow-times f n)
 
--- the bytes of a part
-abbrev pub byteOf : List ℕ → ℕ → ℕ
-byteOf part j = getD part j 0
+-- a sum by pairs
+sumBelow-pairs : (f : ℕ → ℕ) (n : ℕ) → sumBelow f (2 * n) ≡ sumBelow (λ j. f (2 * j) + f (2 * j + 1)) n
+unfolding sumBelow
+sumBelow-pairs f zero = refl
+sumBelow-pairs f (suc n) =
+    ap (sumBelow f) {x = 2 * suc n} {y = 2 * n + 1 + 1} (omega arith)
+    ∙ omega (arith, sumBelow-more f (2 * n + 1), sumBelow-more f (2 * n), sumBelow-pairs f n)
 
--- one more byte, by both ways of weighing
-from-more : (before j byte own plain : ℕ)
-    → own + (j + 1) * byte + before * (plain + byte) ≡ (own + before * plain) + (before + j + 1) * byte
-from-more before j byte own plain = simp (add-mul, mul-add) (omega arith)
+-- the bytes of a row, by their place in a word
+abbrev pub LowBytes : List ℕ → ℕ → (ℕ → ℕ) → Type 0
+LowBytes block n low = (j : ℕ) → j < wordsInRow → low j ≡ getD block (n + 2 * j) 0
 
--- the weights of a part from its start: those of its own bytes, and what stands before it times their plain sum
-pub sumBelow-from : (part : List ℕ) (before n : ℕ)
-    → sumBelow (weighted part) n + before * sumBelow (byteOf part) n ≡ sumBelow (weightedFrom before part) n
-unfolding sumBelow weighted weightedFrom
-sumBelow-from part before zero = omega arith
-sumBelow-from part before (suc n) =
-    from-more before n (getD part n 0) (sumBelow (weighted part) n) (sumBelow (byteOf part) n)
-    ∙ ap (λ (sum : ℕ). sum + (before + n + 1) * getD part n 0) (sumBelow-from part before n)
+abbrev pub HighBytes : List ℕ → ℕ → (ℕ → ℕ) → Type 0
+HighBytes block n high = (j : ℕ) → j < wordsInRow → high j ≡ getD block (n + (2 * j + 1)) 0
+
+-- a block's sum over a row more, by the pairs of its bytes
+sumBelow-row : (block : List ℕ) (n : ℕ) (low high : ℕ → ℕ) → LowBytes block n low → HighBytes block n high
+    → sumBelow (weighted block) (n + rowSize) ≡ sumBelow (weighted block) n + sumBelow (pairWeight n low high) wordsInRow
+unfolding weighted pairWeight
+sumBelow-row block n low high lows highs =
+    sumBelow-add (weighted block) n rowSize
+    ∙ ap (λ (sum : ℕ). sumBelow (weighted block) n + sum) (sumBelow-pairs (λ j. weighted block (n + j)) wordsInRow ∙ sumBelow-same _ _ wordsInRow pair)
+  where
+    pair : (j : ℕ) → j < wordsInRow
+        → (n + 2 * j + 1) * getD block (n + 2 * j) 0 + (n + (2 * j + 1) + 1) * getD block (n + (2 * j + 1)) 0 ≡ (n + 2 * j + 1) * low j + (n + 2 * j + 2) * high j
+    pair j l = ap₂ _+_ (ap (λ (byte : ℕ). (n + 2 * j + 1) * byte) (sym (lows j l))) (ap₂ _*_ {y = n + 2 * j + 2} (omega arith) (sym (highs j l)))
+
+-- each number has that of both
+abbrev pub Plus : (ℕ → ℕ) → (ℕ → ℕ) → (ℕ → ℕ) → Type 0
+Plus f g sum = (j : ℕ) → j < wordsInRow → sum j ≡ f j + g j
+
+-- the sums of columns to which others were added
+module _ (low high low' high' low'' high'' : ℕ → ℕ) (lows : Plus low low' low'') (highs : Plus high high' high'') where
+  added-plain : sumBelow (pairOf low'' high'') wordsInRow ≡ sumBelow (pairOf low high) wordsInRow + sumBelow (pairOf low' high') wordsInRow
+  added-plain = sumBelow-plus _ _ _ wordsInRow (λ j l. omega (arith, lows j l, highs j l))
+
+  added-weight : (n : ℕ)
+      → sumBelow (pairWeight n low'' high'') wordsInRow ≡ sumBelow (pairWeight n low high) wordsInRow + sumBelow (pairWeight n low' high') wordsInRow
+  unfolding pairWeight
+  added-weight n = sumBelow-plus _ _ _ wordsInRow both
+    where
+      both : (j : ℕ) → j < wordsInRow
+          → (n + 2 * j + 1) * low'' j + (n + 2 * j + 2) * high'' j
+          ≡ ((n + 2 * j + 1) * low j + (n + 2 * j + 2) * high j) + ((n + 2 * j + 1) * low' j + (n + 2 * j + 2) * high' j)
+      both j l = rw (lows j l, highs j l, mul-add (n + 2 * j + 1) (low j) (low' j), mul-add (n + 2 * j + 2) (high j) (high' j)) (omega arith)
+
+-- a row further on, each byte weighs a row's size more
+further : (n : ℕ) (low high : ℕ → ℕ)
+    → sumBelow (pairWeight (n + rowSize) low high) wordsInRow ≡ sumBelow (pairWeight n low high) wordsInRow + rowSize * sumBelow (pairOf low high) wordsInRow
+unfolding pairWeight
+further n low high =
+    sumBelow-plus _ (pairWeight n low high) (λ j. rowSize * pairOf low high j) wordsInRow (λ j l. more j)
+    ∙ ap (λ (sum : ℕ). sumBelow (pairWeight n low high) wordsInRow + sum) (sumBelow-times (pairOf low high) wordsInRow)
+  where
+    weight : (a x : ℕ) → (a + rowSize) * x ≡ a * x + rowSize * x
+    weight a x = add-mul a rowSize x
+
+    more : (j : ℕ)
+        → (n + rowSize + 2 * j + 1) * low j + (n + rowSize + 2 * j + 2) * high j
+        ≡ ((n + 2 * j + 1) * low j + (n + 2 * j + 2) * high j) + rowSize * (low j + high j)
+    more j =
+        ap₂ _+_ (ap (λ (a : ℕ). a * low j) {y = n + 2 * j + 1 + rowSize} (omega arith) ∙ weight _ _) (ap (λ (a : ℕ). a * high j) {y = n + 2 * j + 2 + rowSize} (omega arith) ∙ weight _ _)
+        ∙ omega arith
+
+-- what the columns of a block's first bytes weigh behind those, with what is counted off of them: the bytes' own weights
+abbrev pub Weighed : List ℕ → ℕ → (ℕ → ℕ) → (ℕ → ℕ) → (ℕ → ℕ) → (ℕ → ℕ) → Type 0
+Weighed block n low high off-low off-high =
+    sumBelow (pairWeight n low high) wordsInRow ≡ sumBelow (weighted block) n + rowSize * sumBelow (pairOf off-low off-high) wordsInRow
+
+-- one row more
+pub weighed-more : (block : List ℕ) (n : ℕ) (low high row-low row-high low' high' off off-high off' off-high' : ℕ → ℕ)
+    → LowBytes block n row-low → HighBytes block n row-high
+    → Plus low row-low low' → Plus high row-high high' → Plus off low' off' → Plus off-high high' off-high'
+    → Weighed block n low high off off-high → Weighed block (n + rowSize) low' high' off' off-high'
+weighed-more block n low high row-low row-high low' high' off off-high off' off-high' lows highs low-plus high-plus off-plus off-high-plus weighed = omega (
+  arith,
+  further n low' high',
+  added-weight low high row-low row-high low' high' low-plus high-plus n,
+  sumBelow-row block n row-low row-high lows highs,
+  added-plain off off-high low' high' off' off-high' off-plus off-high-plus,
+)

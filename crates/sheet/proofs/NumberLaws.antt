@@ -1,8 +1,10 @@
 -- Laws of the numbers in a list of bytes.
-use mathlib.Core.Path.{_≡_, sym, ap, _∙_}
+use mathlib.Core.Path.{_≡_, refl, sym, ap, _∙_}
+use mathlib.Core.Logic.{⊎-elim}
 use mathlib.Core.List.{List}
 use Prim.Native.Nat.{ℕ, zero, suc, _+_, _-_, _*_, _^_, _≤_, _<_}
 use native.Mathlib.Numerals.{towards-suc}
+use native.Mathlib.Nat.{eq-or-lt-of-le}
 use native.Mathlib.Decide.{decLt}
 use native.Mathlib.Omega.{arith}
 use lib.IntN.{pos, negsuc}
@@ -26,19 +28,33 @@ pub numberAt-four : (bytes : List ℕ) (at : ℕ)
 unfolding numberAt
 numberAt-four bytes at = simp towards-suc (omega arith)
 
--- where a number of four bytes is zero, so are the bytes
-pub numberAt-four-zero : (bytes : List ℕ) (at k : ℕ) → numberAt bytes at 4 ≡ 0 → at ≤ k → k < at + 4 → getD bytes k 0 ≡ 0
-numberAt-four-zero bytes at k none l h = cases (k - at) (omega arith)
-  where
-    parts : getD bytes at 0 + 256 * (getD bytes (at + 1) 0 + 256 * (getD bytes (at + 2) 0 + 256 * getD bytes (at + 3) 0)) ≡ 0
-    parts = sym (numberAt-four bytes at) ∙ none
+-- a number of eight bytes, by its halves
+pub numberAt-eight : (bytes : List ℕ) (at : ℕ) → numberAt bytes at 8 ≡ numberAt bytes at 4 + 2 ^ 32 * numberAt bytes (at + 4) 4
+unfolding numberAt
+numberAt-eight bytes at = simp towards-suc (omega arith)
 
-    cases : (j : ℕ) → k ≡ at + j → getD bytes k 0 ≡ 0
-    cases zero e = ap (λ (i : ℕ). getD bytes i 0) {y = at} (omega arith) ∙ omega (arith, parts)
-    cases (suc zero) e = ap (λ (i : ℕ). getD bytes i 0) e ∙ omega (arith, parts)
-    cases (suc (suc zero)) e = ap (λ (i : ℕ). getD bytes i 0) e ∙ omega (arith, parts)
-    cases (suc (suc (suc zero))) e = ap (λ (i : ℕ). getD bytes i 0) e ∙ omega (arith, parts)
-    cases (suc (suc (suc (suc j)))) e = absurd (omega arith)
+-- the bytes from a on are zero up to b
+abbrev pub Zeros : List ℕ → ℕ → ℕ → Type 0
+Zeros bytes a b = (k : ℕ) → a ≤ k → k < b → getD bytes k 0 ≡ 0
+
+-- where a number is zero, so are its bytes
+pub numberAt-zero : (size : ℕ) (bytes : List ℕ) (at : ℕ) → numberAt bytes at size ≡ 0 → Zeros bytes at (at + size)
+unfolding numberAt
+numberAt-zero zero bytes at none k l h = absurd (omega arith)
+numberAt-zero (suc size) bytes at none k l h = ⊎-elim
+    (λ q. ap (λ (i : ℕ). getD bytes i 0) (sym q) ∙ omega arith)
+    (λ q. numberAt-zero size bytes (suc at) (omega arith) k q (omega arith))
+    (eq-or-lt-of-le l)
+
+-- and where its bytes are zero, it is
+pub numberAt-none : (size : ℕ) (bytes : List ℕ) (at : ℕ) → Zeros bytes at (at + size) → numberAt bytes at size ≡ 0
+unfolding numberAt
+numberAt-none zero bytes at zeros = refl
+numberAt-none (suc size) bytes at zeros = omega (
+  arith,
+  zeros at (omega arith) (omega arith),
+  numberAt-none size bytes (suc at) (λ k l h. zeros k (omega arith) (omega arith)),
+)
 
 -- the lower half stands for itself
 pub signed32-low : (n : ℕ) → n < 2 ^ 31 → signed32 n ≡ pos n

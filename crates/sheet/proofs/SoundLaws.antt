@@ -1,14 +1,13 @@
 -- Laws of sound slots.
-use mathlib.Core.Path.{_≡_, refl, sym, ap, _∙_}
+use mathlib.Core.Path.{_≡_, sym, _∙_}
 use mathlib.Core.Logic.{_⊎_, inl, inr}
-use mathlib.Core.Bool.{Bool, true, false, So, _&&_, and-false, and-eq-true-iff}
-use mathlib.Core.List.{List, [], _∷_}
-use Prim.Native.Nat.{ℕ, zero, suc, _≤_, _<_}
+use mathlib.Core.Bool.{true, So, _&&_, and-eq-true-iff}
+use mathlib.Core.List.{List}
+use Prim.Native.Nat.{ℕ, _≤_, _<_}
 use native.Mathlib.Decide.{decLe}
 use native.Mathlib.Omega.{arith}
 use lib.Dec.{leb, eqb}
-use lib.ListN.{length, getD}
-use borrow.Author.Tests.{eq-eqb, ne-eqb, lt-ltb, le-ltb, lt-leb, leb-true, eqb-true}
+use borrow.Author.Tests.{lt-ltb, le-ltb, lt-leb, leb-true, eqb-true}
 use Rattle.sheet.specs.Block.{totalOf}
 use Rattle.sheet.specs.Slot.{physical, repetition, converted, logical, nameLength, slotAt}
 use Rattle.parquet.specs.Physical as physical
@@ -16,17 +15,6 @@ use Rattle.parquet.specs.Repetition as repetition
 use Rattle.parquet.specs.Converted as converted
 use Rattle.parquet.specs.Logical as logical
 use Rattle.sheet.specs.Sound.{listed, physicalListed, repetitionListed, convertedListed, logicalListed, mostNameLength, nameLengthRight, allZero, reservedZero, tailZero, codesListed, nameRight, slotSound, slotRight}
-
-pub allZero-true : (bytes : List ℕ) → ((k : ℕ) → k < length bytes → getD bytes k 0 ≡ 0) → allZero bytes ≡ true
-unfolding allZero
-allZero-true [] zeros = refl
-allZero-true (byte ∷ bytes) zeros = rw (eq-eqb byte 0 (zeros 0 (omega arith))) (allZero-true bytes (λ k h. zeros (suc k) (omega arith)))
-
-pub allZero-false : (bytes : List ℕ) (k : ℕ) → (getD bytes k 0 ≡ 0 → ⊥) → allZero bytes ≡ false
-unfolding allZero
-allZero-false [] k other = absurd (other refl)
-allZero-false (byte ∷ bytes) zero other = rw (ne-eqb byte 0 other) refl
-allZero-false (byte ∷ bytes) (suc k) other = ap (λ (t : Bool). eqb byte 0 && t) (allZero-false bytes k other) ∙ and-false (eqb byte 0)
 
 -- the slot of a node is right where it is sound
 pub slotRight-used : (sheet : List ℕ) (k : ℕ) → k < totalOf sheet → slotRight sheet k ≡ slotSound (slotAt sheet k)

@@ -1,5 +1,5 @@
 -- What a branch says of a test that a call answered.
-use mathlib.Core.Path.{_≡_, sym, _∙_}
+use mathlib.Core.Path.{_≡_, refl, sym, _∙_}
 use mathlib.Core.Bool.{Bool, true, false, not}
 use Prim.Native.Nat.{ℕ}
 use lib.Dec.{eqb}
@@ -20,3 +20,15 @@ differs {answer} {x} {y} e n = ne-eqb x y (λ q. n (e ∙ q))
 -- the answer is x, and was y
 pub agrees : {answer x y : ℕ} → answer ≡ x → answer ≡ y → eqb x y ≡ true
 agrees {answer} {x} {y} e q = eq-eqb x y (sym e ∙ q)
+
+-- two tests that pass together are one
+pub same-test : (s t : Bool) → (s ≡ true → t ≡ true) → (t ≡ true → s ≡ true) → s ≡ t
+same-test true true f g = refl
+same-test true false f g = sym (f refl)
+same-test false true f g = g refl
+same-test false false f g = refl
+
+-- a test that passes only where another does fails where that fails
+pub fails-with : (s t : Bool) → (t ≡ true → s ≡ true) → s ≡ false → t ≡ false
+fails-with s true f e = sym (f refl) ∙ e
+fails-with s false f e = refl

@@ -45,8 +45,6 @@ pub(crate) const PRECISION: usize = 16;
 
 pub(crate) const NAME_LENGTH: usize = 20;
 
-pub(crate) const RESERVED: usize = 21;
-
 pub(crate) const NAME: usize = 24;
 
 pub(crate) const MOST_NAME_LENGTH: usize = 48;

@@ -9,6 +9,14 @@ use crate::number::number16;
 use crate::number::number32;
 use crate::number::signed32;
 
+// The bytes of a block that are in no slot.
+const BESIDE_SLOTS: usize = layout::BLOCK_SIZE - layout::SLOTS_IN_BLOCK * layout::SLOT_SIZE;
+
+// A seventh, rounded up, in parts of which a whole has so many: exact enough for the number of any node.
+const SEVENTH: usize = 9363;
+
+const WHOLE: usize = 65536;
+
 // A slot's numbers, as its bytes have them.
 pub struct Slot {
     pub physical: u8,
@@ -38,14 +46,13 @@ pub fn slot_at(sheet: &[u8], node: usize) -> Slot
     numbers_of(&sheet[start..start + layout::SLOT_SIZE])
 }
 
-// Where the slot of a node starts.
+// Where the slot of a node starts: behind the slots before it, and what else each whole block before it has.
 pub(crate) fn slot_start(node: usize) -> usize
     requires { ⌜ node < mostNodes ⌝ }
     ensures { λ r. ⌜ r ≡ slotStart node ⌝ }
 {
-    layout::BLOCK_SIZE * (node / layout::SLOTS_IN_BLOCK)
-        + layout::FIRST_SLOT
-        + layout::SLOT_SIZE * (node % layout::SLOTS_IN_BLOCK)
+    let block = node * SEVENTH / WHOLE;
+    layout::FIRST_SLOT + layout::SLOT_SIZE * node + BESIDE_SLOTS * block
 }
 
 fn numbers_of(slot: &[u8]) -> Slot

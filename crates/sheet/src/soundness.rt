@@ -1,21 +1,29 @@
 // Whether a slot is sound: its codes stand in the lists of document 01, and zeros stand where zeros must.
 ghost use mathlib.Core.Path.{_≡_};
-ghost use Prim.Native.Nat.{ℕ, _+_, _≤_, _<_};
-ghost use lib.ListN.{length, getD};
+ghost use Prim.Native.Nat.{_+_, _≤_, _<_};
+ghost use lib.ListN.{length, drop};
 ghost use Rattle.sheet.specs.Block.{slotSize, mostNodes, totalOf};
-ghost use Rattle.sheet.specs.Slot.{slotStart};
+ghost use Rattle.sheet.specs.Slot.{nameAt, slotStart};
 ghost use Rattle.sheet.specs.Sound.{listed as Sound·listed, logicalListed, allZero, codesListed, nameRight, slotSound, slotRight};
+ghost use Rattle.sheet.specs.Steps.{pairSize, stretchZero};
 use crate::layout;
 use crate::number::number32;
-use crate::number::wide;
+use crate::number::number64;
 use crate::slots::slot_start;
 use parquet::converted;
 use parquet::logical;
 use parquet::physical;
 use parquet::repetition;
 
-// The bytes of a number that is compared with zero at once.
-const WORD: usize = 4;
+// The bytes of a word, a number that is compared with zero at once, and of a pair of words.
+const WORD: usize = 8;
+
+const PAIR: usize = 2 * WORD;
+
+// Where the last pair of a slot starts, and the one before it.
+const LAST_PAIR: usize = layout::SLOT_SIZE - PAIR;
+
+const PAIR_BEFORE: usize = LAST_PAIR - PAIR;
 
 // Whether the slot of number k is sound where k is a node's, and zero where it is not.
 pub(crate) fn slot_right(sheet: &[u8], k: usize, total: usize) -> bool
@@ -29,7 +37,7 @@ pub(crate) fn slot_right(sheet: &[u8], k: usize, total: usize) -> bool
     if k < total {
         return slot_sound(slot);
     }
-    all_zero(slot)
+    slot_zero(slot)
 }
 
 fn slot_sound(slot: &[u8]) -> bool
@@ -70,29 +78,66 @@ fn codes_listed(slot: &[u8]) -> bool
     logical_listed(slot[layout::LOGICAL])
 }
 
+// Whether the name length, the zero bytes behind it and those behind the name are right. The length and the bytes behind it are
+// one number, which is 1 to 48 just where they are right.
 fn name_right(slot: &[u8]) -> bool
     requires { ⌜ length (now slot) ≡ slotSize ⌝ }
     ensures { λ r. ⌜ r ≡ nameRight (now (slot .entry)) ⌝ }
 {
-    let n = wide(slot[layout::NAME_LENGTH]) as usize;
+    let n = number32(slot, layout::NAME_LENGTH) as usize;
     if n < 1 {
         return false;
     }
     if n > layout::MOST_NAME_LENGTH {
         return false;
     }
-    if !all_zero(&slot[layout::RESERVED..layout::NAME]) {
-        return false;
-    }
-    all_zero(&slot[layout::NAME + n..])
+    zero_from(slot, layout::NAME + n)
 }
 
-fn all_zero(bytes: &[u8]) -> bool
-    ensures { λ r. ⌜ r ≡ allZero (now (bytes .entry)) ⌝ }
+// Whether an unused slot is zero.
+fn slot_zero(slot: &[u8]) -> bool
+    requires { ⌜ length (now slot) ≡ slotSize ⌝ }
+    ensures { λ r. ⌜ r ≡ allZero (now (slot .entry)) ⌝ }
 {
-    let mut i = zero_words(bytes);
-    while i < bytes.len() {
-        if bytes[i] != 0 {
+    if !pair_zero(slot, 0) {
+        return false;
+    }
+    if !pair_zero(slot, WORD) {
+        return false;
+    }
+    zero_from(slot, layout::NAME)
+}
+
+// Whether a slot is zero from a byte of its name on: by pairs of words, of which some bytes may stand in two.
+fn zero_from(slot: &[u8], from: usize) -> bool
+    requires { ⌜ length (now slot) ≡ slotSize ⌝ }
+    requires { ⌜ nameAt ≤ from ⌝ }
+    requires { ⌜ from ≤ slotSize ⌝ }
+    ensures { λ r. ⌜ r ≡ allZero (drop from (now (slot .entry))) ⌝ }
+{
+    if from > LAST_PAIR {
+        return few_zero(slot, from);
+    }
+    if !pair_zero(slot, from) {
+        return false;
+    }
+    if !pair_zero(slot, LAST_PAIR) {
+        return false;
+    }
+    if from > PAIR_BEFORE {
+        return true;
+    }
+    pair_zero(slot, PAIR_BEFORE)
+}
+
+// The same byte by byte, for a rest that is shorter than a pair of words.
+fn few_zero(slot: &[u8], from: usize) -> bool
+    requires { ⌜ from ≤ length (now slot) ⌝ }
+    ensures { λ r. ⌜ r ≡ allZero (drop from (now (slot .entry))) ⌝ }
+{
+    let mut i = from;
+    while i < slot.len() {
+        if slot[i] != 0 {
             return false;
         }
         i += 1;
@@ -100,19 +145,17 @@ fn all_zero(bytes: &[u8]) -> bool
     true
 }
 
-// How many bytes at the front are zero, as far as whole words tell.
-fn zero_words(bytes: &[u8]) -> usize
-    ensures { λ r. ⌜ r ≤ length (now (bytes .entry)) ⌝ }
-    ensures { λ r. ⌜ ((k : ℕ) → k < r → getD (now (bytes .entry)) k 0 ≡ 0) ⌝ }
+// Whether two words are zero. Both are read before either is compared, so that they are compared together.
+fn pair_zero(slot: &[u8], at: usize) -> bool
+    requires { ⌜ at + pairSize ≤ length (now slot) ⌝ }
+    ensures { λ r. ⌜ r ≡ stretchZero (now (slot .entry)) at pairSize ⌝ }
 {
-    let mut i = 0;
-    while bytes.len() - i >= WORD {
-        if number32(bytes, i) != 0 {
-            return i;
-        }
-        i += WORD;
+    let low = number64(slot, at);
+    let high = number64(slot, at + WORD);
+    if low != 0 {
+        return false;
     }
-    i
+    high == 0
 }
 
 // Whether a code is in the list from 0 to last, or the one beside it.

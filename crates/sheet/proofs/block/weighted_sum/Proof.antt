@@ -1,78 +1,67 @@
--- `sheet::block::weighted_sum` meets its contract. The invariant: the sum so far is that of the bytes passed, and at most 510 times 255 for each.
-use mathlib.Core.Path.{_≡_, sym, ap, ap₂, _∙_}
-use Prim.Native.Nat.{ℕ, _+_, _*_, _≤_, _-_}
+-- `sheet::block::weighted_sum` meets its contract: of the sum over the whole block, what the bytes of the check add is taken off.
+use mathlib.Core.Path.{_≡_}
+use mathlib.Core.List.{List}
+use Prim.Native.Nat.{ℕ, _+_, _*_}
 use native.Mathlib.Omega.{arith}
+use lib.ListN.{getD}
 use borrow.Author.Needs.{needs}
-use Rattle.sheet.specs.Block.{checkAt}
+use Rattle.sheet.specs.Block.{blockSize, checkAt}
 use Rattle.sheet.specs.Check.{sumBelow, weighted}
-use Rattle.sheet.proofs.CheckLaws.{weight-le, sumBelow-more}
+use Rattle.sheet.proofs.CheckLaws.{sumBelow-more}
 use Rattle.sheet.proofs.block.weighted_sum.Statement.{statement}
 use Rattle.sheet.proofs.block.weighted_sum.Tie as tie
 
-abbrev Inv-loop : tie.InvT-loop
-Inv-loop block sum₀ i₀ sum i = (i ≤ checkAt) × (sum ≡ sumBelow (weighted block) i) × (sum ≤ checkAt * 255 * i)
+-- the sum over the whole block, by its parts
+whole : (block : List ℕ)
+    → sumBelow (weighted block) blockSize ≡ sumBelow (weighted block) checkAt + (checkAt + 1) * getD block checkAt 0 + (checkAt + 2) * getD block (checkAt + 1) 0
+unfolding weighted
+whole block = omega (arith, sumBelow-more (weighted block) checkAt, sumBelow-more (weighted block) (checkAt + 1))
 
-abbrev μ-loop : tie.MeasureT-loop
-μ-loop block sum₀ i₀ sum i = checkAt - i
+shared-slice-read-wide : tie.Need-shared-slice-read-wide
+shared-slice-read-wide c = search needs
 
-front-sum-requires : tie.Need-front-sum-requires Inv-loop μ-loop
-front-sum-requires c κs = search needs
-
-loop-holds : tie.Need-loop-holds Inv-loop μ-loop
-loop-holds c = (omega arith, c .front-sum .ensures .0, c .front-sum .ensures .1)
-
-cast-sum : tie.Need-cast-sum Inv-loop μ-loop
-cast-sum c = omega arith
-
-add-sum : tie.Need-add-sum Inv-loop μ-loop
-add-sum c = omega arith
-
-shared-slice-read-wide : tie.Need-shared-slice-read-wide Inv-loop μ-loop
-shared-slice-read-wide c = omega arith
-
-wide-requires : tie.Need-wide-requires Inv-loop μ-loop
+wide-requires : tie.Need-wide-requires
 wide-requires c κs = search needs
 
-bound : (c : tie.After-wide Inv-loop μ-loop) → (c .before .before .before .loop .i + 1) * c .wide .result ≤ checkAt * 255
-bound c = weight-le _ _ (omega arith) (c .wide .ensures .1)
+add-wide : tie.Need-add-wide
+add-wide c = search needs
 
-mul-sum : tie.Need-mul-sum Inv-loop μ-loop
-mul-sum c = omega (arith, bound c)
+shared-slice-read-wide-2 : tie.Need-shared-slice-read-wide-2
+shared-slice-read-wide-2 c = search needs
 
-add-sum-2 : tie.Need-add-sum-2 Inv-loop μ-loop
-add-sum-2 c = omega (arith, bound c)
+wide-requires-2 : tie.Need-wide-requires-2
+wide-requires-2 c κs = search needs
 
-add-i : tie.Need-add-i Inv-loop μ-loop
-add-i c = omega arith
+whole-sum-requires : tie.Need-whole-sum-requires
+whole-sum-requires c κs = search needs
 
-loop-less : tie.Need-loop-less Inv-loop μ-loop
-loop-less c = omega arith
+mul-result : tie.Need-mul-result
+mul-result c = search needs
 
-loop-again : tie.Need-loop-again Inv-loop μ-loop
-unfolding weighted
-loop-again c =
-    let own = c .before .before .before .loop in
-    let more = ap₂ _+_ (own .inv .1) (ap (λ (byte : ℕ). (own .i + 1) * byte) (c .wide .ensures .0)) in
-    (omega arith, more ∙ sym (sumBelow-more _ (own .i)), omega (arith, bound c))
+sub-result : tie.Need-sub-result
+sub-result c = omega (arith, whole (c .before .before .before .before .before .before .args .block .now))
 
-returns : tie.Need-returns Inv-loop μ-loop
-returns c = c .before .loop .inv .1 ∙ ap (sumBelow _) (omega arith)
+mul-result-2 : tie.Need-mul-result-2
+mul-result-2 c = search needs
+
+sub-result-2 : tie.Need-sub-result-2
+sub-result-2 c = omega (arith, whole (c .before .before .before .before .before .before .args .block .now))
+
+returns : tie.Need-returns
+returns c = omega (arith, whole (c .before .before .before .before .before .before .args .block .now))
 
 pub weighted-sum-spec : {M : Type 1} → statement M
 weighted-sum-spec =
     tie.close
     (tie.spec
-    Inv-loop
-    μ-loop
-    front-sum-requires
-    loop-holds
-    cast-sum
-    add-sum
     shared-slice-read-wide
     wide-requires
-    mul-sum
-    add-sum-2
-    add-i
-    loop-less
-    loop-again
+    add-wide
+    shared-slice-read-wide-2
+    wide-requires-2
+    whole-sum-requires
+    mul-result
+    sub-result
+    mul-result-2
+    sub-result-2
     returns)

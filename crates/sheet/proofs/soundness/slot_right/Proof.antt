@@ -33,15 +33,15 @@ returns c =
     let slot = slotAt-slice (a .sheet .now) (a .k) _ (c .before .before .before .slot-start .ensures) there in
     c .slot-sound .ensures ∙ ap slotSound slot ∙ sym (slotRight-used (a .sheet .now) (a .k) (omega arith))
 
-all-zero-requires : tie.Need-all-zero-requires
-all-zero-requires c κs = search needs
+slot-zero-requires : tie.Need-slot-zero-requires
+slot-zero-requires c κs = search needs
 
 returns-2 : tie.Need-returns-2
 returns-2 c =
     let a = c .before .before .before .before .before .args in
     let there = reaches-true (a .sheet .now) (a .k) (c .before .before .before .before .before .pre .0) (c .before .before .before .before .before .pre .1 .0) in
     let slot = slotAt-slice (a .sheet .now) (a .k) _ (c .before .before .before .slot-start .ensures) there in
-    c .all-zero .ensures ∙ ap allZero slot ∙ sym (slotRight-unused (a .sheet .now) (a .k) (omega arith))
+    c .slot-zero .ensures ∙ ap allZero slot ∙ sym (slotRight-unused (a .sheet .now) (a .k) (omega arith))
 
 pub slot-right-spec : {M : Type 1} → statement M
 slot-right-spec =
@@ -54,5 +54,5 @@ slot-right-spec =
     part-slot-end
     slot-sound-requires
     returns
-    all-zero-requires
+    slot-zero-requires
     returns-2)
