@@ -20,7 +20,7 @@ const FLOAT_BYTES: usize = 4;
 const DOUBLE_BYTES: usize = 8;
 
 // Whether a value of the column may have so many bytes.
-pub(crate) fn length_right(c: ColumnType, n: usize) -> bool
+pub fn length_right(c: ColumnType, n: usize) -> bool
     ensures { λ r. ⌜ r ≡ lengthRight c n ⌝ }
 {
     if n > MOST_BYTES {

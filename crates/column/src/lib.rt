@@ -16,6 +16,7 @@ pub mod reading;
 pub mod value;
 
 pub use lengths::is_byte_decimal;
+pub use lengths::length_right;
 pub use reading::read;
 pub use reading::read_lawful;
 pub use value::Read;

@@ -4,12 +4,11 @@ ghost use mathlib.Core.Bool.{true, false, cond};
 ghost use Prim.Native.Nat.{_*_, _<_, _≤_, _^_};
 ghost use lib.Dec.{eqb};
 ghost use lib.ListN.{length};
-ghost use Rattle.decimal.specs.Precision.{isLength};
 ghost use Rattle.parquet.specs.Physical.{INT32};
-ghost use Rattle.parquet.specs.Logical.{DECIMAL, UNKNOWN};
+ghost use Rattle.parquet.specs.Logical.{UNKNOWN};
 ghost use Rattle.column.specs.Numbers.{little, twosComplement};
 ghost use Rattle.column.specs.Lengths.{isByteForm, lengthRight};
-ghost use Rattle.column.specs.Annotations.{isWhole, isTruth, wholeKeeps, bytesKeep, keeps};
+ghost use Rattle.column.specs.Annotations.{isWhole, isTruth, wholeKeeps, keeps};
 ghost use Rattle.column.specs.Reading.{wholeValue, valueOf, checked, readOf, readLawful};
 ghost use Rattle.column.specs.Outcome.{outcomeOf, outcome};
 use crate::annotations::bytes_keep;
@@ -58,7 +57,10 @@ fn read_present(c: ColumnType, value: &[u8]) -> Read
     ensures { λ r. ⌜ r ≡ checked (keeps c (now (value .entry))) (valueOf c (now (value .entry))) ⌝ }
 {
     if is_byte_form(c) {
-        return read_bytes(c, value);
+        if !bytes_keep(c, value) {
+            return Read::BreaksAnnotation;
+        }
+        return Read::Value(stretch(value.len()));
     }
     if is_whole(c) {
         return read_whole(c, little(value), sign_weight(c.physical));
@@ -119,17 +121,6 @@ fn read_whole(c: ColumnType, n: u64, weight: u64) -> Read
         return Read::Value(Value::Unsigned(n));
     }
     Read::Value(Value::Signed(signed(n, weight)))
-}
-
-// A byte form. A decimal has 1 to 256 bytes.
-fn read_bytes(c: ColumnType, value: &[u8]) -> Read
-    requires { ⌜ ((eqb (c .kind) DECIMAL ≡ true) → isLength (length (now value)) ≡ true) ⌝ }
-    ensures { λ r. ⌜ r ≡ checked (bytesKeep c (now (value .entry))) (Value.Bytes 0 (length (now (value .entry)))) ⌝ }
-{
-    if !bytes_keep(c, value) {
-        return Read::BreaksAnnotation;
-    }
-    Read::Value(stretch(value.len()))
 }
 
 // All of so many bytes.

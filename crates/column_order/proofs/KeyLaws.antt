@@ -10,7 +10,6 @@ use lib.IntN.{pos}
 use lib.ListN.{length}
 use borrow.Author.Tests.{leb-true, eqb-true, eqb-false}
 use Rattle.column_type.specs.declared.types.ColumnType.{ColumnType}
-use Rattle.decimal.specs.Precision.{isLength}
 use Rattle.decimal.specs.Number.{number}
 use Rattle.parquet.specs.Physical.{BOOLEAN, INT32, INT64, FLOAT, DOUBLE, BYTE-ARRAY, FIXED-LEN-BYTE-ARRAY}
 use Rattle.parquet.specs.Logical.{DECIMAL, UNKNOWN}
@@ -22,10 +21,9 @@ use Rattle.column.specs.declared.value.Value.{Value}
 use Rattle.column.specs.declared.value.Value.the-variants.{Truth, Signed, Unsigned, Float, Double, Bytes}
 use Rattle.column.specs.declared.value.Read.{Read}
 use Rattle.laws.proofs.BoolLaws.{and-left, and-right}
-use Rattle.column.proofs.LengthLaws.{decimal-right}
 use Rattle.column.proofs.ReadingLaws.{reads}
 use Rattle.column_order.specs.Keys.{Key, whole, bytes, numberOf, floatKey, keyOf, wholeOrder, byteOrder, keyOrder}
-use Rattle.column_order.specs.Values.{flag, truthOrder, signedOrder, unsignedOrder, singleOrder, doubleOrder, stretchOrder}
+use Rattle.column_order.specs.Values.{flag, truthOrder, signedOrder, unsignedOrder, singleOrder, doubleOrder}
 use Rattle.column_order.specs.declared.answer.Order.{Order}
 use Rattle.column_order.proofs.FloatLaws.{floatOrder-bits}
 
@@ -58,7 +56,7 @@ module _ (c : ColumnType) where
       go true p f = ap form (eqb-true (c .physical) INT32 p)
       go false p f = ap form (eqb-true (c .physical) INT64 f)
 
-  byte-number : (bs : List ℕ) → isByteDecimal c ≡ true → numberOf c bs ≡ number bs
+  pub byte-number : (bs : List ℕ) → isByteDecimal c ≡ true → numberOf c bs ≡ number bs
   unfolding numberOf
   byte-number bs e = rw (and-left (isByteForm c) (eqb (c .kind) DECIMAL) e)
 
@@ -72,28 +70,24 @@ module _ (c : ColumnType) (a b : List ℕ) where
   truths p q e = ap₂ (λ (m n : ℕ). wholeOrder (pos m) (pos n)) (flag-truth (little a) (truth-kept c a p e)) (flag-truth (little b) (truth-kept c b q e))
 
   wholes : isWhole c ≡ true
-      → valueOrder (stretchOrder c a b) (wholeValue c (little a) (signed a)) (wholeValue c (little b) (signed b))
+      → valueOrder (byteOrder a b) (wholeValue c (little a) (signed a)) (wholeValue c (little b) (signed b))
       ≡ wholeOrder (cond (isUnsigned c) (pos (little a)) (numberOf c a)) (cond (isUnsigned c) (pos (little b)) (numberOf c b))
   wholes e = go (isUnsigned c)
     where
-      go : (t : Bool) → valueOrder (stretchOrder c a b) (cond t (Unsigned (little a)) (Signed (signed a))) (cond t (Unsigned (little b)) (Signed (signed b)))
+      go : (t : Bool) → valueOrder (byteOrder a b) (cond t (Unsigned (little a)) (Signed (signed a))) (cond t (Unsigned (little b)) (Signed (signed b)))
           ≡ wholeOrder (cond t (pos (little a)) (numberOf c a)) (cond t (pos (little b)) (numberOf c b))
       go true = refl
       go false = ap₂ wholeOrder (sym (whole-signed c a e)) (sym (whole-signed c b e))
 
-  stretches : stretchOrder c a b ≡ keyOrder (cond (isByteDecimal c) (whole (numberOf c a)) (bytes a)) (cond (isByteDecimal c) (whole (numberOf c b)) (bytes b))
-  unfolding stretchOrder keyOrder
-  stretches = go (isByteDecimal c) refl
-    where
-      go : (t : Bool) → isByteDecimal c ≡ t → cond t (wholeOrder (number a) (number b)) (byteOrder a b)
-          ≡ keyOrder (cond t (whole (numberOf c a)) (bytes a)) (cond t (whole (numberOf c b)) (bytes b))
-      go true e = ap₂ wholeOrder (sym (byte-number c a e)) (sym (byte-number c b e))
-      go false e = refl
+  stretches : isByteDecimal c ≡ false
+      → byteOrder a b ≡ keyOrder (cond (isByteDecimal c) (whole (numberOf c a)) (bytes a)) (cond (isByteDecimal c) (whole (numberOf c b)) (bytes b))
+  unfolding keyOrder
+  stretches d = rw d
 
-  pub value-order : keeps c a ≡ true → keeps c b ≡ true
-      → valueOrder (stretchOrder c a b) (valueOf c a) (valueOf c b) ≡ keyOrder (keyOf c a) (keyOf c b)
+  pub value-order : isByteDecimal c ≡ false → keeps c a ≡ true → keeps c b ≡ true
+      → valueOrder (byteOrder a b) (valueOf c a) (valueOf c b) ≡ keyOrder (keyOf c a) (keyOf c b)
   unfolding valueOf keyOf keyOrder
-  value-order p q = go (eqb (c .physical) BOOLEAN) refl (isWhole c) refl (eqb (c .physical) FLOAT) (eqb (c .physical) DOUBLE)
+  value-order d p q = go (eqb (c .physical) BOOLEAN) refl (isWhole c) refl (eqb (c .physical) FLOAT) (eqb (c .physical) DOUBLE)
     where
       value : Bool → Bool → Bool → Bool → List ℕ → Value
       value t w f d bs =
@@ -109,22 +103,16 @@ module _ (c : ColumnType) (a b : List ℕ) where
           (cond d (floatKey binary64 (little bs)) (cond (isByteDecimal c) (whole (numberOf c bs)) (bytes bs)))))
 
       go : (t : Bool) → eqb (c .physical) BOOLEAN ≡ t → (w : Bool) → isWhole c ≡ w → (f d : Bool)
-          → valueOrder (stretchOrder c a b) (value t w f d a) (value t w f d b) ≡ keyOrder (key t w f d a) (key t w f d b)
+          → valueOrder (byteOrder a b) (value t w f d a) (value t w f d b) ≡ keyOrder (key t w f d a) (key t w f d b)
       go true e w i f d = truths p q e
       go false e true i f d = wholes i
       go false e false i true d = floatOrder-bits binary32 (little a) (little b)
       go false e false i false true = floatOrder-bits binary64 (little a) (little b)
-      go false e false i false false = stretches
+      go false e false i false false = stretches d
 
-module _ (c : ColumnType) (a b : List ℕ) (x y : Value) (p : readOf c a ≡ Read.Value x) (q : readOf c b ≡ Read.Value y) where
-  pub read-order : valueOrder (stretchOrder c a b) x y ≡ keyOrder (keyOf c a) (keyOf c b)
-  read-order =
-      let r = reads c a x p in
-      let s = reads c b y q in
-      ap₂ (valueOrder (stretchOrder c a b)) (r .value) (s .value) ∙ value-order c a b (r .kept) (s .kept)
-
-  pub read-lengths : isByteDecimal c ≡ true → (isLength (length a) ≡ true) × (isLength (length b) ≡ true)
-  read-lengths e =
-      let form = and-left (isByteForm c) (eqb (c .kind) DECIMAL) e in
-      let kind = and-right (isByteForm c) (eqb (c .kind) DECIMAL) e in
-      (decimal-right c (length a) (reads c a x p .right) form kind, decimal-right c (length b) (reads c b y q .right) form kind)
+pub read-order : (c : ColumnType) (a b : List ℕ) (x y : Value) → isByteDecimal c ≡ false → readOf c a ≡ Read.Value x → readOf c b ≡ Read.Value y
+    → valueOrder (byteOrder a b) x y ≡ keyOrder (keyOf c a) (keyOf c b)
+read-order c a b x y d p q =
+    let r = reads c a x p in
+    let s = reads c b y q in
+    ap₂ (valueOrder (byteOrder a b)) (r .value) (s .value) ∙ value-order c a b d (r .kept) (s .kept)

@@ -5,3 +5,4 @@ pub mod ByteLaws
 pub mod FloatLaws
 pub mod KeyLaws
 pub mod OrderLaws
+pub mod DecimalLaws

@@ -161,7 +161,7 @@ module _ (c : ColumnType) (ordered : hasOrder c ≡ true) where
 -- ---- decimals
 
 -- the physical types that a DECIMAL can have: "DECIMAL: INT32, INT64, FIXED, BYTE_ARRAY" (rule 10)
-abbrev TakesDecimal : ColumnType → Type 0
+abbrev pub TakesDecimal : ColumnType → Type 0
 TakesDecimal c = (c .physical ≡ INT32) ⊎ ((c .physical ≡ INT64) ⊎ ((c .physical ≡ FIXED-LEN-BYTE-ARRAY) ⊎ (c .physical ≡ BYTE-ARRAY)))
 
 or-cases : (a b : Bool) → (a || b) ≡ true → (a ≡ true) ⊎ (b ≡ true)
@@ -175,7 +175,7 @@ lawful-on c l k =
     let slot = and-right (fits c && isLeaf (c .physical) && lengthShape (c .physical) (pos (c .«type_length»))) (annotationRight (slotOf c)) l in
     rw k at (and-right (rule9 (slotOf c)) (rule10 (slotOf c) false) (and-left (rule9 (slotOf c) && rule10 (slotOf c) false) (rule11 (slotOf c) false) slot))
 
-takes-decimal : (c : ColumnType) → isLawful c ≡ true → c .kind ≡ DECIMAL → TakesDecimal c
+pub takes-decimal : (c : ColumnType) → isLawful c ≡ true → c .kind ≡ DECIMAL → TakesDecimal c
 takes-decimal c l k =
     ⊎-elim
     (λ three. ⊎-elim
@@ -194,7 +194,7 @@ decimal-ordered c k (inr (inl e)) = rw (k, e)
 decimal-ordered c k (inr (inr (inl e))) = rw (k, e)
 decimal-ordered c k (inr (inr (inr e))) = rw (k, e)
 
-decimal-key : (c : ColumnType) (bs : List ℕ) → c .kind ≡ DECIMAL → TakesDecimal c → keyOf c bs ≡ whole (numberOf c bs)
+pub decimal-key : (c : ColumnType) (bs : List ℕ) → c .kind ≡ DECIMAL → TakesDecimal c → keyOf c bs ≡ whole (numberOf c bs)
 unfolding keyOf
 decimal-key c bs k (inl e) = rw (k, e)
 decimal-key c bs k (inr (inl e)) = rw (k, e)

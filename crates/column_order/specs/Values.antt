@@ -2,17 +2,13 @@
 -- a promise to a caller: that it is the order of the keys of their bytes is proved.
 use Prim.Native.Nat.{ℕ}
 use mathlib.Core.Bool.{Bool, cond}
-use mathlib.Core.List.{List}
 use lib.Ieee as Ieee
 use lib.IntN.{ℤ, pos}
-use Rattle.column_type.specs.declared.types.ColumnType.{ColumnType}
-use Rattle.decimal.specs.Number.{number}
-use Rattle.column.specs.Lengths.{isByteDecimal}
 use Rattle.column.specs.declared.value.Value.{Value}
 use Rattle.column.specs.declared.value.Value.the-variants.{Truth, Signed, Unsigned, Float, Double, Bytes}
 use Rattle.column_order.specs.declared.answer.Order.{Order}
 use Rattle.column_order.specs.declared.answer.Order.the-variants.{Less, Equal, Greater, Unordered}
-use Rattle.column_order.specs.Keys.{wholeOrder, byteOrder}
+use Rattle.column_order.specs.Keys.{wholeOrder}
 
 -- a truth value as its byte has it
 abbrev pub flag : Bool → ℕ
@@ -62,7 +58,3 @@ doubleOrder x (Unsigned n) = Unordered
 doubleOrder x (Float y) = Unordered
 doubleOrder x (Double y) = floatOrder x y
 doubleOrder x (Bytes s n) = Unordered
-
--- two stretches of bytes: decimals as numbers, and others byte by byte
-unfoldable pub stretchOrder : ColumnType → List ℕ → List ℕ → Order
-stretchOrder c a b = cond (isByteDecimal c) (wholeOrder (number a) (number b)) (byteOrder a b)

@@ -2,6 +2,8 @@
 
 // What ordering answers.
 pub mod answer;
+// The order of two decimals in bytes.
+mod decimals;
 // The order of two DOUBLEs.
 mod doubles;
 // The order of two FLOATs.

@@ -1,12 +1,17 @@
 // Ordering two values of a column.
 ghost use mathlib.Core.Path.{_≡_};
+ghost use mathlib.Core.Bool.{true, false};
+ghost use Rattle.column_type.specs.Lawful.{isLawful};
+ghost use Rattle.column.specs.Lengths.{isByteDecimal};
 ghost use Rattle.column.specs.Reading.{readOf};
 ghost use Rattle.column.specs.declared.value.Read as declared;
 ghost use Rattle.column_order.specs.Keys.{keyOf, keyOrder};
 ghost use Rattle.column_order.specs.Order.{hasOrder, unlessRefused, orderOf};
+ghost use Rattle.column_order.specs.Steps.{valuesOrder};
 ghost use Rattle.column_order.specs.Outcome.{outcomeOf, outcome};
 use crate::answer::Order;
-use crate::stretches::compare_stretches;
+use crate::decimals::order_decimals;
+use crate::stretches::order_bytes;
 use crate::values::compare_double;
 use crate::values::compare_float;
 use crate::values::compare_signed;
@@ -28,12 +33,10 @@ pub fn order(c: ColumnType, a: &[u8], b: &[u8]) -> Order
     if !has_order(c) {
         return Order::NoOrder;
     }
-    match column::read_lawful(c, a) {
-        Read::Value(x) => order_after(c, x, a, b),
-        Read::Unlawful => Order::Unlawful,
-        Read::WrongLength => Order::WrongLength,
-        Read::BreaksAnnotation => Order::BreaksAnnotation,
+    if column::is_byte_decimal(c) {
+        return order_decimals(c, a, b);
     }
+    order_others(c, a, b)
 }
 
 // Whether the column has an order.
@@ -46,9 +49,22 @@ fn has_order(c: ColumnType) -> bool
     c.kind != codes::INTERVAL
 }
 
+// The order of two values in a column of anything but decimals in bytes.
+fn order_others(c: ColumnType, a: &[u8], b: &[u8]) -> Order
+    requires { ⌜ (isLawful c ≡ true) × (isByteDecimal c ≡ false) ⌝ }
+    ensures { λ r. ⌜ r ≡ valuesOrder c (now (a .entry)) (now (b .entry)) ⌝ }
+{
+    match column::read_lawful(c, a) {
+        Read::Value(x) => order_after(c, x, a, b),
+        Read::Unlawful => Order::Unlawful,
+        Read::WrongLength => Order::WrongLength,
+        Read::BreaksAnnotation => Order::BreaksAnnotation,
+    }
+}
+
 // The order of a first value that was read against a second.
 fn order_after(c: ColumnType, x: Value, a: &[u8], b: &[u8]) -> Order
-    requires { ⌜ readOf c (now a) ≡ declared.Read.Value x ⌝ }
+    requires { ⌜ (readOf c (now a) ≡ declared.Read.Value x) × (isByteDecimal c ≡ false) ⌝ }
     ensures { λ r. ⌜ r ≡ unlessRefused (readOf c (now (b .entry))) (keyOrder (keyOf c (now (a .entry))) (keyOf c (now (b .entry)))) ⌝ }
 {
     match column::read_lawful(c, b) {
@@ -59,9 +75,9 @@ fn order_after(c: ColumnType, x: Value, a: &[u8], b: &[u8]) -> Order
     }
 }
 
-// The order of two values that were read: of stretches over their bytes, of others by their cases.
+// The order of two values that were read: of stretches byte by byte, of others by their cases.
 fn order_read(c: ColumnType, x: Value, a: &[u8], y: Value, b: &[u8]) -> Order
-    requires { ⌜ (readOf c (now a) ≡ declared.Read.Value x) × (readOf c (now b) ≡ declared.Read.Value y) ⌝ }
+    requires { ⌜ (readOf c (now a) ≡ declared.Read.Value x) × (readOf c (now b) ≡ declared.Read.Value y) × (isByteDecimal c ≡ false) ⌝ }
     ensures { λ r. ⌜ r ≡ keyOrder (keyOf c (now (a .entry))) (keyOf c (now (b .entry))) ⌝ }
 {
     match x {
@@ -70,6 +86,6 @@ fn order_read(c: ColumnType, x: Value, a: &[u8], y: Value, b: &[u8]) -> Order
         Value::Unsigned(p) => compare_unsigned(p, y),
         Value::Float(p) => compare_float(p, y),
         Value::Double(p) => compare_double(p, y),
-        Value::Bytes { start: _, len: _ } => compare_stretches(c, a, b),
+        Value::Bytes { start: _, len: _ } => order_bytes(a, b),
     }
 }

@@ -1,10 +1,12 @@
 -- What rules 9, 10 and 11 ask of the slot of a DECIMAL column. Assumes nothing.
 use Prim.Native.Nat.{ℕ, _<_}
 use mathlib.Core.Path.{_≡_, refl, sym, ap, _∙_}
-use mathlib.Core.Bool.{Bool, true, false, _&&_}
+use mathlib.Core.Bool.{Bool, true, false, true≢false, _&&_}
 use native.Mathlib.Omega.{arith}
 use lib.Dec.{leb, ltb, eqb, leb·zero}
-use borrow.Author.Tests.{ltb-true, le-leb}
+use borrow.Author.Tests.{leb-true, ltb-true, le-leb, lt-ltb, eqb-true}
+use Rattle.decimal.specs.Precision.{isLength}
+use Rattle.decimal.proofs.PrecisionLaws.{isLength-bounds}
 use Rattle.parquet.specs.Logical as logical
 use Rattle.annotation.specs.Signed.{natural}
 use Rattle.annotation.specs.Meaning.{annotationOf}
@@ -13,8 +15,10 @@ use Rattle.annotation.specs.Rule10.{decimalOn, rule10}
 use Rattle.annotation.specs.Rule11.{ordered, physicalHolds, decimalHolds, rule11}
 use Rattle.logical_type.specs.Parameters.{validParameters}
 use Rattle.logical_type.specs.Spelling.{namedOf, statedOf}
-use Rattle.column_type.specs.Lawful.{slotOf, annotationRight}
+use Rattle.column_type.specs.Lawful.{slotOf, byteNumbers, signedNumbers, fits, isLeaf, annotationRight, isLawful}
+use Rattle.column_type.specs.Steps.{standsOn}
 use Rattle.column_type.specs.declared.types.ColumnType.{ColumnType}
+use Rattle.column_type.proofs.FitsLaws.{isLeaf-upto}
 
 -- a scale below the precision leaves it at least 1
 below-some : (p s : ℕ) (t : Bool) → ltb s p ≡ t → ((leb 1 p && true) && ltb s p) ≡ ltb s p
@@ -43,3 +47,61 @@ decimal-kept c e =
     ∙ ap (λ (b : Bool). decimalOn (c .physical) && (((leb 1 (c .p1) && b) && ltb (c .p2) (c .p1)) && physicalHolds (c .physical) (c .«type_length») (c .p1))) (leb·zero (c .p2))
     ∙ ap (λ (b : Bool). decimalOn (c .physical) && (b && physicalHolds (c .physical) (c .«type_length») (c .p1))) (below-some (c .p1) (c .p2) (ltb (c .p2) (c .p1)) refl)
     ∙ swap (decimalOn (c .physical)) (ltb (c .p2) (c .p1)) (physicalHolds (c .physical) (c .«type_length») (c .p1))
+
+-- ---- a DECIMAL judged without its slot
+
+-- whole numbers, whose type length is 0
+pub stands-whole : (length : ℕ) (holds : Bool) → (eqb length 0 && holds) ≡ (ltb length signedNumbers && true && eqb length 0 && (true && holds))
+stands-whole length holds = go (eqb length 0) refl
+  where
+    never : (b : Bool) → ((b && true) && false) ≡ false
+    never true = refl
+    never false = refl
+
+    go : (t : Bool) → eqb length 0 ≡ t → (t && holds) ≡ (ltb length signedNumbers && true && t && (true && holds))
+    go true e = rw (eqb-true length 0 e)
+    go false e = sym (ap (λ (b : Bool). b && (true && holds)) (never (ltb length signedNumbers)))
+
+-- FIXED, whose type length is one of a decimal
+pub stands-fixed : (length : ℕ) (holds : Bool)
+    → (isLength length && holds) ≡ (ltb length signedNumbers && true && leb 1 length && (true && (isLength length && holds)))
+stands-fixed length holds = go (isLength length) refl
+  where
+    never : (a b : Bool) → false ≡ (a && true && b && false)
+    never true true = refl
+    never true false = refl
+    never false b = refl
+
+    go : (t : Bool) → isLength length ≡ t → (t && holds) ≡ (ltb length signedNumbers && true && leb 1 length && (true && (t && holds)))
+    go true e =
+        let bounds = isLength-bounds length e in
+        rw (lt-ltb length signedNumbers (omega (arith, bounds .1)), le-leb 1 length (bounds .0))
+    go false e = never (ltb length signedNumbers) (leb 1 length)
+
+-- the numbers that the other tests leave no room for
+lawful-tests : (p1 less fits leaf shape digits byte p2 : Bool) → (leaf ≡ true → byte ≡ true) → (p1 ≡ true → less ≡ true → p2 ≡ true)
+    → (p1 && less && (fits && leaf && shape && digits)) ≡ (byte && fits && true && p1 && p2 && leaf && shape && (less && digits))
+lawful-tests p1 less fits true shape digits false p2 f g = absurd (true≢false (sym (f refl)))
+lawful-tests true true true false shape digits false p2 f g = refl
+lawful-tests true true false false shape digits false p2 f g = refl
+lawful-tests true false fits false shape digits false p2 f g = refl
+lawful-tests false less fits false shape digits false p2 f g = refl
+lawful-tests true true false leaf shape digits true p2 f g = refl
+lawful-tests true false false leaf shape digits true p2 f g = refl
+lawful-tests false less false leaf shape digits true p2 f g = refl
+lawful-tests false less true leaf shape digits true p2 f g = refl
+lawful-tests true true true leaf shape digits true true f g = refl
+lawful-tests true true true leaf shape digits true false f g = absurd (true≢false (sym (g refl refl)))
+lawful-tests true false true true true digits true true f g = refl
+lawful-tests true false true true false digits true true f g = refl
+lawful-tests true false true false shape digits true true f g = refl
+lawful-tests true false true leaf shape digits true false f g = refl
+
+pub lawful-decimal : (c : ColumnType) → eqb (c .kind) logical.DECIMAL ≡ true
+    → (ltb (c .p1) signedNumbers && ltb (c .p2) (c .p1) && standsOn (c .physical) (c .«type_length») (c .p1)) ≡ isLawful c
+unfolding standsOn isLawful fits
+lawful-decimal c e =
+    rw (decimal-kept c e, e, eqb-true (c .kind) logical.DECIMAL e)
+    (lawful-tests (ltb (c .p1) signedNumbers) (ltb (c .p2) (c .p1)) (ltb (c .«type_length») signedNumbers) (isLeaf (c .physical)) _ _ (ltb (c .physical) byteNumbers) (ltb (c .p2) signedNumbers)
+    (λ l. lt-ltb (c .physical) byteNumbers (let h = leb-true (c .physical) 7 (isLeaf-upto (c .physical) ∙ l) in omega arith))
+    (λ p q. lt-ltb (c .p2) signedNumbers (let h = ltb-true (c .p1) signedNumbers p in let k = ltb-true (c .p2) (c .p1) q in omega arith)))

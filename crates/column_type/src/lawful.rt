@@ -1,19 +1,20 @@
 // Whether a column type is lawful: whether the slot of such a leaf keeps the rules.
 ghost use Prim.Native.Nat.{_<_};
 ghost use mathlib.Core.Path.{_≡_};
-ghost use mathlib.Core.Bool.{true, _&&_};
+ghost use mathlib.Core.Bool.{true, false};
+ghost use lib.Dec.{eqb};
 ghost use lib.IntN.{pos};
-ghost use Rattle.annotation.specs.Rule10.{decimalOn};
-ghost use Rattle.annotation.specs.Rule11.{physicalHolds, fixedHolds};
+ghost use Rattle.parquet.specs.Logical.{DECIMAL};
+ghost use Rattle.annotation.specs.Rule11.{fixedHolds};
 ghost use Rattle.tree.specs.Rules.{lengthShape};
-ghost use Rattle.column_type.specs.Lawful.{slotWith, slotOf, byteNumbers, signedNumbers, parameterNumbers, fits, isLeaf, annotationRight, isLawful};
+ghost use Rattle.column_type.specs.Lawful.{slotWith, slotOf, byteNumbers, signedNumbers, fits, isLeaf, annotationRight, isLawful};
+ghost use Rattle.column_type.specs.Steps.{standsOn};
 use crate::types::ColumnType;
 use annotation::Annotated;
 use annotation::refusal;
 use annotation::resolve;
 use decimal::greatest_precision;
 use decimal::is_length;
-use logical_type::parameters;
 use parquet::converted;
 use parquet::logical;
 use parquet::physical;
@@ -43,33 +44,60 @@ const NO_REFUSAL: u32 = 0;
 pub fn is_lawful(c: ColumnType) -> bool
     ensures { λ r. ⌜ r ≡ isLawful c ⌝ }
 {
+    if c.kind == wide(logical::DECIMAL) {
+        return decimal_lawful(c);
+    }
+    other_lawful(c)
+}
+
+// Judges a DECIMAL without its slot.
+fn decimal_lawful(c: ColumnType) -> bool
+    requires { ⌜ eqb (c .kind) DECIMAL ≡ true ⌝ }
+    ensures { λ r. ⌜ r ≡ isLawful c ⌝ }
+{
+    (c.p1 < SIGNED_NUMBERS) & (c.p2 < c.p1) & stands_on(c.physical, c.type_length, c.p1)
+}
+
+// Whether a DECIMAL of this precision may stand on a physical type and length, by rules 8, 10 and 11.
+fn stands_on(physical: u32, type_length: u32, precision: u32) -> bool
+    ensures { λ r. ⌜ r ≡ standsOn physical «type_length» precision ⌝ }
+{
+    match physical {
+        INT32 => (type_length == 0) & (precision <= INT32_DIGITS),
+        INT64 => (type_length == 0) & (precision <= INT64_DIGITS),
+        BYTE_ARRAY => type_length == 0,
+        FIXED_LEN_BYTE_ARRAY => fixed_holds(type_length, precision),
+        _ => false,
+    }
+}
+
+fn fixed_holds(type_length: u32, precision: u32) -> bool
+    ensures { λ r. ⌜ r ≡ fixedHolds «type_length» precision ⌝ }
+{
+    is_length(type_length as usize) & (precision <= greatest_precision(type_length))
+}
+
+// Judges any other kind by its slot.
+fn other_lawful(c: ColumnType) -> bool
+    requires { ⌜ eqb (c .kind) DECIMAL ≡ false ⌝ }
+    ensures { λ r. ⌜ r ≡ isLawful c ⌝ }
+{
     if !fits_slot(c) {
         return false;
     }
-    is_leaf(c.physical) & length_right(c.physical, c.type_length) & rules_kept(c)
+    is_leaf(c.physical) & length_right(c.physical, c.type_length) & annotation_right(slot(c))
 }
 
-// Whether each number fits its field of a slot.
+// Whether each number fits its field of a slot, of any kind but DECIMAL.
 fn fits_slot(c: ColumnType) -> bool
+    requires { ⌜ eqb (c .kind) DECIMAL ≡ false ⌝ }
     ensures { λ r. ⌜ r ≡ fits c ⌝ }
 {
-    let parameters = parameter_numbers(c.kind);
     (c.physical < BYTE_NUMBERS)
         & (c.type_length < SIGNED_NUMBERS)
         & (c.kind < BYTE_NUMBERS)
-        & (c.p1 < parameters)
-        & (c.p2 < parameters)
-}
-
-// How many numbers p1 and p2 can be: precision and scale of a DECIMAL, else a byte each.
-fn parameter_numbers(kind: u32) -> u32
-    ensures { λ r. ⌜ r ≡ parameterNumbers kind ⌝ }
-{
-    if kind == wide(logical::DECIMAL) {
-        SIGNED_NUMBERS
-    } else {
-        BYTE_NUMBERS
-    }
+        & (c.p1 < BYTE_NUMBERS)
+        & (c.p2 < BYTE_NUMBERS)
 }
 
 // The physical codes of leaves are those up to FIXED_LEN_BYTE_ARRAY.
@@ -89,36 +117,6 @@ fn length_right(physical: u32, type_length: u32) -> bool
     type_length == 0
 }
 
-// Whether the slot of such a leaf keeps rules 9, 10 and 11. A DECIMAL is judged without its slot.
-fn rules_kept(c: ColumnType) -> bool
-    requires { ⌜ fits c ≡ true ⌝ }
-    ensures { λ r. ⌜ r ≡ annotationRight (slotOf c) ⌝ }
-{
-    if c.kind == wide(logical::DECIMAL) {
-        return (c.p2 < c.p1) & holds_digits(c.physical, c.type_length, c.p1);
-    }
-    annotation_right(slot(c))
-}
-
-// Whether a DECIMAL of this precision may stand on a physical type and length, by rules 10 and 11.
-fn holds_digits(physical: u32, type_length: u32, precision: u32) -> bool
-    ensures { λ r. ⌜ r ≡ decimalOn physical && physicalHolds physical «type_length» precision ⌝ }
-{
-    match physical {
-        INT32 => precision <= INT32_DIGITS,
-        INT64 => precision <= INT64_DIGITS,
-        BYTE_ARRAY => true,
-        FIXED_LEN_BYTE_ARRAY => fixed_holds(type_length, precision),
-        _ => false,
-    }
-}
-
-fn fixed_holds(type_length: u32, precision: u32) -> bool
-    ensures { λ r. ⌜ r ≡ fixedHolds «type_length» precision ⌝ }
-{
-    is_length(type_length as usize) & (precision <= greatest_precision(type_length))
-}
-
 // Whether a slot keeps rules 9, 10 and 11, its parent no MAP.
 fn annotation_right(n: Annotated) -> bool
     ensures { λ r. ⌜ r ≡ annotationRight n ⌝ }
@@ -126,43 +124,24 @@ fn annotation_right(n: Annotated) -> bool
     refusal(resolve(n, false)) == NO_REFUSAL
 }
 
-// The slot of a leaf of a column type.
+// The slot of a leaf of a column type, of any kind but DECIMAL.
 fn slot(c: ColumnType) -> Annotated
-    requires { ⌜ fits c ≡ true ⌝ }
+    requires { ⌜ (fits c ≡ true) × (eqb (c .kind) DECIMAL ≡ false) ⌝ }
     ensures { λ r. ⌜ r ≡ slotOf c ⌝ }
 {
     let kind = c.kind;
-    if kind == wide(logical::DECIMAL) {
-        return slot_with(
-            c,
-            converted::NONE,
-            logical::DECIMAL,
-            parameters::UNUSED,
-            parameters::UNUSED,
-            c.p1,
-            c.p2,
-        );
-    }
     let a = byte(c.p1);
     let b = byte(c.p2);
     if kind == wide(converted::INTERVAL) {
-        return slot_with(c, converted::INTERVAL, logical::NONE, a, b, 0, 0);
+        return slot_with(c, converted::INTERVAL, logical::NONE, a, b);
     }
-    slot_with(c, converted::NONE, byte(kind), a, b, 0, 0)
+    slot_with(c, converted::NONE, byte(kind), a, b)
 }
 
-// A slot with the physical and the type length of a column type.
-fn slot_with(
-    c: ColumnType,
-    converted: u8,
-    logical: u8,
-    a: u8,
-    b: u8,
-    precision: u32,
-    scale: u32,
-) -> Annotated
-    requires { ⌜ (c .physical < byteNumbers) × (c .«type_length» < signedNumbers) × (precision < signedNumbers) × (scale < signedNumbers) ⌝ }
-    ensures { λ r. ⌜ r ≡ slotWith c converted logical a b precision scale ⌝ }
+// A slot with the physical and the type length of a column type, and no precision.
+fn slot_with(c: ColumnType, converted: u8, logical: u8, a: u8, b: u8) -> Annotated
+    requires { ⌜ (c .physical < byteNumbers) × (c .«type_length» < signedNumbers) ⌝ }
+    ensures { λ r. ⌜ r ≡ slotWith c converted logical a b 0 0 ⌝ }
 {
     Annotated {
         physical: byte(c.physical),
@@ -171,8 +150,8 @@ fn slot_with(
         logical,
         a,
         b,
-        scale: signed(scale),
-        precision: signed(precision),
+        scale: 0,
+        precision: 0,
     }
 }
 

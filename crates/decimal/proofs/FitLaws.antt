@@ -32,7 +32,7 @@ pub fitOf-wrong : (bs : List ℕ) (p : ℕ) → isLength (length bs) ≡ false �
 unfolding fitOf
 fitOf-wrong bs p e = rw e
 
-fitOf-test : (bs : List ℕ) (p : ℕ) → isLength (length bs) ≡ true → fitOf bs p ≡ cond (ltb (natAbs (number bs)) (10 ^ p)) Within Beyond
+pub fitOf-test : (bs : List ℕ) (p : ℕ) → isLength (length bs) ≡ true → fitOf bs p ≡ cond (ltb (natAbs (number bs)) (10 ^ p)) Within Beyond
 unfolding fitOf
 fitOf-test bs p e = rw e
 

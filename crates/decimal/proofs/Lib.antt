@@ -7,3 +7,4 @@ pub mod OrderLaws
 pub mod PowerLaws
 pub mod BoundLaws
 pub mod FitLaws
+pub mod WithinLaws

@@ -120,27 +120,18 @@ number-first i a b h e s k t l =
     (number-by b (isNegative b) refl ∙ ap (λ (n : ℕ). subℕ (unsigned b) (cond (isNegative b) (256 ^ n) 0)) (sym e))
     ∙ subℕ-monotone (unsigned a) (unsigned b) (cond (isNegative b) (256 ^ length a) 0) (unsigned-first i a b h e k t l)
 
--- such numbers compare as the unsigned ones do
-alike-ltZ : (a b : List ℕ) → length a ≡ length b → isNegative a ≡ isNegative b → ltZ (number a) (number b) ≡ ltb (unsigned a) (unsigned b)
-alike-ltZ a b e s =
-    ap₂ ltZ (number-by a (isNegative b) s)
-    (number-by b (isNegative b) refl ∙ ap (λ (n : ℕ). subℕ (unsigned b) (cond (isNegative b) (256 ^ n) 0)) (sym e))
-    ∙ go (cond (isNegative b) (256 ^ length a) 0) (ltb (unsigned a) (unsigned b)) refl (ltb (unsigned b) (unsigned a)) refl
+-- differences from one number compare as what it is taken from
+subℕ-ltZ : (a b k : ℕ) → ltZ (subℕ a k) (subℕ b k) ≡ ltb a b
+subℕ-ltZ a b k = go (ltb a b) refl (ltb b a) refl
   where
-    go : (k : ℕ) (t : Bool) → ltb (unsigned a) (unsigned b) ≡ t → (u : Bool) → ltb (unsigned b) (unsigned a) ≡ u
-        → ltZ (subℕ (unsigned a) k) (subℕ (unsigned b) k) ≡ ltb (unsigned a) (unsigned b)
-    go k true p u q = subℕ-monotone (unsigned a) (unsigned b) k (ltb-true _ _ p) ∙ sym p
-    go k false p true q =
-        ltZ-asym (subℕ (unsigned b) k) (subℕ (unsigned a) k) (subℕ-monotone (unsigned b) (unsigned a) k (ltb-true _ _ q)) ∙ sym p
-    go k false p false q =
-        ap (λ (n : ℕ). ltZ (subℕ (unsigned a) k) (subℕ n k)) (le-antisymm (ltb-false _ _ p) (ltb-false _ _ q))
-        ∙ ltZ-irrefl (subℕ (unsigned a) k) ∙ sym p
+    go : (t : Bool) → ltb a b ≡ t → (u : Bool) → ltb b a ≡ u → ltZ (subℕ a k) (subℕ b k) ≡ ltb a b
+    go true p u q = subℕ-monotone a b k (ltb-true _ _ p) ∙ sym p
+    go false p true q = ltZ-asym (subℕ b k) (subℕ a k) (subℕ-monotone b a k (ltb-true _ _ q)) ∙ sym p
+    go false p false q =
+        ap (λ (n : ℕ). ltZ (subℕ a k) (subℕ n k)) (le-antisymm (ltb-false _ _ p) (ltb-false _ _ q)) ∙ ltZ-irrefl (subℕ a k) ∙ sym p
 
-pub alike-order : (a b : List ℕ) → length a ≡ length b → signByte a ≡ signByte b → (t u : Bool)
-    → ltb (unsigned a) (unsigned b) ≡ t → ltb (unsigned b) (unsigned a) ≡ u → cond t Less (cond u Greater Equal) ≡ order (number a) (number b)
-alike-order a b e s t u p q =
-    let n : isNegative a ≡ isNegative b = sym (isNegative-sign a) ∙ ap (leb 128) s ∙ isNegative-sign b in
-    sym (ap₂ (λ (x y : Bool). cond x Less (cond y Greater Equal)) (alike-ltZ a b e n ∙ p) (alike-ltZ b a (sym e) (sym n) ∙ q))
+pub subℕ-order : (a b k : ℕ) (t u : Bool) → ltb a b ≡ t → ltb b a ≡ u → cond t Less (cond u Greater Equal) ≡ order (subℕ a k) (subℕ b k)
+subℕ-order a b k t u p q = sym (ap₂ (λ (x y : Bool). cond x Less (cond y Greater Equal)) (subℕ-ltZ a b k ∙ p) (subℕ-ltZ b a k ∙ q))
 
 -- ---- two numbers of one sign, each with the sign in front up to one width
 

@@ -1,6 +1,7 @@
 -- Laws of multiplying the number of bytes by a factor, a byte at a time from the last to the first, and of powers of ten.
 -- Assumes nothing.
 use mathlib.Core.Path.{_≡_, refl, sym, ap, ap₂, _∙_}
+use mathlib.Core.Logic.{_≢_}
 use mathlib.Core.List.{List}
 use Prim.Native.Nat.{ℕ, suc, _+_, _*_, _-_, _/_, _%_, _^_, _≤_, _<_}
 use native.Mathlib.Nat.{add-mul, mul-assoc, mul-comm, mul-right-comm, mul-le-mul-right, div-add-mod', mod-lt, mod-eq-of-lt, add-mul-mod-self-right, pow-suc, ne-of-lt, le-of-suc-le-suc, le-refl, mul-one, sub-self, one-le-pow, pow-le-pow-right}
@@ -137,3 +138,9 @@ power-none u n e h = sym (ap (λ (m : ℕ). u * 10 ^ m % n) (sub-self e) ∙ ap 
 
 pub power-bounds : (i : ℕ) → i ≤ 16 → (1 ≤ 10 ^ i) × (10 ^ i ≤ 10 ^ 16)
 power-bounds i h = (one-le-pow i 10 (omega arith), pow-le-pow-right (omega arith) h)
+
+-- ---- the arms of a table of powers
+
+-- a number from k on that is none of the next six
+pub past : (n k : ℕ) → k ≤ n → n ≢ k → n ≢ k + 1 → n ≢ k + 2 → n ≢ k + 3 → n ≢ k + 4 → n ≢ k + 5 → k + 6 ≤ n
+past n k h a b c d e f = omega arith

@@ -4,5 +4,7 @@ pub mod Number
 pub mod Order
 pub mod Fit
 pub mod Outcome
+pub mod Within
 pub mod Significant
 pub mod Words
+pub mod Steps

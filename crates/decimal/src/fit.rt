@@ -26,25 +26,31 @@ pub fn fits_precision(number: &[u8], precision: u32) -> Fit
     ensures { λ r. ⌜ r ≡ fitOf (now (number .entry)) precision ⌝ }
     ensures { λ r. ⌜ fitted r ≡ fitting (now (number .entry)) precision ⌝ }
 {
-    if !precision::is_length(number.len()) {
-        return Fit::WrongLength;
+    if words::is_short(number.len()) {
+        return fits_short(number, precision);
     }
-    if number.len() == words::WIDE {
-        return fits_wide(number, precision);
-    }
-    fits_by_length(number::significant(number), precision)
+    fits_by_bytes(number, precision)
 }
 
-// Holds a number of 16 bytes to a precision.
-fn fits_wide(number: &[u8], precision: u32) -> Fit
-    requires { ⌜ length (now number) ≡ 16 ⌝ }
+// Holds a number that has words to a precision.
+fn fits_short(number: &[u8], precision: u32) -> Fit
+    requires { ⌜ (1 ≤ length (now number)) × (length (now number) ≤ 16) ⌝ }
     ensures { λ r. ⌜ r ≡ fitOf (now (number .entry)) precision ⌝ }
 {
-    let size = words::absolute(words::words_of(number));
-    if words::below_power(size, precision) {
+    if words::keeps_to(words::words_of(number), precision) {
         return Fit::Within;
     }
     Fit::Beyond
+}
+
+// Holds a number of any length to a precision by its bytes.
+pub(crate) fn fits_by_bytes(number: &[u8], precision: u32) -> Fit
+    ensures { λ r. ⌜ r ≡ fitOf (now (number .entry)) precision ⌝ }
+{
+    if !precision::is_length(number.len()) {
+        return Fit::WrongLength;
+    }
+    fits_by_length(number::significant(number), precision)
 }
 
 // The number has n bytes, all needed, so |number| is at least 2^(8(n-1)-1), where n is not 1, and at most 2^(8n-1), which is no power

@@ -10,8 +10,10 @@ mod order;
 mod power;
 // The lengths, and the greatest precision of each.
 mod precision;
-// Numbers of 16 bytes, as two words.
+// Numbers of up to 16 bytes, as two words.
 mod words;
+// The order of two numbers held to a precision.
+mod within;
 
 pub use fit::Fit;
 pub use fit::fits_precision;
@@ -20,3 +22,5 @@ pub use order::compare;
 pub use power::is_below_power;
 pub use precision::greatest_precision;
 pub use precision::is_length;
+pub use within::Compared;
+pub use within::compare_within;

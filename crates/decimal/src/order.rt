@@ -2,12 +2,14 @@
 use crate::number;
 use crate::precision;
 use crate::words;
+use crate::words::Words;
 ghost use mathlib.Core.Path.{_≡_};
 ghost use mathlib.Core.List.{_++_};
 ghost use Prim.Native.Nat.{_+_, _<_, max};
 ghost use lib.ListN.{length, getD, replicate};
 ghost use Rattle.decimal.specs.Number.{number};
 ghost use Rattle.decimal.specs.Significant.{signByte};
+ghost use Rattle.decimal.specs.Steps.{signedOf};
 ghost use Rattle.decimal.specs.Order.{order, orderOf};
 ghost use Rattle.decimal.specs.Outcome.{compared, comparing};
 
@@ -23,6 +25,31 @@ pub enum Order {
 pub fn compare(a: &[u8], b: &[u8]) -> Order
     ensures { λ r. ⌜ r ≡ orderOf (now (a .entry)) (now (b .entry)) ⌝ }
     ensures { λ r. ⌜ compared r ≡ comparing (now (a .entry)) (now (b .entry)) ⌝ }
+{
+    if words::is_short(a.len()) {
+        if words::is_short(b.len()) {
+            return compare_words(words::words_of(a), words::words_of(b));
+        }
+    }
+    compare_by_bytes(a, b)
+}
+
+// Compares two numbers by their words.
+pub(crate) fn compare_words(v: Words, w: Words) -> Order
+    ensures { λ r. ⌜ r ≡ order (signedOf v) (signedOf w) ⌝ }
+{
+    if words::is_below(v, w) {
+        return Order::Less;
+    }
+    if words::is_below(w, v) {
+        return Order::Greater;
+    }
+    Order::Equal
+}
+
+// Compares two numbers of any two lengths by their bytes.
+fn compare_by_bytes(a: &[u8], b: &[u8]) -> Order
+    ensures { λ r. ⌜ r ≡ orderOf (now (a .entry)) (now (b .entry)) ⌝ }
 {
     if !precision::is_length(a.len()) {
         return Order::WrongLength;
@@ -41,38 +68,8 @@ pub fn compare(a: &[u8], b: &[u8]) -> Order
     compare_alike(a, b, sign)
 }
 
-// Compares two numbers of one sign: those of 16 bytes by words, others by bytes.
-fn compare_alike(a: &[u8], b: &[u8], sign: u8) -> Order
-    requires { ⌜ sign ≡ signByte (now a) ⌝ }
-    requires { ⌜ sign ≡ signByte (now b) ⌝ }
-    ensures { λ r. ⌜ r ≡ order (number (now (a .entry))) (number (now (b .entry))) ⌝ }
-{
-    if a.len() == words::WIDE {
-        if b.len() == words::WIDE {
-            return compare_wide(a, b);
-        }
-    }
-    compare_bytes(a, b, sign)
-}
-
-// Compares two numbers of 16 bytes and one sign.
-fn compare_wide(a: &[u8], b: &[u8]) -> Order
-    requires { ⌜ (length (now a) ≡ 16) × (length (now b) ≡ 16) × (signByte (now a) ≡ signByte (now b)) ⌝ }
-    ensures { λ r. ⌜ r ≡ order (number (now (a .entry))) (number (now (b .entry))) ⌝ }
-{
-    let v = words::words_of(a);
-    let w = words::words_of(b);
-    if words::is_below(v, w) {
-        return Order::Less;
-    }
-    if words::is_below(w, v) {
-        return Order::Greater;
-    }
-    Order::Equal
-}
-
 // Compares two numbers of one sign: once the shorter has its sign in front, the first byte that differs decides.
-fn compare_bytes(a: &[u8], b: &[u8], sign: u8) -> Order
+fn compare_alike(a: &[u8], b: &[u8], sign: u8) -> Order
     requires { ⌜ sign ≡ signByte (now a) ⌝ }
     requires { ⌜ sign ≡ signByte (now b) ⌝ }
     ensures { λ r. ⌜ r ≡ order (number (now (a .entry))) (number (now (b .entry))) ⌝ }

@@ -1,18 +1,15 @@
--- `column_order::ordering::order` meets its contract: 20, then 17, then the first value.
+-- `column_order::ordering::order` meets its contract: 20, then 17, then the values.
 -- Assumes nothing.
 use mathlib.Core.Path.{_≡_, sym, ap, _∙_}
 use mathlib.Core.Bool.{true}
 use mathlib.Core.List.{List}
 use Prim.Native.Nat.{ℕ}
-use borrow.Author.Tests.{not-true, not-false}
 use borrow.Author.Needs.{needs}
+use borrow.Author.Tests.{not-true, not-false}
 use Rattle.column_type.specs.declared.types.ColumnType.{ColumnType}
 use Rattle.column_type.specs.Lawful.{isLawful}
-use Rattle.column.specs.Reading.{readOf}
-use Rattle.column.specs.declared.value.Read.{Read}
-use Rattle.column.proofs.ReadingLaws.{read-lawful}
-use Rattle.column_order.specs.Keys.{keyOf, keyOrder}
-use Rattle.column_order.specs.Order.{unlessRefused, orderOf}
+use Rattle.column_order.specs.Order.{orderOf}
+use Rattle.column_order.specs.Steps.{valuesOrder}
 use Rattle.column_order.specs.Outcome.{outcomeOf, outcome}
 use Rattle.column_order.specs.declared.answer.Order.{Order}
 use Rattle.column_order.proofs.ordering.order.Statement.{statement}
@@ -34,21 +31,11 @@ no-order : (c : tie.Then2) → let s = c .before .before .before .before .before
 unfolding orderOf
 no-order c = rw (is-lawful (c .before .before), sym (c .before .has-order .ensures) ∙ not-true _ (c .if2 .taken))
 
--- the first value, read behind the check of the column type
-read : (c : tie.After-read-lawful) → let s = c .before .before .before .before .before .before .before .args in
-    c .read-lawful .result ≡ readOf (s .c) (s .a .now)
-read c =
-    let s = c .before .before .before .before .before .before .before .args in
-    c .read-lawful .ensures ∙ read-lawful (s .c) (s .a .now) (is-lawful (c .before .before .before))
-
 -- past both checks of the column type the values decide
-judged : (c : tie.After-read-lawful) (r : Read) → c .read-lawful .result ≡ r
-    → let s = c .before .before .before .before .before .before .before .args in
-    unlessRefused r (unlessRefused (readOf (s .c) (s .b .now)) (keyOrder (keyOf (s .c) (s .a .now)) (keyOf (s .c) (s .b .now)))) ≡ orderOf (s .c) (s .a .now) (s .b .now)
+judged : (c : tie.Else2) → let s = c .before .before .before .before .before .before .args in
+    valuesOrder (s .c) (s .a .now) (s .b .now) ≡ orderOf (s .c) (s .a .now) (s .b .now)
 unfolding orderOf
-judged c r e =
-    let second = c .before in
-    rw (is-lawful (second .before .before), sym (second .before .has-order .ensures) ∙ not-false _ (second .if2 .left), sym e ∙ read c)
+judged c = rw (is-lawful (c .before .before), sym (c .before .has-order .ensures) ∙ not-false _ (c .if2 .left))
 
 is-lawful-requires : tie.Need-is-lawful-requires
 is-lawful-requires c κs = search needs
@@ -66,44 +53,26 @@ returns-2 c =
     let s = c .before .before .before .before .before .before in
     answered (s .args .c) (s .args .a .now) (s .args .b .now) (no-order c)
 
-read-lawful-requires : tie.Need-read-lawful-requires
-read-lawful-requires c κs = search needs
+is-byte-decimal-requires : tie.Need-is-byte-decimal-requires
+is-byte-decimal-requires c κs = search needs
 
-enum-known-x : tie.Need-enum-known-x
-enum-known-x c = search needs
-
-order-after-requires : tie.Need-order-after-requires
-order-after-requires c κs = sym (read (c .before .before .before)) ∙ c .before .x .given .1
-
-enum-told : tie.Need-enum-told
-enum-told c = search needs
-
-enum-told-2 : tie.Need-enum-told-2
-enum-told-2 c = search needs
-
-enum-told-3 : tie.Need-enum-told-3
-enum-told-3 c = search needs
+order-decimals-requires : tie.Need-order-decimals-requires
+order-decimals-requires c κs = (is-lawful (c .before .before .before .before), sym (c .before .is-byte-decimal .ensures) ∙ c .if3 .taken)
 
 returns-3 : tie.Need-returns-3
 returns-3 c =
-    let at = c .before .before .before .before in
-    let s = at .before .before .before .before .before .before .before in
-    answered (s .args .c) (s .args .a .now) (s .args .b .now) (c .order-after .ensures ∙ judged at (Read.Value _) (c .before .before .x .given .1))
+    let second = c .before .before .before in
+    let s = second .before .before .before .before .before .before in
+    answered (s .args .c) (s .args .a .now) (s .args .b .now) (c .order-decimals .ensures ∙ judged second)
+
+order-others-requires : tie.Need-order-others-requires
+order-others-requires c κs = (is-lawful (c .before .before .before .before), sym (c .before .is-byte-decimal .ensures) ∙ c .if3 .left)
 
 returns-4 : tie.Need-returns-4
 returns-4 c =
-    let s = c .before .before .before .before .before .before .before .before .before in
-    answered (s .args .c) (s .args .a .now) (s .args .b .now) (judged (c .before .before) Read.Unlawful (c .enum-told .given .1))
-
-returns-5 : tie.Need-returns-5
-returns-5 c =
-    let s = c .before .before .before .before .before .before .before .before .before in
-    answered (s .args .c) (s .args .a .now) (s .args .b .now) (judged (c .before .before) Read.WrongLength (c .enum-told2 .given .1))
-
-returns-6 : tie.Need-returns-6
-returns-6 c =
-    let s = c .before .before .before .before .before .before .before .before .before in
-    answered (s .args .c) (s .args .a .now) (s .args .b .now) (judged (c .before .before) Read.BreaksAnnotation (c .enum-told3 .given .1))
+    let second = c .before .before .before in
+    let s = second .before .before .before .before .before .before in
+    answered (s .args .c) (s .args .a .now) (s .args .b .now) (c .order-others .ensures ∙ judged second)
 
 pub order-spec : {M : Type 1} → statement M
 order-spec =
@@ -113,13 +82,8 @@ order-spec =
     returns
     has-order-requires
     returns-2
-    read-lawful-requires
-    enum-known-x
-    order-after-requires
-    enum-told
-    enum-told-2
-    enum-told-3
+    is-byte-decimal-requires
+    order-decimals-requires
     returns-3
-    returns-4
-    returns-5
-    returns-6)
+    order-others-requires
+    returns-4)

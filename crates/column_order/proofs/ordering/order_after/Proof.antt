@@ -11,7 +11,7 @@ use Rattle.column_order.proofs.ordering.order_after.Tie as tie
 read : (c : tie.After-read-lawful) → let s = c .before .before .before .args in c .read-lawful .result ≡ readOf (s .c) (s .b .now)
 read c =
     let s = c .before .before .before in
-    c .read-lawful .ensures ∙ read-lawful (s .args .c) (s .args .b .now) (reads (s .args .c) (s .args .a .now) (s .args .x) (s .pre) .lawful)
+    c .read-lawful .ensures ∙ read-lawful (s .args .c) (s .args .b .now) (reads (s .args .c) (s .args .a .now) (s .args .x) (s .pre .0) .lawful)
 
 read-lawful-requires : tie.Need-read-lawful-requires
 read-lawful-requires c κs = search needs
@@ -22,7 +22,7 @@ enum-known-y c = search needs
 order-read-requires : tie.Need-order-read-requires
 order-read-requires c κs =
     let at = c .before .before .before in
-    (at .before .before .before .pre, sym (read at) ∙ c .before .y .given .1)
+    (at .before .before .before .pre .0, sym (read at) ∙ c .before .y .given .1, at .before .before .before .pre .1)
 
 enum-told : tie.Need-enum-told
 enum-told c = search needs

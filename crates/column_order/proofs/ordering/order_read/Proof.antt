@@ -6,8 +6,9 @@ use mir.Syntax.{w64}
 use mir.ValLaws.{toZ-ofZ}
 use borrow.Author.Needs.{needs}
 use Rattle.column.specs.declared.value.Value.{Value}
-use Rattle.column_order.specs.Values.{signedOrder, stretchOrder}
-use Rattle.column_order.proofs.KeyLaws.{valueOrder, read-order, read-lengths}
+use Rattle.column_order.specs.Values.{signedOrder}
+use Rattle.column_order.specs.Keys.{byteOrder}
+use Rattle.column_order.proofs.KeyLaws.{valueOrder, read-order}
 use Rattle.column_order.proofs.ordering.order_read.Statement.{statement}
 use Rattle.column_order.proofs.ordering.order_read.Tie as tie
 
@@ -44,40 +45,38 @@ compare-double-requires c κs = search needs
 enum-told : tie.Need-enum-told
 enum-told c = search needs
 
-compare-stretches-requires : tie.Need-compare-stretches-requires
-compare-stretches-requires c κs =
-    let s = c .before .before .before .before in
-    read-lengths (s .args .c) _ _ (s .args .x) (s .args .y) (s .pre .0) (s .pre .1)
+order-bytes-requires : tie.Need-order-bytes-requires
+order-bytes-requires c κs = search needs
 
 returns : tie.Need-returns
 returns c =
     let s = c .before .before .before .before .before .before in
-    c .compare-truth .ensures ∙ ap (λ (v : Value). valueOrder (stretchOrder (s .args .c) (s .args .a .now) (s .args .b .now)) v (s .args .y)) (sym (c .before .before .x .given .1)) ∙ read-order (s .args .c) _ _ (s .args .x) (s .args .y) (s .pre .0) (s .pre .1)
+    c .compare-truth .ensures ∙ ap (λ (v : Value). valueOrder (byteOrder (s .args .a .now) (s .args .b .now)) v (s .args .y)) (sym (c .before .before .x .given .1)) ∙ read-order (s .args .c) _ _ (s .args .x) (s .args .y) (s .pre .2) (s .pre .0) (s .pre .1)
 
 returns-2 : tie.Need-returns-2
 returns-2 c =
     let s = c .before .before .before .before .before .before in
-    c .compare-signed .ensures ∙ ap (λ (z : ℤ). signedOrder z (s .args .y)) (toZ-ofZ w64 _ (record { sfits = c .before .known-told2 .given .0 .1 })) ∙ ap (λ (v : Value). valueOrder (stretchOrder (s .args .c) (s .args .a .now) (s .args .b .now)) v (s .args .y)) (sym (c .before .before .x2 .given .1)) ∙ read-order (s .args .c) _ _ (s .args .x) (s .args .y) (s .pre .0) (s .pre .1)
+    c .compare-signed .ensures ∙ ap (λ (z : ℤ). signedOrder z (s .args .y)) (toZ-ofZ w64 _ (record { sfits = c .before .known-told2 .given .0 .1 })) ∙ ap (λ (v : Value). valueOrder (byteOrder (s .args .a .now) (s .args .b .now)) v (s .args .y)) (sym (c .before .before .x2 .given .1)) ∙ read-order (s .args .c) _ _ (s .args .x) (s .args .y) (s .pre .2) (s .pre .0) (s .pre .1)
 
 returns-3 : tie.Need-returns-3
 returns-3 c =
     let s = c .before .before .before .before .before .before in
-    c .compare-unsigned .ensures ∙ ap (λ (v : Value). valueOrder (stretchOrder (s .args .c) (s .args .a .now) (s .args .b .now)) v (s .args .y)) (sym (c .before .before .x3 .given .1)) ∙ read-order (s .args .c) _ _ (s .args .x) (s .args .y) (s .pre .0) (s .pre .1)
+    c .compare-unsigned .ensures ∙ ap (λ (v : Value). valueOrder (byteOrder (s .args .a .now) (s .args .b .now)) v (s .args .y)) (sym (c .before .before .x3 .given .1)) ∙ read-order (s .args .c) _ _ (s .args .x) (s .args .y) (s .pre .2) (s .pre .0) (s .pre .1)
 
 returns-4 : tie.Need-returns-4
 returns-4 c =
     let s = c .before .before .before .before .before .before in
-    c .compare-float .ensures ∙ ap (λ (v : Value). valueOrder (stretchOrder (s .args .c) (s .args .a .now) (s .args .b .now)) v (s .args .y)) (sym (c .before .before .x4 .given .1)) ∙ read-order (s .args .c) _ _ (s .args .x) (s .args .y) (s .pre .0) (s .pre .1)
+    c .compare-float .ensures ∙ ap (λ (v : Value). valueOrder (byteOrder (s .args .a .now) (s .args .b .now)) v (s .args .y)) (sym (c .before .before .x4 .given .1)) ∙ read-order (s .args .c) _ _ (s .args .x) (s .args .y) (s .pre .2) (s .pre .0) (s .pre .1)
 
 returns-5 : tie.Need-returns-5
 returns-5 c =
     let s = c .before .before .before .before .before .before in
-    c .compare-double .ensures ∙ ap (λ (v : Value). valueOrder (stretchOrder (s .args .c) (s .args .a .now) (s .args .b .now)) v (s .args .y)) (sym (c .before .before .x5 .given .1)) ∙ read-order (s .args .c) _ _ (s .args .x) (s .args .y) (s .pre .0) (s .pre .1)
+    c .compare-double .ensures ∙ ap (λ (v : Value). valueOrder (byteOrder (s .args .a .now) (s .args .b .now)) v (s .args .y)) (sym (c .before .before .x5 .given .1)) ∙ read-order (s .args .c) _ _ (s .args .x) (s .args .y) (s .pre .2) (s .pre .0) (s .pre .1)
 
 returns-6 : tie.Need-returns-6
 returns-6 c =
     let s = c .before .before .before .before .before in
-    c .compare-stretches .ensures ∙ ap (λ (v : Value). valueOrder (stretchOrder (s .args .c) (s .args .a .now) (s .args .b .now)) v (s .args .y)) (sym (c .before .enum-told .given .1)) ∙ read-order (s .args .c) _ _ (s .args .x) (s .args .y) (s .pre .0) (s .pre .1)
+    c .order-bytes .ensures ∙ ap (λ (v : Value). valueOrder (byteOrder (s .args .a .now) (s .args .b .now)) v (s .args .y)) (sym (c .before .enum-told .given .1)) ∙ read-order (s .args .c) _ _ (s .args .x) (s .args .y) (s .pre .2) (s .pre .0) (s .pre .1)
 
 pub order-read-spec : {M : Type 1} → statement M
 order-read-spec =
@@ -94,7 +93,7 @@ order-read-spec =
     enum-known-x-5
     compare-double-requires
     enum-told
-    compare-stretches-requires
+    order-bytes-requires
     returns
     returns-2
     returns-3

@@ -1,108 +1,65 @@
--- `decimal::order::compare` meets its contract: wrong lengths first, then the signs, then the bytes of numbers of one sign.
--- Assumes nothing.
-use mathlib.Core.Path.{_≡_, sym, ap, subst₂, _∙_}
-use mathlib.Core.Bool.{true}
-use mathlib.Core.List.{List}
-use Prim.Native.Nat.{ℕ, _<_}
-use native.Mathlib.Nat.{le-antisymm}
+-- `decimal::order::compare` meets its contract: by words where both numbers have them. Assumes nothing.
+use mathlib.Core.Path.{_≡_, sym, ap, ap₂, _∙_}
+use Prim.Native.Nat.{_≤_}
 use lib.ListN.{length}
 use borrow.Author.Needs.{needs}
-use borrow.Author.Tests.{not-true, not-false}
-use Rattle.decimal.specs.declared.order.Order.{Order}
-use Rattle.decimal.specs.Precision.{isLength}
-use Rattle.decimal.specs.Number.{number}
-use Rattle.decimal.specs.Significant.{signByte}
-use Rattle.decimal.specs.Order.{order, orderOf}
 use Rattle.decimal.specs.Outcome.{compared}
-use Rattle.decimal.proofs.UnsignedLaws.{Bytes, Bytes-getD}
-use Rattle.decimal.proofs.OrderLaws.{order-<, order->, number-signs, orderOf-order, orderOf-wrong-left, orderOf-wrong-right}
+use Rattle.decimal.specs.Order.{order}
+use Rattle.decimal.specs.declared.order.Order.{Order}
+use Rattle.decimal.proofs.WordLaws.{isShort-bounds, short-length}
+use Rattle.decimal.proofs.OrderLaws.{orderOf-order}
 use Rattle.decimal.proofs.order.compare.Statement.{statement}
 use Rattle.decimal.proofs.order.compare.Tie as tie
 
-length-a : (c : tie.Else1) → isLength (length (c .before .before .before .before .args .a .now)) ≡ true
-length-a c = sym (c .before .is-length .ensures) ∙ not-false _ (c .if1 .left)
+first : (c : tie.Then1) → let n = length (c .before .before .before .before .args .a .now) in (1 ≤ n) × (n ≤ 16)
+first c = isShort-bounds _ (sym (c .before .is-short .ensures) ∙ c .if1 .taken)
 
-length-b : (c : tie.Else2) → isLength (length (c .before .before .before .before .before .before .args .b .now)) ≡ true
-length-b c = sym (c .before .is-length2 .ensures) ∙ not-false _ (c .if2 .left)
-
--- what is known once both signs are
-module _ (c : tie.After-sign-byte2) where
-  abbrev a : List ℕ
-  a = c .before .before .before .before .before .before .before .before .args .a .now
-
-  abbrev b : List ℕ
-  b = c .before .before .before .before .before .before .before .before .args .b .now
-
-  in-order : orderOf a b ≡ order (number a) (number b)
-  in-order = orderOf-order a b (length-a (c .before .before .before .before)) (length-b (c .before .before))
-
-  bytes-a : Bytes a
-  bytes-a = Bytes-getD a (λ k. c .before .before .before .before .before .before .before .shared-slice-known .given k .fits)
-
-  bytes-b : Bytes b
-  bytes-b = Bytes-getD b (λ k. c .before .before .before .before .before .before .shared-slice-known2 .given k .fits)
-
-  sign-a : c .before .sign-byte .result ≡ signByte a
-  sign-a = c .before .sign-byte .ensures
-
-  sign-b : c .sign-byte2 .result ≡ signByte b
-  sign-b = c .sign-byte2 .ensures
-
-  first-negative : c .sign-byte2 .result < c .before .sign-byte .result → orderOf a b ≡ Order.Less
-  first-negative h =
-      in-order ∙ order-< (number a) (number b) (number-signs a b bytes-a (subst₂ (λ (x y : ℕ). x < y) sign-b sign-a h))
-
-  second-negative : c .before .sign-byte .result < c .sign-byte2 .result → orderOf a b ≡ Order.Greater
-  second-negative h =
-      in-order ∙ order-> (number a) (number b) (number-signs b a bytes-b (subst₂ (λ (x y : ℕ). x < y) sign-a sign-b h))
+second : (c : tie.Then2) → let n = length (c .before .before .before .before .before .before .args .b .now) in (1 ≤ n) × (n ≤ 16)
+second c = isShort-bounds _ (sym (c .before .is-short2 .ensures) ∙ c .if2 .taken)
 
 -- an answer, and what it stands for
 answered : {o p : Order} → o ≡ p → (o ≡ p) × (compared o ≡ compared p)
 answered e = (e, ap compared e)
 
-is-length-requires : tie.Need-is-length-requires
-is-length-requires c κs = search needs
+is-short-requires : tie.Need-is-short-requires
+is-short-requires c κs = search needs
+
+is-short-requires-2 : tie.Need-is-short-requires-2
+is-short-requires-2 c κs = search needs
+
+words-of-requires : tie.Need-words-of-requires
+words-of-requires c κs = first (c .before .before)
+
+words-of-requires-2 : tie.Need-words-of-requires-2
+words-of-requires-2 c κs = second (c .before)
+
+compare-words-requires : tie.Need-compare-words-requires
+compare-words-requires c κs = search needs
 
 returns : tie.Need-returns
-returns c = answered (sym (orderOf-wrong-left _ _ (sym (c .before .is-length .ensures) ∙ not-true _ (c .if1 .taken))))
+returns c =
+    let k = c .before .before .before in
+    let s = k .before .before .before .before .before .before in
+    answered
+    (c .compare-words .ensures
+    ∙ ap₂ order (c .before .before .words-of .ensures) (c .before .words-of2 .ensures)
+    ∙ sym (orderOf-order (s .args .a .now) (s .args .b .now) (short-length _ (first (k .before .before) .0) (first (k .before .before) .1)) (short-length _ (second k .0) (second k .1))))
 
-is-length-requires-2 : tie.Need-is-length-requires-2
-is-length-requires-2 c κs = search needs
+compare-by-bytes-requires : tie.Need-compare-by-bytes-requires
+compare-by-bytes-requires c κs = search needs
 
 returns-2 : tie.Need-returns-2
-returns-2 c = answered (sym (orderOf-wrong-right _ _ (sym (c .before .is-length2 .ensures) ∙ not-true _ (c .if2 .taken))))
-
-sign-byte-requires : tie.Need-sign-byte-requires
-sign-byte-requires c κs = search needs
-
-sign-byte-requires-2 : tie.Need-sign-byte-requires-2
-sign-byte-requires-2 c κs = search needs
-
-returns-3 : tie.Need-returns-3
-returns-3 c = answered (sym (first-negative (c .before) (c .if3 .taken)))
-
-returns-4 : tie.Need-returns-4
-returns-4 c = answered (sym (second-negative (c .before .before) (c .if4 .taken)))
-
-compare-alike-requires : tie.Need-compare-alike-requires
-compare-alike-requires c κs =
-    let k = c .before .before in
-    (sign-a k, le-antisymm (c .before .if3 .left) (c .if4 .left) ∙ sign-b k)
-
-returns-5 : tie.Need-returns-5
-returns-5 c = answered (c .compare-alike .ensures ∙ sym (in-order (c .before .before .before)))
+returns-2 c = answered (c .compare-by-bytes .ensures)
 
 pub compare-spec : {M : Type 1} → statement M
 compare-spec =
     tie.close
     (tie.spec
-    is-length-requires
+    is-short-requires
+    is-short-requires-2
+    words-of-requires
+    words-of-requires-2
+    compare-words-requires
     returns
-    is-length-requires-2
-    returns-2
-    sign-byte-requires
-    sign-byte-requires-2
-    returns-3
-    returns-4
-    compare-alike-requires
-    returns-5)
+    compare-by-bytes-requires
+    returns-2)

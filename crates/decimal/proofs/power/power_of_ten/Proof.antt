@@ -1,8 +1,9 @@
 -- `decimal::power::power_of_ten` meets its contract: each arm's number is the power. Assumes nothing.
 use mathlib.Core.Path.{_≡_}
 use mathlib.Core.Logic.{_≢_}
-use Prim.Native.Nat.{ℕ, _+_, _≤_, _<_, zero-le}
+use Prim.Native.Nat.{ℕ, _≤_, _<_, zero-le}
 use native.Mathlib.Omega.{arith}
+use Rattle.decimal.proofs.PowerLaws.{past}
 use Rattle.decimal.proofs.power.power_of_ten.Statement.{statement}
 use Rattle.decimal.proofs.power.power_of_ten.Tie as tie
 
@@ -62,10 +63,6 @@ returns-18 c = rw (c .match .keys18)
 
 returns-19 : tie.Need-returns-19
 returns-19 c = rw (c .match .keys19)
-
--- a number from k on that is none of the next six
-past : (n k : ℕ) → k ≤ n → n ≢ k → n ≢ k + 1 → n ≢ k + 2 → n ≢ k + 3 → n ≢ k + 4 → n ≢ k + 5 → k + 6 ≤ n
-past n k h a b c d e f = omega arith
 
 last : (n : ℕ) → n < 20 → 18 ≤ n → n ≢ 18 → n ≡ 19
 last n h k a = omega arith

@@ -1,9 +1,7 @@
--- `decimal::words::power_words` meets its contract: one word holds 10^19, and two hold twice as many digits. Assumes nothing.
-use mathlib.Core.Path.{ap, _∙_}
-use Prim.Native.Nat.{ℕ, _*_, _^_}
+-- `decimal::words::power_words` meets its contract: one word holds a power up to 10^19. Assumes nothing.
+use native.Mathlib.Nat.{one-le-pow}
 use native.Mathlib.Omega.{arith}
 use borrow.Author.Needs.{needs}
-use Rattle.decimal.proofs.WordLaws.{power-rest}
 use Rattle.decimal.proofs.words.power_words.Statement.{statement}
 use Rattle.decimal.proofs.words.power_words.Tie as tie
 
@@ -11,30 +9,14 @@ power-of-ten-requires : tie.Need-power-of-ten-requires
 power-of-ten-requires c κs = search needs
 
 returns : tie.Need-returns
-returns c = search needs
+returns c = (search needs, rw (c .power-of-ten .ensures) (one-le-pow (c .before .before .args .exponent) 10 (omega arith)))
 
-sub-power-of-ten : tie.Need-sub-power-of-ten
-sub-power-of-ten c = search needs
-
-power-of-ten-requires-2 : tie.Need-power-of-ten-requires-2
-power-of-ten-requires-2 c κs = search needs
-
-times-ten-19-requires : tie.Need-times-ten-19-requires
-times-ten-19-requires c κs = search needs
+great-power-requires : tie.Need-great-power-requires
+great-power-requires c κs = search needs
 
 returns-2 : tie.Need-returns-2
-returns-2 c =
-    c .times-ten-19 .ensures
-    ∙ ap (λ (n : ℕ). n * 10 ^ 19) (c .before .power-of-ten2 .ensures)
-    ∙ power-rest (c .before .before .before .args .exponent) (omega arith)
+returns-2 c = search needs
 
 pub power-words-spec : {M : Type 1} → statement M
 power-words-spec =
-    tie.close
-    (tie.spec
-    power-of-ten-requires
-    returns
-    sub-power-of-ten
-    power-of-ten-requires-2
-    times-ten-19-requires
-    returns-2)
+    tie.close (tie.spec power-of-ten-requires returns great-power-requires returns-2)

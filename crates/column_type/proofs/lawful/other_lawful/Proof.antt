@@ -1,0 +1,39 @@
+-- `column_type::lawful::other_lawful` meets its contract.
+use mathlib.Core.Path.{sym, ap, _∙_}
+use borrow.Author.Needs.{needs}
+use borrow.Author.Tests.{not-true, not-false}
+use Rattle.column_type.specs.Lawful.{annotationRight, isLawful}
+use Rattle.column_type.proofs.lawful.other_lawful.Statement.{statement}
+use Rattle.column_type.proofs.lawful.other_lawful.Tie as tie
+
+returns : tie.Need-returns
+unfolding isLawful
+returns c = rw (sym (c .before .fits-slot .ensures) ∙ not-true _ (c .if1 .taken))
+
+slot-requires : tie.Need-slot-requires
+slot-requires c κs =
+    let at = c .before .before in
+    (sym (at .before .fits-slot .ensures) ∙ not-false _ (at .if1 .left), at .before .before .pre)
+
+returns-2 : tie.Need-returns-2
+unfolding isLawful
+returns-2 c =
+    let at = c .before .before .before .before in
+    rw (
+      c .before .before .before .is-leaf .ensures,
+      c .before .before .length-right .ensures,
+      c .annotation-right .ensures ∙ ap annotationRight (c .before .slot .ensures),
+      sym (at .before .fits-slot .ensures) ∙ not-false _ (at .if1 .left),
+    )
+
+pub other-lawful-spec : {M : Type 1} → statement M
+other-lawful-spec =
+    tie.close
+    (tie.spec
+    (λ c κs. search needs)
+    returns
+    (λ c κs. search needs)
+    (λ c κs. search needs)
+    slot-requires
+    (λ c κs. search needs)
+    returns-2)
