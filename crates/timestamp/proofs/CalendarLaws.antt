@@ -3,16 +3,15 @@ use Prim.Native.Nat.{ℕ, zero, suc, _+_, _*_, _-_, _<_, _≤_}
 use native.Mathlib.Nat.{le-of-eq, le-trans, lt-irrefl}
 use native.Mathlib.Omega.{arith}
 use mathlib.Core.Path.{_≡_, refl, sym, ap, subst, _∙_}
-use mathlib.Core.Bool.{Bool, true, false, not, _&&_, _||_, and-false, true≢false}
+use mathlib.Core.Bool.{Bool, true, false, not, _&&_, _||_, true≢false}
 use mathlib.Core.List.{_∷_}
-use mathlib.Core.Logic.{_⊎_, inl, inr}
-use borrow.Author.Tests.{le-leb, lt-leb, leb-true, leb-false, ltb-true, eqb-true, eq-eqb}
-use lib.Dec.{leb, ltb, eqb}
+use borrow.Author.Tests.{le-leb, leb-true, leb-false, eqb-true, eq-eqb}
+use lib.Dec.{leb, eqb}
 use lib.ListN.{getD, List·getD-eq-default}
 use lib.IntN.{ℤ, pos, negsuc, natAbs, subℕ}
 use lib.Signed.{mag}
-use Rattle.timestamp.specs.Calendar.{divides, isLeap, months, monthsPerYear, daysOfMonth, dayOf, dayNumber, isDate}
-use Rattle.laws.proofs.BoolLaws.{by-test, and-both, both-and, or-rest}
+use Rattle.timestamp.specs.Calendar.{divides, isLeap, months, daysOfMonth, dayOf, dayNumber, isDate}
+use Rattle.laws.proofs.BoolLaws.{by-test, and-both, both-and}
 use Rattle.laws.proofs.DifferenceLaws.{below?, pos-sub, negsuc-sub, sub-eq, sub-inj, sub-above, sub-below}
 use Rattle.timestamp.proofs.DateLaws.{Date, date-parts, parts-date, era-day-of, day-of-pos, day-number-era}
 
@@ -93,17 +92,6 @@ leap-date y m d e = by-test (isDate y m d) (λ p. held (date-parts y m d p) ∙ 
 
         common : getD (months false) (m - 1) 0 < d
         common = by-test (leb d (common-days m)) (λ t. absurd (true≢false (sym (both-and (leb 1 d) (leb d (common-days m)) (le-leb 1 d (p .day-first)) t) ∙ e))) (λ t. omega (arith, leb-false d (common-days m) t, from-one m (p .month-first)))
-
--- a number that no month has makes no date
-pub no-month : (y : ℤ) (m d : ℕ) → (ltb m 1 || ltb 12 m) ≡ true → isDate y m d ≡ false
-unfolding isDate
-no-month y m d e = by-test (ltb m 1) before λ p. after (or-rest (ltb m 1) (ltb 12 m) p e)
-  where
-    before : ltb m 1 ≡ true → isDate y m d ≡ false
-    before p = ap (λ (b : Bool). b && leb m monthsPerYear && leb 1 d && leb d (daysOfMonth y m)) (lt-leb 1 m (ltb-true m 1 p))
-
-    after : ltb 12 m ≡ true → isDate y m d ≡ false
-    after p = ap (λ (b : Bool). b && leb 1 d && leb d (daysOfMonth y m)) (ap (λ (b : Bool). leb 1 m && b) (lt-leb m 12 (ltb-true 12 m p)) ∙ and-false (leb 1 m))
 
 -- ---- day numbers
 

@@ -3,7 +3,7 @@
 ghost use mathlib.Core.Path.{_≡_};
 ghost use mathlib.Core.Bool.{true};
 ghost use Prim.Native.Nat.{_+_, _*_, _<_, _≤_};
-ghost use Rattle.timestamp.specs.Clock.{secondsPerDay, isTime, tickOfDay};
+ghost use Rattle.timestamp.specs.Clock.{hoursPerDay, minutesPerHour, secondsPerMinute, secondsPerDay, isTime, tickOfDay};
 ghost use Rattle.timestamp.specs.Units.{nanos, ticksPerSecond, ticksPerDay};
 
 const HOURS_PER_DAY: u32 = 24;
@@ -55,8 +55,8 @@ pub(crate) fn tick_of_day(ticks_per_second: u64, time: Time) -> u64
 
 // The seconds of the day that have passed at a time.
 pub(crate) fn second_of_day(time: Time) -> u32
-    requires { ⌜ (time .hour < 24) × (time .minute < 60) × (time .second < 60) ⌝ }
-    ensures { λ r. ⌜ (r ≡ (time .hour * 60 + time .minute) * 60 + time .second) × (r < secondsPerDay) ⌝ }
+    requires { ⌜ (time .hour < hoursPerDay) × (time .minute < minutesPerHour) × (time .second < secondsPerMinute) ⌝ }
+    ensures { λ r. ⌜ (r ≡ (time .hour * minutesPerHour + time .minute) * secondsPerMinute + time .second) × (r < secondsPerDay) ⌝ }
 {
     let minutes = time.hour * MINUTES_PER_HOUR + time.minute;
     minutes * SECONDS_PER_MINUTE + time.second

@@ -32,7 +32,7 @@ pub(crate) fn floor_divide(count: i64, ticks_per_day: u64) -> Division
     }
 }
 
-// The count of so many days and a rest, at so many ticks in a day, or of any other whole and its parts.
+// The count of days and a rest, at so many ticks in a day; or in the same way the ticks of seconds and a fraction.
 pub(crate) fn joined(day: i64, ticks_per_day: u64, rest: u64) -> i64
     requires { ⌜ (rest < «ticks_per_day») × (suc (mag day) * «ticks_per_day» < 2 ^ 63) ⌝ }
     ensures { λ r. ⌜ r ≡ day *ℤ pos «ticks_per_day» +ℤ pos rest ⌝ }

@@ -26,10 +26,10 @@ pub(crate) const YEARS_PER_FOUR: u64 = 4;
 
 const DAYS_PER_FOUR: u64 = 1_461;
 
-// A year below 2 ^ 32 is of the century that this number of times the year, ..
+// The century of a year below 2 ^ 32 is the year times this number ..
 const CENTURY_FACTOR: u64 = 1_374_389_535;
 
-// .. divided by this one, 2 ^ 37, is: one multiplication and a shift.
+// .. divided by this one, which is 2 ^ 37.
 const CENTURY_DIVISOR: u64 = 137_438_953_472;
 
 const MONTHS_PER_FIVE: u64 = 5;

@@ -2,7 +2,6 @@
 use Prim.Native.Nat.{ℕ, _≤_}
 use native.Mathlib.Omega.{arith}
 use mathlib.Core.Path.{_≡_, refl, sym, subst}
-use borrow.Author.Needs.{needs}
 use Rattle.timestamp.specs.declared.calendar.Month.{Month}
 use Rattle.timestamp.specs.Steps.{offsetOf, IsMonth}
 use Rattle.timestamp.proofs.CalendarLaws.{common-days, past-each, no-days}

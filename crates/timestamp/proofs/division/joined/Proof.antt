@@ -1,7 +1,7 @@
 -- `timestamp::division::joined` meets its contract: no number leaves 64 bits.
 use Prim.Native.Nat.{suc, _*_, _<_, _^_}
 use native.Mathlib.Omega.{arith}
-use mathlib.Core.Path.{_≡_, sym, ap₂, subst, _∙_}
+use mathlib.Core.Path.{_≡_, sym, ap₂, subst}
 use borrow.Author.Needs.{needs}
 use lib.IntN.{ℤ, pos, _+ℤ_, _*ℤ_}
 use lib.Signed.{mag}

@@ -8,7 +8,7 @@ use borrow.Author.Needs.{needs}
 use lib.IntN.{ℤ}
 use lib.Signed.{mag}
 use mir.Syntax.{w64}
-use mir.Val.{SFits, toZ, ofZ}
+use mir.Val.{SFits}
 use mir.ValLaws.{toZ-ofZ}
 use Rattle.timestamp.specs.Outcomes.{given, notRepresentable}
 use Rattle.timestamp.proofs.FloorLaws.{joined, joined-asked, joined-told, signed-fits}

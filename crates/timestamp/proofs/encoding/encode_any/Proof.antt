@@ -1,7 +1,7 @@
 -- `timestamp::encoding::encode_any` meets its contract: in the unit that is named, or 20.
 use Prim.Native.Nat.{ℕ}
 use native.Mathlib.Omega.{arith}
-use mathlib.Core.Path.{_≡_, sym, ap, subst, _∙_}
+use mathlib.Core.Path.{_≡_, sym, ap, _∙_}
 use mathlib.Core.Option.{Option, some}
 use borrow.Author.Needs.{needs}
 use Rattle.timestamp.specs.declared.units.Scale.{Scale}

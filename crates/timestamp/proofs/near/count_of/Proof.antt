@@ -1,5 +1,5 @@
 -- `timestamp::near::count_of` meets its contract: the seconds of the day and then its ticks, which so few days have that all fit.
-use Prim.Native.Nat.{ℕ, suc, _+_, _*_, _<_, _≤_, _^_}
+use Prim.Native.Nat.{ℕ, suc, _+_, _*_, _≤_}
 use native.Mathlib.Omega.{arith}
 use native.Mathlib.Nat.{mul-le-mul}
 use mathlib.Core.Path.{_≡_, ap, subst, sym, _∙_}

@@ -1,7 +1,7 @@
 -- `timestamp::near::day_number` meets its contract: the days before the year, those before the month, and the day, as differences.
 use Prim.Native.Nat.{ℕ, _+_, _*_, _-_, _/_, _%_, _<_, _≤_, _^_}
 use native.Mathlib.Omega.{arith}
-use mathlib.Core.Path.{_≡_, refl, sym, ap, ap₂, subst, _∙_}
+use mathlib.Core.Path.{_≡_, refl, sym, ap₂, subst, _∙_}
 use borrow.Author.Needs.{needs}
 use lib.IntN.{ℤ, pos, subℕ, _+ℤ_}
 use lib.Signed.{mag}
