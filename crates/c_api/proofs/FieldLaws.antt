@@ -1,64 +1,79 @@
--- Fields to encode, and why a number that no field holds is refused with 18.
+-- Fields to encode, and why a number that no date and time has is refused with 18.
 use Prim.Native.Nat.{ℕ, _-_, _≤_, _<_, _^_}
-use mathlib.Core.Path.{_≡_, refl, sym, ap, _∙_, subst}
-use mathlib.Core.Bool.{Bool, true, false, cond, not, true≢false, _||_, or-true}
+use mathlib.Core.Path.{_≡_, refl, sym, ap, _∙_}
+use mathlib.Core.Bool.{Bool, true, false, _&&_, false≢true}
 use mathlib.Core.List.{List, [], _∷_}
 use mathlib.Core.Option.{Option, none, some}
 use native.Mathlib.Omega.{arith}
-use borrow.Author.Tests.{lt-ltb, le-ltb, le-leb, lt-leb}
-use lib.Dec.{leb, ltb}
-use lib.IntN.{ℤ, pos, natAbs}
+use borrow.Author.Tests.{lt-ltb, ltb-true, le-leb, leb-true}
+use lib.Dec.{T, leb, ltb}
+use lib.IntN.{ℤ, pos, negsuc, natAbs}
 use lib.ListN.{length}
-use lib.Signed.{nonNeg}
+use lib.Signed.{nonNeg, leZ}
 use mir.Facts.{toZ-pos}
-use mir.Syntax.{w64}
-use mir.Val.{SFits, toZ, ofZ}
+use mir.Syntax.{w32, w64}
+use mir.Val.{Fits, SFits, toZ, ofZ}
 use mir.ValLaws.{toZ-ofZ}
 use Rattle.laws.proofs.BoolLaws.{and-both, both-and, by-test}
 use Rattle.timestamp.specs.Calendar.{months, isLeap, daysOfMonth}
 use Rattle.timestamp.specs.Units.{TimeUnit, millis, micros, nanos, ticksPerSecond, unitOf}
 use Rattle.timestamp.specs.Count.{isDateTime}
-use Rattle.timestamp.specs.Outcomes.{Outcome, Decodes, decoded, encoded, encodingIn}
+use Rattle.timestamp.specs.Outcomes.{Outcome, noDateTime, unknownUnit, ticksInDay, dayTicks, Decodes, decoded, encoded, encodingIn}
 use Rattle.timestamp.specs.Outcomes as timestamp
 use Rattle.timestamp.specs.declared.fields.Fields.{Fields}
 use Rattle.timestamp.specs.declared.decoding.Decoded.{Decoded}
 use Rattle.timestamp.specs.declared.encoding.Encoded.{Encoded}
-use Rattle.timestamp.proofs.CalendarLaws.{no-month}
+use Rattle.timestamp.specs.declared.units.DayTicks
+use Rattle.timestamp.specs.declared.units.DayTicks.{DayTicks}
 use Rattle.timestamp.proofs.ClockLaws.{Time, time-parts}
 use Rattle.timestamp.proofs.CountLaws.{date-time-parts, decodes-one, encoding-none}
 use Rattle.timestamp.proofs.DateLaws.{Date, date-parts}
-use Rattle.laws.proofs.SignedLaws.{negative-is}
 use Rattle.c_api.specs.Answers.{within, answer, left}
 use Rattle.c_api.specs.Timestamps.{fieldNumbers, decodeEffect, Decoding, FIELDS, at, isField, areFields, fieldsOf, encodingOf, encodeEffect, encoding}
 use Rattle.c_api.proofs.MostLaws.{AtMost, atMost-test, atMost-getD}
 
 -- ---- one field
 
--- the number that stands for one that no field holds
-abbrev pub NO-FIELD : ℕ
-NO-FIELD = 2 ^ 32 - 1
+-- a number from one to another
+abbrev pub ranged : ℕ → ℕ → ℤ → Bool
+ranged least most z = leZ (pos least) z && leZ z (pos most)
 
--- a field, or that number
-abbrev pub held : ℤ → ℕ
-held z = cond (isField z) (natAbs z) NO-FIELD
+-- it is a field, where it has 32 bits
+ranged-field : (least most : ℕ) (z : ℤ) → most < 2 ^ 32 → ranged least most z ≡ true → isField z ≡ true
+ranged-field least most (pos n) h e =
+    let last = leb-true n most (and-both (leb least n) (leb n most) e .1) in
+    both-and (leb 0 n) (ltb n (2 ^ 32)) (le-leb 0 n (omega arith)) (lt-ltb n (2 ^ 32) (omega arith))
+ranged-field least most (negsuc n) h e = absurd (false≢true e)
 
-pub held-negative : (z : ℤ) → not (nonNeg z) ≡ true → NO-FIELD ≡ held z
-held-negative z e = subst (λ (x : ℤ). NO-FIELD ≡ held x) (sym (negative-is z e)) refl
+field-ranged : (least most : ℕ) (z : ℤ) → isField z ≡ true → least ≤ natAbs z → natAbs z ≤ most → ranged least most z ≡ true
+field-ranged least most (pos n) e h k = both-and (leb least n) (leb n most) (le-leb least n h) (le-leb n most k)
+field-ranged least most (negsuc n) e h k = absurd (false≢true e)
 
-pub held-great : (n : ℕ) → NO-FIELD < n → NO-FIELD ≡ held (pos n)
-held-great n h = rw (le-leb 0 n (omega arith), le-ltb n (2 ^ 32) (omega arith))
+-- and what a cast of it asks and gives
+pub field-cast : (z : ℤ) → isField z ≡ true → T (nonNeg z) × Fits w32 (natAbs z)
+field-cast (pos n) e = (tt, record { fits = ltb-true n (2 ^ 32) (and-both (leb 0 n) (ltb n (2 ^ 32)) e .1) })
+field-cast (negsuc n) e = absurd (false≢true e)
 
-pub held-small : (n : ℕ) → n ≤ NO-FIELD → n ≡ held (pos n)
-held-small n h = rw (le-leb 0 n (omega arith), lt-ltb n (2 ^ 32) (omega arith))
+-- ---- seven numbers
 
-held-field : (z : ℤ) → isField z ≡ true → held z ≡ natAbs z
-held-field z e = rw e
+-- of which each but the year is one that its field can have
+pub record InRange (numbers : List ℤ) : Type 0 where
+  pub month-in : ranged 1 12 (at numbers 1) ≡ true
+  pub day-in : ranged 0 31 (at numbers 2) ≡ true
+  pub hour-in : ranged 0 23 (at numbers 3) ≡ true
+  pub minute-in : ranged 0 59 (at numbers 4) ≡ true
+  pub second-in : ranged 0 59 (at numbers 5) ≡ true
+  pub fraction-in : ranged 0 999999999 (at numbers 6) ≡ true
 
--- a number below that one is a field
-held-below : (z : ℤ) → held z < NO-FIELD → isField z ≡ true
-held-below z h = by-test (isField z) (λ e. e) (λ e. let same : held z ≡ NO-FIELD = rw e in absurd (omega arith))
-
--- ---- a date and time has no such field
+-- numbers that are fields, one by one
+pub record Each (numbers : List ℤ) : Type 0 where
+  pub enough : FIELDS ≤ length numbers
+  pub month-is : isField (at numbers 1) ≡ true
+  pub day-is : isField (at numbers 2) ≡ true
+  pub hour-is : isField (at numbers 3) ≡ true
+  pub minute-is : isField (at numbers 4) ≡ true
+  pub second-is : isField (at numbers 5) ≡ true
+  pub fraction-is : isField (at numbers 6) ≡ true
 
 months-most : (leap : Bool) → AtMost 31 (months leap)
 months-most true = atMost-test 31 (months true) refl
@@ -68,126 +83,114 @@ days-most : (year : ℤ) (month : ℕ) → daysOfMonth year month ≤ 31
 unfolding daysOfMonth
 days-most year month = atMost-getD 31 (months (isLeap year)) (month - 1) (months-most (isLeap year))
 
-ticks-most : (unit : TimeUnit) → ticksPerSecond unit ≤ NO-FIELD
+ticks-most : (unit : TimeUnit) → ticksPerSecond unit ≤ 1000000000
 ticks-most millis = omega arith
 ticks-most micros = omega arith
 ticks-most nanos = omega arith
 
-record Small (f : Fields) : Type 0 where
-  month-small : f .month < NO-FIELD
-  day-small : f .day < NO-FIELD
-  hour-small : f .hour < NO-FIELD
-  minute-small : f .minute < NO-FIELD
-  second-small : f .second < NO-FIELD
-  fraction-small : f .fraction < NO-FIELD
-
-small : (t : ℕ) (f : Fields) → t ≤ NO-FIELD → isDateTime t f ≡ true → Small f
-small t f h formed =
-    let parts = date-time-parts t f formed in
-    let date : Date (f .year) (f .month) (f .day) = date-parts (f .year) (f .month) (f .day) (parts .0) in
-    let time : Time t (f .hour) (f .minute) (f .second) (f .fraction) = time-parts t (f .hour) (f .minute) (f .second) (f .fraction) (parts .1) in
-    record {
-      month-small = omega (arith, date .month-last);
-      day-small = omega (arith, date .day-last, days-most (f .year) (f .month));
-      hour-small = omega (arith, time .hour-below);
-      minute-small = omega (arith, time .minute-below);
-      second-small = omega (arith, time .second-below);
-      fraction-small = omega (arith, time .fraction-below);
-    }
-
-late : (m : ℕ) → 12 < m → (ltb m 1 || ltb 12 m) ≡ true
-late m h = rw (lt-ltb 12 m h) (or-true (ltb m 1))
-
--- a month past 12 forms no date
-late-month : (t : ℕ) (f : Fields) → 12 < f .month → isDateTime t f ≡ false
-unfolding isDateTime
-late-month t f h = rw (no-month (f .year) (f .month) (f .day) (late (f .month) h))
-
--- ---- seven numbers
-
--- the fields of some numbers, each as it is held
-abbrev pub heldFields : List ℤ → Fields
-heldFields numbers =
-    record {
-      year = at numbers 0;
-      month = held (at numbers 1);
-      day = held (at numbers 2);
-      hour = held (at numbers 3);
-      minute = held (at numbers 4);
-      second = held (at numbers 5);
-      fraction = held (at numbers 6);
-    }
+-- no numbers are no fields
+no-numbers : (unit : TimeUnit) → encodingOf (some unit) [] ≡ noDateTime
+unfolding areFields
+no-numbers unit = refl
 
 module _ (numbers : List ℤ) where
-  -- numbers that are fields are held as they are
-  held-are : areFields numbers ≡ true → heldFields numbers ≡ fieldsOf numbers
-  unfolding areFields fieldsOf
-  held-are e =
-      let from1 = and-both (leb FIELDS (length numbers)) _ e .1 in
-      let p1 = and-both (isField (at numbers 1)) _ from1 in
+  pub each : areFields numbers ≡ true → Each numbers
+  unfolding areFields
+  each e =
+      let p0 = and-both (leb FIELDS (length numbers)) _ e in
+      let p1 = and-both (isField (at numbers 1)) _ (p0 .1) in
       let p2 = and-both (isField (at numbers 2)) _ (p1 .1) in
       let p3 = and-both (isField (at numbers 3)) _ (p2 .1) in
       let p4 = and-both (isField (at numbers 4)) _ (p3 .1) in
       let p5 = and-both (isField (at numbers 5)) (isField (at numbers 6)) (p4 .1) in
-      λ i. record {
-        year = at numbers 0;
-        month = held-field (at numbers 1) (p1 .0) i;
-        day = held-field (at numbers 2) (p2 .0) i;
-        hour = held-field (at numbers 3) (p3 .0) i;
-        minute = held-field (at numbers 4) (p4 .0) i;
-        second = held-field (at numbers 5) (p5 .0) i;
-        fraction = held-field (at numbers 6) (p5 .1) i;
+      record {
+        enough = leb-true FIELDS (length numbers) (p0 .0);
+        month-is = p1 .0;
+        day-is = p2 .0;
+        hour-is = p3 .0;
+        minute-is = p4 .0;
+        second-is = p5 .0;
+        fraction-is = p5 .1;
       }
 
-  -- numbers that form a date and time as they are held are fields
-  formed-are : FIELDS ≤ length numbers → Small (heldFields numbers) → areFields numbers ≡ true
+  -- numbers in range are fields
+  pub ranged-are : FIELDS ≤ length numbers → InRange numbers → areFields numbers ≡ true
   unfolding areFields
-  formed-are h s =
+  ranged-are h r =
       both-and _ _ (le-leb FIELDS (length numbers) h)
-      (both-and _ _ (held-below (at numbers 1) (s .month-small))
-      (both-and _ _ (held-below (at numbers 2) (s .day-small))
-      (both-and _ _ (held-below (at numbers 3) (s .hour-small))
-      (both-and _ _ (held-below (at numbers 4) (s .minute-small))
-      (both-and _ _ (held-below (at numbers 5) (s .second-small)) (held-below (at numbers 6) (s .fraction-small)))))))
+      (both-and _ _ (ranged-field 1 12 (at numbers 1) (omega arith) (r .month-in))
+      (both-and _ _ (ranged-field 0 31 (at numbers 2) (omega arith) (r .day-in))
+      (both-and _ _ (ranged-field 0 23 (at numbers 3) (omega arith) (r .hour-in))
+      (both-and _ _ (ranged-field 0 59 (at numbers 4) (omega arith) (r .minute-in))
+      (both-and _ _ (ranged-field 0 59 (at numbers 5) (omega arith) (r .second-in)) (ranged-field 0 999999999 (at numbers 6) (omega arith) (r .fraction-in)))))))
 
-  -- encoding what is held is encoding the numbers
-  encoding-held : (u : Option TimeUnit) → FIELDS ≤ length numbers → timestamp.encoding u (heldFields numbers) ≡ encodingOf u numbers
-  encoding-held none h = refl
-  encoding-held (some unit) h = by-test (areFields numbers) are not-are
+  -- and fields that form a date and time are in range
+  formed-in : (unit : TimeUnit) → areFields numbers ≡ true → isDateTime (ticksPerSecond unit) (fieldsOf numbers) ≡ true → InRange numbers
+  unfolding fieldsOf
+  formed-in unit are formed =
+      let f = fieldsOf numbers in
+      let t = ticksPerSecond unit in
+      let e = each are in
+      let parts = date-time-parts t f formed in
+      let date : Date (f .year) (f .month) (f .day) = date-parts (f .year) (f .month) (f .day) (parts .0) in
+      let time : Time t (f .hour) (f .minute) (f .second) (f .fraction) = time-parts t (f .hour) (f .minute) (f .second) (f .fraction) (parts .1) in
+      record {
+        month-in = field-ranged 1 12 (at numbers 1) (e .month-is) (date .month-first) (date .month-last);
+        day-in = field-ranged 0 31 (at numbers 2) (e .day-is) (omega arith) (omega (arith, date .day-last, days-most (f .year) (f .month)));
+        hour-in = field-ranged 0 23 (at numbers 3) (e .hour-is) (omega arith) (omega (arith, time .hour-below));
+        minute-in = field-ranged 0 59 (at numbers 4) (e .minute-is) (omega arith) (omega (arith, time .minute-below));
+        second-in = field-ranged 0 59 (at numbers 5) (e .second-is) (omega arith) (omega (arith, time .second-below));
+        fraction-in = field-ranged 0 999999999 (at numbers 6) (e .fraction-is) (omega arith) (omega (arith, time .fraction-below, ticks-most unit));
+      }
+
+  -- numbers that are no fields in range are encoded as no numbers are
+  pub encoding-unformed : (areFields numbers ≡ true → InRange numbers → ⊥) → (u : Option TimeUnit) → encodingOf u numbers ≡ encodingOf u []
+  encoding-unformed h none = refl
+  encoding-unformed h (some unit) = by-test (areFields numbers) are (λ e. rw e (sym (no-numbers unit)))
     where
-      are : areFields numbers ≡ true → encodingIn (ticksPerSecond unit) (heldFields numbers) ≡ encodingOf (some unit) numbers
-      are e = rw e (ap (encodingIn (ticksPerSecond unit)) (held-are e))
+      unformed : areFields numbers ≡ true → isDateTime (ticksPerSecond unit) (fieldsOf numbers) ≡ false
+      unformed e = by-test (isDateTime (ticksPerSecond unit) (fieldsOf numbers)) (λ d. absurd (h e (formed-in unit e d))) (λ d. d)
 
-      unformed : areFields numbers ≡ false → isDateTime (ticksPerSecond unit) (heldFields numbers) ≡ false
-      unformed e =
-          by-test (isDateTime (ticksPerSecond unit) (heldFields numbers))
-          (λ d. absurd (true≢false (sym (formed-are h (small (ticksPerSecond unit) (heldFields numbers) (ticks-most unit) d)) ∙ e)))
-          (λ d. d)
+      are : areFields numbers ≡ true → encodingOf (some unit) numbers ≡ encodingOf (some unit) []
+      are e = rw e (encoding-none (ticksPerSecond unit) (fieldsOf numbers) (unformed e) ∙ sym (no-numbers unit))
 
-      not-are : areFields numbers ≡ false → encodingIn (ticksPerSecond unit) (heldFields numbers) ≡ encodingOf (some unit) numbers
-      not-are e = rw e (encoding-none (ticksPerSecond unit) (heldFields numbers) (unformed e))
+  -- and encoding the fields of others is encoding the numbers
+  pub encoding-fields : (f : Fields) (u : Option TimeUnit) → areFields numbers ≡ true → f ≡ fieldsOf numbers → timestamp.encoding u f ≡ encodingOf u numbers
+  encoding-fields f none e p = refl
+  encoding-fields f (some unit) e p = rw e (ap (encodingIn (ticksPerSecond unit)) p)
 
-  -- and so is encoding fields that are what is held
-  pub encoding-fields : (f : Fields) (u : Option TimeUnit)
-      → FIELDS ≤ length numbers
-      → f .year ≡ at numbers 0
-      → f .month ≡ held (at numbers 1)
-      → f .day ≡ held (at numbers 2)
-      → f .hour ≡ held (at numbers 3)
-      → f .minute ≡ held (at numbers 4)
-      → f .second ≡ held (at numbers 5)
-      → f .fraction ≡ held (at numbers 6)
-      → timestamp.encoding u f ≡ encodingOf u numbers
-  encoding-fields f u l y mo d h mi s fr =
-      let same : f ≡ heldFields numbers = λ i. record { year = y i; month = mo i; day = d i; hour = h i; minute = mi i; second = s i; fraction = fr i } in
-      ap (timestamp.encoding u) same ∙ encoding-held u l
+-- ---- no numbers
 
-  -- fewer numbers are encoded as fields of no month
-  pub encoding-short : (u : Option TimeUnit) (f : Fields) → length numbers < FIELDS → 12 < f .month → timestamp.encoding u f ≡ encodingOf u numbers
-  encoding-short none f h m = refl
-  encoding-short (some unit) f h m =
-      let none-are : areFields numbers ≡ false = unfold areFields in rw (lt-leb FIELDS (length numbers) h) in
-      rw none-are (encoding-none (ticksPerSecond unit) f (late-month (ticksPerSecond unit) f m))
+-- by whether a unit is named
+pub unformed-known : (unit lent n : ℕ) (r : DayTicks) → dayTicks r ≡ ticksInDay (unitOf unit) → r ≡ DayTicks.Ticks n → encoding unit [] lent ≡ within lent (encodeEffect noDateTime)
+unfolding encoding
+unformed-known unit lent n r e p = known (unitOf unit) (sym (ap dayTicks p) ∙ e)
+  where
+    known : (u : Option TimeUnit) → timestamp.given n ≡ ticksInDay u → within lent (encodeEffect (encodingOf u [])) ≡ within lent (encodeEffect noDateTime)
+    known none q = absurd (let z : _≡_ {A = ℕ} 0 1 = cc in omega arith)
+    known (some unit) q = rw (no-numbers unit)
+
+pub unformed-unknown : (unit lent : ℕ) (r : DayTicks) → dayTicks r ≡ ticksInDay (unitOf unit) → r ≡ DayTicks.UnknownUnit → encoding unit [] lent ≡ within lent (encodeEffect unknownUnit)
+unfolding encoding
+unformed-unknown unit lent r e p = unknown (unitOf unit) (sym (ap dayTicks p) ∙ e)
+  where
+    unknown : (u : Option TimeUnit) → unknownUnit ≡ ticksInDay u → within lent (encodeEffect (encodingOf u [])) ≡ within lent (encodeEffect unknownUnit)
+    unknown none q = refl
+    unknown (some unit) q = absurd (let z : _≡_ {A = ℕ} 0 1 = cc in omega arith)
+
+-- and so is what numbers come to that are encoded as none are
+pub unformed-encoding : (unit : ℕ) (numbers : List ℤ) (lent : ℕ) → encodingOf (unitOf unit) numbers ≡ encodingOf (unitOf unit) [] → encoding unit numbers lent ≡ encoding unit [] lent
+unfolding encoding
+unformed-encoding unit numbers lent e = ap (λ (o : Outcome ℤ). within lent (encodeEffect o)) e
+
+-- nothing is written of them
+pub unformed-left : (unit lent : ℕ) (kept : List ℤ) → left (encoding unit [] lent) kept ≡ kept
+unfolding encoding
+unformed-left unit lent kept = of (unitOf unit)
+  where
+    of : (u : Option TimeUnit) → left (within lent (encodeEffect (encodingOf u []))) kept ≡ kept
+    of none = refl
+    of (some unit) = rw (no-numbers unit)
 
 -- ---- answers
 

@@ -1,19 +1,19 @@
 // Counts decoded and fields encoded, in the unit of a number.
 ghost use mathlib.Core.Path.{_≡_};
-ghost use mathlib.Core.Bool.{cond};
+ghost use mathlib.Core.Bool.{true, false, _&&_};
 ghost use mathlib.Core.List.{[], _∷_};
 ghost use mathlib.Core.Option.{Option};
-ghost use Prim.Native.Nat.{_-_, _^_};
-ghost use lib.IntN.{natAbs};
+ghost use Prim.Native.Nat.{ℕ};
 ghost use lib.ListN.{length};
+ghost use lib.Signed.{leZ};
 ghost use Rattle.timestamp.specs.Units.{TimeUnit};
-ghost use Rattle.timestamp.specs.Outcomes as timestamp;
 ghost use Rattle.c_api.specs.Answers.{counted, within, answer, left};
-ghost use Rattle.c_api.specs.Timestamps.{fieldNumbers, Decoding, isField, encodingOf, encoding};
+ghost use Rattle.c_api.specs.Timestamps.{fieldNumbers, Decoding, areFields, fieldsOf, encodingOf, encoding};
 use crate::answers::NO_PLACE;
 use crate::answers::RESULT;
 use crate::answers::SHORT_OUTPUT;
 use crate::answers::packed;
+use timestamp::DayTicks;
 use timestamp::Decoded;
 use timestamp::Encoded;
 use timestamp::Fields;
@@ -31,11 +31,18 @@ const NOT_REPRESENTABLE: u32 = 19;
 
 const UNKNOWN_UNIT: u32 = 20;
 
-// A number that no month, day, hour, minute or second is, and no fraction: a second has fewer ticks in every unit.
-const NO_FIELD: u32 = 0xffff_ffff;
+// The greatest numbers that a date and time has, in any month and unit.
+const GREATEST_MONTH: i64 = 12;
 
-// The same number, which is the greatest that a field other than the year can hold.
-const GREATEST_FIELD: i64 = NO_FIELD as i64;
+const GREATEST_DAY: i64 = 31;
+
+const GREATEST_HOUR: i64 = 23;
+
+const GREATEST_MINUTE: i64 = 59;
+
+const GREATEST_SECOND: i64 = 59;
+
+const GREATEST_FRACTION: i64 = 999_999_999;
 
 // Writes the fields of a count: year, month, day, hour, minute, second, fraction. The value is 7.
 #[no_mangle]
@@ -54,6 +61,9 @@ pub extern "C" fn griffeljol_encode(unit: u32, fields: &[i64], count: &mut [i64]
     ensures { λ r. ⌜ r ≡ answer (encoding unit (now (fields .entry)) (length (now (count .entry)))) ⌝ }
     ensures { λ _. ⌜ now (count .exit) ≡ left (encoding unit (now (fields .entry)) (length (now (count .entry)))) (now (count .entry)) ⌝ }
 {
+    if !are_fields(fields) {
+        return no_date_time(unit);
+    }
     match timestamp::encode(unit, fields_of(fields)) {
         Encoded::Count(n) => write_count(n, count),
         Encoded::NoDateTime => packed(NO_DATE_TIME, NO_PLACE),
@@ -93,41 +103,61 @@ fn write_count(n: i64, count: &mut [i64]) -> u64
     packed(RESULT, COUNT_NUMBERS as u32)
 }
 
-// The fields of seven numbers. Fewer numbers, or one that no field holds, give fields that form no date or time.
-fn fields_of(fields: &[i64]) -> Fields
-    ensures { λ r. ⌜ ((u : Option TimeUnit) → timestamp.encoding u r ≡ encodingOf u (now (fields .entry))) ⌝ }
+// Whether there are seven numbers, each but the year within bounds that no date and time leaves. Others form none in any unit.
+fn are_fields(fields: &[i64]) -> bool
+    ensures { λ r. ⌜ (r ≡ true → areFields (now (fields .entry)) ≡ true) × (r ≡ false → ((u : Option TimeUnit) → encodingOf u (now (fields .entry)) ≡ encodingOf u [])) ⌝ }
 {
     if fields.len() < FIELDS {
-        return Fields {
-            year: 0,
-            month: NO_FIELD,
-            day: 0,
-            hour: 0,
-            minute: 0,
-            second: 0,
-            fraction: 0,
-        };
+        return false;
     }
+    if !is_within(fields[1], 1, GREATEST_MONTH) {
+        return false;
+    }
+    if !is_within(fields[2], 0, GREATEST_DAY) {
+        return false;
+    }
+    if !is_within(fields[3], 0, GREATEST_HOUR) {
+        return false;
+    }
+    if !is_within(fields[4], 0, GREATEST_MINUTE) {
+        return false;
+    }
+    if !is_within(fields[5], 0, GREATEST_SECOND) {
+        return false;
+    }
+    is_within(fields[6], 0, GREATEST_FRACTION)
+}
+
+// Whether a number is one from `least` to `most`.
+fn is_within(x: i64, least: i64, most: i64) -> bool
+    ensures { λ r. ⌜ r ≡ leZ least x && leZ x most ⌝ }
+{
+    (least <= x) & (x <= most)
+}
+
+// The fields of seven numbers.
+fn fields_of(fields: &[i64]) -> Fields
+    requires { ⌜ areFields (now fields) ≡ true ⌝ }
+    ensures { λ r. ⌜ r ≡ fieldsOf (now (fields .entry)) ⌝ }
+{
+    let year = fields[0];
     Fields {
-        year: fields[0],
-        month: field(fields[1]),
-        day: field(fields[2]),
-        hour: field(fields[3]),
-        minute: field(fields[4]),
-        second: field(fields[5]),
-        fraction: field(fields[6]),
+        year,
+        month: fields[1] as u32,
+        day: fields[2] as u32,
+        hour: fields[3] as u32,
+        minute: fields[4] as u32,
+        second: fields[5] as u32,
+        fraction: fields[6] as u32,
     }
 }
 
-// A field other than the year, or a number that none is.
-fn field(x: i64) -> u32
-    ensures { λ r. ⌜ r ≡ cond (isField x) (natAbs x) (2 ^ 32 - 1) ⌝ }
+// The answer to fields that form no date or time: a unit that there is not comes first.
+fn no_date_time(unit: u32) -> u64
+    ensures { λ r. ⌜ ((lent : ℕ) → r ≡ answer (encoding unit [] lent)) ⌝ }
 {
-    if x < 0 {
-        return NO_FIELD;
+    match timestamp::ticks_per_day(unit) {
+        DayTicks::Ticks(_) => packed(NO_DATE_TIME, NO_PLACE),
+        DayTicks::UnknownUnit => packed(UNKNOWN_UNIT, NO_PLACE),
     }
-    if x > GREATEST_FIELD {
-        return NO_FIELD;
-    }
-    x as u32
 }

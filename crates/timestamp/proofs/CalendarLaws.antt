@@ -1,18 +1,17 @@
 -- What the tests of the calendar's code decide, and day numbers from the days of eras.
-use Prim.Native.Nat.{ℕ, zero, suc, _+_, _-_, _<_, _≤_}
+use Prim.Native.Nat.{ℕ, zero, suc, _+_, _*_, _-_, _<_, _≤_}
 use native.Mathlib.Nat.{le-of-eq, le-trans, lt-irrefl}
 use native.Mathlib.Omega.{arith}
 use mathlib.Core.Path.{_≡_, refl, sym, ap, subst, _∙_}
-use mathlib.Core.Bool.{Bool, true, false, not, _&&_, _||_, and-false, true≢false}
+use mathlib.Core.Bool.{Bool, true, false, not, _&&_, _||_, true≢false}
 use mathlib.Core.List.{_∷_}
-use mathlib.Core.Logic.{_⊎_, inl, inr}
-use borrow.Author.Tests.{le-leb, lt-leb, leb-true, leb-false, ltb-true, eqb-true, eq-eqb}
-use lib.Dec.{leb, ltb, eqb}
+use borrow.Author.Tests.{le-leb, leb-true, leb-false, eqb-true, eq-eqb}
+use lib.Dec.{leb, eqb}
 use lib.ListN.{getD, List·getD-eq-default}
 use lib.IntN.{ℤ, pos, negsuc, natAbs, subℕ}
 use lib.Signed.{mag}
-use Rattle.timestamp.specs.Calendar.{divides, isLeap, months, monthsPerYear, daysOfMonth, dayOf, dayNumber, isDate}
-use Rattle.laws.proofs.BoolLaws.{by-test, and-both, both-and, or-rest}
+use Rattle.timestamp.specs.Calendar.{divides, isLeap, months, daysOfMonth, dayOf, dayNumber, isDate}
+use Rattle.laws.proofs.BoolLaws.{by-test, and-both, both-and}
 use Rattle.laws.proofs.DifferenceLaws.{below?, pos-sub, negsuc-sub, sub-eq, sub-inj, sub-above, sub-below}
 use Rattle.timestamp.proofs.DateLaws.{Date, date-parts, parts-date, era-day-of, day-of-pos, day-number-era}
 
@@ -28,24 +27,13 @@ leap-tests y n e = ap (λ (x : ℕ). divides 4 x && (not (divides 100 x) || divi
 abbrev pub common-days : ℕ → ℕ
 common-days m = getD (0 ∷ months false) m 0
 
-pub common-at : {m v : ℕ} (k : ℕ) → v ≡ common-days k → m ≡ k → v ≡ common-days m
-common-at k e p = e ∙ ap common-days (sym p)
+-- a number from 1 on that is none of twelve is past them
+pub past-each : {k m : ℕ} → k ≤ m → (m ≡ k → ⊥) → suc k ≤ m
+past-each h f = omega arith
 
-pub no-days : (m : ℕ) → ((m ≡ 1) ⊎ ((m ≡ 3) ⊎ ((m ≡ 5) ⊎ (m ≡ 7))) → ⊥) → ((m ≡ 8) ⊎ ((m ≡ 10) ⊎ (m ≡ 12)) → ⊥) → ((m ≡ 4) ⊎ ((m ≡ 6) ⊎ ((m ≡ 9) ⊎ (m ≡ 11))) → ⊥) → (m ≡ 2 → ⊥) → 0 ≡ common-days m
-no-days zero f g h k = refl
-no-days (suc zero) f g h k = absurd (f (inl refl))
-no-days (suc (suc zero)) f g h k = absurd (k refl)
-no-days (suc (suc (suc zero))) f g h k = absurd (f (inr (inl refl)))
-no-days (suc (suc (suc (suc zero)))) f g h k = absurd (h (inl refl))
-no-days (suc (suc (suc (suc (suc zero))))) f g h k = absurd (f (inr (inr (inl refl))))
-no-days (suc (suc (suc (suc (suc (suc zero)))))) f g h k = absurd (h (inr (inl refl)))
-no-days (suc (suc (suc (suc (suc (suc (suc zero))))))) f g h k = absurd (f (inr (inr (inr refl))))
-no-days (suc (suc (suc (suc (suc (suc (suc (suc zero)))))))) f g h k = absurd (g (inl refl))
-no-days (suc (suc (suc (suc (suc (suc (suc (suc (suc zero))))))))) f g h k = absurd (h (inr (inr (inl refl))))
-no-days (suc (suc (suc (suc (suc (suc (suc (suc (suc (suc zero)))))))))) f g h k = absurd (g (inr (inl refl)))
-no-days (suc (suc (suc (suc (suc (suc (suc (suc (suc (suc (suc zero))))))))))) f g h k = absurd (h (inr (inr (inr refl))))
-no-days (suc (suc (suc (suc (suc (suc (suc (suc (suc (suc (suc (suc zero)))))))))))) f g h k = absurd (g (inr (inr refl)))
-no-days (suc (suc (suc (suc (suc (suc (suc (suc (suc (suc (suc (suc (suc m))))))))))))) f g h k = refl
+pub no-days : (m : ℕ) → (1 ≤ m → m ≤ 12 → ⊥) → 0 ≡ common-days m
+no-days zero f = refl
+no-days (suc m) f = let past : 12 ≤ m = below? m 12 (λ h. absurd (f (omega arith) (omega arith))) (λ h. h) in sym (List·getD-eq-default (months false) 0 past)
 
 -- each month has them in every year, and February has a day more in a leap year
 month-least : (b : Bool) (i : ℕ) → getD (months false) i 0 ≤ getD (months b) i 0
@@ -105,34 +93,26 @@ leap-date y m d e = by-test (isDate y m d) (λ p. held (date-parts y m d p) ∙ 
         common : getD (months false) (m - 1) 0 < d
         common = by-test (leb d (common-days m)) (λ t. absurd (true≢false (sym (both-and (leb 1 d) (leb d (common-days m)) (le-leb 1 d (p .day-first)) t) ∙ e))) (λ t. omega (arith, leb-false d (common-days m) t, from-one m (p .month-first)))
 
--- a number that no month has makes no date
-pub no-month : (y : ℤ) (m d : ℕ) → (ltb m 1 || ltb 12 m) ≡ true → isDate y m d ≡ false
-unfolding isDate
-no-month y m d e = by-test (ltb m 1) before λ p. after (or-rest (ltb m 1) (ltb 12 m) p e)
-  where
-    before : ltb m 1 ≡ true → isDate y m d ≡ false
-    before p = ap (λ (b : Bool). b && leb m monthsPerYear && leb 1 d && leb d (daysOfMonth y m)) (lt-leb 1 m (ltb-true m 1 p))
-
-    after : ltb 12 m ≡ true → isDate y m d ≡ false
-    after p = ap (λ (b : Bool). b && leb 1 d && leb d (daysOfMonth y m)) (ap (λ (b : Bool). leb 1 m && b) (lt-leb m 12 (ltb-true 12 m p)) ∙ and-false (leb 1 m))
-
 -- ---- day numbers
 
--- a year counted from a million eras before year 0, and a day from 1 March of that one
-pub day-number-from : (y : ℤ) (n m d day : ℕ) → y ≡ subℕ n 400000000 → dayOf (pos n) m d ≡ pos (day + 61) → dayNumber y m d ≡ subℕ day 146097719468
-day-number-from y n m d day e p =
+-- a year counted from e eras before year 0, and a day from 1 March of that one
+pub day-number-from : (y : ℤ) (n e m d day : ℕ) → y ≡ subℕ n (400 * e) → dayOf (pos n) m d ≡ pos (day + 61) → dayNumber y m d ≡ subℕ day (146097 * e + 719468)
+day-number-from y n e m d day q p =
     let same : era-day-of n m d ≡ day + 61 = pos-inj (sym (day-of-pos n m d) ∙ p) in
-    day-number-era y n 1000000 m d e ∙ sub-eq (era-day-of n m d) 146097719529 day 146097719468 (omega arith)
+    day-number-era y n e m d q ∙ sub-eq (era-day-of n m d) (146097 * e + 719529) day (146097 * e + 719468) (omega arith)
   where
     pos-inj : {a b : ℕ} → pos a ≡ pos b → a ≡ b
     pos-inj q = cc
 
 -- how far a difference lies from 0, and the other way round
-pub difference-most : (a b most : ℕ) → a < most → b < most → mag (subℕ a b) < most
-difference-most a b most h k = below? a b (λ l. bounded (sub-below a b l) (omega arith)) (λ l. bounded (sub-above a b l) (omega arith))
+pub difference-within : (a b most : ℕ) → a < b + most → b < a + most → mag (subℕ a b) < most
+difference-within a b most h k = below? a b (λ l. bounded (sub-below a b l) (omega arith)) (λ l. bounded (sub-above a b l) (omega arith))
   where
     bounded : {x z : ℤ} → x ≡ z → mag z < most → mag x < most
     bounded e m = subst (λ (w : ℤ). mag w < most) (sym e) m
+
+pub difference-most : (a b most : ℕ) → a < most → b < most → mag (subℕ a b) < most
+difference-most a b most h k = difference-within a b most (omega arith) (omega arith)
 
 pub raised-most : (x : ℤ) (n by most : ℕ) → x ≡ subℕ n by → mag x < most → n < by + most
 raised-most (pos m) n by most e h = omega (arith, sub-inj m 0 n by (sym (pos-sub m) ∙ e))

@@ -1,7 +1,7 @@
 -- Days to dates and back, by years that begin in March.
-use Prim.Native.Nat.{ℕ, suc, _+_, _*_, _-_, _/_, _%_, _<_, _≤_}
+use Prim.Native.Nat.{ℕ, suc, _+_, _*_, _-_, _/_, _%_, _<_, _≤_, _^_}
 use native.Mathlib.Numerals.{add-one}
-use native.Mathlib.Nat.{add-zero, div-eq-of-lt}
+use native.Mathlib.Nat.{add-zero, div-eq-of-lt, le-div-iff-mul-le, div-lt-iff-lt-mul}
 use native.Mathlib.Omega.{arith}
 use mathlib.Core.Path.{_≡_, sym, ap, subst, _∙_}
 use mathlib.Core.Bool.{true}
@@ -123,3 +123,10 @@ date-day n m d r s l h g k e p =
 pub march-first : (n : ℕ) → dayOf (pos n) 3 1 ≡ pos (365 * n + n / 4 + n / 400 - n / 100 + 61)
 unfolding march
 march-first n = march-day n 0 ∙ ap (λ (x : ℕ). pos (x + 61)) (add-zero (march n))
+
+-- and the century of a year, as a multiple of the year
+pub century-is : (n : ℕ) → n < 2 ^ 32 → 1374389535 * n / 137438953472 ≡ n / 100
+century-is n h =
+    let least = le-div-iff-mul-le {k = 137438953472} {x = n / 100} {y = 1374389535 * n} (omega arith) .1 (omega arith) in
+    let most = div-lt-iff-lt-mul {k = 137438953472} {x = 1374389535 * n} {y = suc (n / 100)} (omega arith) .1 (omega arith) in
+    omega arith

@@ -1,7 +1,7 @@
 -- Floor division of integers: a count from its days and its rest, by the sign, and that both are told by the count. Here t is the ticks in a day.
 use Prim.Native.Nat.{ℕ, suc, _+_, _*_, _-_, _/_, _%_, _<_, _≤_, _^_}
 use native.Mathlib.Omega.{arith}
-use native.Mathlib.Nat.{add-mul, div-add-mod', mod-lt, mul-le-mul-left, mul-le-mul-right}
+use native.Mathlib.Nat.{add-mul, mul-assoc, mul-comm, div-add-mod', mod-lt, mul-le-mul-left, mul-le-mul-right}
 use mathlib.Core.Path.{_≡_, refl, sym, ap, subst, _∙_}
 use mathlib.Core.Bool.{Bool, true, false, cond, _&&_}
 use borrow.Author.Tests.{le-leb, lt-leb}
@@ -51,15 +51,35 @@ joined-reach (negsuc q) t r h = subst (λ (z : ℤ). q * t ≤ mag z) (sym (join
 pub division-reach : {count : ℤ} {t : ℕ} {d : Division} → FloorDivision count t d → mag (d .day) * t ≤ mag count
 division-reach {count} {t} {d} p = subst (λ (z : ℤ). mag (d .day) * t ≤ mag z) (sym (p .exact)) (joined-reach (d .day) t (d .rest) (p .below))
 
--- and on fewer days than fill 63 bits the count has 64
-pub joined-fits : (day : ℤ) (t r n : ℕ) → r < t → mag day < n → n * t < 2 ^ 63 → mag (joined day t r) < 2 ^ 63
-joined-fits (pos q) t r n h k l = let most : suc q * t ≤ n * t = mul-le-mul-right t k in omega (arith, suc-times q t)
-joined-fits (negsuc q) t r n h k l =
+-- and fewer days have fewer ticks
+pub joined-below : (day : ℤ) (t r n : ℕ) → r < t → mag day < n → mag (joined day t r) < n * t
+joined-below (pos q) t r n h k = let most : suc q * t ≤ n * t = mul-le-mul-right t k in omega (arith, suc-times q t)
+joined-below (negsuc q) t r n h k =
     let most : suc q * t ≤ n * t = mul-le-mul-right t k in
-    subst (λ (z : ℤ). mag z < 2 ^ 63) (sym (joined-negative q t r h)) (omega (arith, suc-times q t))
+    subst (λ (z : ℤ). mag z < n * t) (sym (joined-negative q t r h)) (omega (arith, suc-times q t))
+
+-- so on fewer days than fill 63 bits the count has 64
+pub joined-fits : (day : ℤ) (t r n : ℕ) → r < t → mag day < n → n * t < 2 ^ 63 → mag (joined day t r) < 2 ^ 63
+joined-fits day t r n h k l = omega (arith, joined-below day t r n h k)
 
 pub ticks-fit : (day : ℤ) (t n : ℕ) → 0 < t → mag day < n → n * t < 2 ^ 63 → mag (day *ℤ pos t) < 2 ^ 63
 ticks-fit day t n h k l = subst (λ (z : ℤ). mag z < 2 ^ 63) (+ℤ-idr (day *ℤ pos t)) (joined-fits day t 0 n h k l)
+
+-- days of t parts of u ticks each
+pub joined-twice : (day : ℤ) (t r u f : ℕ) → joined (joined day t r) u f ≡ joined day (u * t) (r * u + f)
+joined-twice day t r u f = apart (joined day t r) (d .more * t + r) (d .less * t) u f (apart day (d .more) (d .less) t r (d .is)) ∙ sub-eq _ _ _ _ crossed ∙ sym (apart day (d .more) (d .less) (u * t) (r * u + f) (d .is))
+  where
+    d : Difference day
+    d = difference day
+
+    apart : (z : ℤ) (a b v s : ℕ) → z ≡ subℕ a b → joined z v s ≡ subℕ (a * v + s) (b * v)
+    apart z a b v s e = ap (λ (w : ℤ). w *ℤ pos v +ℤ pos s) e ∙ ap (λ (w : ℤ). w +ℤ pos s) (sub-mul a b v) ∙ sub-add-pos (a * v) (b * v) s
+
+    regroup : (a : ℕ) → a * t * u ≡ a * (u * t)
+    regroup a = mul-assoc a t u ∙ ap (λ (x : ℕ). a * x) (mul-comm t u)
+
+    crossed : (d .more * t + r) * u + f + d .less * (u * t) ≡ d .more * (u * t) + (r * u + f) + d .less * t * u
+    crossed = omega (arith, add-mul (d .more * t) r u, regroup (d .more), regroup (d .less))
 
 -- a count has one day and one rest
 pub joined-one : (day day′ : ℤ) (t r r′ : ℕ) → r < t → r′ < t → joined day t r ≡ joined day′ t r′ → (day ≡ day′) × (r ≡ r′)
@@ -107,7 +127,13 @@ divided-signed b n t h =
     twice true r k = omega arith
     twice false r k = refl
 
--- what is told of the number that the machine reads back is told of the number
+-- what is asked and told of the number that the machine reads back is asked and told of the number
+pub joined-asked : {day : ℤ} (t : ℕ) → SFits w64 day → suc (mag day) * t < 2 ^ 63 → suc (mag (toZ w64 (ofZ w64 day))) * t < 2 ^ 63
+joined-asked {day} t h p = subst (λ (z : ℤ). suc (mag z) * t < 2 ^ 63) (sym (toZ-ofZ w64 day h)) p
+
+pub joined-told : {day z : ℤ} (t r : ℕ) → SFits w64 day → z ≡ joined (toZ w64 (ofZ w64 day)) t r → z ≡ joined day t r
+joined-told {day} t r h p = p ∙ ap (λ (d : ℤ). joined d t r) (toZ-ofZ w64 day h)
+
 pub division-told : {count : ℤ} {t : ℕ} {d : Division} → SFits w64 count → FloorDivision (toZ w64 (ofZ w64 count)) t d → FloorDivision count t d
 division-told {count} {t} {d} h p = subst (λ (z : ℤ). FloorDivision z t d) (toZ-ofZ w64 count h) p
 

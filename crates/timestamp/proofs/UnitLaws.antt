@@ -1,5 +1,5 @@
--- Which unit a number names, and what decoding answers in it.
-use Prim.Native.Nat.{ℕ, _≤_}
+-- Which unit a number names, and what decoding and encoding answer in it.
+use Prim.Native.Nat.{ℕ, _<_, _≤_}
 use native.Mathlib.Omega.{arith}
 use mathlib.Core.Path.{_≡_, refl, sym, ap, subst, _∙_}
 use mathlib.Core.Bool.{Bool, cond}
@@ -8,13 +8,15 @@ use borrow.Author.Tests.{ne-eqb}
 use lib.Dec.{eqb}
 use lib.IntN.{ℤ}
 use Rattle.timestamp.specs.declared.fields.Fields.{Fields}
+use Rattle.timestamp.specs.declared.near.Near
+use Rattle.timestamp.specs.declared.near.Near.{Near}
 use Rattle.timestamp.specs.declared.units.Named.{Named}
 use Rattle.timestamp.specs.declared.units.Scale.{Scale}
 use Rattle.timestamp.specs.declared.units.Scaled
 use Rattle.timestamp.specs.declared.units.Scaled.{Scaled}
 use Rattle.timestamp.specs.Units.{TimeUnit, millis, micros, nanos, ticksPerSecond, unitOf, unitNamed}
-use Rattle.timestamp.specs.Steps.{IsScale, IsScaled}
-use Rattle.timestamp.specs.Outcomes.{Outcome, Decodes}
+use Rattle.timestamp.specs.Steps.{IsScale, IsScaled, secondTicks, IsNear}
+use Rattle.timestamp.specs.Outcomes.{Outcome, Decodes, given, encoding, encodingIn}
 use Rattle.timestamp.proofs.CountLaws.{decodes-one}
 
 pub unit-none : (n : ℕ) → (n ≡ 1 → ⊥) → (n ≡ 2 → ⊥) → (n ≡ 3 → ⊥) → unitOf n ≡ none
@@ -59,3 +61,15 @@ pub ticks-most : (unit : TimeUnit) → ticksPerSecond unit ≤ 1000000000
 ticks-most millis = omega arith
 ticks-most micros = omega arith
 ticks-most nanos = omega arith
+
+pub ticks-few : (u : Option TimeUnit) → secondTicks u ≤ 1000000000
+ticks-few none = omega arith
+ticks-few (some unit) = ticks-most unit
+
+-- the count that was found of near fields is what encoding them gives
+pub near-encoded : (u : Option TimeUnit) (f : Fields) (t : ℕ) (r : Near) (n : ℤ) → t ≡ secondTicks u → IsNear t f r → r ≡ Near.Count n → encoding u f ≡ given n
+near-encoded u f t r n e p q = told u e (subst (IsNear t f) q p)
+  where
+    told : (u : Option TimeUnit) → t ≡ secondTicks u → (0 < t) × (encodingIn t f ≡ given n) → encoding u f ≡ given n
+    told none e p = absurd (omega arith)
+    told (some unit) e p = subst (λ (k : ℕ). encodingIn k f ≡ given n) e (p .1)

@@ -1,12 +1,11 @@
 // The Gregorian calendar: which dates there are, and their day numbers from 1 January 1970 on, both ways.
 
 ghost use mathlib.Core.Path.{_≡_};
-ghost use mathlib.Core.Bool.{true, false};
-ghost use mathlib.Core.List.{_∷_};
+ghost use mathlib.Core.Bool.{true};
 ghost use Prim.Native.Nat.{_<_, _^_};
-ghost use lib.ListN.{getD};
 ghost use lib.Signed.{mag};
-ghost use Rattle.timestamp.specs.Calendar.{isLeap, months, dayNumber, isDate};
+ghost use Rattle.timestamp.specs.Calendar.{isLeap, dayNumber, isDate};
+ghost use Rattle.timestamp.specs.Steps.{IsMonth};
 use crate::eras;
 use crate::eras::DAYS_PER_ERA;
 use crate::eras::EraDate;
@@ -47,7 +46,8 @@ pub(crate) struct Date {
 pub(crate) fn is_date(date: Date) -> bool
     ensures { λ r. ⌜ r ≡ isDate (date .year) (date .month) (date .day) ⌝ }
 {
-    if (1 <= date.day) & (date.day <= common_days(date.month)) {
+    let month = month_at(date.month);
+    if (1 <= date.day) & (date.day <= month.days) {
         return true;
     }
     (date.month == FEBRUARY) & (date.day == LEAP_DAY) & is_leap(date.year)
@@ -79,16 +79,66 @@ pub(crate) fn day_number(date: Date) -> i64
     lowered(eras::day_of(era_date), DAYS_BEFORE)
 }
 
-// The days of a month of a common year, and 0 where there is no such month.
-fn common_days(month: u32) -> u32
-    ensures { λ r. ⌜ r ≡ getD (0 ∷ months false) month 0 ⌝ }
+// A month: its days in a common year, and the day number of the day before its first in the year from 1 March of year 0 on.
+pub(crate) struct Month {
+    pub(crate) days: u32,
+    pub(crate) offset: i64,
+}
+
+// The month of that number. There is none of 0 days.
+pub(crate) fn month_at(month: u32) -> Month
+    ensures { λ r. ⌜ IsMonth month r ⌝ }
 {
     match month {
-        1 | 3 | 5 | 7 => 31,
-        8 | 10 | 12 => 31,
-        4 | 6 | 9 | 11 => 30,
-        2 => 28,
-        _ => 0,
+        1 => Month {
+            days: 31,
+            offset: -719_163,
+        },
+        2 => Month {
+            days: 28,
+            offset: -719_132,
+        },
+        3 => Month {
+            days: 31,
+            offset: -719_469,
+        },
+        4 => Month {
+            days: 30,
+            offset: -719_438,
+        },
+        5 => Month {
+            days: 31,
+            offset: -719_408,
+        },
+        6 => Month {
+            days: 30,
+            offset: -719_377,
+        },
+        7 => Month {
+            days: 31,
+            offset: -719_347,
+        },
+        8 => Month {
+            days: 31,
+            offset: -719_316,
+        },
+        9 => Month {
+            days: 30,
+            offset: -719_285,
+        },
+        10 => Month {
+            days: 31,
+            offset: -719_255,
+        },
+        11 => Month {
+            days: 30,
+            offset: -719_224,
+        },
+        12 => Month {
+            days: 31,
+            offset: -719_194,
+        },
+        _ => Month { days: 0, offset: 0 },
     }
 }
 

@@ -2,8 +2,8 @@
 
 ghost use mathlib.Core.Path.{_≡_};
 ghost use mathlib.Core.Bool.{true};
-ghost use Prim.Native.Nat.{_<_, _≤_};
-ghost use Rattle.timestamp.specs.Clock.{isTime, tickOfDay};
+ghost use Prim.Native.Nat.{_+_, _*_, _<_, _≤_};
+ghost use Rattle.timestamp.specs.Clock.{hoursPerDay, minutesPerHour, secondsPerMinute, secondsPerDay, isTime, tickOfDay};
 ghost use Rattle.timestamp.specs.Units.{nanos, ticksPerSecond, ticksPerDay};
 
 const HOURS_PER_DAY: u32 = 24;
@@ -50,7 +50,14 @@ pub(crate) fn tick_of_day(ticks_per_second: u64, time: Time) -> u64
     requires { ⌜ («ticks_per_second» ≤ ticksPerSecond nanos) × (isTime «ticks_per_second» (time .hour) (time .minute) (time .second) (time .fraction) ≡ true) ⌝ }
     ensures { λ r. ⌜ r ≡ tickOfDay «ticks_per_second» (time .hour) (time .minute) (time .second) (time .fraction) ⌝ }
 {
+    second_of_day(time) as u64 * ticks_per_second + time.fraction as u64
+}
+
+// The seconds of the day that have passed at a time.
+pub(crate) fn second_of_day(time: Time) -> u32
+    requires { ⌜ (time .hour < hoursPerDay) × (time .minute < minutesPerHour) × (time .second < secondsPerMinute) ⌝ }
+    ensures { λ r. ⌜ (r ≡ (time .hour * minutesPerHour + time .minute) * secondsPerMinute + time .second) × (r < secondsPerDay) ⌝ }
+{
     let minutes = time.hour * MINUTES_PER_HOUR + time.minute;
-    let seconds = minutes * SECONDS_PER_MINUTE + time.second;
-    seconds as u64 * ticks_per_second + time.fraction as u64
+    minutes * SECONDS_PER_MINUTE + time.second
 }

@@ -5,7 +5,9 @@
 
 ghost use mathlib.Core.Path.{_≡_};
 ghost use mathlib.Core.Bool.{cond};
-ghost use Prim.Native.Nat.{_-_, _<_};
+ghost use Prim.Native.Nat.{suc, _*_, _-_, _<_, _^_};
+ghost use lib.IntN.{pos, _+ℤ_, _*ℤ_};
+ghost use lib.Signed.{mag};
 ghost use Rattle.timestamp.specs.FloorDivision.{FloorDivision};
 use crate::signed::folded;
 use crate::signed::is_negative;
@@ -28,6 +30,14 @@ pub(crate) fn floor_divide(count: i64, ticks_per_day: u64) -> Division
         day: signed(negative, size / ticks_per_day),
         rest: turned(negative, size % ticks_per_day, ticks_per_day),
     }
+}
+
+// The count of days and a rest, at so many ticks in a day; or in the same way the ticks of seconds and a fraction.
+pub(crate) fn joined(day: i64, ticks_per_day: u64, rest: u64) -> i64
+    requires { ⌜ (rest < «ticks_per_day») × (suc (mag day) * «ticks_per_day» < 2 ^ 63) ⌝ }
+    ensures { λ r. ⌜ r ≡ day *ℤ pos «ticks_per_day» +ℤ pos rest ⌝ }
+{
+    day * ticks_per_day as i64 + rest as i64
 }
 
 // The rest itself, or counted from the day's other end.

@@ -14,13 +14,17 @@ use crate::clock::Time;
 use crate::clock::is_time;
 use crate::clock::tick_of_day;
 use crate::division::Division;
+use crate::division::joined;
 use crate::division::turned;
 use crate::fields::Fields;
+use crate::near;
+use crate::near::Near;
 use crate::signed::folded;
 use crate::signed::is_negative;
 use crate::signed::signed;
 use crate::units::Scaled;
 use crate::units::scale_of;
+use crate::units::ticks_per_second;
 
 // The greatest signed number of 64 bits. Each of them folds onto a number that is not above it.
 const GREATEST: u64 = 0x7fff_ffff_ffff_ffff;
@@ -38,6 +42,17 @@ pub enum Encoded {
 
 // The count of the fields, as ticks since 1 January 1970 in the unit of that number.
 pub fn encode(unit: u32, fields: Fields) -> Encoded
+    ensures { λ r. ⌜ encoded r ≡ encoding (unitOf unit) fields ⌝ }
+{
+    let near = near::encode(ticks_per_second(unit), fields);
+    match near {
+        Near::Count(n) => Encoded::Count(n),
+        Near::Other => encode_any(unit, fields),
+    }
+}
+
+// The same of any fields.
+fn encode_any(unit: u32, fields: Fields) -> Encoded
     ensures { λ r. ⌜ encoded r ≡ encoding (unitOf unit) fields ⌝ }
 {
     let scaled = scale_of(unit);
@@ -90,7 +105,7 @@ fn count_of(division: Division, ticks_per_day: u64, days_reached: u64) -> Encode
     ensures { λ r. ⌜ encoded r ≡ cond (isSigned64 (division .day *ℤ pos «ticks_per_day» +ℤ pos (division .rest))) (given (division .day *ℤ pos «ticks_per_day» +ℤ pos (division .rest))) notRepresentable ⌝ }
 {
     if folded(division.day) < days_reached {
-        return Encoded::Count(division.day * ticks_per_day as i64 + division.rest as i64);
+        return Encoded::Count(joined(division.day, ticks_per_day, division.rest));
     }
     count_at_end(division, ticks_per_day)
 }

@@ -26,7 +26,11 @@ pub(crate) const YEARS_PER_FOUR: u64 = 4;
 
 const DAYS_PER_FOUR: u64 = 1_461;
 
-const DAYS_PER_YEAR: u64 = 365;
+// The century of a year below 2 ^ 32 is the year times this number ..
+const CENTURY_FACTOR: u64 = 1_374_389_535;
+
+// .. divided by this one, which is 2 ^ 37.
+const CENTURY_DIVISOR: u64 = 137_438_953_472;
 
 const MONTHS_PER_FIVE: u64 = 5;
 
@@ -91,12 +95,12 @@ fn year_of(day: u64) -> YearDay
 }
 
 // The days before a year.
-fn days_before_year(year: u64) -> u64
+pub(crate) fn days_before_year(year: u64) -> u64
     requires { ⌜ year < 2 ^ 32 ⌝ }
     ensures { λ r. ⌜ (dayOf (pos year) 3 1 ≡ pos (r + 61)) × (r < 2 ^ 41) ⌝ }
 {
-    let century = (year as u32 / YEARS_PER_CENTURY as u32) as u64;
-    DAYS_PER_YEAR * year + year / YEARS_PER_FOUR + century / CENTURIES_PER_ERA - century
+    let century = CENTURY_FACTOR * year / CENTURY_DIVISOR;
+    DAYS_PER_FOUR * year / YEARS_PER_FOUR + century / CENTURIES_PER_ERA - century
 }
 
 // The month that a day of a year is in, where March is 0.
@@ -124,6 +128,17 @@ fn months_from_march(month: u32) -> u64
         return (month + MONTHS_PER_YEAR - MARCH) as u64;
     }
     (month - MARCH) as u64
+}
+
+// Whether a month, which is 1 to 12, is of the year that began in the March before: 1 or 0.
+pub(crate) fn years_before_march(month: u32) -> u64
+    requires { ⌜ (1 ≤ month) × (month ≤ 12) ⌝ }
+    ensures { λ r. ⌜ r ≡ (month + 12 - 3) % 12 / 10 ⌝ }
+{
+    if month < MARCH {
+        return 1;
+    }
+    0
 }
 
 // The month that so many months from March is.

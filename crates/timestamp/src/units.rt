@@ -5,12 +5,12 @@ ghost use Rattle.timestamp.specs.Units.{millis, micros, nanos, ticksPerS
 ghost use Rattle.timestamp.specs.FloorDivision.{FloorDivision};
 ghost use Rattle.timestamp.specs.declared.division.Division.{Division};
 ghost use Rattle.timestamp.specs.Outcomes.{dayTicks, ticksInDay};
-ghost use Rattle.timestamp.specs.Steps.{IsScaled};
+ghost use Rattle.timestamp.specs.Steps.{IsScaled, secondTicks};
 use crate::division::Division;
 use crate::division::floor_divide;
 
 // The seconds of a day.
-const SECONDS_PER_DAY: u64 = 86_400;
+pub(crate) const SECONDS_PER_DAY: u64 = 86_400;
 
 // The ticks of counts of 64 bits, before 1970 or after: so many days as they fill have counts.
 const TICKS_REACHED: u64 = 0x7fff_ffff_ffff_ffff;
@@ -140,6 +140,19 @@ pub(crate) fn scale_of(unit: u32) -> Scaled
             reached: Nanos::DAYS_REACHED,
         }),
         Named::Unknown => Scaled::UnknownUnit,
+    }
+}
+
+// The ticks of a second in the unit of that number, and 0 where there is none.
+pub(crate) fn ticks_per_second(unit: u32) -> u64
+    ensures { λ r. ⌜ r ≡ secondTicks (unitOf unit) ⌝ }
+{
+    let named = which(unit);
+    match named {
+        Named::Millis => Millis::TICKS_PER_SECOND,
+        Named::Micros => Micros::TICKS_PER_SECOND,
+        Named::Nanos => Nanos::TICKS_PER_SECOND,
+        Named::Unknown => 0,
     }
 }
 

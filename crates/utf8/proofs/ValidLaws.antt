@@ -9,11 +9,12 @@ use native.Mathlib.Nat.{zero-add, add-assoc}
 use native.Mathlib.Omega.{arith}
 use lib.Dec.{T}
 use lib.Ieee.Fits.{and-r}
-use lib.ListN.{length, take, drop, length-append, length-take, length-drop, take-append-drop}
-use lib.Seq.{take-at, take-add, take-length, drop-drop, drop-append-seam, length-take-le}
-use Rattle.utf8.specs.Sequence.{Range, Rule, inside, spells, derives, sequence, utf8-char}
+use lib.ListN.{length, take, drop, getD, length-append, length-take, length-drop, take-append-drop}
+use lib.Seq.{take-at, take-add, take-length, drop-cons, drop-drop, drop-append-seam, length-take-le}
+use Rattle.utf8.specs.Sequence.{Range, Rule, inside, spells, derives, sequence, utf8-char, utf8-1, utf8-2, utf8-3, utf8-4}
 use Rattle.utf8.specs.Text.{Text, none, next}
 use Rattle.utf8.specs.Valid.{matched, leading, reading, validUpTo, Stops}
+use Rattle.utf8.specs.Steps.{PassesAscii}
 use Rattle.laws.proofs.BoolLaws.{T-true, T-or-left, T-or-right, T-or-cases}
 use Rattle.utf8.proofs.SequenceLaws.{inside-true, inside-below, inside-above, spells-length, Above, Below, Ordered, utf8-char-ordered, derives-above, derives-nil}
 
@@ -106,6 +107,11 @@ leading-first k {range} {ranges} {after} e a s h =
 pub leading-between : (k a : ℕ) (s : List ℕ) → Below a (take k utf8-char) × Above a (drop k utf8-char) → leading (a ∷ s) ≡ 0
 leading-between k a s h = leading-above k a s (h .0) ∙ matched-above a s (drop k utf8-char) (h .1)
 
+-- an octet of UTF8-1 is a sequence
+pub leading-ascii : (s : List ℕ) (i : ℕ) → i < length s → getD s i 0 ≤ 0x7F → leading (drop i s) ≡ 1
+unfolding utf8-char utf8-1 utf8-2 utf8-3 utf8-4 spells
+leading-ascii s i h low = ap leading (drop-cons s i 0 h) ∙ leading-first 0 refl _ (drop (suc i) s) (omega arith)
+
 -- Reading one sequence after the other
 
 pub reading-within : (n : ℕ) (s : List ℕ) → reading n s ≤ length s
@@ -157,6 +163,15 @@ validUpTo-next s =
 
 pub validUpTo-drop : (s : List ℕ) (i n : ℕ) → n ≡ leading (drop i s) → validUpTo (drop i s) ≡ n + validUpTo (drop (i + n) s)
 validUpTo-drop s i n e = validUpTo-next (drop i s) ∙ rw (← e, drop-drop)
+
+-- reading goes on after octets of UTF8-1 as it does from there
+pub passes-none : (s : List ℕ) (i : ℕ) → i ≤ length s → PassesAscii s i i
+passes-none s i h = record { onward = omega arith; within = h; reads = refl }
+
+pub passes-one : (s : List ℕ) (from i j : ℕ) → j ≡ i + 1 → i < length s → getD s i 0 ≤ 0x7F → PassesAscii s from i → PassesAscii s from j
+passes-one s from i j e h low p =
+    let more : validUpTo (drop i s) ≡ 1 + validUpTo (drop j s) = rw e (validUpTo-drop s i 1 (sym (leading-ascii s i h low))) in
+    record { onward = omega (arith, p .onward); within = omega arith; reads = omega (arith, p .reads) }
 
 -- reading goes on after a text as it does from there
 pub validUpTo-append : {s : List ℕ} → Text s → (t : List ℕ) → validUpTo (s ++ t) ≡ length s + validUpTo t

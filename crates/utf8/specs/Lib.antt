@@ -2,3 +2,4 @@
 pub mod Sequence
 pub mod Text
 pub mod Valid
+pub mod Steps

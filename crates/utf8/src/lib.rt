@@ -3,9 +3,10 @@ ghost use Prim.Native.Nat.{ℕ, suc, _+_, _≤_, _<_};
 ghost use mathlib.Core.Bool.{cond};
 ghost use mathlib.Core.List.{List, _∷_};
 ghost use mathlib.Core.Path.{_≡_};
-ghost use lib.ListN.{length, take, drop, replicate};
+ghost use lib.ListN.{length, take, drop, getD, replicate};
 ghost use Rattle.utf8.specs.Sequence.{_to_, tail, inside, spells};
 ghost use Rattle.utf8.specs.Valid.{leading, validUpTo, Stops};
+ghost use Rattle.utf8.specs.Steps.{PassesAscii};
 
 // Where whole sequences, read from the start of `text`, stop: at its length where all of it is UTF-8, and otherwise at the first byte
 // that no whole sequence has.
@@ -15,11 +16,31 @@ pub fn valid_up_to(text: &[u8]) -> usize
 {
     let mut at = 0;
     while at < text.len() {
-        let octets = sequence_at(text, at);
-        if octets == 0 {
+        let first = text[at];
+        if first > UTF8_1_LAST {
+            let octets = sequence_at(text, at);
+            if octets == 0 {
+                return at;
+            }
+            at += octets;
+        } else {
+            at = ascii_after(text, at + 1);
+        }
+    }
+    at
+}
+
+// Where octets of UTF8-1, looked at two in a turn from `from` on, end: all before it are such octets.
+fn ascii_after(text: &[u8], from: usize) -> usize
+    requires { ⌜ from ≤ length (now text) ⌝ }
+    ensures { λ r. ⌜ PassesAscii (now (text .entry)) from r ⌝ }
+{
+    let mut at = from;
+    while text.len() - at >= 2 {
+        if (text[at] > UTF8_1_LAST) | (text[at + 1] > UTF8_1_LAST) {
             return at;
         }
-        at += octets;
+        at += 2;
     }
     at
 }
@@ -33,6 +54,9 @@ fn sequence_at(text: &[u8], at: usize) -> usize
     if first <= UTF8_1_LAST {
         return 1;
     }
+    if first <= UTF8_2_LAST {
+        return pair_at(text, at);
+    }
     let rest = rest_after(first);
     let tails = rest.tails;
     if text.len() - at < tails + 2 {
@@ -45,6 +69,23 @@ fn sequence_at(text: &[u8], at: usize) -> usize
         return 0;
     }
     tails + 2
+}
+
+// The same where the octet at `at` is above UTF8-1 and not above UTF8-2.
+fn pair_at(text: &[u8], at: usize) -> usize
+    requires { do ⌜ (at < length (now text)) × ((← ⟦UTF8_1_LAST⟧) < getD (now text) at 0) × (getD (now text) at 0 ≤ (← ⟦UTF8_2_LAST⟧)) ⌝ }
+    ensures { λ r. ⌜ r ≡ leading (drop at (now (text .entry))) ⌝ }
+{
+    if text[at] < UTF8_2_FIRST {
+        return 0;
+    }
+    if text.len() - at < 2 {
+        return 0;
+    }
+    if !within(text[at + 1], TAIL_LOW, TAIL_HIGH) {
+        return 0;
+    }
+    2
 }
 
 // Whether `count` octets of UTF8-tail stand at `at`.
@@ -69,7 +110,7 @@ fn within(octet: u8, low: u8, high: u8) -> bool
     low <= octet && octet <= high
 }
 
-// What follows the first octet of a sequence of several.
+// What follows the first octet of a sequence of three or four.
 struct Rest {
     // The least second octet ..
     low: u8,
@@ -79,9 +120,9 @@ struct Rest {
     tails: usize,
 }
 
-// What follows a first octet above UTF8-1. Where no sequence starts with it, no octet is a second one: the range is empty.
+// What follows a first octet above UTF8-2. Where no sequence starts with it, no octet is a second one: the range is empty.
 fn rest_after(first: u8) -> Rest
-    requires { do ⌜ (← ⟦UTF8_1_LAST⟧) < first ⌝ }
+    requires { do ⌜ (← ⟦UTF8_2_LAST⟧) < first ⌝ }
     ensures { λ r. ⌜ r .tails ≤ 2 ⌝ }
     ensures { λ r. ⌜ (
         (rest : List ℕ)
@@ -89,20 +130,6 @@ fn rest_after(first: u8) -> Rest
         ≡ cond (spells (r .low to r .high ∷ replicate (r .tails) tail) (take (suc (r .tails)) rest)) (r .tails + 2) 0
         ) ⌝ }
 {
-    if first < UTF8_2_FIRST {
-        return Rest {
-            low: NONE_LOW,
-            high: NONE_HIGH,
-            tails: 0,
-        };
-    }
-    if first <= UTF8_2_LAST {
-        return Rest {
-            low: TAIL_LOW,
-            high: TAIL_HIGH,
-            tails: 0,
-        };
-    }
     if first == UTF8_3_FIRST {
         return Rest {
             low: UTF8_3_FIRST_LOW,

@@ -19,43 +19,35 @@ none rest n = rw (spells-empty (1 to 0) [] (take 1 rest) (omega arith))
 
 returns : tie.Need-returns
 unfolding utf8-char utf8-1 utf8-2 utf8-3 utf8-4
-returns c = (omega arith, λ rest. leading-between 1 _ rest (omega arith) ∙ sym (none rest 2))
+returns c = (omega arith, λ rest. leading-first 2 refl _ rest (omega arith))
 
 returns-2 : tie.Need-returns-2
 unfolding utf8-char utf8-1 utf8-2 utf8-3 utf8-4
-returns-2 c = (omega arith, λ rest. leading-first 1 refl _ rest (omega arith))
+returns-2 c = (omega arith, λ rest. leading-first 3 refl _ rest (omega arith))
 
 returns-3 : tie.Need-returns-3
 unfolding utf8-char utf8-1 utf8-2 utf8-3 utf8-4
-returns-3 c = (omega arith, λ rest. leading-first 2 refl _ rest (omega arith))
+returns-3 c = (omega arith, λ rest. leading-first 4 refl _ rest (omega arith))
 
 returns-4 : tie.Need-returns-4
 unfolding utf8-char utf8-1 utf8-2 utf8-3 utf8-4
-returns-4 c = (omega arith, λ rest. leading-first 3 refl _ rest (omega arith))
+returns-4 c = (omega arith, λ rest. leading-first 5 refl _ rest (omega arith))
 
 returns-5 : tie.Need-returns-5
 unfolding utf8-char utf8-1 utf8-2 utf8-3 utf8-4
-returns-5 c = (omega arith, λ rest. leading-first 4 refl _ rest (omega arith))
+returns-5 c = (omega arith, λ rest. leading-first 6 refl _ rest (omega arith))
 
 returns-6 : tie.Need-returns-6
 unfolding utf8-char utf8-1 utf8-2 utf8-3 utf8-4
-returns-6 c = (omega arith, λ rest. leading-first 5 refl _ rest (omega arith))
+returns-6 c = (omega arith, λ rest. leading-first 7 refl _ rest (omega arith))
 
 returns-7 : tie.Need-returns-7
 unfolding utf8-char utf8-1 utf8-2 utf8-3 utf8-4
-returns-7 c = (omega arith, λ rest. leading-first 6 refl _ rest (omega arith))
+returns-7 c = (omega arith, λ rest. leading-first 8 refl _ rest (omega arith))
 
 returns-8 : tie.Need-returns-8
 unfolding utf8-char utf8-1 utf8-2 utf8-3 utf8-4
-returns-8 c = (omega arith, λ rest. leading-first 7 refl _ rest (omega arith))
-
-returns-9 : tie.Need-returns-9
-unfolding utf8-char utf8-1 utf8-2 utf8-3 utf8-4
-returns-9 c = (omega arith, λ rest. leading-first 8 refl _ rest (omega arith))
-
-returns-10 : tie.Need-returns-10
-unfolding utf8-char utf8-1 utf8-2 utf8-3 utf8-4
-returns-10 c = (omega arith, λ rest. leading-between 9 _ rest (omega arith) ∙ sym (none rest 2))
+returns-8 c = (omega arith, λ rest. leading-between 9 _ rest (omega arith) ∙ sym (none rest 2))
 
 pub rest-after-spec : {M : Type 1} → statement M
-rest-after-spec = tie.close (tie.spec returns returns-2 returns-3 returns-4 returns-5 returns-6 returns-7 returns-8 returns-9 returns-10)
+rest-after-spec = tie.close (tie.spec returns returns-2 returns-3 returns-4 returns-5 returns-6 returns-7 returns-8)

@@ -3,7 +3,7 @@
 use Prim.Native.Nat.{suc, _+_, _<_}
 use mathlib.Core.Bool.{Bool, cond, _&&_, and-false}
 use mathlib.Core.List.{_∷_}
-use mathlib.Core.Path.{_≡_, refl, sym, ap, _∙_}
+use mathlib.Core.Path.{_≡_, sym, ap, _∙_}
 use native.Mathlib.Numerals.{add-one}
 use native.Mathlib.Omega.{arith}
 use borrow.Author.Needs.{needs}
@@ -11,32 +11,32 @@ use borrow.Author.Tests.{not-true, not-false}
 use denote.Ref.{now}
 use lib.ListN.{length, take, drop, replicate, length-drop}
 use lib.Seq.{drop-cons}
-use Rattle.utf8.specs.Sequence.{_to_, tail, spells, utf8-char, utf8-1, utf8-2, utf8-3, utf8-4}
+use Rattle.utf8.specs.Sequence.{_to_, tail, spells}
 use Rattle.utf8.specs.Valid.{leading}
 use Rattle.utf8.proofs.SequenceLaws.{spells-at, spells-cut}
-use Rattle.utf8.proofs.ValidLaws.{leading-first}
+use Rattle.utf8.proofs.ValidLaws.{leading-ascii}
 use Rattle.utf8.proofs.sequence_at.Statement.{statement}
 use Rattle.utf8.proofs.sequence_at.Tie as tie
 
 -- a sequence starts where the octets after the first are those that may follow it
 first-read : (c : tie.After-rest-after)
-    → let a = c .before .before .before .before .args in
+    → let a = c .before .before .before .before .before .args in
     let rest = c .rest-after .result in
     leading (drop (a .at) (now (a .text)))
     ≡ cond (spells (rest .low to rest .high ∷ replicate (rest .tails) tail) (take (suc (rest .tails)) (drop (a .at + 1) (now (a .text))))) (rest .tails + 2) 0
 first-read c =
-    let a = c .before .before .before .before .args in
+    let a = c .before .before .before .before .before .args in
     let h : a .at < length (now (a .text)) = omega arith in
     rw add-one (ap leading (drop-cons (now (a .text)) (a .at) 0 h) ∙ c .rest-after .ensures .1 (drop (suc (a .at)) (now (a .text))))
 
 -- the test of the second octet decides together with the octets after that
 second-read : (c : tie.After-within)
-    → let a = c .before .before .before .before .before .before .before .args in
+    → let a = c .before .before .before .before .before .before .before .before .args in
     let rest = c .before .before .before .rest-after .result in
     leading (drop (a .at) (now (a .text)))
     ≡ cond (c .within .result && spells (replicate (rest .tails) tail) (take (rest .tails) (drop (a .at + 2) (now (a .text))))) (rest .tails + 2) 0
 second-read c =
-    let a = c .before .before .before .before .before .before .before .args in
+    let a = c .before .before .before .before .before .before .before .before .args in
     let rest = c .before .before .before .rest-after .result in
     first-read (c .before .before .before)
     ∙ ap (λ (t : Bool). cond t (rest .tails + 2) 0)
@@ -49,24 +49,26 @@ shared-slice-read-first : tie.Need-shared-slice-read-first
 shared-slice-read-first c = search needs
 
 returns : tie.Need-returns
-unfolding utf8-char utf8-1 utf8-2 utf8-3 utf8-4 spells
-returns c =
-    let a = c .before .before .before .args in
-    let h : a .at < length (now (a .text)) = omega arith in
-    sym (ap leading (drop-cons (now (a .text)) (a .at) 0 h) ∙ leading-first 0 refl _ (drop (suc (a .at)) (now (a .text))) (omega arith))
+returns c = let a = c .before .before .before .args in sym (leading-ascii (now (a .text)) (a .at) (omega arith) (omega arith))
+
+pair-at-requires : tie.Need-pair-at-requires
+pair-at-requires c κs = search needs
+
+returns-2 : tie.Need-returns-2
+returns-2 c = c .pair-at .ensures
 
 rest-after-requires : tie.Need-rest-after-requires
 rest-after-requires c κs = search needs
 
-sub-if2 : tie.Need-sub-if2
-sub-if2 c = search needs
+sub-if3 : tie.Need-sub-if3
+sub-if3 c = search needs
 
-add-if2 : tie.Need-add-if2
-add-if2 c = search needs
+add-if3 : tie.Need-add-if3
+add-if3 c = search needs
 
-returns-2 : tie.Need-returns-2
-returns-2 c =
-    let a = c .before .before .before .before .before .args in
+returns-3 : tie.Need-returns-3
+returns-3 c =
+    let a = c .before .before .before .before .before .before .args in
     let rest = c .before .rest-after .result in
     sym
     (first-read (c .before)
@@ -82,8 +84,8 @@ shared-slice-read-within c = search needs
 within-requires : tie.Need-within-requires
 within-requires c κs = search needs
 
-returns-3 : tie.Need-returns-3
-returns-3 c = sym (second-read (c .before) ∙ rw (not-true (c .before .within .result) (c .if3 .taken)))
+returns-4 : tie.Need-returns-4
+returns-4 c = sym (second-read (c .before) ∙ rw (not-true (c .before .within .result) (c .if4 .taken)))
 
 add-tails-at : tie.Need-add-tails-at
 add-tails-at c = search needs
@@ -91,18 +93,18 @@ add-tails-at c = search needs
 tails-at-requires : tie.Need-tails-at-requires
 tails-at-requires c κs = search needs
 
-returns-4 : tie.Need-returns-4
-returns-4 c =
+returns-5 : tie.Need-returns-5
+returns-5 c =
     sym (second-read (c .before .before .before)
-    ∙ rw (← (c .before .tails-at .ensures), not-true (c .before .tails-at .result) (c .if4 .taken), and-false))
+    ∙ rw (← (c .before .tails-at .ensures), not-true (c .before .tails-at .result) (c .if5 .taken), and-false))
 
 add-result : tie.Need-add-result
 add-result c = search needs
 
-returns-5 : tie.Need-returns-5
-returns-5 c =
+returns-6 : tie.Need-returns-6
+returns-6 c =
     sym (second-read (c .before .before .before)
-    ∙ rw (← (c .before .tails-at .ensures), not-false (c .before .before .before .within .result) (c .before .before .if3 .left), not-false (c .before .tails-at .result) (c .if4 .left)))
+    ∙ rw (← (c .before .tails-at .ensures), not-false (c .before .before .before .within .result) (c .before .before .if4 .left), not-false (c .before .tails-at .result) (c .if5 .left)))
 
 pub sequence-at-spec : {M : Type 1} → statement M
 sequence-at-spec =
@@ -110,16 +112,18 @@ sequence-at-spec =
     (tie.spec
     shared-slice-read-first
     returns
-    rest-after-requires
-    sub-if2
-    add-if2
+    pair-at-requires
     returns-2
+    rest-after-requires
+    sub-if3
+    add-if3
+    returns-3
     add-within
     shared-slice-read-within
     within-requires
-    returns-3
+    returns-4
     add-tails-at
     tails-at-requires
-    returns-4
+    returns-5
     add-result
-    returns-5)
+    returns-6)

@@ -1,16 +1,17 @@
--- `c_api::timestamps::fields_of` meets its contract: fields that are encoded as the numbers are.
+-- `c_api::timestamps::fields_of` meets its contract: each number but the year is one of 32 bits.
 use Prim.Native.Nat.{ℕ, _<_, _^_}
-use mathlib.Core.Path.{_≡_, ap, _∙_}
-use mathlib.Core.List.{List}
 use native.Mathlib.Omega.{arith}
-use borrow.Author.Needs.{needs}
-use lib.IntN.{ℤ}
-use lib.Signed.{mag}
-use mir.Syntax.{w64}
-use mir.Val.{toZ, ofZ}
+use mathlib.Core.Path.{_≡_, sym, ap, subst}
+use mathlib.Core.Bool.{true}
+use mathlib.Core.List.{List}
+use lib.Dec.{T}
+use lib.IntN.{ℤ, natAbs}
+use lib.Signed.{mag, nonNeg}
+use mir.Syntax.{w32, w64}
+use mir.Val.{Fits, toZ, ofZ}
 use mir.ValLaws.{toZ-ofZ}
-use Rattle.c_api.specs.Timestamps.{at}
-use Rattle.c_api.proofs.FieldLaws.{held, encoding-fields, encoding-short}
+use Rattle.c_api.specs.Timestamps.{at, isField, fieldsOf}
+use Rattle.c_api.proofs.FieldLaws.{Each, each, field-cast}
 use Rattle.c_api.proofs.timestamps.fields_of.Statement.{statement}
 use Rattle.c_api.proofs.timestamps.fields_of.Tie as tie
 
@@ -18,43 +19,87 @@ use Rattle.c_api.proofs.timestamps.fields_of.Tie as tie
 back : (i : ℕ) (numbers : List ℤ) → mag (at numbers i) < 2 ^ 63 → toZ w64 (ofZ w64 (at numbers i)) ≡ at numbers i
 back i numbers h = toZ-ofZ w64 (at numbers i) (record { sfits = h })
 
-returns : tie.Need-returns
-returns c u = encoding-short _ u _ (c .if1 .taken) (omega arith)
+-- and a field is cast to itself
+cast : (i : ℕ) (numbers : List ℤ) → mag (at numbers i) < 2 ^ 63 → isField (at numbers i) ≡ true → T (nonNeg (toZ w64 (ofZ w64 (at numbers i)))) × Fits w32 (natAbs (toZ w64 (ofZ w64 (at numbers i))))
+cast i numbers h e = subst (λ (z : ℤ). T (nonNeg z) × Fits w32 (natAbs z)) (sym (back i numbers h)) (field-cast (at numbers i) e)
 
-returns-2 : tie.Need-returns-2
-returns-2 c u =
-    let f5 = c .before .before in
-    let f4 = f5 .before .before in
-    let f3 = f4 .before .before in
-    let f2 = f3 .before .before in
-    let f1 = f2 .before .before in
-    let year = f1 .before .before in
-    let numbers = year .before .before .args .fields .now in
-    encoding-fields numbers _ u (year .before .if1 .left)
-    (back 0 numbers (year .t5 .given))
-    (f1 .field .ensures ∙ ap held (back 1 numbers (f1 .before .field-arg .given)))
-    (f2 .field2 .ensures ∙ ap held (back 2 numbers (f2 .before .field-arg2 .given)))
-    (f3 .field3 .ensures ∙ ap held (back 3 numbers (f3 .before .field-arg3 .given)))
-    (f4 .field4 .ensures ∙ ap held (back 4 numbers (f4 .before .field-arg4 .given)))
-    (f5 .field5 .ensures ∙ ap held (back 5 numbers (f5 .before .field-arg5 .given)))
-    (c .field6 .ensures ∙ ap held (back 6 numbers (c .before .field-arg6 .given)))
+are : (s : tie.Start) → Each (s .args .fields .now)
+are s = each (s .args .fields .now) (s .pre)
+
+shared-slice-copy-out-year : tie.Need-shared-slice-copy-out-year
+shared-slice-copy-out-year c = omega (arith, are c .enough)
+
+shared-slice-copy-out-t4 : tie.Need-shared-slice-copy-out-t4
+shared-slice-copy-out-t4 c = omega (arith, are (c .before) .enough)
+
+cast-t6 : tie.Need-cast-t6
+cast-t6 c = let s = c .before .before in cast 1 (s .args .fields .now) (c .t4 .given) (are s .month-is)
+
+shared-slice-copy-out-t8 : tie.Need-shared-slice-copy-out-t8
+shared-slice-copy-out-t8 c = omega (arith, are (c .before .before) .enough)
+
+cast-t9 : tie.Need-cast-t9
+cast-t9 c = let s = c .before .before .before in cast 2 (s .args .fields .now) (c .t8 .given) (are s .day-is)
+
+shared-slice-copy-out-t11 : tie.Need-shared-slice-copy-out-t11
+shared-slice-copy-out-t11 c = omega (arith, are (c .before .before .before) .enough)
+
+cast-t12 : tie.Need-cast-t12
+cast-t12 c = let s = c .before .before .before .before in cast 3 (s .args .fields .now) (c .t11 .given) (are s .hour-is)
+
+shared-slice-copy-out-t14 : tie.Need-shared-slice-copy-out-t14
+shared-slice-copy-out-t14 c = omega (arith, are (c .before .before .before .before) .enough)
+
+cast-t15 : tie.Need-cast-t15
+cast-t15 c = let s = c .before .before .before .before .before in cast 4 (s .args .fields .now) (c .t14 .given) (are s .minute-is)
+
+shared-slice-copy-out-t17 : tie.Need-shared-slice-copy-out-t17
+shared-slice-copy-out-t17 c = omega (arith, are (c .before .before .before .before .before) .enough)
+
+cast-t18 : tie.Need-cast-t18
+cast-t18 c = let s = c .before .before .before .before .before .before in cast 5 (s .args .fields .now) (c .t17 .given) (are s .second-is)
+
+shared-slice-copy-out-t20 : tie.Need-shared-slice-copy-out-t20
+shared-slice-copy-out-t20 c = omega (arith, are (c .before .before .before .before .before .before) .enough)
+
+cast-t21 : tie.Need-cast-t21
+cast-t21 c = let s = c .before .before .before .before .before .before .before in cast 6 (s .args .fields .now) (c .t20 .given) (are s .fraction-is)
+
+returns : tie.Need-returns
+unfolding fieldsOf
+returns c =
+    let second = c .before in
+    let minute = second .before in
+    let hour = minute .before in
+    let day = hour .before in
+    let month = day .before in
+    let year = month .before in
+    let numbers = year .before .args .fields .now in
+    λ i. record {
+      year = back 0 numbers (year .year .given) i;
+      month = ap natAbs (back 1 numbers (month .t4 .given)) i;
+      day = ap natAbs (back 2 numbers (day .t8 .given)) i;
+      hour = ap natAbs (back 3 numbers (hour .t11 .given)) i;
+      minute = ap natAbs (back 4 numbers (minute .t14 .given)) i;
+      second = ap natAbs (back 5 numbers (second .t17 .given)) i;
+      fraction = ap natAbs (back 6 numbers (c .t20 .given)) i;
+    }
 
 pub fields-of-spec : {M : Type 1} → statement M
 fields-of-spec =
     tie.close
     (tie.spec
-    returns
-    (λ c. search needs)
-    (λ c. search needs)
-    (λ c κs. search needs)
-    (λ c. search needs)
-    (λ c κs. search needs)
-    (λ c. search needs)
-    (λ c κs. search needs)
-    (λ c. search needs)
-    (λ c κs. search needs)
-    (λ c. search needs)
-    (λ c κs. search needs)
-    (λ c. search needs)
-    (λ c κs. search needs)
-    returns-2)
+    shared-slice-copy-out-year
+    shared-slice-copy-out-t4
+    cast-t6
+    shared-slice-copy-out-t8
+    cast-t9
+    shared-slice-copy-out-t11
+    cast-t12
+    shared-slice-copy-out-t14
+    cast-t15
+    shared-slice-copy-out-t17
+    cast-t18
+    shared-slice-copy-out-t20
+    cast-t21
+    returns)

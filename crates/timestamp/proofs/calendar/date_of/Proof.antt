@@ -38,7 +38,7 @@ returns c =
     let date = d .date-of .result in
     let year : toZ w64 (ofZ w64 (c .lowered .result)) ≡ subℕ (date .year) 400000000 = read-back (c .lowered .ensures) (difference-most (date .year) 400000000 (2 ^ 63) (omega (arith, raised-below (d .before), d .date-of .ensures .2)) (omega arith)) in (
       date-era _ (date .year) 1000000 (date .month) (date .day) year ∙ d .date-of .ensures .0,
-      day-number-from _ (date .year) (date .month) (date .day) (d .before .raised .result) year (d .date-of .ensures .1) ∙ sym (day-is (d .before)),
+      day-number-from _ (date .year) 1000000 (date .month) (date .day) (d .before .raised .result) year (d .date-of .ensures .1) ∙ sym (day-is (d .before)),
     )
 
 pub date-of-spec : {M : Type 1} → statement M

@@ -41,7 +41,7 @@ returns c =
     let o = c .before in
     let r = o .before in
     let d = r .before .before .args .date in
-    read-back (c .lowered .ensures) (difference-most (o .day-of .result) 146097719468 (2 ^ 63) (omega (arith, o .day-of .ensures .1)) (omega arith)) ∙ sym (day-number-from (d .year) (r .raised .result) (d .month) (d .day) (o .day-of .result) (year-is r) (o .day-of .ensures .0))
+    read-back (c .lowered .ensures) (difference-most (o .day-of .result) 146097719468 (2 ^ 63) (omega (arith, o .day-of .ensures .1)) (omega arith)) ∙ sym (day-number-from (d .year) (r .raised .result) 1000000 (d .month) (d .day) (o .day-of .result) (year-is r) (o .day-of .ensures .0))
 
 pub day-number-spec : {M : Type 1} → statement M
 day-number-spec = tie.close (tie.spec raised-requires day-of-requires lowered-requires returns)

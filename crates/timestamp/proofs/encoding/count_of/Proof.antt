@@ -1,17 +1,17 @@
 -- `timestamp::encoding::count_of` meets its contract: on the days that are reached no number leaves 64 bits.
-use Prim.Native.Nat.{_<_, _^_}
+use Prim.Native.Nat.{suc, _*_, _<_, _≤_, _^_}
 use native.Mathlib.Omega.{arith}
-use mathlib.Core.Path.{_≡_, sym, ap, ap₂, subst, _∙_}
+use native.Mathlib.Nat.{mul-le-mul-right}
+use mathlib.Core.Path.{_≡_, sym, ap, subst, _∙_}
 use mathlib.Core.Bool.{Bool, cond}
 use borrow.Author.Needs.{needs}
-use lib.IntN.{ℤ, pos, _+ℤ_, _*ℤ_}
+use lib.IntN.{ℤ}
 use lib.Signed.{mag}
 use mir.Syntax.{w64}
-use mir.Val.{SFits, toZ, ofZ}
-use mir.ValLaws.{toZ-ofZ, toZ-pos}
+use mir.Val.{SFits}
+use mir.ValLaws.{toZ-ofZ}
 use Rattle.timestamp.specs.Outcomes.{given, notRepresentable}
-use Rattle.timestamp.proofs.FloorLaws.{joined, joined-fits, ticks-fit, signed-fits}
-use Rattle.laws.proofs.SignedLaws.{read-back}
+use Rattle.timestamp.proofs.FloorLaws.{joined, joined-asked, joined-told, signed-fits}
 use Rattle.timestamp.proofs.SignedLaws.{folded-told}
 use Rattle.timestamp.proofs.encoding.count_of.Statement.{statement}
 use Rattle.timestamp.proofs.encoding.count_of.Tie as tie
@@ -23,51 +23,31 @@ start c = c .before .before .before
 day-fits : (c : tie.Then1) → SFits w64 (start c .args .division .day)
 day-fits c = record { sfits = c .before .before .struct-told .given .0 .1 }
 
-reached : (c : tie.Then1) → mag (start c .args .division .day) < start c .args .days-reached
-reached c = omega (arith, c .if1 .taken, folded-told (day-fits c) (c .before .folded .ensures))
-
--- the days' ticks
-ticks-are : (c : tie.Then1) → toZ w64 (ofZ w64 (start c .args .division .day)) *ℤ toZ w64 (start c .args .ticks-per-day) ≡ start c .args .division .day *ℤ pos (start c .args .ticks-per-day)
-ticks-are c = ap₂ _*ℤ_ (toZ-ofZ w64 (start c .args .division .day) (day-fits c)) (toZ-pos w64 (start c .args .ticks-per-day) (start c .pre .1))
-
-ticks-most : (c : tie.Then1) → mag (start c .args .division .day *ℤ pos (start c .args .ticks-per-day)) < 2 ^ 63
-ticks-most c =
+-- the days that are reached fill no more than 63 bits
+reached : (c : tie.Then1) → suc (mag (start c .args .division .day)) * start c .args .ticks-per-day < 2 ^ 63
+reached c =
     let s = start c in
-    ticks-fit (s .args .division .day) (s .args .ticks-per-day) (s .args .days-reached) (omega (arith, s .pre .0)) (reached c) (s .pre .2)
+    let days : suc (mag (s .args .division .day)) ≤ s .args .days-reached = omega (arith, c .if1 .taken, folded-told (day-fits c) (c .before .folded .ensures)) in
+    let most : suc (mag (s .args .division .day)) * s .args .ticks-per-day ≤ s .args .days-reached * s .args .ticks-per-day = mul-le-mul-right (s .args .ticks-per-day) days in
+    omega (arith, s .pre .2)
 
-mul-t7 : tie.Need-mul-t7
-mul-t7 c = let t = c .before .before in subst (SFits w64) (sym (ticks-are t)) (record { sfits = ticks-most t })
-
--- and the count
-abbrev count : tie.Then1 → ℤ
-count c = joined (start c .args .division .day) (start c .args .ticks-per-day) (start c .args .division .rest)
-
-count-is : (c : tie.Then1) → toZ w64 (ofZ w64 (toZ w64 (ofZ w64 (start c .args .division .day)) *ℤ toZ w64 (start c .args .ticks-per-day))) +ℤ toZ w64 (start c .args .division .rest) ≡ count c
-count-is c =
-    ap₂ _+ℤ_ (read-back (ticks-are c) (ticks-most c)) (toZ-pos w64 (start c .args .division .rest) (omega (arith, start c .pre .0, start c .pre .1)))
-
-count-most : (c : tie.Then1) → mag (count c) < 2 ^ 63
-count-most c =
-    let s = start c in
-    joined-fits (s .args .division .day) (s .args .ticks-per-day) (s .args .division .rest) (s .args .days-reached) (s .pre .0) (reached c) (s .pre .2)
-
-add-t9 : tie.Need-add-t9
-add-t9 c = let t = c .before .before .before in subst (SFits w64) (sym (count-is t)) (record { sfits = count-most t })
+joined-requires : tie.Need-joined-requires
+joined-requires c κs = let t = c .before in (start t .pre .0, joined-asked (start t .args .ticks-per-day) (day-fits t) (reached t))
 
 returns : tie.Need-returns
 returns c =
-    let t = c .before .before .before in
-    ap given (read-back (count-is t) (count-most t)) ∙ ap (λ (b : Bool). cond b (given (count t)) notRepresentable) (sym (signed-fits (count t) (count-most t)))
+    let t = c .before .before in
+    let a = start t .args in
+    let z = joined (a .division .day) (a .ticks-per-day) (a .division .rest) in
+    let told : c .joined .result ≡ z = joined-told (a .ticks-per-day) (a .division .rest) (day-fits t) (c .joined .ensures) in
+    ap given (toZ-ofZ w64 (c .joined .result) (record { sfits = c .joined .ok }) ∙ told) ∙ ap (λ (b : Bool). cond b (given z) notRepresentable) (sym (signed-fits z (subst (λ (w : ℤ). mag w < 2 ^ 63) told (c .joined .ok))))
 
 pub count-of-spec : {M : Type 1} → statement M
 count-of-spec =
     tie.close
     (tie.spec
     (λ c κs. search needs)
-    (λ c. search needs)
-    mul-t7
-    (λ c. search needs)
-    add-t9
+    joined-requires
     returns
     (λ c κs. search needs)
     (λ c. search needs))
