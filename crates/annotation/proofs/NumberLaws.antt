@@ -201,7 +201,7 @@ module _ (n : Annotated) (byte : n .physical < 2 ^ 8) where
   reading-fault underMap = fault-by (rule9 n) (annotationOf n underMap)
 
 -- where a number tells at once that no rule is broken, none is
-pub stands-kept : (number code : ℕ) (length precision scale : ℤ) → code < 2 ^ 8 → standsBy number code ≡ true → 0 ≡ faultBy number code length precision scale
+stands-kept : (number code : ℕ) (length precision scale : ℤ) → code < 2 ^ 8 → standsBy number code ≡ true → 0 ≡ faultBy number code length precision scale
 unfolding standsBy faultBy numberOf
 stands-kept number code length precision scale byte e = cases (eqb code (demandPart number)) refl e
   where
@@ -209,11 +209,10 @@ stands-kept number code length precision scale byte e = cases (eqb code (demandP
     cases true x y = rw (x, lt-leb MARK number (let z = eqb-true code (demandPart number) x in omega arith))
     cases false x y = rw (x, eqb-true number (numberOf Annotation.Plain) y)
 
--- what the number that was read of a slot's annotations, a and b as a pair, tells of it
-module _ (n : Annotated) (underMap : Bool) (pair number : ℕ) (paired : (pairA pair ≡ n .a) × (pairB pair ≡ n .b))
-    (read : number ≡ readingOf (annotatedBy (n .converted) (n .logical) (pairA pair) (pairB pair)) underMap) where
+-- what the number that was read of a slot's annotations tells of it
+module _ (n : Annotated) (underMap : Bool) (number : ℕ) (read : number ≡ readingOf (annotatedBy (n .converted) (n .logical) (n .a) (n .b)) underMap) where
   reading : number ≡ readingOf n underMap
-  reading = rw (read, paired .0, paired .1) (reading-alike n underMap)
+  reading = read ∙ reading-alike n underMap
 
   pub kind-read : kindBy number n ≡ kindOf n underMap
   kind-read = rw reading (reading-kind n underMap)
@@ -221,5 +220,14 @@ module _ (n : Annotated) (underMap : Bool) (pair number : ℕ) (paired : (pairA 
   pub written-read : writtenBy number ≡ writtenOf n underMap
   written-read = rw reading (reading-written n underMap)
 
-  pub fault-read : n .physical < 2 ^ 8 → faultBy number (n .physical) (n .«type_length») (n .precision) (n .scale) ≡ refusalOf (resolutionOf n underMap)
+  fault-read : n .physical < 2 ^ 8 → faultBy number (n .physical) (n .«type_length») (n .precision) (n .scale) ≡ refusalOf (resolutionOf n underMap)
   fault-read byte = rw reading (reading-fault n byte underMap)
+
+  -- the same where signed numbers are passed as bits, whose numbers they are again
+  pub fault-passed : n .physical < 2 ^ 8 → SFits w32 (n .«type_length») → SFits w32 (n .precision) → SFits w32 (n .scale)
+      → faultBy number (n .physical) (toZ w32 (ofZ w32 (n .«type_length»))) (toZ w32 (ofZ w32 (n .precision))) (toZ w32 (ofZ w32 (n .scale))) ≡ refusalOf (resolutionOf n underMap)
+  fault-passed byte length precision scale = rw (toZ-ofZ length, toZ-ofZ precision, toZ-ofZ scale) (fault-read byte)
+
+  -- no rule is broken where the number tells so at once
+  pub kept-read : n .physical < 2 ^ 8 → standsBy number (n .physical) ≡ true → 0 ≡ refusalOf (resolutionOf n underMap)
+  kept-read byte e = stands-kept number (n .physical) (n .«type_length») (n .precision) (n .scale) byte e ∙ fault-read byte

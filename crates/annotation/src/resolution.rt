@@ -8,13 +8,13 @@ use crate::rules::BAD_DECIMAL;
 use crate::rules::DISAGREEMENT;
 use crate::rules::MISPLACED;
 use crate::rules::NO_REFUSAL;
-use crate::rules::broken;
+use crate::rules::fault;
+use crate::rules::stands;
 use crate::slot::Annotated;
 use crate::slot::annotation_of;
 use crate::slot::precision;
 use crate::slot::scale;
 use logical_type::number;
-use logical_type::paired;
 use parquet::converted;
 use parquet::logical;
 use parquet::physical;
@@ -54,8 +54,8 @@ pub fn resolve(n: Annotated, under_map: bool) -> Resolution
     ensures { λ r. ⌜ r ≡ resolutionOf n «under_map» ⌝ }
     ensures { λ r. ⌜ outcomeOf r ≡ outcome n «under_map» ⌝ }
 {
-    let says = annotation_of(n.converted, n.logical, paired(n.a, n.b), under_map);
-    let number = broken(says, n);
+    let says = annotation_of(n.converted, n.logical, n.a, n.b, under_map);
+    let number = fault(says, n.physical, n.type_length, n.precision, n.scale);
     match number {
         NO_REFUSAL => Resolution::Resolved(kind_as(says, n)),
         DISAGREEMENT => Resolution::Disagreement,
@@ -69,7 +69,7 @@ pub fn resolved_kind(n: Annotated, under_map: bool) -> Kind
     ensures { λ r. ⌜ r ≡ kindOf n «under_map» ⌝ }
 {
     kind_as(
-        annotation_of(n.converted, n.logical, paired(n.a, n.b), under_map),
+        annotation_of(n.converted, n.logical, n.a, n.b, under_map),
         n,
     )
 }
@@ -79,9 +79,15 @@ pub fn judge(n: Annotated, under_map: bool) -> Judged
     ensures { λ r. ⌜ r .refusal ≡ refusalOf (resolutionOf n «under_map») ⌝ }
     ensures { λ r. ⌜ r .logical ≡ writtenOf n «under_map» .logical ⌝ }
 {
-    let says = annotation_of(n.converted, n.logical, paired(n.a, n.b), under_map);
+    let says = annotation_of(n.converted, n.logical, n.a, n.b, under_map);
+    if stands(says, n.physical as u64) {
+        return Judged {
+            refusal: NO_REFUSAL,
+            logical: number::logical(says),
+        };
+    }
     Judged {
-        refusal: broken(says, n),
+        refusal: fault(says, n.physical, n.type_length, n.precision, n.scale),
         logical: number::logical(says),
     }
 }

@@ -3,11 +3,10 @@ ghost use mathlib.Core.Path.{_≡_};
 ghost use Rattle.annotation.specs.Rewriting.{rewritingOf, outcomeOf, outcome, writtenOf};
 ghost use Rattle.annotation.specs.Steps.{writtenBy};
 use crate::rules::NO_REFUSAL;
-use crate::rules::broken;
+use crate::rules::fault;
 use crate::slot::Annotated;
 use crate::slot::annotation_of;
 use logical_type::number;
-use logical_type::paired;
 
 // The annotation numbers of a rewritten slot.
 pub struct Written {
@@ -29,8 +28,8 @@ pub fn rewrite(n: Annotated, under_map: bool) -> Rewriting
     ensures { λ r. ⌜ r ≡ rewritingOf n «under_map» ⌝ }
     ensures { λ r. ⌜ outcomeOf r ≡ outcome n «under_map» ⌝ }
 {
-    let says = annotation_of(n.converted, n.logical, paired(n.a, n.b), under_map);
-    let number = broken(says, n);
+    let says = annotation_of(n.converted, n.logical, n.a, n.b, under_map);
+    let number = fault(says, n.physical, n.type_length, n.precision, n.scale);
     if number == NO_REFUSAL {
         return Rewriting::Written(written_as(says));
     }
@@ -41,7 +40,7 @@ pub fn rewrite(n: Annotated, under_map: bool) -> Rewriting
 pub fn written_of(n: Annotated, under_map: bool) -> Written
     ensures { λ r. ⌜ r ≡ writtenOf n «under_map» ⌝ }
 {
-    written_as(annotation_of(n.converted, n.logical, paired(n.a, n.b), under_map))
+    written_as(annotation_of(n.converted, n.logical, n.a, n.b, under_map))
 }
 
 // What is written for a number of what the annotations say.

@@ -1,10 +1,8 @@
 // Rules 9, 10 and 11 in order.
 ghost use mathlib.Core.Path.{_≡_};
-ghost use Prim.Native.Nat.{_<_, _^_};
 ghost use Rattle.annotation.specs.Steps.{faultBy, ownFault, standsBy};
 use crate::decimals::digits_hold;
 use crate::placement::own_on;
-use crate::slot::Annotated;
 use crate::slot::natural;
 use logical_type::number;
 use parquet::logical;
@@ -18,27 +16,16 @@ pub(crate) const MISPLACED: u32 = 10;
 
 pub(crate) const BAD_DECIMAL: u32 = 11;
 
-// The number of the first rule that the numbers of a slot break, or NO_REFUSAL, by the number of what its annotations say.
-pub(crate) fn broken(says: u64, n: Annotated) -> u32
-    ensures { λ r. ⌜ r ≡ faultBy says (n .physical) (n .«type_length») (n .precision) (n .scale) ⌝ }
-    ensures { λ _. ⌜ n .physical < 2 ^ 8 ⌝ }
-{
-    if stands(says, n.physical as u64) {
-        return NO_REFUSAL;
-    }
-    fault(says, n.physical, n.type_length, n.precision, n.scale)
-}
-
 // Whether the number of what the annotations say tells at once that the rules are kept, as it does for most slots: it asks for this
 // physical type alone, or no annotation stands.
-fn stands(says: u64, physical: u64) -> bool
+pub(crate) fn stands(says: u64, physical: u64) -> bool
     ensures { λ r. ⌜ r ≡ standsBy says physical ⌝ }
 {
     (physical == number::demand(says)) | (says == number::PLAIN)
 }
 
-// The same, whatever the number tells.
-fn fault(says: u64, physical: u8, type_length: i32, precision: i32, scale: i32) -> u32
+// The number of the first rule that the numbers of a slot break, or NO_REFUSAL, by the number of what its annotations say.
+pub(crate) fn fault(says: u64, physical: u8, type_length: i32, precision: i32, scale: i32) -> u32
     ensures { λ r. ⌜ r ≡ faultBy says physical «type_length» precision scale ⌝ }
 {
     if says >= number::MARK {

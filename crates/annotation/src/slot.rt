@@ -8,6 +8,7 @@ ghost use Rattle.annotation.specs.Steps.{annotatedBy, readingOf};
 use crate::agreement::agreed;
 use logical_type::backward_of;
 use logical_type::number;
+use logical_type::paired;
 use logical_type::parameters;
 use logical_type::stated_of;
 use parquet::logical;
@@ -25,10 +26,11 @@ pub struct Annotated {
 }
 
 // The number of the logical type where one stands, marked where rule 9 does not hold, else of what the converted type means.
-// pair is a and b. under_map says that the parent's resolved kind is MAP, where MAP_KEY_VALUE counts as no annotation.
-pub(crate) fn annotation_of(converted: u8, logical: u8, pair: u32, under_map: bool) -> u64
-    ensures { λ r. ⌜ r ≡ readingOf (annotatedBy converted logical (pairA pair) (pairB pair)) «under_map» ⌝ }
+// under_map says that the parent's resolved kind is MAP, where MAP_KEY_VALUE counts as no annotation.
+pub(crate) fn annotation_of(converted: u8, logical: u8, a: u8, b: u8, under_map: bool) -> u64
+    ensures { λ r. ⌜ r ≡ readingOf (annotatedBy converted logical a b) «under_map» ⌝ }
 {
+    let pair = paired(a, b);
     if logical == logical::NONE {
         return converted_alone(converted, pair, under_map);
     }

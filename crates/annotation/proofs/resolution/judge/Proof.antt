@@ -1,19 +1,51 @@
 -- `annotation::resolution::judge` meets its contract: the number of what the annotations say has both.
-use mathlib.Core.Path.{ap, _∙_}
+-- Assumes nothing.
+use Prim.Native.Nat.{_<_, _^_}
+use mathlib.Core.Path.{_≡_, sym, ap, _∙_}
+use native.Mathlib.Omega.{arith}
+use borrow.Author.Needs.{needs}
 use Rattle.annotation.specs.declared.rewriting.Written.{Written}
-use Rattle.annotation.proofs.NumberLaws.{written-read, fault-read}
+use Rattle.annotation.proofs.NumberLaws.{written-read, fault-passed, kept-read}
 use Rattle.annotation.proofs.resolution.judge.Statement.{statement}
 use Rattle.annotation.proofs.resolution.judge.Tie as tie
 
+byte : (c : tie.After-struct-known) → c .before .before .args .n .physical < 2 ^ 8
+byte c = omega (arith, c .struct-known .given)
+
 returns : tie.Need-returns
 returns c =
-    let asked = c .before .before in
-    let pair = asked .before .paired .ensures in
-    let read = asked .annotation-of .ensures in
-    let broken = c .before .broken .ensures in (
-      broken .0 ∙ fault-read _ _ _ _ pair read (broken .1),
-      c .logical .ensures ∙ ap (λ (w : Written). w .logical) (written-read (asked .before .before .args .n) (asked .before .before .args .under-map) _ _ pair read),
+    let known = c .before .before .before in
+    let read = known .before .annotation-of .ensures in
+    let written = written-read (known .before .before .args .n) (known .before .before .args .under-map) _ read in
+    (
+      kept-read _ _ _ read (byte known) (sym (c .before .before .stands .ensures) ∙ c .before .if1 .taken),
+      c .logical .ensures ∙ ap (λ (w : Written). w .logical) written,
+    )
+
+returns-2 : tie.Need-returns-2
+returns-2 c =
+    let fault = c .before in
+    let known = fault .before .before .before .before .before .before in
+    let read = known .before .annotation-of .ensures in
+    let written = written-read (known .before .before .args .n) (known .before .before .args .under-map) _ read in
+    (
+      fault .fault .ensures
+      ∙ fault-passed _ _ _ read (byte known)
+      (record { sfits = fault .before .before .before .struct-told .given .1 .0 .1 })
+      (record { sfits = fault .before .before .struct-told2 .given .1 .1 .1 .1 .1 .1 .1 .0 .1 })
+      (record { sfits = fault .before .struct-told3 .given .1 .1 .1 .1 .1 .1 .0 .1 }),
+      c .logical2 .ensures ∙ ap (λ (w : Written). w .logical) written,
     )
 
 pub judge-spec : {M : Type 1} → statement M
-judge-spec = tie.close (tie.spec (λ c κs. tt) (λ c κs. tt) (λ c κs. tt) (λ c κs. tt) returns)
+judge-spec =
+    tie.close
+    (tie.spec
+    (λ c κs. tt)
+    (λ c. search needs)
+    (λ c κs. tt)
+    (λ c κs. tt)
+    returns
+    (λ c κs. tt)
+    (λ c κs. tt)
+    returns-2)

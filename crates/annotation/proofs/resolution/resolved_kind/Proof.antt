@@ -6,7 +6,7 @@ use Rattle.annotation.proofs.resolution.resolved_kind.Statement.{statem
 use Rattle.annotation.proofs.resolution.resolved_kind.Tie as tie
 
 returns : tie.Need-returns
-returns c = c .kind-as .ensures ∙ kind-read _ _ _ _ (c .before .before .paired .ensures) (c .before .annotation-of .ensures)
+returns c = c .kind-as .ensures ∙ kind-read _ _ _ (c .before .annotation-of .ensures)
 
 pub resolved-kind-spec : {M : Type 1} → statement M
-resolved-kind-spec = tie.close (tie.spec (λ c κs. tt) (λ c κs. tt) (λ c κs. tt) returns)
+resolved-kind-spec = tie.close (tie.spec (λ c κs. tt) (λ c κs. tt) returns)

@@ -12,17 +12,21 @@ use Rattle.annotation.proofs.slot.annotation_of.Tie as tie
 
 returns : tie.Need-returns
 unfolding readingOf rule9 annotationOf
-returns c = rw (c .before .if1 .taken, or-true, c .converted-alone .ensures)
+returns c =
+    let pair = c .before .before .paired .ensures in
+    rw (c .before .if1 .taken, or-true, c .converted-alone .ensures, pair .0, pair .1)
 
 returns-2 : tie.Need-returns-2
 unfolding readingOf rule9 annotationOf
 returns-2 c =
-    rw (ne-eqb _ _ (c .before .before .if1 .left), c .agreed .ensures, c .before .stated-of .ensures, stated-image, or-false)
+    let pair = c .before .before .before .paired .ensures in
+    rw (ne-eqb _ _ (c .before .before .if1 .left), c .agreed .ensures, c .before .stated-of .ensures, pair .0, pair .1, stated-image, or-false)
 
 pub annotation-of-spec : {M : Type 1} → statement M
 annotation-of-spec =
     tie.close
     (tie.spec
+    (λ c κs. tt)
     (λ c κs. tt)
     returns
     (λ c κs. tt)
