@@ -49,6 +49,9 @@ pub fn name_is_with(sheet: &[u8], node: usize, other: usize, suffix: &[u8]) -> b
     ensures { λ r. ⌜ r ≡ sameBytes (name (slotAt (now (sheet .entry)) node)) (name (slotAt (now (sheet .entry)) other) ++ now (suffix .entry)) ⌝ }
 {
     let whole = name_of(sheet, node);
+    if whole.len() < suffix.len() {
+        return false;
+    }
     let front = name_of(sheet, other);
     let n = front.len();
     if whole.len() < n {

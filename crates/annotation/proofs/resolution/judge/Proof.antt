@@ -16,8 +16,7 @@ returns : tie.Need-returns
 returns c =
     let known = c .before .before .before in
     let read = known .before .annotation-of .ensures in
-    let written = written-read (known .before .before .args .n) (known .before .before .args .under-map) _ read in
-    (
+    let written = written-read (known .before .before .args .n) (known .before .before .args .under-map) _ read in (
       kept-read _ _ _ read (byte known) (sym (c .before .before .stands .ensures) ∙ c .before .if1 .taken),
       c .logical .ensures ∙ ap (λ (w : Written). w .logical) written,
     )
@@ -27,13 +26,12 @@ returns-2 c =
     let fault = c .before in
     let known = fault .before .before .before .before .before .before in
     let read = known .before .annotation-of .ensures in
-    let written = written-read (known .before .before .args .n) (known .before .before .args .under-map) _ read in
-    (
+    let written = written-read (known .before .before .args .n) (known .before .before .args .under-map) _ read in (
       fault .fault .ensures
-      ∙ fault-passed _ _ _ read (byte known)
-      (record { sfits = fault .before .before .before .struct-told .given .1 .0 .1 })
-      (record { sfits = fault .before .before .struct-told2 .given .1 .1 .1 .1 .1 .1 .1 .0 .1 })
-      (record { sfits = fault .before .struct-told3 .given .1 .1 .1 .1 .1 .1 .0 .1 }),
+          ∙ fault-passed _ _ _ read (byte known)
+          (record { sfits = fault .before .before .before .struct-told .given .1 .0 .1 })
+          (record { sfits = fault .before .before .struct-told2 .given .1 .1 .1 .1 .1 .1 .1 .0 .1 })
+          (record { sfits = fault .before .struct-told3 .given .1 .1 .1 .1 .1 .1 .0 .1 }),
       c .logical2 .ensures ∙ ap (λ (w : Written). w .logical) written,
     )
 

@@ -2,6 +2,7 @@
 use borrow.Author.Needs.{needs}
 use mathlib.Core.Path.{_≡_, sym, ap, ap₂, _∙_}
 use mathlib.Core.Bool.{Bool, true, false, _&&_}
+use mathlib.Core.Logic.{_⊎_, inl, inr, ⊎-elim}
 use mathlib.Core.List.{List, _++_}
 use Prim.Native.Nat.{ℕ, _<_}
 use native.Mathlib.Omega.{arith}
@@ -15,10 +16,10 @@ use Rattle.sheet.proofs.NameLaws.{sameBytes-false, sameBytes-append}
 use Rattle.sheet.proofs.names.name_is_with.Statement.{statement}
 use Rattle.sheet.proofs.names.name_is_with.Tie as tie
 
--- what is shorter than the front is not the front and a suffix
-too-short : (whole front suffix : List ℕ) → length whole < length front → sameBytes whole (front ++ suffix) ≡ false
+-- what is shorter than the front or the suffix is not both
+too-short : (whole front suffix : List ℕ) → (length whole < length front) ⊎ (length whole < length suffix) → sameBytes whole (front ++ suffix) ≡ false
 too-short whole front suffix h =
-    sameBytes-false whole (front ++ suffix) (λ e. omega (arith, ap length e, length-append front suffix))
+    sameBytes-false whole (front ++ suffix) (λ e. ⊎-elim (λ l. omega (arith, ap length e, length-append front suffix)) (λ l. omega (arith, ap length e, length-append front suffix)) h)
 
 -- nor is what begins otherwise
 front-wrong : (whole front suffix : List ℕ) → sameBytes (take (length front) whole) front ≡ false → sameBytes whole (front ++ suffix) ≡ false
@@ -33,22 +34,29 @@ front-right whole front suffix e =
 
 -- the two slices are the two names
 named : (c : tie.After-name-of2)
-    → let a = c .before .before .before .before .args in
-    sameBytes (c .before .name-of .result .now) (c .name-of2 .result .now ++ a .suffix .now)
+    → let a = c .before .before .before .before .before .args in
+    sameBytes (c .before .before .name-of .result .now) (c .name-of2 .result .now ++ a .suffix .now)
     ≡ sameBytes (name (slotAt (a .sheet .now) (a .node))) (name (slotAt (a .sheet .now) (a .other)) ++ a .suffix .now)
 named c =
-    ap₂ (λ (whole front : List ℕ). sameBytes whole (front ++ c .before .before .before .before .args .suffix .now)) (c .before .name-of .ensures) (c .name-of2 .ensures)
+    ap₂ (λ (whole front : List ℕ). sameBytes whole (front ++ c .before .before .before .before .before .args .suffix .now)) (c .before .before .name-of .ensures) (c .name-of2 .ensures)
 
 name-of-requires : tie.Need-name-of-requires
 name-of-requires c κs = search needs
 
+returns : tie.Need-returns
+returns c =
+    let whole = c .before in
+    let a = whole .before .before .before .args in
+    sym (too-short (whole .name-of .result .now) (name (slotAt (a .sheet .now) (a .other))) (a .suffix .now) (inr (omega arith)))
+    ∙ ap (λ (l : List ℕ). sameBytes l (name (slotAt (a .sheet .now) (a .other)) ++ a .suffix .now)) (whole .name-of .ensures)
+
 name-of-requires-2 : tie.Need-name-of-requires-2
 name-of-requires-2 c κs = search needs
 
-returns : tie.Need-returns
-returns c =
+returns-2 : tie.Need-returns-2
+returns-2 c =
     let names = c .before in
-    sym (too-short (names .before .name-of .result .now) (names .name-of2 .result .now) (names .before .before .before .before .args .suffix .now) (omega arith))
+    sym (too-short (names .before .before .name-of .result .now) (names .name-of2 .result .now) (names .before .before .before .before .before .args .suffix .now) (inl (omega arith)))
     ∙ named names
 
 slice-aggregate-same : tie.Need-slice-aggregate-same
@@ -57,11 +65,11 @@ slice-aggregate-same c = sym (length-take-le _ _ (omega arith))
 same-requires : tie.Need-same-requires
 same-requires c κs = search needs
 
-returns-2 : tie.Need-returns-2
-returns-2 c =
+returns-3 : tie.Need-returns-3
+returns-3 c =
     let names = c .before .before .before .before in
-    sym (front-wrong (names .before .name-of .result .now) (names .name-of2 .result .now) (names .before .before .before .before .args .suffix .now)
-    (failed (c .before .same .ensures) (c .if2 .taken)))
+    sym (front-wrong (names .before .before .name-of .result .now) (names .name-of2 .result .now) (names .before .before .before .before .before .args .suffix .now)
+    (failed (c .before .same .ensures) (c .if3 .taken)))
     ∙ named names
 
 sub-same : tie.Need-sub-same
@@ -76,15 +84,15 @@ part-same-end c = search needs
 same-requires-2 : tie.Need-same-requires-2
 same-requires-2 c κs = search needs
 
-returns-3 : tie.Need-returns-3
-returns-3 c =
+returns-4 : tie.Need-returns-4
+returns-4 c =
     let names = c .before .before .before .before .before .before in
-    let whole = names .before .name-of .result .now in
+    let whole = names .before .before .name-of .result .now in
     let front = names .name-of2 .result .now in
-    let suffix = names .before .before .before .before .args .suffix .now in
+    let suffix = names .before .before .before .before .before .args .suffix .now in
     c .same2 .ensures
     ∙ ap (λ (rest : List ℕ). sameBytes rest suffix) (take-rest whole (length front))
-    ∙ sym (front-right whole front suffix (passed (c .before .before .before .same .ensures) (c .before .before .if2 .left)))
+    ∙ sym (front-right whole front suffix (passed (c .before .before .before .same .ensures) (c .before .before .if3 .left)))
     ∙ named names
 
 pub name-is-with-spec : {M : Type 1} → statement M
@@ -92,13 +100,14 @@ name-is-with-spec =
     tie.close
     (tie.spec
     name-of-requires
-    name-of-requires-2
     returns
+    name-of-requires-2
+    returns-2
     slice-aggregate-same
     same-requires
-    returns-2
+    returns-3
     sub-same
     part-same-start
     part-same-end
     same-requires-2
-    returns-3)
+    returns-4)
