@@ -13,7 +13,7 @@ use borrow.Author.Tests.{eqb-true, ne-eqb, le-leb, lt-leb}
 use Rattle.parquet.specs.Logical as logical
 use Rattle.logical_type.specs.Spelling.{statedOf}
 use Rattle.logical_type.specs.Forward.{imageOf}
-use Rattle.logical_type.specs.Steps.{ANY, NEVER, OWN, MARK, Parts, partsOf, numberOf, convertedPart, logicalPart, aPart, bPart, demandPart, pairA, pairB}
+use Rattle.logical_type.specs.Number.{ANY, NEVER, OWN, MARK, Parts, partsOf, numberOf, convertedPart, logicalPart, aPart, bPart, demandPart, pairA, pairB}
 use Rattle.annotation.specs.Signed.{natural}
 use Rattle.annotation.specs.Meaning.{annotationOf}
 use Rattle.annotation.specs.Rule9.{rule9}

@@ -6,7 +6,7 @@ use lib.IntN.{ℤ, pos}
 use Rattle.parquet.specs.Physical as physical
 use Rattle.parquet.specs.Converted as converted
 use Rattle.parquet.specs.Logical as logical
-use Rattle.logical_type.specs.Steps.{ANY, OWN, MARK, numberOf, convertedPart, logicalPart, aPart, bPart, demandPart}
+use Rattle.logical_type.specs.Number.{ANY, OWN, MARK, numberOf, convertedPart, logicalPart, aPart, bPart, demandPart}
 use Rattle.annotation.specs.Signed.{natural}
 use Rattle.annotation.specs.Meaning.{annotationOf}
 use Rattle.annotation.specs.Rule9.{rule9}

@@ -4,7 +4,7 @@ ghost use mathlib.Core.Bool.{_||_};
 ghost use mathlib.Core.Path.{_≡_};
 ghost use lib.Dec.{eqb};
 ghost use Rattle.parquet.specs.Converted.{NONE};
-ghost use Rattle.logical_type.specs.Steps.{MARK, convertedPart};
+ghost use Rattle.logical_type.specs.Number.{MARK, convertedPart};
 ghost use Rattle.annotation.specs.Steps.{marked};
 use logical_type::number;
 use parquet::converted;

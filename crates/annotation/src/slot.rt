@@ -1,7 +1,7 @@
 // The numbers of a slot that say its type, and what its annotations mean.
 ghost use mathlib.Core.Path.{_≡_};
 ghost use Rattle.parquet.specs.Logical.{NONE};
-ghost use Rattle.logical_type.specs.Steps.{numberOf, pairA, pairB};
+ghost use Rattle.logical_type.specs.Number.{numberOf, pairA, pairB};
 ghost use Rattle.annotation.specs.Signed.{natural};
 ghost use Rattle.annotation.specs.Meaning.{convertedAlone};
 ghost use Rattle.annotation.specs.Steps.{annotatedBy, readingOf};

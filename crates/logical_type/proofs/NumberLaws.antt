@@ -8,7 +8,7 @@ use native.Mathlib.Omega.{arith}
 use lib.Dec.{eqb}
 use Rattle.logical_type.specs.Parameters.{UNUSED, unitCode, bitWidthCode, flagCode, validUnit, validBitWidth, validFlag, unitOf, bitWidthOf, flagOf}
 use Rattle.logical_type.specs.Forward.{forwardOf}
-use Rattle.logical_type.specs.Steps.{BYTE, MARK, NO-PAIR, pairA, pairB, demandOf, partsOf, numberOf}
+use Rattle.logical_type.specs.Number.{BYTE, MARK, NO-PAIR, pairA, pairB, demandOf, partsOf, numberOf}
 use Rattle.logical_type.specs.declared.types.TimeUnit.{TimeUnit}
 use Rattle.logical_type.specs.declared.types.BitWidth.{BitWidth}
 use Rattle.logical_type.specs.declared.types.LogicalType.{LogicalType}

@@ -4,4 +4,4 @@ pub mod Parameters
 pub mod Spelling
 pub mod Forward
 pub mod Backward
-pub mod Steps
+pub mod Number

@@ -3,7 +3,7 @@ ghost use mathlib.Core.Bool.{false};
 ghost use mathlib.Core.Path.{_≡_};
 ghost use Rattle.parquet.specs.Converted.{NONE};
 ghost use Rattle.logical_type.specs.Backward.{backwardOf};
-ghost use Rattle.logical_type.specs.Steps.{numberOf};
+ghost use Rattle.logical_type.specs.Number.{numberOf};
 use crate::number;
 use parquet::converted;
 

@@ -1,7 +1,7 @@
 // Annotations as numbers: the four bytes that are written for one (converted, logical, a and b, converted the lowest), and above
 // them what rule 10 asks of its physical type.
 ghost use mathlib.Core.Path.{_≡_};
-ghost use Rattle.logical_type.specs.Steps.{convertedPart, logicalPart, aPart, bPart, demandPart};
+ghost use Rattle.logical_type.specs.Number.{convertedPart, logicalPart, aPart, bPart, demandPart};
 use crate::parameters;
 use parquet::converted;
 use parquet::logical;

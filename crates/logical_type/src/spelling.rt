@@ -3,7 +3,7 @@ ghost use mathlib.Core.Path.{_≡_};
 ghost use Rattle.parquet.specs.Logical as logical;
 ghost use Rattle.logical_type.specs.Parameters.{UNUSED};
 ghost use Rattle.logical_type.specs.Spelling.{statedOf};
-ghost use Rattle.logical_type.specs.Steps.{numberOf, NO-PAIR, pairA, pairB};
+ghost use Rattle.logical_type.specs.Number.{numberOf, NO-PAIR, pairA, pairB};
 use crate::number;
 use crate::parameters;
 use parquet::logical;

@@ -1,6 +1,6 @@
 -- `annotation::rules::stands` meets its contract: its result is the definition.
 -- Assumes nothing.
-use Rattle.logical_type.specs.Steps.{numberOf}
+use Rattle.logical_type.specs.Number.{numberOf}
 use Rattle.annotation.specs.Steps.{standsBy}
 use Rattle.annotation.proofs.rules.stands.Statement.{statement}
 use Rattle.annotation.proofs.rules.stands.Tie as tie

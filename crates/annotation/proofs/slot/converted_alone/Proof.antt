@@ -1,7 +1,7 @@
 -- `annotation::slot::converted_alone` meets its contract: each return rewrites with the test that led there.
 -- Assumes nothing.
 use Rattle.logical_type.specs.Parameters.{validParameters}
-use Rattle.logical_type.specs.Steps.{numberOf}
+use Rattle.logical_type.specs.Number.{numberOf}
 use Rattle.logical_type.proofs.NumberLaws.{unused-pair}
 use Rattle.annotation.proofs.slot.converted_alone.Statement.{statement}
 use Rattle.annotation.proofs.slot.converted_alone.Tie as tie

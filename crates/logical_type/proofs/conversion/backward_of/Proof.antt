@@ -3,7 +3,7 @@
 use borrow.Author.Tests.{ne-eqb}
 use Rattle.parquet.specs.Converted as converted
 use Rattle.logical_type.specs.Backward.{backwardOf}
-use Rattle.logical_type.specs.Steps.{numberOf}
+use Rattle.logical_type.specs.Number.{numberOf}
 use Rattle.logical_type.proofs.conversion.backward_of.Statement.{statement}
 use Rattle.logical_type.proofs.conversion.backward_of.Tie as tie
 

@@ -3,7 +3,7 @@
 use mathlib.Core.Path.{ap}
 use mathlib.Core.Bool.{false}
 use Rattle.logical_type.specs.Backward.{backwardTable, backwardOf}
-use Rattle.logical_type.specs.Steps.{numberOf}
+use Rattle.logical_type.specs.Number.{numberOf}
 use Rattle.logical_type.specs.declared.types.Annotation.{Annotation}
 use Rattle.logical_type.proofs.TableLaws.{lookup-default}
 use Rattle.logical_type.proofs.conversion.standing_alone.Statement.{statement}

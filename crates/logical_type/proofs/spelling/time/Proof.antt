@@ -2,7 +2,7 @@
 -- Assumes nothing.
 use Rattle.logical_type.specs.Parameters.{unitOf, validParameters}
 use Rattle.logical_type.specs.Spelling.{namedOf, statedOf}
-use Rattle.logical_type.specs.Steps.{numberOf}
+use Rattle.logical_type.specs.Number.{numberOf}
 use Rattle.logical_type.proofs.NumberLaws.{timed-rest}
 use Rattle.logical_type.proofs.spelling.time.Statement.{statement}
 use Rattle.logical_type.proofs.spelling.time.Tie as tie

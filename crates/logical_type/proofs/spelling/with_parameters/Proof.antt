@@ -3,7 +3,7 @@
 use borrow.Author.Tests.{ne-eqb}
 use Rattle.logical_type.specs.Parameters.{validParameters}
 use Rattle.logical_type.specs.Spelling.{statedOf}
-use Rattle.logical_type.specs.Steps.{numberOf}
+use Rattle.logical_type.specs.Number.{numberOf}
 use Rattle.logical_type.proofs.NumberLaws.{unused-pair}
 use Rattle.logical_type.proofs.spelling.with_parameters.Statement.{statement}
 use Rattle.logical_type.proofs.spelling.with_parameters.Tie as tie

@@ -3,7 +3,7 @@
 use mathlib.Core.Path.{ap}
 use Rattle.logical_type.specs.Parameters.{UNUSED, validParameters}
 use Rattle.logical_type.specs.Spelling.{logicalTable, namedOf, statedOf}
-use Rattle.logical_type.specs.Steps.{numberOf}
+use Rattle.logical_type.specs.Number.{numberOf}
 use Rattle.logical_type.specs.declared.types.Annotation.{Annotation}
 use Rattle.logical_type.proofs.TableLaws.{lookup-default}
 use Rattle.logical_type.proofs.NumberLaws.{unreadable-either}

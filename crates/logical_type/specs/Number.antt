@@ -1,4 +1,4 @@
--- Annotations and parameters as the numbers that the code goes by. Nothing here is a promise to a caller.
+-- Annotations and their parameters as numbers, one for each: what is written for the annotation, and what rule 10 asks of its physical type.
 use Prim.Native.Nat.{ℕ, _+_, _*_, _/_, _%_}
 use Rattle.parquet.specs.Physical as physical
 use Rattle.parquet.specs.Converted as converted
