@@ -14,7 +14,7 @@ use lib.Pow.{pow-mono, ones-lt}
 use borrow.Author.Tests.{le-leb, leb-true}
 use Rattle.laws.proofs.BoolLaws.{and-both, T-and-left, T-and-right}
 use Rattle.decimal.specs.Precision.{greatestLength, isLength, greatestNumber, greatest, greatestPrecision}
-use Rattle.decimal.proofs.Table.{every, from}
+use Rattle.decimal.proofs.Table.{every, at}
 
 -- the greatest number that passes is within the limit
 greatest-≤ : (test : ℕ → Bool) (limit : ℕ) → greatest test limit ≤ limit
@@ -100,7 +100,7 @@ isLength-bounds n e = let p = and-both (leb 1 n) (leb n greatestLength) e in (le
 pub isLength-within : (n : ℕ) → 1 ≤ n → n ≤ greatestLength → isLength n ≡ true
 isLength-within n low high = rw (le-leb 1 n low, le-leb n 256 high)
 
--- ---- a part of the table of the greatest precisions
+-- ---- the table of the greatest precisions
 
 -- 10^d ≤ 2^(8n-1) - 1, and 2^(8n-1) - 1 < 10^(d+1)
 abbrev low : ℕ → ℕ → Bool
@@ -109,16 +109,16 @@ low n d = leb (10 ^ d) (greatestNumber n)
 abbrev high : ℕ → ℕ → Bool
 high n d = ltb (greatestNumber n) (10 ^ (d + 1))
 
--- the rule at the entry d of the place k in the whole table, which stands for k + 1 bytes
+-- the rule at the entry d of the place k, which stands for k + 1 bytes
 abbrev pub right : ℕ → ℕ → Bool
 right k d = low (k + 1) d && high (k + 1) d
 
--- in a part whose every entry keeps the rule, and which has so many entries before it, the entry of n bytes is their greatest precision
-pub entry : (before : ℕ) (part : List ℕ) → T (every right before part) → (n : ℕ) → suc before ≤ n → n ≤ before + length part → n ≤ greatestLength
-    → getD part (n - suc before) 0 ≡ greatestPrecision n
-entry before part t n least within most =
-    let d : ℕ = getD part (n - suc before) 0 in
-    let e : before + (n - suc before) + 1 ≡ n = omega arith in
-    let r : T (low n d && high n d) = rw e at (from right part before t (n - suc before) (omega arith)) in
-    greatestPrecision-unique n (omega arith) most d
+-- in a table whose every entry keeps the rule, the entry at n - 1 is the greatest precision of n bytes
+pub entry : (table : List ℕ) → T (every right 0 table) → (n : ℕ) → 1 ≤ n → n ≤ greatestLength → length table ≡ greatestLength
+    → getD table (n - 1) 0 ≡ greatestPrecision n
+entry table t n least most whole =
+    let d : ℕ = getD table (n - 1) 0 in
+    let e : n - 1 + 1 ≡ n = omega arith in
+    let r : T (low n d && high n d) = rw e at (at right table t (n - 1) (omega arith)) in
+    greatestPrecision-unique n least most d
     (leb→le _ _ (T-and-left (low n d) (high n d) r)) (ltb→lt _ _ (T-and-right (low n d) (high n d) r))
