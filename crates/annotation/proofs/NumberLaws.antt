@@ -1,28 +1,31 @@
 -- What the number of an annotation tells of a slot: its kind, what is written for it, and the first rule that it breaks.
 -- Assumes nothing.
 use Prim.Native.Nat.{ℕ, _+_, _^_, _≤_, _<_}
-use mathlib.Core.Path.{_≡_, refl, _∙_}
-use mathlib.Core.Bool.{Bool, true, false, cond, _||_}
+use mathlib.Core.Path.{_≡_, refl, sym, _∙_}
+use mathlib.Core.Bool.{Bool, true, false, cond, _&&_}
 use native.Mathlib.Omega.{arith}
 use lib.Dec.{eqb}
 use lib.IntN.{ℤ}
 use mir.Facts.{toZ-ofZ}
 use mir.Syntax.{w32}
 use mir.Val.{SFits, toZ, ofZ}
-use borrow.Author.Tests.{eqb-true, ne-eqb, le-leb, lt-leb}
+use borrow.Author.Tests.{eqb-true, eq-eqb, ne-eqb, le-leb, lt-leb}
+use Rattle.parquet.specs.Converted as converted
 use Rattle.parquet.specs.Logical as logical
+use Rattle.logical_type.specs.Parameters.{UNUSED, validParameters}
 use Rattle.logical_type.specs.Spelling.{statedOf}
 use Rattle.logical_type.specs.Forward.{imageOf}
+use Rattle.logical_type.specs.Backward.{backwardOf}
 use Rattle.logical_type.specs.Number.{ANY, NEVER, OWN, MARK, Parts, partsOf, numberOf, convertedPart, logicalPart, aPart, bPart, demandPart, pairA, pairB}
 use Rattle.annotation.specs.Signed.{natural}
 use Rattle.annotation.specs.Meaning.{annotationOf}
 use Rattle.annotation.specs.Rule9.{rule9}
 use Rattle.annotation.specs.Rule10.{INTERVAL-LENGTH, isFixed, decimalOn, logicalOn, annotationOn, rule10}
 use Rattle.annotation.specs.Rule11.{decimalHolds, digitsAllowed, rule11}
-use Rattle.annotation.specs.Kinds.{decimalKind, kindAs, kindOf}
+use Rattle.annotation.specs.Kinds.{plainKind, decimalKind, kindAs, kindOf}
 use Rattle.annotation.specs.Outcome.{refusalOf, resolutionOf}
 use Rattle.annotation.specs.Rewriting.{writtenAs, writtenOf}
-use Rattle.annotation.specs.Steps.{annotatedBy, marked, readingOf, ownOn, digitsHold, ownFault, faultBy, standsBy, loneKind, kindBy, writtenBy}
+use Rattle.annotation.specs.Steps.{isPlain, annotatedBy, marked, readingOf, ownOn, digitsHold, ownFault, faultBy, standsBy, loneKind, kindBy, writtenBy}
 use Rattle.logical_type.specs.declared.types.TimeUnit.{TimeUnit}
 use Rattle.logical_type.specs.declared.types.BitWidth.{BitWidth}
 use Rattle.logical_type.specs.declared.types.LogicalType.{LogicalType}
@@ -31,6 +34,7 @@ use Rattle.annotation.specs.declared.slot.Annotated.{Annotated}
 use Rattle.annotation.specs.declared.resolution.Kind.{Kind}
 use Rattle.annotation.specs.declared.resolution.Resolution.{Resolution}
 use Rattle.annotation.specs.declared.rewriting.Written.{Written}
+use Rattle.laws.proofs.BoolLaws.{and-both}
 use Rattle.logical_type.proofs.ReadingLaws.{Spells, spelled-stated}
 use Rattle.logical_type.proofs.NumberLaws.{bounded, number-bound}
 use Rattle.annotation.proofs.PlacementLaws.{code-stands}
@@ -202,12 +206,9 @@ module _ (n : Annotated) (byte : n .physical < 2 ^ 8) where
 
 -- where a number tells at once that no rule is broken, none is
 stands-kept : (number code : ℕ) (length precision scale : ℤ) → code < 2 ^ 8 → standsBy number code ≡ true → 0 ≡ faultBy number code length precision scale
-unfolding standsBy faultBy numberOf
-stands-kept number code length precision scale byte e = cases (eqb code (demandPart number)) refl e
-  where
-    cases : (same : Bool) → eqb code (demandPart number) ≡ same → same || eqb number (numberOf Annotation.Plain) ≡ true → 0 ≡ faultBy number code length precision scale
-    cases true x y = rw (x, lt-leb MARK number (let z = eqb-true code (demandPart number) x in omega arith))
-    cases false x y = rw (x, eqb-true number (numberOf Annotation.Plain) y)
+unfolding faultBy
+stands-kept number code length precision scale byte e =
+    rw (e, lt-leb MARK number (let z = eqb-true code (demandPart number) e in omega arith))
 
 -- what the number that was read of a slot's annotations tells of it
 module _ (n : Annotated) (underMap : Bool) (number : ℕ) (read : number ≡ readingOf (annotatedBy (n .converted) (n .logical) (n .a) (n .b)) underMap) where
@@ -231,3 +232,32 @@ module _ (n : Annotated) (underMap : Bool) (number : ℕ) (read : number ≡ rea
   -- no rule is broken where the number tells so at once
   pub kept-read : n .physical < 2 ^ 8 → standsBy number (n .physical) ≡ true → 0 ≡ refusalOf (resolutionOf n underMap)
   kept-read byte e = stands-kept number (n .physical) (n .«type_length») (n .precision) (n .scale) byte e ∙ fault-read byte
+
+-- a slot without annotation and parameters
+module _ (n : Annotated) (underMap : Bool) (plain : isPlain n ≡ true) where
+  -- none of its four numbers says anything
+  each : (n .converted ≡ converted.NONE) × (n .logical ≡ logical.NONE) × (n .a ≡ UNUSED) × (n .b ≡ UNUSED)
+  unfolding isPlain
+  each =
+      let b = and-both (eqb (n .converted) converted.NONE && eqb (n .logical) logical.NONE && eqb (n .a) UNUSED) (eqb (n .b) UNUSED) plain in
+      let a = and-both (eqb (n .converted) converted.NONE && eqb (n .logical) logical.NONE) (eqb (n .a) UNUSED) (b .0) in
+      let front = and-both (eqb (n .converted) converted.NONE) (eqb (n .logical) logical.NONE) (a .0) in
+      (eqb-true _ _ (front .0), eqb-true _ _ (front .1), eqb-true _ _ (a .1), eqb-true _ _ (b .1))
+
+  -- so they say no annotation
+  says-plain : annotationOf n underMap ≡ Annotation.Plain
+  unfolding annotationOf validParameters backwardOf
+  says-plain = rw (each .0, each .1, each .2, each .3)
+
+  -- no rule is broken, no logical type is written, and the kind is the plain one
+  pub plain-kept : 0 ≡ refusalOf (resolutionOf n underMap)
+  unfolding resolutionOf rule9 rule10 rule11
+  plain-kept = sym (rw (says-plain, eq-eqb (n .converted) converted.NONE (each .0)))
+
+  pub plain-logical : logical.NONE ≡ writtenOf n underMap .logical
+  unfolding writtenOf
+  plain-logical = sym (rw says-plain)
+
+  pub plain-kind : plainKind (n .physical) ≡ kindOf n underMap
+  unfolding kindOf
+  plain-kind = sym (rw says-plain)

@@ -6,6 +6,7 @@ use lib.IntN.{ℤ, pos}
 use Rattle.parquet.specs.Physical as physical
 use Rattle.parquet.specs.Converted as converted
 use Rattle.parquet.specs.Logical as logical
+use Rattle.logical_type.specs.Parameters.{UNUSED}
 use Rattle.logical_type.specs.Number.{ANY, OWN, MARK, numberOf, convertedPart, logicalPart, aPart, bPart, demandPart}
 use Rattle.annotation.specs.Signed.{natural}
 use Rattle.annotation.specs.Meaning.{annotationOf}
@@ -15,10 +16,14 @@ use Rattle.annotation.specs.Rule11.{ordered, physicalHolds}
 use Rattle.annotation.specs.Kinds.{bareKind, plainKind, decimalKind}
 use Rattle.annotation.specs.Outcome.{refusalOf}
 use Rattle.annotation.specs.declared.slot.Annotated.{Annotated}
-use Rattle.logical_type.specs.declared.types.Annotation.{Annotation}
 use Rattle.annotation.specs.declared.resolution.Kind.{Kind}
 use Rattle.annotation.specs.declared.resolution.Resolution.{Resolution}
 use Rattle.annotation.specs.declared.rewriting.Written.{Written}
+
+-- no annotation stands, and no parameter
+unfoldable pub isPlain : Annotated → Bool
+isPlain n =
+    eqb (n .converted) converted.NONE && eqb (n .logical) logical.NONE && eqb (n .a) UNUSED && eqb (n .b) UNUSED
 
 -- the numbers of a slot of which only the annotations count
 abbrev pub annotatedBy : ℕ → ℕ → ℕ → ℕ → Annotated
@@ -70,9 +75,9 @@ faultBy number code length precision scale =
     (cond (eqb (demandPart number) OWN) (ownFault (logicalPart number) code (natural length) precision scale)
     (refusalOf Resolution.Misplaced))))
 
--- whether the number tells at once that none is broken: it asks for this physical type alone, or for nothing
-unfoldable pub standsBy : ℕ → ℕ → Bool
-standsBy number code = eqb code (demandPart number) || eqb number (numberOf Annotation.Plain)
+-- whether the number tells at once that none is broken: it asks for this physical type alone
+abbrev pub standsBy : ℕ → ℕ → Bool
+standsBy number code = eqb code (demandPart number)
 
 -- the kind of a node without logical type
 abbrev pub loneKind : ℕ → ℕ → Kind

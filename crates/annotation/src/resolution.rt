@@ -12,6 +12,7 @@ use crate::rules::fault;
 use crate::rules::stands;
 use crate::slot::Annotated;
 use crate::slot::annotation_of;
+use crate::slot::is_plain;
 use crate::slot::precision;
 use crate::slot::scale;
 use logical_type::number;
@@ -68,6 +69,9 @@ pub fn resolve(n: Annotated, under_map: bool) -> Resolution
 pub fn resolved_kind(n: Annotated, under_map: bool) -> Kind
     ensures { λ r. ⌜ r ≡ kindOf n «under_map» ⌝ }
 {
+    if is_plain(n) {
+        return plain_kind(n.physical);
+    }
     kind_as(
         annotation_of(n.converted, n.logical, n.a, n.b, under_map),
         n,
@@ -79,6 +83,12 @@ pub fn judge(n: Annotated, under_map: bool) -> Judged
     ensures { λ r. ⌜ r .refusal ≡ refusalOf (resolutionOf n «under_map») ⌝ }
     ensures { λ r. ⌜ r .logical ≡ writtenOf n «under_map» .logical ⌝ }
 {
+    if is_plain(n) {
+        return Judged {
+            refusal: NO_REFUSAL,
+            logical: logical::NONE,
+        };
+    }
     let says = annotation_of(n.converted, n.logical, n.a, n.b, under_map);
     if stands(says, n.physical as u64) {
         return Judged {

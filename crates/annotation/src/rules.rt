@@ -16,12 +16,12 @@ pub(crate) const MISPLACED: u32 = 10;
 
 pub(crate) const BAD_DECIMAL: u32 = 11;
 
-// Whether the number of what the annotations say tells at once that the rules are kept, as it does for most slots: it asks for this
-// physical type alone, or no annotation stands.
+// Whether the number of what the annotations say tells at once that the rules are kept, as it does for most annotated slots: it asks
+// for this physical type alone.
 pub(crate) fn stands(says: u64, physical: u64) -> bool
     ensures { λ r. ⌜ r ≡ standsBy says physical ⌝ }
 {
-    (physical == number::demand(says)) | (says == number::PLAIN)
+    physical == number::demand(says)
 }
 
 // The number of the first rule that the numbers of a slot break, or NO_REFUSAL, by the number of what its annotations say.

@@ -4,13 +4,14 @@ ghost use Rattle.parquet.specs.Logical.{NONE};
 ghost use Rattle.logical_type.specs.Number.{numberOf, pairA, pairB};
 ghost use Rattle.annotation.specs.Signed.{natural};
 ghost use Rattle.annotation.specs.Meaning.{convertedAlone};
-ghost use Rattle.annotation.specs.Steps.{annotatedBy, readingOf};
+ghost use Rattle.annotation.specs.Steps.{isPlain, annotatedBy, readingOf};
 use crate::agreement::agreed;
 use logical_type::backward_of;
 use logical_type::number;
 use logical_type::paired;
 use logical_type::parameters;
 use logical_type::stated_of;
+use parquet::converted;
 use parquet::logical;
 
 // Physical GROUP is a group, converted NONE and logical NONE are no annotation; any other number may stand in a field.
@@ -23,6 +24,22 @@ pub struct Annotated {
     pub b: u8,
     pub scale: i32,
     pub precision: i32,
+}
+
+// Whether no annotation stands, and no parameter. Most slots are told by the first test.
+pub(crate) fn is_plain(n: Annotated) -> bool
+    ensures { λ r. ⌜ r ≡ isPlain n ⌝ }
+{
+    if n.converted != converted::NONE {
+        return false;
+    }
+    if n.logical != logical::NONE {
+        return false;
+    }
+    if n.a != parameters::UNUSED {
+        return false;
+    }
+    n.b == parameters::UNUSED
 }
 
 // The number of the logical type where one stands, marked where rule 9 does not hold, else of what the converted type means.

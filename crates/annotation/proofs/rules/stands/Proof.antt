@@ -1,12 +1,9 @@
 -- `annotation::rules::stands` meets its contract: its result is the definition.
 -- Assumes nothing.
-use Rattle.logical_type.specs.Number.{numberOf}
-use Rattle.annotation.specs.Steps.{standsBy}
 use Rattle.annotation.proofs.rules.stands.Statement.{statement}
 use Rattle.annotation.proofs.rules.stands.Tie as tie
 
 returns : tie.Need-returns
-unfolding standsBy numberOf
 returns c = rw (c .demand .ensures)
 
 pub stands-spec : {M : Type 1} → statement M
