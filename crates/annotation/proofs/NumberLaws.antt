@@ -16,7 +16,7 @@ use Rattle.logical_type.specs.Parameters.{UNUSED, validParameters}
 use Rattle.logical_type.specs.Spelling.{statedOf}
 use Rattle.logical_type.specs.Forward.{imageOf}
 use Rattle.logical_type.specs.Backward.{backwardOf}
-use Rattle.logical_type.specs.Number.{ANY, NEVER, OWN, MARK, Parts, partsOf, numberOf, convertedPart, logicalPart, aPart, bPart, demandPart, pairA, pairB}
+use Rattle.logical_type.specs.Number.{ANY, NEVER, OWN, MARK, Parts, partsOf, numberOf, convertedPart, logicalPart, aPart, bPart, demandPart}
 use Rattle.annotation.specs.Signed.{natural}
 use Rattle.annotation.specs.Meaning.{annotationOf}
 use Rattle.annotation.specs.Rule9.{rule9}

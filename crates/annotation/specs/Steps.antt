@@ -1,6 +1,6 @@
 -- What the steps of resolving a slot answer, which the contracts of private functions cite. Nothing here is a promise to a caller.
 use Prim.Native.Nat.{ℕ, _+_}
-use mathlib.Core.Bool.{Bool, true, false, not, cond, _&&_, _||_}
+use mathlib.Core.Bool.{Bool, true, false, not, cond, _&&_}
 use lib.Dec.{eqb, leb}
 use lib.IntN.{ℤ, pos}
 use Rattle.parquet.specs.Physical as physical

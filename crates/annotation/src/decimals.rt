@@ -8,9 +8,9 @@ use decimal::is_length;
 use parquet::physical;
 
 // The greatest precisions on INT32 and INT64.
-const INT32_DIGITS: u32 = 9;
+pub const INT32_DIGITS: u32 = 9;
 
-const INT64_DIGITS: u32 = 18;
+pub const INT64_DIGITS: u32 = 18;
 
 // What rule 11 asks of a DECIMAL on a physical type of a length.
 pub(crate) fn digits_hold(physical: u8, length: u32, precision: i32, scale: i32) -> bool
@@ -37,7 +37,8 @@ fn physical_holds(physical: u8, length: u32, precision: u32) -> bool
     }
 }
 
-fn fixed_holds(length: u32, precision: u32) -> bool
+// Whether a FIXED_LEN_BYTE_ARRAY of a length holds a precision.
+pub fn fixed_holds(length: u32, precision: u32) -> bool
     ensures { λ r. ⌜ r ≡ fixedHolds length precision ⌝ }
 {
     is_length(length as usize) & (precision <= greatest_precision(length))

@@ -10,6 +10,9 @@ mod rewriting; // what the rewritten sheet says of a node
 mod rules; // rules 9, 10 and 11 in order
 mod slot; // the numbers of a slot that say its type, and what its annotations mean
 
+pub use decimals::INT32_DIGITS;
+pub use decimals::INT64_DIGITS;
+pub use decimals::fixed_holds;
 pub use resolution::Judged;
 pub use resolution::Kind;
 pub use resolution::Resolution;

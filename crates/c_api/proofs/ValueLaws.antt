@@ -4,7 +4,6 @@ use mathlib.Core.Path.{_≡_, refl, sym, ap, _∙_, subst}
 use mathlib.Core.Bool.{Bool, true, false, not, cond}
 use mathlib.Core.List.{List, [], _∷_}
 use native.Mathlib.Omega.{arith}
-use lib.Dec.{T}
 use lib.Ieee.{Float, Format, top, isNan, ne, ofBits, nanBits, toBits}
 use lib.Ieee.Bits.{toBits-ofBits, nanBits-is}
 use lib.IntN.{ℤ}

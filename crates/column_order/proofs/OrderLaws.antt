@@ -24,9 +24,6 @@ use Rattle.parquet.specs.Logical.{DECIMAL}
 use Rattle.column.specs.Numbers.{little}
 use Rattle.column.specs.Lengths.{isByteDecimal}
 use Rattle.column.specs.Annotations.{isWhole, isUnsigned}
-use Rattle.column.specs.Reading.{readOf}
-use Rattle.column.specs.declared.value.Value.{Value}
-use Rattle.column.specs.declared.value.Read.{Read}
 use Rattle.laws.proofs.BoolLaws.{and-left, and-right}
 use Rattle.column.proofs.ReadingLaws.{reads}
 use Rattle.column_order.specs.Keys.{Key, whole, bytes, none, numberOf, floatKey, keyOf, wholeOrder, keyOrder}

@@ -1,5 +1,5 @@
 -- What rules 9, 10 and 11 ask of the slot of a DECIMAL column. Assumes nothing.
-use Prim.Native.Nat.{ℕ, _<_}
+use Prim.Native.Nat.{ℕ}
 use mathlib.Core.Path.{_≡_, refl, sym, ap, _∙_}
 use mathlib.Core.Bool.{Bool, true, false, true≢false, _&&_}
 use native.Mathlib.Omega.{arith}

@@ -5,16 +5,16 @@ ghost use mathlib.Core.Bool.{true, false};
 ghost use lib.Dec.{eqb};
 ghost use lib.IntN.{pos};
 ghost use Rattle.parquet.specs.Logical.{DECIMAL};
-ghost use Rattle.annotation.specs.Rule11.{fixedHolds};
 ghost use Rattle.tree.specs.Rules.{lengthShape};
 ghost use Rattle.column_type.specs.Lawful.{slotWith, slotOf, byteNumbers, signedNumbers, fits, isLeaf, annotationRight, isLawful};
 ghost use Rattle.column_type.specs.Steps.{standsOn};
 use crate::types::ColumnType;
 use annotation::Annotated;
+use annotation::INT32_DIGITS;
+use annotation::INT64_DIGITS;
+use annotation::fixed_holds;
 use annotation::refusal;
 use annotation::resolve;
-use decimal::greatest_precision;
-use decimal::is_length;
 use parquet::converted;
 use parquet::logical;
 use parquet::physical;
@@ -24,7 +24,7 @@ const BYTE_NUMBERS: u32 = 256;
 
 const SIGNED_NUMBERS: u32 = 2147483648;
 
-// The physical types that a DECIMAL stands on, and the greatest precisions on two of them.
+// The physical types that a DECIMAL stands on.
 const INT32: u32 = physical::INT32 as u32;
 
 const INT64: u32 = physical::INT64 as u32;
@@ -32,10 +32,6 @@ const INT64: u32 = physical::INT64 as u32;
 const BYTE_ARRAY: u32 = physical::BYTE_ARRAY as u32;
 
 const FIXED_LEN_BYTE_ARRAY: u32 = physical::FIXED_LEN_BYTE_ARRAY as u32;
-
-const INT32_DIGITS: u32 = 9;
-
-const INT64_DIGITS: u32 = 18;
 
 // The number of no refusal.
 const NO_REFUSAL: u32 = 0;
@@ -69,12 +65,6 @@ fn stands_on(physical: u32, type_length: u32, precision: u32) -> bool
         FIXED_LEN_BYTE_ARRAY => fixed_holds(type_length, precision),
         _ => false,
     }
-}
-
-fn fixed_holds(type_length: u32, precision: u32) -> bool
-    ensures { λ r. ⌜ r ≡ fixedHolds «type_length» precision ⌝ }
-{
-    is_length(type_length as usize) & (precision <= greatest_precision(type_length))
 }
 
 // Judges any other kind by its slot.

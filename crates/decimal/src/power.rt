@@ -12,7 +12,7 @@ ghost use Rattle.decimal.specs.Number.{unsigned, number};
 const STEP: u32 = 16;
 
 // The first exponent whose power of ten is above every number of 64 bits.
-const BEYOND_WORD: u32 = 20;
+pub(crate) const BEYOND_WORD: u32 = 20;
 
 // Writes 10^exponent, or its negative, over the bytes, which must be enough to hold it.
 pub(crate) fn write_power(bytes: &mut [u8], negative: bool, exponent: u32)

@@ -33,9 +33,7 @@ const GREATEST: u64 = 0xffff_ffff_ffff_ffff;
 // 2^32.
 const HALF: u64 = 0x1_0000_0000;
 
-// The first power of ten that a word does not hold, and the first precision that every number here keeps to.
-const BEYOND_WORD: u32 = 20;
-
+// The first precision that every number here keeps to.
 const BEYOND_ALL: u32 = 39;
 
 // Whether a number of so many bytes has words.
@@ -194,7 +192,7 @@ fn power_words(exponent: u32) -> Words
     requires { ⌜ exponent < 39 ⌝ }
     ensures { λ r. ⌜ (valueOf r ≡ 10 ^ exponent) × (1 ≤ r .low) ⌝ }
 {
-    if exponent < BEYOND_WORD {
+    if exponent < power::BEYOND_WORD {
         let low = power::power_of_ten(exponent);
         return Words { high: 0, low };
     }

@@ -7,7 +7,6 @@ use native.Mathlib.Nat.{zero-add}
 use borrow.Author.Tests.{lt-ltb, le-ltb}
 use lib.ListN.{length, drop}
 use Rattle.sheet.specs.Block.{totalOf}
-use Rattle.sheet.specs.Opening as sheet
 use Rattle.sheet.specs.Slot.{slots, slotAt}
 use Rattle.tree.specs.Tree.{SlotBytes, Tree, node}
 use Rattle.schema.specs.Rows.{rowsFrom, runRowsFrom, row, parentOf, role, rows, rowWidth}

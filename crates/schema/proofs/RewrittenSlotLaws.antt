@@ -4,7 +4,7 @@ use mathlib.Core.Path.{_≡_, refl, _∙_}
 use mathlib.Core.Bool.{Bool, true, false}
 use mathlib.Core.List.{List}
 use lib.ListN.{length}
-use Rattle.sheet.specs.Slot.{childCountAt, physical, repetition, converted, logical, parameterA, parameterB, childCount, typeLength, scale, precision, name, numbersOf, annotatedSlot}
+use Rattle.sheet.specs.Slot.{childCountAt, converted, logical, parameterA, parameterB, numbersOf, annotatedSlot}
 use Rattle.sheet.specs.Sound.{listed, convertedListed, logicalListed, slotSound}
 use Rattle.sheet.proofs.AnnotatedSlotLaws.{physical-annotated, repetition-annotated, childCount-annotated, typeLength-annotated, scale-annotated, precision-annotated, name-annotated, length-annotated, converted-annotated, logical-annotated, parameterA-annotated, parameterB-annotated, sound-annotated}
 use Rattle.annotation.specs.Kinds.{kindOf}

@@ -22,12 +22,10 @@ use crate::near::Near;
 use crate::signed::folded;
 use crate::signed::is_negative;
 use crate::signed::signed;
+use crate::units::GREATEST_COUNT;
 use crate::units::Scaled;
 use crate::units::scale_of;
 use crate::units::ticks_per_second;
-
-// The greatest signed number of 64 bits. Each of them folds onto a number that is not above it.
-const GREATEST: u64 = 0x7fff_ffff_ffff_ffff;
 
 // What encoding answers.
 pub enum Encoded {
@@ -117,11 +115,11 @@ fn count_at_end(division: Division, ticks_per_day: u64) -> Encoded
 {
     let negative = is_negative(division.day);
     let days = folded(division.day);
-    if GREATEST / ticks_per_day < days {
+    if GREATEST_COUNT / ticks_per_day < days {
         return Encoded::NotRepresentable;
     }
     let size = days * ticks_per_day + turned(negative, division.rest, ticks_per_day);
-    if GREATEST < size {
+    if GREATEST_COUNT < size {
         return Encoded::NotRepresentable;
     }
     Encoded::Count(signed(negative, size))

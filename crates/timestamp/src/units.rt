@@ -12,8 +12,9 @@ use crate::division::floor_divide;
 // The seconds of a day.
 pub(crate) const SECONDS_PER_DAY: u64 = 86_400;
 
-// The ticks of counts of 64 bits, before 1970 or after: so many days as they fill have counts.
-const TICKS_REACHED: u64 = 0x7fff_ffff_ffff_ffff;
+// The greatest count, as a signed number of 64 bits: each count folds onto a number that is not above it, and so many days as it fills
+// have counts, before 1970 and after.
+pub(crate) const GREATEST_COUNT: u64 = 0x7fff_ffff_ffff_ffff;
 
 // Thousandths of a second.
 pub struct Millis;
@@ -26,7 +27,7 @@ impl Millis {
 
     pub const TICKS_PER_DAY: u64 = Self::TICKS_PER_SECOND * SECONDS_PER_DAY;
 
-    pub(crate) const DAYS_REACHED: u64 = TICKS_REACHED / Self::TICKS_PER_DAY;
+    pub(crate) const DAYS_REACHED: u64 = GREATEST_COUNT / Self::TICKS_PER_DAY;
 
     // The days of a count, rounded down, and the ticks left. There is one such division.
     pub fn divide(count: i64) -> Division
@@ -48,7 +49,7 @@ impl Micros {
 
     pub const TICKS_PER_DAY: u64 = Self::TICKS_PER_SECOND * SECONDS_PER_DAY;
 
-    pub(crate) const DAYS_REACHED: u64 = TICKS_REACHED / Self::TICKS_PER_DAY;
+    pub(crate) const DAYS_REACHED: u64 = GREATEST_COUNT / Self::TICKS_PER_DAY;
 
     // The days of a count, rounded down, and the ticks left. There is one such division.
     pub fn divide(count: i64) -> Division
@@ -70,7 +71,7 @@ impl Nanos {
 
     pub const TICKS_PER_DAY: u64 = Self::TICKS_PER_SECOND * SECONDS_PER_DAY;
 
-    pub(crate) const DAYS_REACHED: u64 = TICKS_REACHED / Self::TICKS_PER_DAY;
+    pub(crate) const DAYS_REACHED: u64 = GREATEST_COUNT / Self::TICKS_PER_DAY;
 
     // The days of a count, rounded down, and the ticks left. There is one such division.
     pub fn divide(count: i64) -> Division

@@ -30,11 +30,6 @@ unfolding orElse
 orElse-assoc Lawful b c = refl
 orElse-assoc (Refused r) b c = refl
 
-pub orElse-lawful : (a : Verdict) → orElse a Lawful ≡ a
-unfolding orElse
-orElse-lawful Lawful = refl
-orElse-lawful (Refused r) = refl
-
 pub refused-not-lawful : (r : Refusal) → Refused r ≡ Lawful → ⊥
 refused-not-lawful r e = let z : _≡_ {A = ℕ} 0 1 = cc in omega arith
 

@@ -1,7 +1,7 @@
 -- `annotation::resolution::judge` meets its contract: no annotation breaks no rule, and the number of what any other says has both.
 -- Assumes nothing.
 use Prim.Native.Nat.{_<_, _^_}
-use mathlib.Core.Path.{_≡_, sym, ap, _∙_}
+use mathlib.Core.Path.{sym, ap, _∙_}
 use native.Mathlib.Omega.{arith}
 use borrow.Author.Needs.{needs}
 use Rattle.annotation.specs.declared.rewriting.Written.{Written}

@@ -1,7 +1,6 @@
 -- `logical_type::conversion::backward_of` meets its contract: only the entry of MAP_KEY_VALUE looks at the parent.
 -- Assumes nothing.
 use borrow.Author.Tests.{ne-eqb}
-use Rattle.parquet.specs.Converted as converted
 use Rattle.logical_type.specs.Backward.{backwardOf}
 use Rattle.logical_type.specs.Number.{numberOf}
 use Rattle.logical_type.proofs.conversion.backward_of.Statement.{statement}

@@ -2,7 +2,6 @@
 use Prim.Native.Nat.{_-_}
 use native.Mathlib.Omega.{arith}
 use borrow.Author.Needs.{needs}
-use mathlib.Core.Path.{_∙_}
 use Rattle.schema.proofs.RewritingSteps.{Written, written-start, written-next, written-end}
 use Rattle.schema.proofs.rewriting.write_nodes.Statement.{statement}
 use Rattle.schema.proofs.rewriting.write_nodes.Tie as tie

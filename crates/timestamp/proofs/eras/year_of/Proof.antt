@@ -3,7 +3,7 @@ use Prim.Native.Nat.{ℕ, _+_}
 use mathlib.Core.Path.{ap, _∙_}
 use borrow.Author.Needs.{needs}
 use lib.IntN.{pos}
-use Rattle.timestamp.proofs.EraLaws.{YearDay, year-at, day-at, day-year}
+use Rattle.timestamp.proofs.EraLaws.{year-at, day-at, day-year}
 use Rattle.timestamp.proofs.EraDateLaws.{march-day}
 use Rattle.timestamp.proofs.eras.year_of.Statement.{statement}
 use Rattle.timestamp.proofs.eras.year_of.Tie as tie

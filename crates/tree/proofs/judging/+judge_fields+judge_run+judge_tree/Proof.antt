@@ -1,7 +1,7 @@
 -- The proof of the cycle of calls {judge_fields, judge_run, judge_tree}. Nodes fall: a tree at k hands on to the fields at k + 1, those to their run, and a run at k
 -- to trees at k and behind it. With r nodes from k on, a tree's measure is 3r, a run's 3r + 1, that of some fields 3r + 2.
 use Prim.Native.Nat.{ℕ, _+_, _*_, _-_, _<_}
-use mathlib.Core.Path.{_≡_, refl, sym, _∙_, ap, ap₂}
+use mathlib.Core.Path.{_≡_, sym, _∙_, ap, ap₂}
 use mathlib.Core.Bool.{Bool}
 use mathlib.Core.List.{[], _∷_}
 use borrow.Author.Needs.{needs}

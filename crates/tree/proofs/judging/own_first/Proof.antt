@@ -1,5 +1,5 @@
 -- `tree::judging::own_first` meets its contract.
-use mathlib.Core.Path.{_≡_, refl, sym, ap, _∙_}
+use mathlib.Core.Path.{_≡_, refl, sym}
 use Prim.Native.Nat.{ℕ, zero, suc, _+_, _*_}
 use mathlib.Core.List.{[], _∷_}
 use borrow.Author.Needs.{needs}
