@@ -1,7 +1,7 @@
 -- Rules 12 and 13 by a node's numbers, those of the nodes behind it, and how many fields these have.
 use Prim.Native.Nat.{ℕ, suc, _+_, _≤_, _<_, zero-le}
 use mathlib.Core.Path.{_≡_, refl, sym, ap, _∙_}
-use mathlib.Core.Bool.{Bool, true, false, and-false}
+use mathlib.Core.Bool.{Bool, true, false, _||_, and-false, or-true, or-false}
 use mathlib.Core.Logic.{_⊎_, inl, inr}
 use native.Mathlib.Nat.{eq-or-lt-of-le}
 use native.Mathlib.Numerals.{add-one}
@@ -20,7 +20,7 @@ use Rattle.tree.specs.Steps.{Claimed, Visited, treeAt, runAt, fieldsAt, 
 use Rattle.tree.proofs.StandingLaws.{runAt-suc, runAt-zero, runAt-end, size-positive}
 use Rattle.tree.proofs.VisitLaws.{treeAt-slot, count-fieldsAt, fieldsAt-first, first-below, rest-claimed, repetition-at, physical-at, children-at}
 use Rattle.tree.specs.Tree.{SlotBytes, Tree, Fields, node, empty, field, count, size}
-use Rattle.tree.specs.Rules.{isGroup, isRequiredOrOptional, namedElement, isElementGroup, holdsElement, listChild, listRun, listKept, keyValue, mapRun, mapKept}
+use Rattle.tree.specs.Rules.{isGroup, isRequiredOrOptional, namedElement, isRepeated, isElementGroup, holdsElement, listChild, listRun, listKept, keyValue, mapRun, mapKept}
 
 -- a run by how many fields it has
 pub run-none : (fs : Fields) → count fs ≡ 0 → fs ≡ empty
@@ -71,13 +71,18 @@ module _ (list s : SlotBytes) (fs : Fields) where
       unfolding listChild isElementGroup
       listChild-many h = rw (r, g, run-many fs h .3)
 
-      pub listChild-named : count fs ≡ 1 → namedElement list s ≡ true → listChild list (node s fs) ≡ true
-      unfolding listChild isElementGroup
-      listChild-named e n = rw (r, g, run-one fs e .1, n)
+      module _ (t : SlotBytes) (gs : Fields) (e : fs ≡ field (node t gs) empty) where
+        pub listChild-repeated : eqb (repetition t) REPEATED ≡ true → listChild list (node s fs) ≡ true
+        unfolding listChild isElementGroup isRepeated
+        listChild-repeated q = rw (r, g, e, q, or-true)
 
-      pub listChild-held : (t : SlotBytes) (gs : Fields) → fs ≡ field (node t gs) empty → namedElement list s ≡ false → listChild list (node s fs) ≡ isRequiredOrOptional (repetition t)
-      unfolding listChild isElementGroup holdsElement
-      listChild-held t gs e n = rw (r, g, e, n)
+        pub listChild-held : isRequiredOrOptional (repetition t) ≡ true → listChild list (node s fs) ≡ true
+        unfolding listChild holdsElement
+        listChild-held q = rw (r, g, e, q, or-true)
+
+        pub listChild-named : eqb (repetition t) REPEATED ≡ false → isRequiredOrOptional (repetition t) ≡ false → listChild list (node s fs) ≡ namedElement list s
+        unfolding listChild isElementGroup isRepeated holdsElement
+        listChild-named q n = rw (r, g, e, q, n, or-false (namedElement list s || false)) (or-false (namedElement list s))
 
 -- a MAP has one child
 pub mapRun-none : (fs : Fields) → count fs ≡ 0 → mapRun fs ≡ false
@@ -177,11 +182,15 @@ module _ (b : List ℕ) (layer : ℕ) (s : Numbers) (h : Claimed b) (l : layer <
         pub child-many : (s .children ≡ 0 → ⊥) → (s .children ≡ 1 → ⊥) → true ≡ listChild list (treeAt (slots b) layer)
         child-many p q = sym (rw tree-is (listChild-many list (slotAt b layer) fields (repeats r) (group g) (omega (arith, count-is))))
 
-        pub child-named : s .children ≡ 1 → namedElement list (slotAt b layer) ≡ true → true ≡ listChild list (treeAt (slots b) layer)
-        child-named q n = sym (rw tree-is (listChild-named list (slotAt b layer) fields (repeats r) (group g) (count-is ∙ q) n))
+        module _ (q : s .children ≡ 1) where
+          pub child-repeated : repetition (slotAt b (suc layer)) ≡ REPEATED → true ≡ listChild list (treeAt (slots b) layer)
+          child-repeated n = sym (rw tree-is (listChild-repeated list (slotAt b layer) fields (repeats r) (group g) (slotAt b (suc layer)) (fieldsAt b (suc layer)) (only-field q) (eq-eqb _ _ n)))
 
-        pub child-held : s .children ≡ 1 → namedElement list (slotAt b layer) ≡ false → listChild list (treeAt (slots b) layer) ≡ isRequiredOrOptional (repetition (slotAt b (suc layer)))
-        child-held q n = rw tree-is (listChild-held list (slotAt b layer) fields (repeats r) (group g) (slotAt b (suc layer)) (fieldsAt b (suc layer)) (only-field q) n)
+          pub child-held : isRequiredOrOptional (repetition (slotAt b (suc layer))) ≡ true → true ≡ listChild list (treeAt (slots b) layer)
+          child-held n = sym (rw tree-is (listChild-held list (slotAt b layer) fields (repeats r) (group g) (slotAt b (suc layer)) (fieldsAt b (suc layer)) (only-field q) n))
+
+          pub child-named : (repetition (slotAt b (suc layer)) ≡ REPEATED → ⊥) → isRequiredOrOptional (repetition (slotAt b (suc layer))) ≡ false → listChild list (treeAt (slots b) layer) ≡ namedElement list (slotAt b layer)
+          child-named n m = rw tree-is (listChild-named list (slotAt b layer) fields (repeats r) (group g) (slotAt b (suc layer)) (fieldsAt b (suc layer)) (only-field q) (ne-eqb _ _ n) m)
 
   pub layer-single : (s .repetition ≡ REPEATED → ⊥) → false ≡ mapRun (field (treeAt (slots b) layer) empty)
   layer-single r = sym (rw tree-is (mapRun-single (slotAt b layer) fields (single r)))

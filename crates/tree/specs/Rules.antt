@@ -108,10 +108,14 @@ tupleSuffix = 95 ∷ 116 ∷ 117 ∷ 112 ∷ 108 ∷ 101 ∷ []
 unfoldable pub namedElement : SlotBytes → SlotBytes → Bool
 namedElement list layer = sameBytes (name layer) arrayName || sameBytes (name layer) (name list ++ tupleSuffix)
 
--- (2) and (3): the repeated group of a LIST is itself the element
+-- a node is repeated
+unfoldable pub isRepeated : Tree → Bool
+isRepeated (node s fs) = eqb (repetition s) REPEATED
+
+-- the repeated group of a LIST is itself the element: (2) of several fields, (3) so named, or, of document 02's R-2, its one field is repeated
 unfoldable pub isElementGroup : SlotBytes → SlotBytes → Fields → Bool
 isElementGroup list layer empty = false
-isElementGroup list layer (field t empty) = namedElement list layer
+isElementGroup list layer (field t empty) = namedElement list layer || isRepeated t
 isElementGroup list layer (field t (field u fs)) = true
 
 -- (4): its one field is the element, required or optional

@@ -44,11 +44,14 @@ fn list_child(sheet: &[u8], list: usize, layer: usize) -> bool
     if s.children != 1 {
         return true;
     }
-    if named_element(sheet, list, layer) {
+    let field = sheet::slot_at(sheet, layer + 1);
+    if field.repetition == repetition::REPEATED {
         return true;
     }
-    let element = sheet::slot_at(sheet, layer + 1);
-    required_or_optional(element.repetition)
+    if required_or_optional(field.repetition) {
+        return true;
+    }
+    named_element(sheet, list, layer)
 }
 
 // Whether a LIST's repeated group has the name of an element: `array`, or the list's name plus `_tuple`.
