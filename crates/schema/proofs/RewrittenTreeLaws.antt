@@ -18,7 +18,7 @@ use Rattle.annotation.specs.declared.rewriting.Written.{Written}
 use Rattle.annotation.specs.declared.rewriting.Rewriting.{Rewriting}
 use Rattle.tree.specs.Annotated.{annotated, kind, rule9, rule10}
 use Rattle.tree.specs.Tree.{SlotBytes, Tree, Fields, node, empty, field, count, depths, runDepths, Claims, ClaimsAll}
-use Rattle.tree.specs.Rules.{isGroup, isRequiredOrOptional, underMap, isList, isMap, placeUnder, placeBelow, rootShape, placeShape, lengthShape, decimalShape, shape, rule8, namedElement, isElementGroup, holdsElement, listChild, listRun, listKept, rule12, keyValue, mapRun, mapKept, rule13, KeepsAt, Keeps, KeepsAll}
+use Rattle.tree.specs.Rules.{isGroup, isRequiredOrOptional, underMap, isList, isMap, placeUnder, placeBelow, rootShape, placeShape, lengthShape, decimalShape, shape, rule8, namedElement, isRepeated, isElementGroup, holdsElement, listChild, listRun, listKept, rule12, keyValue, mapRun, mapKept, rule13, KeepsAt, Keeps, KeepsAll}
 use Rattle.schema.specs.Rewriting.{rewritings, runRewritings}
 use Rattle.tree.specs.declared.place.Place.{Place}
 use Rattle.tree.specs.declared.place.Place.the-variants.{Root, Field, MapField}
@@ -67,10 +67,14 @@ mutual
 
 -- rules 12 and 13 look at what is copied -------------------------------------------------------------------------------
 
+repeated-rewritten : (t : Tree) (p : Place) → isRepeated (rewrittenTree p t) ≡ isRepeated t
+unfolding rewrittenTree isRepeated
+repeated-rewritten (node s fs) p = rw (slot-copied (underMap p) s .repetition-is)
+
 pub element-group : (list copy layer other : SlotBytes) (fs : Fields) (p : Place) → name copy ≡ name list → name other ≡ name layer → isElementGroup copy other (rewrittenRun p fs) ≡ isElementGroup list layer fs
 unfolding rewrittenRun isElementGroup namedElement
 element-group list copy layer other empty p e q = refl
-element-group list copy layer other (field t empty) p e q = rw (e, q)
+element-group list copy layer other (field t empty) p e q = rw (e, q, repeated-rewritten t p)
 element-group list copy layer other (field t (field u fs)) p e q = refl
 
 holds-element : (fs : Fields) (p : Place) → holdsElement (rewrittenRun p fs) ≡ holdsElement fs

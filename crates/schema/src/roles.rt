@@ -95,6 +95,10 @@ fn list_role(sheet: &[u8], up: usize, at: usize, s: Slot) -> u32
     if s.children != 1 {
         return ELEMENT_LAYER;
     }
+    let field = sheet::slot_at(sheet, at + 1);
+    if field.repetition == repetition::REPEATED {
+        return ELEMENT_LAYER;
+    }
     if named_element(sheet, up, at) {
         return ELEMENT_LAYER;
     }

@@ -136,15 +136,13 @@ keyValue-optional k v ks vs r = rw r
 
 -- rule 12 at the child of a LIST, and rule 13 at the child of a MAP, by the numbers that are read there
 module _ (b : List ℕ) (layer : ℕ) (s : Numbers) (h : Claimed b) (l : layer < totalOf b) (e : s ≡ numbersOf (slotAt b layer)) where
-  fields : Fields
+  abbrev fields : Fields
   fields = fieldsAt b layer
 
   count-is : count fields ≡ s .children
-  unfolding fields
   count-is = count-fieldsAt b layer h l ∙ sym (children-at b layer s e)
 
   tree-is : treeAt (slots b) layer ≡ node (slotAt b layer) fields
-  unfolding fields
   tree-is = treeAt-slot b layer h l
 
   single : (s .repetition ≡ REPEATED → ⊥) → eqb (repetition (slotAt b layer)) REPEATED ≡ false
@@ -160,8 +158,7 @@ module _ (b : List ℕ) (layer : ℕ) (s : Numbers) (h : Claimed b) (l : layer <
   group q = eq-eqb _ _ (sym (physical-at b layer s e) ∙ q)
 
   -- the one field of a group that has one
-  only-field : s .children ≡ 1 → fields ≡ field (node (slotAt b (suc layer)) (fieldsAt b (suc layer))) empty
-  unfolding fields
+  pub only-field : s .children ≡ 1 → fields ≡ field (node (slotAt b (suc layer)) (fieldsAt b (suc layer))) empty
   only-field q =
       let claim : childCount (slotAt b layer) ≡ 1 = sym (children-at b layer s e) ∙ q in
       fieldsAt-first b layer h l 0 claim
@@ -225,7 +222,7 @@ module _ (b : List ℕ) (layer : ℕ) (s : Numbers) (h : Claimed b) (l : layer <
         value-claimed = rest-claimed b layer h l 1 claim
 
         value-last : lastOf layer (treeAt (slots b) layer) ≡ value
-        unfolding lastOf lastFrom value fields
+        unfolding lastOf lastFrom value
         value-last = rw (tree-is, fieldsAt-first b layer h l 1 claim, runAt-suc (slots b) value 0 (h .claims) value-claimed, runAt-zero)
 
         value-below : value < totalOf b
@@ -234,7 +231,7 @@ module _ (b : List ℕ) (layer : ℕ) (s : Numbers) (h : Claimed b) (l : layer <
             omega (arith, h .total, runAt-end (slots b) value 0 (h .claims) value-claimed)
 
         two-fields : fields ≡ field (node (slotAt b (suc layer)) (fieldsAt b (suc layer))) (field (node (slotAt b value) (fieldsAt b value)) empty)
-        unfolding fields value
+        unfolding value
         two-fields =
             fieldsAt-first b layer h l 1 claim
             ∙ ap (λ (t : Tree). field t (runAt (slots b) value 1)) (treeAt-slot b (suc layer) h (first-below b layer h l 1 claim))
