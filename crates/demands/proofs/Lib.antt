@@ -5,3 +5,4 @@ pub mod TimePoints
 pub mod ColumnPoints
 pub mod SheetPoints
 pub mod Points
+pub mod Requests

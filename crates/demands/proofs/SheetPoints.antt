@@ -31,7 +31,7 @@ use Rattle.annotation.specs.Rule11 as eleven
 use Rattle.logical_type.specs.declared.types.TimeUnit.{TimeUnit}
 use Rattle.tree.specs.Annotated.{annotated, kind, rule9, rule10, rule11}
 use Rattle.tree.specs.Tree.{listing, count, size, depths}
-use Rattle.tree.specs.Rules.{isList, isMap, placeBelow, isNought, lengthShape, decimalShape, shape, rule8, namedElement, isElementGroup, holdsElement, listChild, listRun, listKept, rule12, rule13}
+use Rattle.tree.specs.Rules.{isList, isMap, placeBelow, isNought, lengthShape, decimalShape, shape, rule8, namedElement, isRepeated, isElementGroup, holdsElement, listChild, listRun, listKept, rule12, rule13}
 use Rattle.tree.specs.Faults.{broken, faults}
 use Rattle.schema.specs.Rows.{listRole, role, parentBy, row, parentOf, rowsFrom, rows, rowWidth}
 use Rattle.tree.specs.Reading.{takeFields, dropFields, trees, firstTree, treeOf}
@@ -39,11 +39,11 @@ use Rattle.tree.specs.OpenPlaces.{sum, openPlaces, isNoPlace}
 use Rattle.tree.specs.Judgement.{refusal, orElse, leftOver, missing, firstFault, deepness, tooDeep, unlawful, treeRefusal, judgedAs, judgement}
 use Rattle.schema.specs.Outcome.{answer, outcome, written}
 use Rattle.schema.specs.declared.resolving.Resolved.{Resolved}
-use Rattle.demands.specs.Sheets.{sheetOf, rootSlot, leafSheet, exampleSheet}
+use Rattle.demands.specs.Sheets.{sheetOf, rootSlot, leafSheet, exampleSheet, repeatedSheet}
 
 -- `outcome`, with all that it is made of open: what names it on its line computes
 opened : List ℕ → ℕ → Resolved
-unfolding outcome answer judgement judgedAs treeRefusal orElse leftOver missing openPlaces sum isNoPlace tooDeep deepness firstFault unlawful faults broken treeOf firstTree trees takeFields dropFields depths count sheet.outcome sheet.outcomeOf sheet.openOf sheet.atFirst firstWrong firstWrongFrom lengthRight headerRight fieldsRight totalRight blocksFor nodesIn blockCount blockAt blockNumber nodesHere version total totalOf checkRight check sumBelow weighted storedCheck slotRight slotSound codesListed listed physicalListed repetitionListed convertedListed logicalListed nameRight nameLengthRight reservedZero tailZero allZero slots slotsFrom slotAt slotStart reaches numbersOf numberAt signed32 physical repetition converted logical parameterA parameterB childCount typeLength scale precision nameLength name sameBytes rule8 shape lengthShape decimalShape isNought rule9 rule10 rule11 rule12 rule13 isList isMap placeBelow listKept listRun listChild isElementGroup namedElement holdsElement kind annotated kindOf annotationOf backwardOf statedOf namedOf unitOf validParameters natural nine.rule9 ten.rule10 eleven.rule11 eleven.decimalHolds eleven.ordered eleven.physicalHolds sheetOf
+unfolding outcome answer judgement judgedAs treeRefusal orElse leftOver missing openPlaces sum isNoPlace tooDeep deepness firstFault unlawful faults broken treeOf firstTree trees takeFields dropFields depths count sheet.outcome sheet.outcomeOf sheet.openOf sheet.atFirst firstWrong firstWrongFrom lengthRight headerRight fieldsRight totalRight blocksFor nodesIn blockCount blockAt blockNumber nodesHere version total totalOf checkRight check sumBelow weighted storedCheck slotRight slotSound codesListed listed physicalListed repetitionListed convertedListed logicalListed nameRight nameLengthRight reservedZero tailZero allZero slots slotsFrom slotAt slotStart reaches numbersOf numberAt signed32 physical repetition converted logical parameterA parameterB childCount typeLength scale precision nameLength name sameBytes rule8 shape lengthShape decimalShape isNought rule9 rule10 rule11 rule12 rule13 isList isMap placeBelow listKept listRun listChild isElementGroup namedElement isRepeated holdsElement kind annotated kindOf annotationOf backwardOf statedOf namedOf unitOf validParameters natural nine.rule9 ten.rule10 eleven.rule11 eleven.decimalHolds eleven.ordered eleven.physicalHolds sheetOf
 opened = outcome
 
 -- "One root alone: accepted"
@@ -72,6 +72,14 @@ pub example-rows : written (outcome exampleSheet (rowWidth * 4)) exampleSheet (r
     ++ (6 ∷ 0 ∷ 1 ∷ 1 ∷ 0 ∷ 0 ∷ 2 ∷ 4 ∷ 2 ∷ [])
 unfolding opened written rows rowsFrom row parentOf parentBy role listRole size listing
 example-rows = refl
+
+pub repeated-rows : written (outcome repeatedSheet (rowWidth * 4)) repeatedSheet (replicate (rowWidth * 4) 0) ≡
+    (255 ∷ 0 ∷ 255 ∷ 30 ∷ 0 ∷ 0 ∷ 0 ∷ 4 ∷ 0 ∷ [])
+    ++ (255 ∷ 0 ∷ 0 ∷ 3 ∷ 0 ∷ 0 ∷ 0 ∷ 4 ∷ 0 ∷ [])
+    ++ (255 ∷ 0 ∷ 2 ∷ 30 ∷ 0 ∷ 0 ∷ 1 ∷ 4 ∷ 3 ∷ [])
+    ++ (1 ∷ 0 ∷ 2 ∷ 0 ∷ 0 ∷ 0 ∷ 2 ∷ 4 ∷ 7 ∷ [])
+unfolding opened written rows rowsFrom row parentOf parentBy role listRole size listing
+repeated-rows = refl
 
 -- "FIXED 1 precision 3: 11"
 pub fixed-1-precision-3 : outcome (leafSheet physical.FIXED-LEN-BYTE-ARRAY converted.NONE logical.DECIMAL UNUSED UNUSED 1 0 3) (rowWidth * 2) ≡ Resolved.Refused (refusal 11 1)

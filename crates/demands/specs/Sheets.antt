@@ -49,11 +49,23 @@ abbrev pub leafSheet : ℕ → ℕ → ℕ → ℕ → ℕ → ℕ → ℕ → �
 leafSheet ph conv log a b len sc pr =
     sheetOf 2 (rootSlot 1 ++ slotOf (ph ∷ repetition.REQUIRED ∷ conv ∷ log ∷ a ∷ b ∷ []) 0 len sc pr (120 ∷ []))
 
--- "Root `r`; required LIST `parts`; repeated `list`; optional UTF8 `element`"
-abbrev pub exampleSheet : List ℕ
-exampleSheet =
+-- "Root `r`; required LIST `parts`; repeated `list`", and the slot of the layer's one field
+abbrev pub listSheet : List ℕ → List ℕ
+listSheet one =
     sheetOf 4
     (rootSlot 1
     ++ slotOf (physical.GROUP ∷ repetition.REQUIRED ∷ converted.LIST ∷ logical.NONE ∷ UNUSED ∷ UNUSED ∷ []) 1 0 0 0 (112 ∷ 97 ∷ 114 ∷ 116 ∷ 115 ∷ [])
     ++ slotOf (physical.GROUP ∷ repetition.REPEATED ∷ converted.NONE ∷ logical.NONE ∷ UNUSED ∷ UNUSED ∷ []) 1 0 0 0 (108 ∷ 105 ∷ 115 ∷ 116 ∷ [])
-    ++ slotOf (physical.BYTE-ARRAY ∷ repetition.OPTIONAL ∷ converted.UTF8 ∷ logical.NONE ∷ UNUSED ∷ UNUSED ∷ []) 0 0 0 0 (101 ∷ 108 ∷ 101 ∷ 109 ∷ 101 ∷ 110 ∷ 116 ∷ []))
+    ++ one)
+
+-- "optional UTF8 `element`"
+abbrev pub exampleSheet : List ℕ
+exampleSheet =
+    listSheet
+    (slotOf (physical.BYTE-ARRAY ∷ repetition.OPTIONAL ∷ converted.UTF8 ∷ logical.NONE ∷ UNUSED ∷ UNUSED ∷ []) 0 0 0 0 (101 ∷ 108 ∷ 101 ∷ 109 ∷ 101 ∷ 110 ∷ 116 ∷ []))
+
+-- and in its place a repeated INT32 `x`
+abbrev pub repeatedSheet : List ℕ
+repeatedSheet =
+    listSheet
+    (slotOf (physical.INT32 ∷ repetition.REPEATED ∷ converted.NONE ∷ logical.NONE ∷ UNUSED ∷ UNUSED ∷ []) 0 0 0 0 (120 ∷ []))

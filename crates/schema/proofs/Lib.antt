@@ -4,6 +4,7 @@ pub mod PlacingLaws
 pub mod ResolvingLaws
 pub mod DemandLaws
 pub mod RolesLaws
+pub mod RepeatedFieldLaws
 pub mod RowsSteps
 pub mod RewrittenSlotLaws
 pub mod RewritingSteps

@@ -20,11 +20,11 @@ element-none : (list layer : SlotBytes) (fs : Fields) → count fs ≡ 0 → isE
 unfolding isElementGroup
 element-none list layer fs e = rw (run-none fs e)
 
-element-repeated : (list layer s : SlotBytes) (fs : Fields) → eqb (repetition s) REPEATED ≡ true → isElementGroup list layer (field (node s fs) empty) ≡ true
+pub element-repeated : (list layer s : SlotBytes) (fs : Fields) → eqb (repetition s) REPEATED ≡ true → isElementGroup list layer (field (node s fs) empty) ≡ true
 unfolding isElementGroup isRepeated
 element-repeated list layer s fs r = rw (r, or-true)
 
-element-named : (list layer s : SlotBytes) (fs : Fields) → eqb (repetition s) REPEATED ≡ false → isElementGroup list layer (field (node s fs) empty) ≡ namedElement list layer
+pub element-named : (list layer s : SlotBytes) (fs : Fields) → eqb (repetition s) REPEATED ≡ false → isElementGroup list layer (field (node s fs) empty) ≡ namedElement list layer
 unfolding isElementGroup isRepeated
 element-named list layer s fs r = rw r (or-false (namedElement list layer))
 

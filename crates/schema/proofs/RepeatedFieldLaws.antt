@@ -1,0 +1,55 @@
+-- Document 02, R-2: a LIST's layer whose one field is repeated keeps rule 12 and is the element; the field is a repeated node as any other.
+use mathlib.Core.Path.{_≡_, sym, _∙_}
+use mathlib.Core.Bool.{true, false, true≢false, or-true}
+use lib.Dec.{eqb}
+use Rattle.laws.proofs.BoolLaws.{by-test}
+use Rattle.sheet.specs.Slot.{physical, repetition}
+use Rattle.parquet.specs.Repetition.{REPEATED}
+use Rattle.tree.specs.Tree.{SlotBytes, Fields, node, empty, field}
+use Rattle.tree.specs.Rules.{isGroup, isRequiredOrOptional, isList, isMap, namedElement, holdsElement, listChild, listRun, listKept, rule12, mapKept, rule13, KeepsAt}
+use Rattle.tree.specs.declared.place.Place.{Place}
+use Rattle.tree.specs.declared.place.Place.the-variants.{Field}
+use Rattle.schema.specs.Rows.{ELEMENT-LAYER, BARE-REPEATED, listRole, role, parentBy, parentOf}
+use Rattle.schema.specs.declared.roles.Parent.the-variants as parent
+use Rattle.schema.proofs.RolesLaws.{element-repeated, element-named}
+
+-- a LIST and a MAP are required or optional
+pub repeated-list : (p : Place) (s : SlotBytes) (fs : Fields) → isList p s ≡ true → repetition s ≡ REPEATED → rule12 p s fs ≡ false
+unfolding rule12 listKept
+repeated-list p s fs l r = rw (l, r)
+
+repeated-map : (p : Place) (s : SlotBytes) (fs : Fields) → isMap p s ≡ true → repetition s ≡ REPEATED → rule13 p s fs ≡ false
+unfolding rule13 mapKept
+repeated-map p s fs m r = rw (m, r)
+
+-- so a repeated node that keeps the rules is neither
+no-list : (p : Place) (s : SlotBytes) (fs : Fields) → KeepsAt p s fs → repetition s ≡ REPEATED → isList p s ≡ false
+no-list p s fs h r = by-test (isList p s) (λ l. absurd (true≢false (sym (h .lists) ∙ repeated-list p s fs l r))) (λ l. l)
+
+no-map : (p : Place) (s : SlotBytes) (fs : Fields) → KeepsAt p s fs → repetition s ≡ REPEATED → isMap p s ≡ false
+no-map p s fs h r = by-test (isMap p s) (λ m. absurd (true≢false (sym (h .maps) ∙ repeated-map p s fs m r))) (λ m. m)
+
+module _ (list layer s : SlotBytes) (fs : Fields) (g : isGroup (physical layer) ≡ true) (l : repetition layer ≡ REPEATED) where
+  -- a field that is neither repeated, required nor optional is no element, where its layer is not so named
+  pub no-element : (p : Place) → isList p list ≡ true → namedElement list layer ≡ false → eqb (repetition s) REPEATED ≡ false → isRequiredOrOptional (repetition s) ≡ false → rule12 p list (field (node layer (field (node s fs) empty)) empty) ≡ false
+  unfolding rule12 listKept listRun listChild holdsElement
+  no-element p k n r o = by-test (isRequiredOrOptional (repetition list)) (λ q. rw (k, q, l, g, element-named list layer s fs r, n, o)) (λ q. rw (k, q))
+
+  module _ (r : eqb (repetition s) REPEATED ≡ true) where
+    -- no 12 at the LIST
+    pub repeated-kept : (p : Place) → isRequiredOrOptional (repetition list) ≡ true → rule12 p list (field (node layer (field (node s fs) empty)) empty) ≡ true
+    unfolding rule12 listKept listRun listChild
+    repeated-kept p q = rw (q, l, g, element-repeated list layer s fs r, or-true)
+
+    pub layer-role : role parent.List list layer (field (node s fs) empty) ≡ ELEMENT-LAYER
+    unfolding role listRole
+    layer-role = rw (g, element-repeated list layer s fs r)
+
+    module _ (h : KeepsAt Field layer (field (node s fs) empty)) where
+      layer-parent : parentOf parent.List list layer (field (node s fs) empty) ≡ parent.Other
+      unfolding parentOf parentBy isList isMap
+      layer-parent = rw (no-list Field layer (field (node s fs) empty) h l, no-map Field layer (field (node s fs) empty) h l, layer-role)
+
+      pub field-role : role (parentOf parent.List list layer (field (node s fs) empty)) layer s fs ≡ BARE-REPEATED
+      unfolding role
+      field-role = rw (layer-parent, r)
