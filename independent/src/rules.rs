@@ -139,6 +139,8 @@ fn list_layer(tree: &Tree, list: usize) -> Option<Role> {
     match layer.children {
         0 => None,
         1 if layer.name == b"array" || is_tuple_of(layer.name, slot.name) => Some(Role::ElementLayer),
+        // Document 02, R-2.
+        1 if tree.slot(list + 2).is_repeated() => Some(Role::ElementLayer),
         1 => tree.slot(list + 2).is_single().then_some(Role::ListLayer),
         _ => Some(Role::ElementLayer),
     }

@@ -183,8 +183,9 @@ pub type Rows = Result<&'static [[u32; 9]], (u32, u32)>;
 const ROOT_OF_ONE: Slot = ([255, 255, 255, 0, 0, 0, 1, 0, 0, 0], "r");
 const ROW_OF_ONE: [u32; 9] = [255, 0, 255, 30, 0, 0, 0, 2, 0];
 
-/// Document 01: its example, its fixed points of sheets and "errors to shut out"; document 000, the examples of LIST and MAP.
-pub const SHEETS: [(&str, &[Slot], Rows); 17] = [
+/// Document 01: its example, its fixed points of sheets and "errors to shut out"; document 000, the examples of LIST and MAP; document 02,
+/// the layer of R-2.
+pub const SHEETS: [(&str, &[Slot], Rows); 19] = [
     ("one root alone", &[([255, 255, 255, 0, 0, 0, 0, 0, 0, 0], "r")], Ok(&[[255, 0, 255, 30, 0, 0, 0, 1, 0]])),
     (
         "the example of document 01",
@@ -282,6 +283,31 @@ pub const SHEETS: [(&str, &[Slot], Rows); 17] = [
             [255, 0, 2, 30, 0, 0, 1, 4, 1],
             [6, 0, 0, 1, 0, 0, 2, 4, 2],
         ]),
+    ),
+    (
+        "a layer of one repeated field, R-2",
+        &[
+            ROOT_OF_ONE,
+            ([255, 1, 3, 0, 0, 0, 1, 0, 0, 0], "my_list"),
+            ([255, 2, 255, 0, 0, 0, 1, 0, 0, 0], "list"),
+            ([6, 2, 0, 0, 0, 0, 0, 0, 0, 0], "str"),
+        ],
+        Ok(&[
+            [255, 0, 255, 30, 0, 0, 0, 4, 0],
+            [255, 0, 1, 3, 0, 0, 0, 4, 0],
+            [255, 0, 2, 30, 0, 0, 1, 4, 3],
+            [6, 0, 2, 1, 0, 0, 2, 4, 7],
+        ]),
+    ),
+    (
+        "a repeated list with such a layer, R-2",
+        &[
+            ROOT_OF_ONE,
+            ([255, 2, 3, 0, 0, 0, 1, 0, 0, 0], "my_list"),
+            ([255, 2, 255, 0, 0, 0, 1, 0, 0, 0], "list"),
+            ([6, 2, 0, 0, 0, 0, 0, 0, 0, 0], "str"),
+        ],
+        Err((12, 1)),
     ),
     (
         "a map of strings to integers",

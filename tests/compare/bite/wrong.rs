@@ -104,7 +104,19 @@ pub const ALL: &[Wrong] = &[
     ),
     wrong("a layer of two fields stripped", "rules.rs", "_ => Some(Role::ElementLayer)", "_ => Some(Role::ListLayer)"),
     wrong(
-        "a repeated element taken",
+        "a layer of one repeated field refused",
+        "rules.rs",
+        "        1 if tree.slot(list + 2).is_repeated() => Some(Role::ElementLayer),\n",
+        "",
+    ),
+    wrong(
+        "a layer of one repeated field stripped",
+        "rules.rs",
+        "1 if tree.slot(list + 2).is_repeated() => Some(Role::ElementLayer)",
+        "1 if tree.slot(list + 2).is_repeated() => Some(Role::ListLayer)",
+    ),
+    wrong(
+        "an element without repetition taken",
         "rules.rs",
         "1 => tree.slot(list + 2).is_single().then_some(Role::ListLayer)",
         "1 => Some(Role::ListLayer)",

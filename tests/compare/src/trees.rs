@@ -137,10 +137,10 @@ impl Grower<'_> {
         depth < self.max_depth || depth == self.max_depth && size == 1
     }
 
-    /// A LIST by one of its four rules, where one gives so many nodes.
+    /// A LIST by one of its four rules or by document 02's R-2 (5), where one gives so many nodes.
     fn list(&mut self, size: usize, depth: usize, repetition: u8, name: &[u8]) -> bool {
         let below = size - 2;
-        let rule = self.random.between(1, 4);
+        let rule = self.random.between(1, 5);
         let fits = match rule {
             1 => below == 0,
             2 => below >= 2 && depth + 2 <= self.max_depth,
@@ -180,7 +180,7 @@ impl Grower<'_> {
                 let name = self.layer_name(name);
                 let layer = self.push(GROUP, REPEATED, NO_ANNOTATION, &name);
                 self.claim(layer, 1);
-                let repetition = self.random.pick(&[REQUIRED, OPTIONAL]);
+                let repetition = if rule == 4 { self.random.pick(&[REQUIRED, OPTIONAL]) } else { REPEATED };
                 let name = self.name();
                 self.field(below, depth + 2, repetition, &name);
             }

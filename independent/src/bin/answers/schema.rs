@@ -120,6 +120,7 @@ fn vectors() -> Vectors {
         digits,
         list_rules,
         list_faults,
+        one_repeated_field,
         map_rules,
         map_faults,
         key_values,
@@ -219,10 +220,11 @@ struct Rewrite<'a> {
 }
 
 /// How the titles begin of the sheets that are rewritten too.
-const REWRITTEN: [&str; 12] = [
+const REWRITTEN: [&str; 13] = [
     "every annotation",
     "MAP",
     "rule ",
+    "one repeated field",
     "DECIMAL(9",
     "UINT_8 beside",
     "TIME_MI",
@@ -804,9 +806,10 @@ fn list_faults(vectors: &mut Vectors) {
     for (repetition, word) in [(REPEATED, "repeated"), (NONE, "without repetition")] {
         vectors.field(format!("LIST {word}"), list([layer([int32()])]).repetition(repetition));
         vectors.field(format!("LIST {word}, rule 1"), list([repeated()]).repetition(repetition));
-        vectors.field(format!("LIST element {word}"), list([layer([int32().repetition(repetition)])]));
-        vectors.field(format!("LIST group element {word}"), list([layer([group([int32()]).repetition(repetition)])]));
+        vectors.field(format!("LIST {word}, one repeated field"), list([layer([repeated()])]).repetition(repetition));
     }
+    vectors.field("LIST element without repetition", list([layer([int32().repetition(NONE)])]));
+    vectors.field("LIST group element without repetition", list([layer([group([int32()]).repetition(NONE)])]));
     vectors.field("LIST without children", list([]));
     vectors.field("LIST with two children", list([layer([int32()]), layer([int32()])]));
     vectors.field("LIST with a second child that is not repeated", list([layer([int32()]), int32()]));
@@ -817,12 +820,58 @@ fn list_faults(vectors: &mut Vectors) {
         vectors.field(format!("LIST child array of repetition {repetition}"), list([child().named("array")]));
         let pair = layer([int32(), int32()]).repetition(repetition);
         vectors.field(format!("LIST child of two fields, of repetition {repetition}"), list([pair]));
+        let single = layer([repeated()]).repetition(repetition);
+        vectors.field(format!("LIST child of one repeated field, of repetition {repetition}"), list([single]));
     }
     vectors.field("LIST child without fields", list([layer([])]));
     vectors.field("LIST child array without fields", list([layer([]).named("array")]));
     vectors.field("LIST in a LIST without a layer", list([list([repeated()]).repetition(REPEATED)]));
     vectors.field("LIST layer is a MAP", list([map([entry()]).repetition(REPEATED)]));
     vectors.field("LIST on a leaf", int32().converted(converted::LIST));
+}
+
+/// Document 02, R-2: a LIST's layer whose one field is repeated.
+fn one_repeated_field(vectors: &mut Vectors) {
+    let repeating = |fields: Vec<Node>| group(fields).repetition(REPEATED);
+    for (word, field) in [
+        ("leaf", repeated()),
+        ("UTF8 leaf", leaf(BYTE_ARRAY).repetition(REPEATED).converted(converted::UTF8)),
+        ("group", repeating(vec![int32(), repeated()])),
+        ("group of one leaf", repeating(vec![int32()])),
+        ("group of one repeated leaf", repeating(vec![repeated()])),
+        ("group named array", repeating(vec![int32()]).named("array")),
+        ("group of a LIST", repeating(vec![list([layer([int32()])])])),
+        ("group of a MAP", repeating(vec![map([entry()])])),
+    ] {
+        let holder = || layer([field.clone()]);
+        let title = |place: &str| format!("one repeated field, a {word}, {place}");
+        for name in ["list", "array", "parts_tuple", "x_tuple", "parts"] {
+            vectors.field(title(&format!("layer {name}")), list([holder().named(name)]));
+        }
+        let by_logical = list([holder()]).converted(converted::NONE).logical(logical::LIST);
+        vectors.field(title("optional LIST by logical"), by_logical.repetition(OPTIONAL));
+        vectors.field(title("LIST by both"), list([holder()]).logical(logical::LIST));
+        vectors.field(title("in the element of a LIST"), list([layer([list([holder()])])]));
+        vectors.field(title("in a field of an element"), list([layer([list([holder()]), int32()])]));
+        vectors.field(title("in such a field"), list([layer([repeating(vec![list([holder()])])])]));
+        vectors.field(title("in the value of a MAP"), map([key_value([key(), list([holder()])])]));
+        vectors.fields(title("beside others"), [repeated(), list([holder()]), list([layer([int32()])])]);
+    }
+    vectors.tree("one repeated field, lists in them", root([nested_repeated_fields(10)]));
+    vectors.tree("one repeated field, lists in them too deep", root([nested_repeated_fields(11)]));
+    let repeated_list = || list([layer([int32()])]).repetition(REPEATED);
+    vectors.field("one repeated field, a LIST", list([layer([repeated_list()])]));
+    vectors.field("one repeated field, a LIST, layer array", list([layer([repeated_list()]).named("array")]));
+    vectors.field("one repeated field, a MAP", list([layer([map([entry()]).repetition(REPEATED)])]));
+    vectors.field("one repeated field, with a type length", list([layer([repeated().length(1)])]));
+    vectors.field("one repeated field, a group without fields", list([layer([repeating(vec![])])]));
+    vectors.field("one repeated field, a leaf with a child", list([layer([repeated().having([int32()])])]));
+    vectors.field("one repeated field, beside another layer", list([layer([repeated()]), layer([repeated()])]));
+}
+
+/// Lists, each in the one repeated field of the layer of the one before.
+fn nested_repeated_fields(count: usize) -> Node {
+    (0..count).fold(int32(), |below, _| list([layer([group([below]).repetition(REPEATED)])]))
 }
 
 /// A MAP of a key, the plain one, and this value.
