@@ -21,6 +21,18 @@ fn rows_of_the_longest_sheet() {
     prints("rows -", &sheet, &expected);
 }
 
+#[test]
+fn rows_of_a_list_whose_one_field_repeats() {
+    let nodes = [
+        Node::root(1),
+        Node::group("parts", REQUIRED, 1).logical(3, 0, 0),
+        Node::group("list", REPEATED, 1),
+        Node::leaf("x", INT32, REPEATED),
+    ];
+    let expected = "nodes 4\n255 0 255 30 0 0 0 4 0\n255 0 0 3 0 0 0 4 0\n255 0 2 30 0 0 1 4 3\n1 0 2 0 0 0 2 4 7\n";
+    prints("rows -", &sheet(&nodes), expected);
+}
+
 /// A schema with each kind and each role.
 fn every_kind() -> Vec<Node> {
     let leaf = |name, physical| Node::leaf(name, physical, OPTIONAL);
