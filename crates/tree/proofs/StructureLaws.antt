@@ -28,11 +28,6 @@ unfolding count
 run-none empty e = refl
 run-none (field t fs) e = absurd (omega arith)
 
-pub run-one : (fs : Fields) → count fs ≡ 1 → (t : Tree) × (fs ≡ field t empty)
-unfolding count
-run-one empty e = absurd (omega arith)
-run-one (field t fs) e = (t, ap (field t) (run-none fs (omega arith)))
-
 pub run-many : (fs : Fields) → 2 ≤ count fs → (t : Tree) × (u : Tree) × (gs : Fields) × (fs ≡ field t (field u gs))
 unfolding count
 run-many empty h = absurd (omega arith)

@@ -25,7 +25,8 @@ pub(crate) fn list_kept(sheet: &[u8], at: usize, list: Slot) -> bool
     list_child(sheet, at, at + 1)
 }
 
-// Whether the child of a LIST is a repeated leaf, or a repeated group that is the element or holds it.
+// Whether the child of a LIST is a repeated leaf, or a repeated group that is the element or holds it. The one field of a group tells that
+// by its repetition, whatever the group is named; only where it has none, the name does.
 fn list_child(sheet: &[u8], list: usize, layer: usize) -> bool
     requires { ⌜ Claimed (now sheet) ⌝ }
     requires { ⌜ layer < totalOf (now sheet) ⌝ }
