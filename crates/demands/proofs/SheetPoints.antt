@@ -40,6 +40,7 @@ use Rattle.tree.specs.Judgement.{refusal, orElse, leftOver, missing, firstFault
 use Rattle.schema.specs.Outcome.{answer, outcome, written}
 use Rattle.schema.specs.declared.resolving.Resolved.{Resolved}
 use Rattle.demands.specs.Sheets.{sheetOf, rootSlot, leafSheet, exampleSheet, repeatedSheet}
+use Rattle.demands.specs.Requests.{repeatedRows}
 
 -- `outcome`, with all that it is made of open: what names it on its line computes
 opened : List ℕ → ℕ → Resolved
@@ -73,11 +74,8 @@ pub example-rows : written (outcome exampleSheet (rowWidth * 4)) exampleSheet (r
 unfolding opened written rows rowsFrom row parentOf parentBy role listRole size listing
 example-rows = refl
 
-pub repeated-rows : written (outcome repeatedSheet (rowWidth * 4)) repeatedSheet (replicate (rowWidth * 4) 0) ≡
-    (255 ∷ 0 ∷ 255 ∷ 30 ∷ 0 ∷ 0 ∷ 0 ∷ 4 ∷ 0 ∷ [])
-    ++ (255 ∷ 0 ∷ 0 ∷ 3 ∷ 0 ∷ 0 ∷ 0 ∷ 4 ∷ 0 ∷ [])
-    ++ (255 ∷ 0 ∷ 2 ∷ 30 ∷ 0 ∷ 0 ∷ 1 ∷ 4 ∷ 3 ∷ [])
-    ++ (1 ∷ 0 ∷ 2 ∷ 0 ∷ 0 ∷ 0 ∷ 2 ∷ 4 ∷ 7 ∷ [])
+-- document 02, R-2
+pub repeated-rows : written (outcome repeatedSheet (rowWidth * 4)) repeatedSheet (replicate (rowWidth * 4) 0) ≡ repeatedRows
 unfolding opened written rows rowsFrom row parentOf parentBy role listRole size listing
 repeated-rows = refl
 
