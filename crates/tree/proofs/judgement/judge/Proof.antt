@@ -1,4 +1,4 @@
--- `schema::judgement::judge` meets its contract, case by case.
+-- `tree::judgement::judge` meets its contract, case by case.
 use Rattle.tree.proofs.JudgementLaws.{nodes-total, judgement-nodes, judgement-length, judgement-check, judgement-header, judgement-slot}
 use Rattle.tree.specs.Steps.{judgementOf, judgedNodes}
 use mathlib.Core.Path.{sym, _∙_}

@@ -1,4 +1,4 @@
--- `schema::judgement::judge_slots` meets its contract, case by case.
+-- `tree::judgement::judge_slots` meets its contract, case by case.
 use Rattle.tree.proofs.JudgementLaws.{nodes-total, nodes-most, nodes-some, places-claimed, treeRefusal-places}
 use Rattle.tree.specs.Judgement.{orElse}
 use mathlib.Core.Path.{sym, _∙_}

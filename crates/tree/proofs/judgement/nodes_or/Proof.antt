@@ -1,4 +1,4 @@
--- `schema::judgement::nodes_or` meets its contract, case by case.
+-- `tree::judgement::nodes_or` meets its contract, case by case.
 use Rattle.tree.specs.Steps.{judgedNodes}
 use borrow.Author.Needs.{needs}
 use Rattle.tree.proofs.judgement.nodes_or.Statement.{statement}

@@ -1,4 +1,4 @@
--- `schema::place::place_under` meets its contract.
+-- `tree::place::place_under` meets its contract.
 use borrow.Author.Tests.{eq-eqb, ne-eqb}
 use Rattle.tree.proofs.place.place_under.Statement.{statement}
 use Rattle.tree.proofs.place.place_under.Tie as tie

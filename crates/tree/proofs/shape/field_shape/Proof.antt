@@ -1,4 +1,4 @@
--- `schema::shape::field_shape` meets its contract.
+-- `tree::shape::field_shape` meets its contract.
 use borrow.Author.Tests.{eq-eqb, ne-eqb}
 use Rattle.tree.proofs.shape.field_shape.Statement.{statement}
 use Rattle.tree.proofs.shape.field_shape.Tie as tie

@@ -1,4 +1,4 @@
--- `schema::shape::is_nought` meets its contract.
+-- `tree::shape::is_nought` meets its contract.
 use Rattle.tree.proofs.ShapeLaws.{isNought-bits}
 use Rattle.tree.proofs.shape.is_nought.Statement.{statement}
 use Rattle.tree.proofs.shape.is_nought.Tie as tie

@@ -1,4 +1,4 @@
--- `schema::shape::length_shape` meets its contract.
+-- `tree::shape::length_shape` meets its contract.
 use borrow.Author.Needs.{needs}
 use borrow.Author.Tests.{eq-eqb, ne-eqb}
 use mir.Facts.{toZ-ofZ}

@@ -1,4 +1,4 @@
--- `schema::shape::place_shape` meets its contract, case by case.
+-- `tree::shape::place_shape` meets its contract, case by case.
 use borrow.Author.Needs.{needs}
 use Rattle.tree.proofs.shape.place_shape.Statement.{statement}
 use Rattle.tree.proofs.shape.place_shape.Tie as tie

@@ -1,4 +1,4 @@
--- `schema::structure::list_child` meets its contract, answer by answer.
+-- `tree::structure::list_child` meets its contract, answer by answer.
 use Rattle.tree.proofs.VisitLaws.{repetition-behind}
 use Rattle.tree.specs.Rules.{isRequiredOrOptional}
 use Rattle.tree.proofs.StructureLaws.{child-single, child-leaf, child-none, child-many, child-repeated, child-held, child-named}

@@ -1,4 +1,4 @@
--- `schema::structure::list_kept` meets its contract, answer by answer.
+-- `tree::structure::list_kept` meets its contract, answer by answer.
 use Rattle.tree.proofs.StructureLaws.{list-neither, list-not-one, list-one, one-below}
 use borrow.Author.Tests.{not-true, not-false}
 use mathlib.Core.Path.{sym, _∙_}

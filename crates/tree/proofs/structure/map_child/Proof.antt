@@ -1,4 +1,4 @@
--- `schema::structure::map_child` meets its contract, answer by answer.
+-- `tree::structure::map_child` meets its contract, answer by answer.
 use Rattle.tree.proofs.StructureLaws.{layer-single, layer-leaf, layer-none, layer-many, layer-key, layer-key-optional, layer-both}
 use Rattle.tree.proofs.VisitLaws.{repetition-behind, repetition-at}
 use Rattle.tree.specs.Rules.{isRequiredOrOptional}

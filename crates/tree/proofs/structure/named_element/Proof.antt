@@ -1,4 +1,4 @@
--- `schema::structure::named_element` meets its contract.
+-- `tree::structure::named_element` meets its contract.
 use Rattle.tree.specs.Rules.{namedElement}
 use mathlib.Core.Path.{sym, _∙_}
 use borrow.Author.Needs.{needs}
