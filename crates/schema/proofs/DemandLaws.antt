@@ -103,7 +103,7 @@ refused-unchanged bytes lent r e = rw e
 -- the rows of a sheet's tree are as many numbers as its nodes need
 pub rows-length : (bytes : List ℕ) (t : Tree) → IsTreeOf bytes t → length (rows t) ≡ rowWidth * totalOf bytes
 unfolding rows size
-rows-length bytes t h = length-rowsFrom t 0 0 Other [] ∙ ap (λ (n : ℕ). rowWidth * n) (ap length (h .lists) ∙ slots-length bytes)
+rows-length bytes t h = length-rowsFrom t 0 0 Other [] [] ∙ ap (λ (n : ℕ). rowWidth * n) (ap length (h .lists) ∙ slots-length bytes)
 
 -- blocks and slots are sound exactly where opening gives no refusal
 pub sound-exactly : (bytes : List ℕ) → Sound bytes ↔ (sheet.openOf bytes ≡ Nodes (totalOf bytes))

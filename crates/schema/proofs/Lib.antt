@@ -1,4 +1,5 @@
 -- What the proofs of several functions use, and what the crates above cite.
+pub mod LevelsLaws
 pub mod RowsLaws
 pub mod PlacingLaws
 pub mod ResolvingLaws

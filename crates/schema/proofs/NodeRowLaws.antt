@@ -1,7 +1,7 @@
 -- The row of each node of a tree that keeps the rules: where it stands, and that its node keeps them.
 use Prim.Native.Nat.{ℕ, zero, suc, _+_, _*_, _-_, _<_}
 use mathlib.Core.Path.{_≡_, sym, ap, _∙_, subst}
-use mathlib.Core.List.{List, [], _++_, append-assoc}
+use mathlib.Core.List.{List, [], _∷_, _++_, append-assoc}
 use native.Mathlib.Decide.{decLt}
 use native.Mathlib.Omega.{arith}
 use lib.ListN.{length, getD, drop, length-append, List·getD-append}
@@ -21,11 +21,12 @@ pub record BeginsWith (s : SlotBytes) (numbers : List ℕ) : Type 0 where
   pub at : ℕ
   pub up : ℕ
   pub above : SlotBytes
+  pub path : List SlotBytes
   pub fields : Fields
   pub rest : List ℕ
   pub keeps : KeepsAt place s fields
   pub alike : underMap place ≡ isMapParent «parent»
-  pub begins : numbers ≡ row at up «parent» above s fields ++ rest
+  pub begins : numbers ≡ row at up «parent» above path s fields ++ rest
 
 -- what follows n rows, and k more
 drop-rows : (n k : ℕ) (xs ys : List ℕ) → length xs ≡ rowWidth * n → drop (rowWidth * (n + k)) (xs ++ ys) ≡ drop (rowWidth * k) ys
@@ -51,32 +52,33 @@ in-run first others xs ys rest k e l f g = cases (decLt k (length first))
 mutual
   unfolding Keeps rowsFrom listing size
 
-  -- the row of node k stands at 9k
-  pub row-at : (t : Tree) (p : Place) (q : Parent) (at up : ℕ) (above : SlotBytes) (rest : List ℕ) → Keeps p t → underMap p ≡ isMapParent q → (k : ℕ) → k < size t → BeginsWith (getD (listing t) k []) (drop (rowWidth * k) (rowsFrom at up q above t ++ rest))
-  row-at (node s fs) p q at up above rest h e zero l =
+  -- the row of node k stands at 11k
+  pub row-at : (t : Tree) (p : Place) (q : Parent) (at up : ℕ) (above : SlotBytes) (path : List SlotBytes) (rest : List ℕ) → Keeps p t → underMap p ≡ isMapParent q → (k : ℕ) → k < size t → BeginsWith (getD (listing t) k []) (drop (rowWidth * k) (rowsFrom at up q above path t ++ rest))
+  row-at (node s fs) p q at up above path rest h e zero l =
       record {
         place = p;
         «parent» = q;
         at = at;
         up = up;
         above = above;
+        path = path;
         fields = fs;
-        rest = runRowsFrom (suc at) at (parentOf q above s fs) s fs ++ rest;
+        rest = runRowsFrom (suc at) at (parentOf q above s fs) s (s ∷ path) fs ++ rest;
         keeps = h .0;
         alike = e;
-        begins = append-assoc (row at up q above s fs) (runRowsFrom (suc at) at (parentOf q above s fs) s fs) rest;
+        begins = append-assoc (row at up q above path s fs) (runRowsFrom (suc at) at (parentOf q above s fs) s (s ∷ path) fs) rest;
       }
-  row-at (node s fs) p q at up above rest h e (suc k) l =
-      let own = row at up q above s fs in
-      let run = runRowsFrom (suc at) at (parentOf q above s fs) s fs in
+  row-at (node s fs) p q at up above path rest h e (suc k) l =
+      let own = row at up q above path s fs in
+      let run = runRowsFrom (suc at) at (parentOf q above s fs) s (s ∷ path) fs in
       let next : suc k ≡ 1 + k = omega arith in
       subst (BeginsWith (getD (listings fs) k []))
-      (sym (ap (drop (rowWidth * suc k)) (append-assoc own run rest) ∙ rw next (drop-rows 1 k own (run ++ rest) (length-row at up q above s fs))))
-      (row-in fs (placeBelow p s) (parentOf q above s fs) (suc at) at s rest (h .1) (map-below p q above s fs e) k (omega arith))
+      (sym (ap (drop (rowWidth * suc k)) (append-assoc own run rest) ∙ rw next (drop-rows 1 k own (run ++ rest) (length-row at up q above path s fs))))
+      (row-in fs (placeBelow p s) (parentOf q above s fs) (suc at) at s (s ∷ path) rest (h .1) (map-below p q above s fs e) k (omega arith))
 
-  row-in : (fs : Fields) (p : Place) (q : Parent) (at up : ℕ) (above : SlotBytes) (rest : List ℕ) → KeepsAll p fs → underMap p ≡ isMapParent q → (k : ℕ) → k < length (listings fs) → BeginsWith (getD (listings fs) k []) (drop (rowWidth * k) (runRowsFrom at up q above fs ++ rest))
-  row-in empty p q at up above rest h e k l = absurd (omega arith)
-  row-in (field t fs) p q at up above rest h e k l =
-      in-run (listing t) (listings fs) (rowsFrom at up q above t) (runRowsFrom (at + size t) up (afterFirst q) above fs) rest k (length-rowsFrom t at up q above) l
-      (λ b. row-at t p q at up above (runRowsFrom (at + size t) up (afterFirst q) above fs ++ rest) (h .0) e k b)
-      (λ j b. row-in fs p (afterFirst q) (at + size t) up above rest (h .1) (e ∙ sym (map-after q)) j b)
+  row-in : (fs : Fields) (p : Place) (q : Parent) (at up : ℕ) (above : SlotBytes) (path : List SlotBytes) (rest : List ℕ) → KeepsAll p fs → underMap p ≡ isMapParent q → (k : ℕ) → k < length (listings fs) → BeginsWith (getD (listings fs) k []) (drop (rowWidth * k) (runRowsFrom at up q above path fs ++ rest))
+  row-in empty p q at up above path rest h e k l = absurd (omega arith)
+  row-in (field t fs) p q at up above path rest h e k l =
+      in-run (listing t) (listings fs) (rowsFrom at up q above path t) (runRowsFrom (at + size t) up (afterFirst q) above path fs) rest k (length-rowsFrom t at up q above path) l
+      (λ b. row-at t p q at up above path (runRowsFrom (at + size t) up (afterFirst q) above path fs ++ rest) (h .0) e k b)
+      (λ j b. row-in fs p (afterFirst q) (at + size t) up above path rest (h .1) (e ∙ sym (map-after q)) j b)

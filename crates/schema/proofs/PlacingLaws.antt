@@ -1,9 +1,9 @@
 -- Numbers placed in a list one stretch after the other.
-use Prim.Native.Nat.{ℕ, _+_, _≤_}
+use Prim.Native.Nat.{ℕ, suc, _+_, _≤_}
 use mathlib.Core.Path.{_≡_, sym, ap, _∙_}
 use mathlib.Core.List.{List, [], _∷_, _++_, append-assoc, append-nil}
 use native.Mathlib.Omega.{arith}
-use native.Mathlib.Nat.{add-assoc, add-zero}
+use native.Mathlib.Nat.{add-assoc, add-zero, add-suc}
 use native.Mathlib.Numerals.{add-one, add-two, add-three, add-four, add-five, add-six, add-seven, add-eight}
 use lib.ListN.{length, take, drop, set, length-append, take-append-drop}
 use lib.Seq.{length-take-le, take-append-le, take-at, drop-at, drop-drop, take-take, sets, sets-eq}
@@ -51,10 +51,16 @@ placed-before l i us vs h =
     ∙ sym (append-assoc (take i l ++ us) vs (drop (i + length (us ++ vs)) l))
     ∙ ap (λ (x : List ℕ). x ++ drop (i + length (us ++ vs)) l) (append-assoc (take i l) us vs)
 
--- nine numbers stored one after the other
-pub nine-placed : (l : List ℕ) (i a b c d e f g h j : ℕ) → i + 9 ≤ length l
-    → set (set (set (set (set (set (set (set (set l i a) (i + 1) b) (i + 2) c) (i + 3) d) (i + 4) e) (i + 5) f) (i + 6) g) (i + 7) h) (i + 8) j
-    ≡ placed l i (a ∷ b ∷ c ∷ d ∷ e ∷ f ∷ g ∷ h ∷ j ∷ [])
-nine-placed l i a b c d e f g h j k =
-    rw (add-one, add-two, add-three, add-four, add-five, add-six, add-seven, add-eight)
-    (sets-placed (a ∷ b ∷ c ∷ d ∷ e ∷ f ∷ g ∷ h ∷ j ∷ []) l i k)
+add-nine : (n : ℕ) → n + 9 ≡ suc (suc (suc (suc (suc (suc (suc (suc (suc n))))))))
+add-nine n = add-suc n 8 ∙ ap suc (add-eight n)
+
+add-ten : (n : ℕ) → n + 10 ≡ suc (suc (suc (suc (suc (suc (suc (suc (suc (suc n)))))))))
+add-ten n = add-suc n 9 ∙ ap suc (add-nine n)
+
+-- eleven numbers stored one after the other
+pub eleven-placed : (l : List ℕ) (i a b c d e f g h j m n : ℕ) → i + 11 ≤ length l
+    → set (set (set (set (set (set (set (set (set (set (set l i a) (i + 1) b) (i + 2) c) (i + 3) d) (i + 4) e) (i + 5) f) (i + 6) g) (i + 7) h) (i + 8) j) (i + 9) m) (i + 10) n
+    ≡ placed l i (a ∷ b ∷ c ∷ d ∷ e ∷ f ∷ g ∷ h ∷ j ∷ m ∷ n ∷ [])
+eleven-placed l i a b c d e f g h j m n k =
+    rw (add-one, add-two, add-three, add-four, add-five, add-six, add-seven, add-eight, add-nine, add-ten)
+    (sets-placed (a ∷ b ∷ c ∷ d ∷ e ∷ f ∷ g ∷ h ∷ j ∷ m ∷ n ∷ []) l i k)

@@ -25,7 +25,7 @@ use Rattle.tree.proofs.StandingLaws.{treeAt-zero}
 use Rattle.schema.proofs.RowsLaws.{length-rowsFrom}
 
 -- what stands above the root does not matter
-other-above : (t : Tree) (a b : SlotBytes) → rowsFrom 0 0 Parent.Other a t ≡ rowsFrom 0 0 Parent.Other b t
+other-above : (t : Tree) (a b : SlotBytes) → rowsFrom 0 0 Parent.Other a [] t ≡ rowsFrom 0 0 Parent.Other b [] t
 unfolding rowsFrom row parentOf role
 other-above (node s fs) a b = refl
 
@@ -48,16 +48,16 @@ module _ (b : List ℕ) where
     resolve-rows lent h = rw (judged-lawful b n e .0, le-ltb (length lent) (rowWidth * totalOf b) (omega (arith, judged-total b n e))) (ap Resolved.Rows (sym (judged-total b n e)))
 
     -- the run of the one tree
-    root-rows : runRowsFrom 0 0 Parent.Other (slotAt b 0) (runAt (slots b) 0 1) ≡ rowsFrom 0 0 Parent.Other (slotAt b 0) (treeAt (slots b) 0)
+    root-rows : runRowsFrom 0 0 Parent.Other (slotAt b 0) [] (runAt (slots b) 0 1) ≡ rowsFrom 0 0 Parent.Other (slotAt b 0) [] (treeAt (slots b) 0)
     unfolding runRowsFrom
-    root-rows = rw (root-alone b (judged-claimed b n e) (judged-some b n e)) (append-nil (rowsFrom 0 0 Parent.Other (slotAt b 0) (treeAt (slots b) 0)))
+    root-rows = rw (root-alone b (judged-claimed b n e) (judged-some b n e)) (append-nil (rowsFrom 0 0 Parent.Other (slotAt b 0) [] (treeAt (slots b) 0)))
 
-    pub written-rows : (lent r : List ℕ) → rowWidth * n ≤ length lent → r ≡ placed lent (rowWidth * 0) (runRowsFrom 0 0 Parent.Other (slotAt b 0) (runAt (slots b) 0 1)) → r ≡ written (outcome b (length lent)) b lent
+    pub written-rows : (lent r : List ℕ) → rowWidth * n ≤ length lent → r ≡ placed lent (rowWidth * 0) (runRowsFrom 0 0 Parent.Other (slotAt b 0) [] (runAt (slots b) 0 1)) → r ≡ written (outcome b (length lent)) b lent
     unfolding written placed rows
     written-rows lent r h q =
         q
         ∙ ap (placed lent (rowWidth * 0)) root-rows
-        ∙ ap (λ (t : Tree). placed lent (rowWidth * 0) (rowsFrom 0 0 Parent.Other (slotAt b 0) t)) (treeAt-zero (slots b))
+        ∙ ap (λ (t : Tree). placed lent (rowWidth * 0) (rowsFrom 0 0 Parent.Other (slotAt b 0) [] t)) (treeAt-zero (slots b))
         ∙ ap (placed lent (rowWidth * 0)) (other-above (treeOf (slots b)) (slotAt b 0) [])
-        ∙ ap (λ (k : ℕ). rows (treeOf (slots b)) ++ drop k lent) (zero-add _ ∙ length-rowsFrom (treeOf (slots b)) 0 0 Parent.Other [] ∙ ap (λ (k : ℕ). rowWidth * k) (tree-size b n e))
+        ∙ ap (λ (k : ℕ). rows (treeOf (slots b)) ++ drop k lent) (zero-add _ ∙ length-rowsFrom (treeOf (slots b)) 0 0 Parent.Other [] [] ∙ ap (λ (k : ℕ). rowWidth * k) (tree-size b n e))
         ∙ sym (rw (resolve-rows lent h))

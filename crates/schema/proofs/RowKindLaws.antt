@@ -33,22 +33,22 @@ kindsIn-more (suc m) n zs =
 mutual
   unfolding rowsFrom row size listing judgedKinds kindsIn
 
-  tree-kinds : (t : Tree) (p : Place) (q : Parent) (at up : ℕ) (above : SlotBytes) (rest : List ℕ) → underMap p ≡ isMapParent q → kindsIn (rowsFrom at up q above t ++ rest) (size t) ≡ judgedKinds p t
-  tree-kinds (node s fs) p q at up above rest e =
-      ap₂ _∷_ (ap (λ (b : Bool). kind b s) (sym e)) (run-kinds fs (placeBelow p s) (parentOf q above s fs) (suc at) at s rest (map-below p q above s fs e))
+  tree-kinds : (t : Tree) (p : Place) (q : Parent) (at up : ℕ) (above : SlotBytes) (path : List SlotBytes) (rest : List ℕ) → underMap p ≡ isMapParent q → kindsIn (rowsFrom at up q above path t ++ rest) (size t) ≡ judgedKinds p t
+  tree-kinds (node s fs) p q at up above path rest e =
+      ap₂ _∷_ (ap (λ (b : Bool). kind b s) (sym e)) (run-kinds fs (placeBelow p s) (parentOf q above s fs) (suc at) at s (s ∷ path) rest (map-below p q above s fs e))
 
-  run-kinds : (fs : Fields) (p : Place) (q : Parent) (at up : ℕ) (above : SlotBytes) (rest : List ℕ) → underMap p ≡ isMapParent q → kindsIn (runRowsFrom at up q above fs ++ rest) (length (listings fs)) ≡ runKinds p fs
-  run-kinds empty p q at up above rest e = refl
-  run-kinds (field t fs) p q at up above rest e =
-      let first = rowsFrom at up q above t in
-      let later = runRowsFrom (at + size t) up (afterFirst q) above fs ++ rest in
-      ap₂ kindsIn (append-assoc first (runRowsFrom (at + size t) up (afterFirst q) above fs) rest) (length-append (listing t) (listings fs))
+  run-kinds : (fs : Fields) (p : Place) (q : Parent) (at up : ℕ) (above : SlotBytes) (path : List SlotBytes) (rest : List ℕ) → underMap p ≡ isMapParent q → kindsIn (runRowsFrom at up q above path fs ++ rest) (length (listings fs)) ≡ runKinds p fs
+  run-kinds empty p q at up above path rest e = refl
+  run-kinds (field t fs) p q at up above path rest e =
+      let first = rowsFrom at up q above path t in
+      let later = runRowsFrom (at + size t) up (afterFirst q) above path fs ++ rest in
+      ap₂ kindsIn (append-assoc first (runRowsFrom (at + size t) up (afterFirst q) above path fs) rest) (length-append (listing t) (listings fs))
       ∙ kindsIn-more (size t) (length (listings fs)) (first ++ later)
-      ∙ ap₂ _++_ (tree-kinds t p q at up above later e)
-      (ap (λ (l : List ℕ). kindsIn l (length (listings fs))) (drop-at first later (rowWidth * size t) (length-rowsFrom t at up q above))
-      ∙ run-kinds fs p (afterFirst q) (at + size t) up above rest (e ∙ sym (map-after q)))
+      ∙ ap₂ _++_ (tree-kinds t p q at up above path later e)
+      (ap (λ (l : List ℕ). kindsIn l (length (listings fs))) (drop-at first later (rowWidth * size t) (length-rowsFrom t at up q above path))
+      ∙ run-kinds fs p (afterFirst q) (at + size t) up above path rest (e ∙ sym (map-after q)))
 
 -- the kinds in a tree's rows are those that the rules take its nodes for
 pub rows-kinds : (t : Tree) → kindsIn (rows t) (size t) ≡ judgedKinds Root t
 unfolding rows
-rows-kinds t = ap (λ (l : List ℕ). kindsIn l (size t)) (sym (append-nil (rows t))) ∙ tree-kinds t Root parent.Other 0 0 [] [] refl
+rows-kinds t = ap (λ (l : List ℕ). kindsIn l (size t)) (sym (append-nil (rows t))) ∙ tree-kinds t Root parent.Other 0 0 [] [] [] refl

@@ -19,62 +19,65 @@ use Rattle.tree.specs.Tree.{SlotBytes, Tree, Fields, count, size}
 use Rattle.tree.specs.Reading.{trees}
 use Rattle.schema.specs.Rows.{isMapParent, role, parentBy, parentOf, afterFirst, row, rowsFrom, runRowsFrom, rowWidth}
 use Rattle.tree.specs.Steps.{Claimed, Visited, treeAt, runAt, fieldsAt, sizes}
-use Rattle.schema.specs.Steps.{placed}
+use Rattle.schema.specs.Levels.{levelsOf}
+use Rattle.schema.specs.Steps.{placed, levelsBelow}
+use Rattle.schema.specs.declared.levels.Levels.{Levels}
 use Rattle.schema.specs.declared.roles.Parent.{Parent}
 use Rattle.tree.proofs.StandingLaws.{runAt-zero, size-node}
 use Rattle.tree.proofs.VisitLaws.{treeAt-slot, run-at, run-below, next-after, next-claimed, run-split, run-end, run-end-empty, tree-within}
+use Rattle.schema.proofs.LevelsLaws.{levels-step}
 use Rattle.schema.proofs.PlacingLaws.{placed-empty, placed-after, placed-before}
 use Rattle.schema.proofs.RowsLaws.{length-row, length-rowsFrom, length-runRowsFrom}
 
-module _ (b l : List ℕ) (at n up : ℕ) (p : Parent) (above : SlotBytes) where
-  pub run-rows-empty : n ≡ 0 → l ≡ placed l (rowWidth * at) (runRowsFrom at up p above (runAt (slots b) at n))
+module _ (b l : List ℕ) (at n up : ℕ) (p : Parent) (above : SlotBytes) (path : List SlotBytes) where
+  pub run-rows-empty : n ≡ 0 → l ≡ placed l (rowWidth * at) (runRowsFrom at up p above path (runAt (slots b) at n))
   unfolding runRowsFrom
   run-rows-empty e = sym (rw (e, runAt-zero) (placed-empty l (rowWidth * at)))
 
   module _ (h : Claimed b) (k : n ≡ 0 → ⊥) (c : n ≤ count (trees (drop at (slots b)))) (next : ℕ) (e : next ≡ at + size (treeAt (slots b) at)) where
-    module _ (f : rowWidth * totalOf b ≤ length l) (below : at < totalOf b) (m : List ℕ) (w : m ≡ placed l (rowWidth * at) (rowsFrom at up p above (treeAt (slots b) at))) where
+    module _ (f : rowWidth * totalOf b ≤ length l) (below : at < totalOf b) (m : List ℕ) (w : m ≡ placed l (rowWidth * at) (rowsFrom at up p above path (treeAt (slots b) at))) where
       first : List ℕ
-      first = rowsFrom at up p above (treeAt (slots b) at)
+      first = rowsFrom at up p above path (treeAt (slots b) at)
 
       first-fits : rowWidth * at + length first ≤ length l
       unfolding first
-      first-fits = omega (arith, length-rowsFrom (treeAt (slots b) at) at up p above, tree-within b at h below)
+      first-fits = omega (arith, length-rowsFrom (treeAt (slots b) at) at up p above path, tree-within b at h below)
 
       next-base : rowWidth * next ≡ rowWidth * at + length first
       unfolding first
-      next-base = omega (arith, e, length-rowsFrom (treeAt (slots b) at) at up p above)
+      next-base = omega (arith, e, length-rowsFrom (treeAt (slots b) at) at up p above path)
 
-      pub run-rows : (q : Parent) (r : List ℕ) → q ≡ afterFirst p → r ≡ placed m (rowWidth * next) (runRowsFrom next up q above (runAt (slots b) next (n - 1))) → r ≡ placed l (rowWidth * at) (runRowsFrom at up p above (runAt (slots b) at n))
+      pub run-rows : (q : Parent) (r : List ℕ) → q ≡ afterFirst p → r ≡ placed m (rowWidth * next) (runRowsFrom next up q above path (runAt (slots b) next (n - 1))) → r ≡ placed l (rowWidth * at) (runRowsFrom at up p above path (runAt (slots b) at n))
       unfolding runRowsFrom first
       run-rows q r u v =
           v
-          ∙ ap (λ (i : ℕ). placed m i (runRowsFrom next up q above (runAt (slots b) next (n - 1)))) next-base
-          ∙ ap (λ (x : List ℕ). placed x (rowWidth * at + length first) (runRowsFrom next up q above (runAt (slots b) next (n - 1)))) w
-          ∙ placed-after l (rowWidth * at) first (runRowsFrom next up q above (runAt (slots b) next (n - 1))) first-fits
-          ∙ ap (λ (x : Parent). placed l (rowWidth * at) (first ++ runRowsFrom next up x above (runAt (slots b) next (n - 1)))) u
-          ∙ ap (λ (i : ℕ). placed l (rowWidth * at) (first ++ runRowsFrom i up (afterFirst p) above (runAt (slots b) next (n - 1)))) e
-          ∙ ap (λ (fs : Fields). placed l (rowWidth * at) (runRowsFrom at up p above fs)) (sym (run-split b at n h k c next e))
+          ∙ ap (λ (i : ℕ). placed m i (runRowsFrom next up q above path (runAt (slots b) next (n - 1)))) next-base
+          ∙ ap (λ (x : List ℕ). placed x (rowWidth * at + length first) (runRowsFrom next up q above path (runAt (slots b) next (n - 1)))) w
+          ∙ placed-after l (rowWidth * at) first (runRowsFrom next up q above path (runAt (slots b) next (n - 1))) first-fits
+          ∙ ap (λ (x : Parent). placed l (rowWidth * at) (first ++ runRowsFrom next up x above path (runAt (slots b) next (n - 1)))) u
+          ∙ ap (λ (i : ℕ). placed l (rowWidth * at) (first ++ runRowsFrom i up (afterFirst p) above path (runAt (slots b) next (n - 1)))) e
+          ∙ ap (λ (fs : Fields). placed l (rowWidth * at) (runRowsFrom at up p above path fs)) (sym (run-split b at n h k c next e))
 
--- the rows of a run written up to one of its fields: with those of the others they are the run's
-pub record Behind (b lent : List ℕ) (start n up : ℕ) (p : Parent) (above : SlotBytes) (rows : List ℕ) (at left : ℕ) (q : Parent) : Type 0 where
+-- the rows of a run written up to one of its fields: with those of the others they are the run's, whatever path has the levels that they stand below
+pub record Behind (b lent : List ℕ) (start n up : ℕ) (p : Parent) (above : SlotBytes) (l : Levels) (rows : List ℕ) (at left : ℕ) (q : Parent) : Type 0 where
   pub reached : start ≤ at
   pub claimed : left ≤ count (trees (drop at (slots b)))
   pub long : length rows ≡ length lent
   pub ended : start + sizes (runAt (slots b) start n) ≡ at + sizes (runAt (slots b) at left)
-  pub found : placed lent (rowWidth * start) (runRowsFrom start up p above (runAt (slots b) start n)) ≡ placed rows (rowWidth * at) (runRowsFrom at up q above (runAt (slots b) at left))
+  pub found : (path : List SlotBytes) → l ≡ levelsOf path → placed lent (rowWidth * start) (runRowsFrom start up p above path (runAt (slots b) start n)) ≡ placed rows (rowWidth * at) (runRowsFrom at up q above path (runAt (slots b) at left))
 
-pub behind-start : (b lent : List ℕ) (start n up : ℕ) (p : Parent) (above : SlotBytes) → n ≤ count (trees (drop start (slots b))) → Behind b lent start n up p above lent start n p
-behind-start b lent start n up p above c =
-    record { reached = le-refl start; claimed = c; long = refl; ended = refl; found = refl }
+pub behind-start : (b lent : List ℕ) (start n up : ℕ) (p : Parent) (above : SlotBytes) (l : Levels) → n ≤ count (trees (drop start (slots b))) → Behind b lent start n up p above l lent start n p
+behind-start b lent start n up p above l c =
+    record { reached = le-refl start; claimed = c; long = refl; ended = refl; found = λ path h. refl }
 
-module _ (b lent : List ℕ) (start n up : ℕ) (p : Parent) (above : SlotBytes) (rows : List ℕ) (at left : ℕ) (q : Parent) (r : Behind b lent start n up p above rows at left q) where
-  pub behind-end : left ≡ 0 → (at ≡ start + sizes (runAt (slots b) start n)) × (rows ≡ placed lent (rowWidth * start) (runRowsFrom start up p above (runAt (slots b) start n)))
+module _ (b lent : List ℕ) (start n up : ℕ) (p : Parent) (above : SlotBytes) (l : Levels) (rows : List ℕ) (at left : ℕ) (q : Parent) (r : Behind b lent start n up p above l rows at left q) where
+  pub behind-end : left ≡ 0 → (at ≡ start + sizes (runAt (slots b) start n)) × ((path : List SlotBytes) → l ≡ levelsOf path → rows ≡ placed lent (rowWidth * start) (runRowsFrom start up p above path (runAt (slots b) start n)))
   behind-end e = (
     run-end-empty b at left e ∙ sym (r .ended),
-    run-rows-empty b rows at left up q above e ∙ sym (r .found),
+    (λ path h. run-rows-empty b rows at left up q above path e ∙ sym (r .found path h)),
   )
 
-  pub behind-next : Claimed b → rowWidth * totalOf b ≤ length lent → (left ≡ 0 → ⊥) → (next : ℕ) (m : List ℕ) (o : Parent) → next ≡ at + size (treeAt (slots b) at) → m ≡ placed rows (rowWidth * at) (rowsFrom at up q above (treeAt (slots b) at)) → length m ≡ length rows → o ≡ afterFirst q → Behind b lent start n up p above m next (left - 1) o
+  pub behind-next : Claimed b → rowWidth * totalOf b ≤ length lent → (left ≡ 0 → ⊥) → (next : ℕ) (m : List ℕ) (o : Parent) → next ≡ at + size (treeAt (slots b) at) → ((path : List SlotBytes) → l ≡ levelsOf path → m ≡ placed rows (rowWidth * at) (rowsFrom at up q above path (treeAt (slots b) at))) → length m ≡ length rows → o ≡ afterFirst q → Behind b lent start n up p above l m next (left - 1) o
   behind-next h f k next m o e w long u =
       let below = run-below b at left h k (r .claimed) in
       let room : rowWidth * totalOf b ≤ length rows = omega (arith, r .long) in
@@ -83,7 +86,7 @@ module _ (b lent : List ℕ) (start n up : ℕ) (p : Parent) (above : SlotBytes)
         claimed = next-claimed b at left h k (r .claimed) next e;
         long = long ∙ r .long;
         ended = r .ended ∙ run-end b at left h k (r .claimed) next e;
-        found = r .found ∙ sym (run-rows b rows at left up q above h k (r .claimed) next e room below m w o (placed m (rowWidth * next) (runRowsFrom next up o above (runAt (slots b) next (left - 1)))) u refl);
+        found = λ path g. r .found path g ∙ sym (run-rows b rows at left up q above path h k (r .claimed) next e room below m (w path g) o (placed m (rowWidth * next) (runRowsFrom next up o above path (runAt (slots b) next (left - 1)))) u refl);
       }
 
 module _ (b l : List ℕ) (at up : ℕ) (s : Numbers) (p : Parent) (above : SlotBytes) (v : Visited b at s) where
@@ -92,16 +95,22 @@ module _ (b l : List ℕ) (at up : ℕ) (s : Numbers) (p : Parent) (above : Slot
   unfolding parentOf kind annotated
   parent-is n u k own q a w d o e = e ∙ rw (d, a, w, o, v .numbers)
 
-  -- a node's row
-  pub row-is : (n : Annotated) (u : Bool) (k : Kind) (own next bytes : ℕ) → n ≡ annotatedBy s → u ≡ isMapParent p → k ≡ kindOf n u → own ≡ role p above (slotAt b at) (fieldsAt b at) → next ≡ at + size (treeAt (slots b) at) → bytes ≡ natural (n .«type_length»)
-      → s .physical ∷ bytes ∷ s .repetition ∷ k .kind ∷ k .p1 ∷ k .p2 ∷ up ∷ next ∷ own ∷ [] ≡ row at up p above (slotAt b at) (fieldsAt b at)
-  unfolding row kind annotated numbersOf
-  row-is n u k own next bytes a w d o e t =
-      rw (t, d, a, w, o, v .numbers, e, treeAt-slot b at (v .claimed) (v .below))
+  module _ (path : List SlotBytes) (above-levels own-levels : Levels) (g : above-levels ≡ levelsOf path) (ls : own-levels ≡ levelsBelow above-levels (s .repetition)) where
+    -- a node's levels
+    pub levels-are : own-levels ≡ levelsOf (slotAt b at ∷ path)
+    unfolding numbersOf
+    levels-are = rw (ls, g, v .numbers) (sym (levels-step (slotAt b at) path))
 
-  module _ (f : rowWidth * totalOf b ≤ length l) (q : Parent) (w : q ≡ parentOf p above (slotAt b at) (fieldsAt b at)) (m : List ℕ) (e : m ≡ placed l (rowWidth * (at + 1)) (runRowsFrom (at + 1) at q (slotAt b at) (runAt (slots b) (at + 1) (s .children)))) where
+    -- a node's row
+    pub row-is : (n : Annotated) (u : Bool) (k : Kind) (own next bytes : ℕ) → n ≡ annotatedBy s → u ≡ isMapParent p → k ≡ kindOf n u → own ≡ role p above (slotAt b at) (fieldsAt b at) → next ≡ at + size (treeAt (slots b) at) → bytes ≡ natural (n .«type_length»)
+        → s .physical ∷ bytes ∷ s .repetition ∷ k .kind ∷ k .p1 ∷ k .p2 ∷ up ∷ next ∷ own ∷ own-levels .definition ∷ own-levels .repetition ∷ [] ≡ row at up p above path (slotAt b at) (fieldsAt b at)
+    unfolding row kind annotated numbersOf
+    row-is n u k own next bytes a w d o e t =
+        rw (t, d, a, w, o, levels-are, v .numbers, e, treeAt-slot b at (v .claimed) (v .below))
+
+  module _ (path : List SlotBytes) (f : rowWidth * totalOf b ≤ length l) (q : Parent) (w : q ≡ parentOf p above (slotAt b at) (fieldsAt b at)) (m : List ℕ) (e : m ≡ placed l (rowWidth * (at + 1)) (runRowsFrom (at + 1) at q (slotAt b at) (slotAt b at ∷ path) (runAt (slots b) (at + 1) (s .children)))) where
     rest : List ℕ
-    rest = runRowsFrom (suc at) at (parentOf p above (slotAt b at) (fieldsAt b at)) (slotAt b at) (fieldsAt b at)
+    rest = runRowsFrom (suc at) at (parentOf p above (slotAt b at) (fieldsAt b at)) (slotAt b at) (slotAt b at ∷ path) (fieldsAt b at)
 
     rest-is : m ≡ placed l (rowWidth * (at + 1)) rest
     unfolding rest
@@ -113,18 +122,18 @@ module _ (b l : List ℕ) (at up : ℕ) (s : Numbers) (p : Parent) (above : Slot
 
     rest-fits : rowWidth * (at + 1) + length rest ≤ length l
     unfolding rest sizes
-    rest-fits = omega (arith, length-runRowsFrom (fieldsAt b at) (suc at) at (parentOf p above (slotAt b at) (fieldsAt b at)) (slotAt b at), end-within)
+    rest-fits = omega (arith, length-runRowsFrom (fieldsAt b at) (suc at) at (parentOf p above (slotAt b at) (fieldsAt b at)) (slotAt b at) (slotAt b at ∷ path), end-within)
 
-    pub tree-rows : (r ns : List ℕ) → ns ≡ row at up p above (slotAt b at) (fieldsAt b at) → r ≡ placed m (rowWidth * at) ns → r ≡ placed l (rowWidth * at) (rowsFrom at up p above (treeAt (slots b) at))
+    pub tree-rows : (r ns : List ℕ) → ns ≡ row at up p above path (slotAt b at) (fieldsAt b at) → r ≡ placed m (rowWidth * at) ns → r ≡ placed l (rowWidth * at) (rowsFrom at up p above path (treeAt (slots b) at))
     unfolding rowsFrom rest
     tree-rows r ns x y =
-        let own = row at up p above (slotAt b at) (fieldsAt b at) in
-        let base : rowWidth * (at + 1) ≡ rowWidth * at + length own = omega (arith, length-row at up p above (slotAt b at) (fieldsAt b at)) in
+        let own = row at up p above path (slotAt b at) (fieldsAt b at) in
+        let base : rowWidth * (at + 1) ≡ rowWidth * at + length own = omega (arith, length-row at up p above path (slotAt b at) (fieldsAt b at)) in
         y
         ∙ ap (placed m (rowWidth * at)) x
         ∙ ap (λ (z : List ℕ). placed z (rowWidth * at) own) (rest-is ∙ ap (λ (i : ℕ). placed l i rest) base)
         ∙ placed-before l (rowWidth * at) own rest (omega (arith, rest-fits, base))
-        ∙ ap (λ (t : Tree). placed l (rowWidth * at) (rowsFrom at up p above t)) (sym (treeAt-slot b at (v .claimed) (v .below)))
+        ∙ ap (λ (t : Tree). placed l (rowWidth * at) (rowsFrom at up p above path t)) (sym (treeAt-slot b at (v .claimed) (v .below)))
 
 -- room for the rows, in what is as long as it was
 pub long-enough : (total m l : ℕ) → rowWidth * total ≤ l → m ≡ l → rowWidth * total ≤ m

@@ -1,4 +1,5 @@
 -- What a sheet is resolved into: rows, and the rewritten sheet.
+pub mod Levels
 pub mod Rows
 pub mod Outcome
 pub mod Rewriting

@@ -1,4 +1,4 @@
--- The rows of a tree: nine numbers for each node, in listing order.
+-- The rows of a tree: eleven numbers for each node, in listing order.
 use Prim.Native.Nat.{ℕ, zero, suc, _+_}
 use mathlib.Core.Bool.{Bool, true, false, cond}
 use mathlib.Core.List.{List, [], _∷_, _++_}
@@ -12,6 +12,7 @@ use Rattle.sheet.specs.Slot.{physical, repetition, typeLength}
 use Rattle.tree.specs.Annotated.{kind}
 use Rattle.tree.specs.Tree.{SlotBytes, Tree, Fields, node, empty, field, size}
 use Rattle.tree.specs.Rules.{isGroup, isElementGroup}
+use Rattle.schema.specs.Levels.{levelsOf}
 use Rattle.schema.specs.declared.roles.Parent.{Parent}
 use Rattle.schema.specs.declared.roles.Parent.the-variants as parent
 
@@ -84,9 +85,9 @@ afterFirst parent.Map = parent.Map
 afterFirst parent.KeyValue = parent.KeyValueRest
 afterFirst parent.KeyValueRest = parent.KeyValueRest
 
--- one row: physical, type length, repetition, kind, p1, p2, parent, end, role
-unfoldable pub row : ℕ → ℕ → Parent → SlotBytes → SlotBytes → Fields → List ℕ
-row at up p above s fs =
+-- one row: physical, type length, repetition, kind, p1, p2, parent, end, role and, of document 02's R-8, the two levels
+unfoldable pub row : ℕ → ℕ → Parent → SlotBytes → List SlotBytes → SlotBytes → Fields → List ℕ
+row at up p above path s fs =
     physical s
     ∷ natural (typeLength s)
     ∷ repetition s
@@ -96,28 +97,30 @@ row at up p above s fs =
     ∷ up
     ∷ (at + size (node s fs))
     ∷ role p above s fs
+    ∷ levelsOf (s ∷ path) .definition
+    ∷ levelsOf (s ∷ path) .repetition
     ∷ []
 
 -- what a node is to its fields
 unfoldable pub parentOf : Parent → SlotBytes → SlotBytes → Fields → Parent
 parentOf p above s fs = parentBy (kind (isMapParent p) s .kind) (role p above s fs)
 
--- the rows of a tree whose root has the number `at`, under the node `above` of number `up`, which is p to it
+-- the rows of a tree whose root has the number `at`, under the node `above` of number `up`, which is p to it; the path leads from the root to `above`
 unfoldable mutual
-  pub rowsFrom : ℕ → ℕ → Parent → SlotBytes → Tree → List ℕ
-  rowsFrom at up p above (node s fs) = row at up p above s fs ++ runRowsFrom (suc at) at (parentOf p above s fs) s fs
+  pub rowsFrom : ℕ → ℕ → Parent → SlotBytes → List SlotBytes → Tree → List ℕ
+  rowsFrom at up p above path (node s fs) = row at up p above path s fs ++ runRowsFrom (suc at) at (parentOf p above s fs) s (s ∷ path) fs
 
-  pub runRowsFrom : ℕ → ℕ → Parent → SlotBytes → Fields → List ℕ
-  runRowsFrom at up p above empty = []
-  runRowsFrom at up p above (field t fs) = rowsFrom at up p above t ++ runRowsFrom (at + size t) up (afterFirst p) above fs
+  pub runRowsFrom : ℕ → ℕ → Parent → SlotBytes → List SlotBytes → Fields → List ℕ
+  runRowsFrom at up p above path empty = []
+  runRowsFrom at up p above path (field t fs) = rowsFrom at up p above path t ++ runRowsFrom (at + size t) up (afterFirst p) above path fs
 
--- a tree's rows, its nodes numbered from 0: the root's parent is 0
+-- a tree's rows, its nodes numbered from 0: the root's parent is 0, and no path leads further up
 unfoldable pub rows : Tree → List ℕ
-rows t = rowsFrom 0 0 parent.Other [] t
+rows t = rowsFrom 0 0 parent.Other [] [] t
 
 -- how many numbers a row has
 abbrev pub rowWidth : ℕ
-rowWidth = 9
+rowWidth = 11
 
 -- the kind, p1 and p2 that stand in each of n rows
 unfoldable pub kindsIn : List ℕ → ℕ → List Kind

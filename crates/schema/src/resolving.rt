@@ -3,6 +3,7 @@ ghost use mathlib.Core.Path.{_≡_};
 ghost use Prim.Native.Nat.{_*_, _<_};
 ghost use lib.ListN.{length};
 ghost use Rattle.schema.specs.Outcome.{outcome, written};
+use crate::levels::Levels;
 use crate::output::short_output;
 use crate::roles::Parent;
 use crate::rows::ROW_WIDTH;
@@ -17,7 +18,7 @@ pub enum Resolved {
     Refused(Refusal),
 }
 
-// Judges a sheet and writes its rows, nine numbers for each node in listing order. Where the sheet is refused or fewer numbers
+// Judges a sheet and writes its rows, eleven numbers for each node in listing order. Where the sheet is refused or fewer numbers
 // are lent than its rows need, nothing is written.
 pub fn resolve(sheet: &[u8], rows: &mut [u32]) -> Resolved
     ensures { λ r. ⌜ r ≡ outcome (now (sheet .entry)) (length (now (rows .entry))) ⌝ }
@@ -30,7 +31,11 @@ pub fn resolve(sheet: &[u8], rows: &mut [u32]) -> Resolved
             if rows.len() < ROW_WIDTH * total {
                 return Resolved::Refused(short_output());
             }
-            write_run(sheet, rows, 0, 1, 0, Parent::Other);
+            let none = Levels {
+                definition: 0,
+                repetition: 0,
+            };
+            write_run(sheet, rows, 0, 1, 0, Parent::Other, none);
             Resolved::Rows(total)
         }
     }

@@ -1,14 +1,18 @@
 // The rows of a tree, written from a node to its run and back.
 ghost use mathlib.Core.Path.{_≡_};
+ghost use mathlib.Core.List.{List};
 ghost use Prim.Native.Nat.{_+_, _*_, _≤_, _<_};
 ghost use lib.ListN.{length, drop};
 ghost use Rattle.sheet.specs.Block.{totalOf};
 ghost use Rattle.sheet.specs.Slot.{slots, slotAt};
-ghost use Rattle.tree.specs.Tree.{count as Tree·count, size};
+ghost use Rattle.tree.specs.Tree.{SlotBytes, count as Tree·count, size};
 ghost use Rattle.schema.specs.Rows.{rowWidth, rowsFrom, runRowsFrom, parentBy};
+ghost use Rattle.schema.specs.Levels.{levelsOf};
 ghost use Rattle.tree.specs.Reading.{trees};
 ghost use Rattle.tree.specs.Steps.{Claimed, treeAt, runAt, sizes};
-ghost use Rattle.schema.specs.Steps.{placed, rowNumbers};
+ghost use Rattle.schema.specs.Steps.{AtMost, placed, rowNumbers};
+use crate::levels::Levels;
+use crate::levels::levels_below;
 use crate::roles::Parent;
 use crate::roles::after_first;
 use crate::roles::is_map_parent;
@@ -17,7 +21,7 @@ use crate::roles::role;
 use tree::annotated;
 
 // How many numbers a row has.
-pub const ROW_WIDTH: usize = 9;
+pub const ROW_WIDTH: usize = 11;
 
 // A node's row.
 struct Row {
@@ -30,10 +34,11 @@ struct Row {
     parent: u32,
     end: u32,
     role: u32,
+    levels: Levels,
 }
 
-// Writes the rows of the run of so many fields at a number, one field after the other, under the node at up, and answers where the
-// next tree stands.
+// Writes the rows of the run of so many fields at a number, one field after the other, under the node at up, which has these levels,
+// and answers where the next tree stands.
 pub(crate) fn write_run(
     sheet: &[u8],
     rows: &mut [u32],
@@ -41,39 +46,50 @@ pub(crate) fn write_run(
     count: usize,
     up: usize,
     parent: Parent,
+    levels: Levels,
 ) -> usize
     requires { ⌜ Claimed (now sheet) ⌝ }
     requires { ⌜ count ≤ Tree·count (trees (drop start (slots (now sheet)))) ⌝ }
     requires { ⌜ up < totalOf (now sheet) ⌝ }
     requires { ⌜ rowWidth * totalOf (now sheet) ≤ length (now rows) ⌝ }
+    requires { ⌜ AtMost start levels ⌝ }
     ensures { λ r. ⌜ r ≡ start + sizes (runAt (slots (now (sheet .entry))) start count) ⌝ }
-    ensures { λ _. ⌜ now (rows .exit) ≡ placed (now (rows .entry)) (rowWidth * start) (runRowsFrom start up parent (slotAt (now (sheet .entry)) up) (runAt (slots (now (sheet .entry))) start count)) ⌝ }
+    ensures { λ _. ⌜ ((path : List SlotBytes) → levels ≡ levelsOf path → now (rows .exit) ≡ placed (now (rows .entry)) (rowWidth * start) (runRowsFrom start up parent (slotAt (now (sheet .entry)) up) path (runAt (slots (now (sheet .entry))) start count))) ⌝ }
 {
     let mut at = start;
     let mut left = count;
     let mut above = parent;
     while left > 0 {
-        at = write_tree(sheet, rows, at, up, above);
+        at = write_tree(sheet, rows, at, up, above, levels);
         above = after_first(above);
         left = left - 1;
     }
     at
 }
 
-// Writes the rows of the tree at a number, under the node at up, and answers where the next tree stands.
-fn write_tree(sheet: &[u8], rows: &mut [u32], at: usize, up: usize, parent: Parent) -> usize
+// Writes the rows of the tree at a number, under the node at up, which has these levels, and answers where the next tree stands.
+fn write_tree(
+    sheet: &[u8],
+    rows: &mut [u32],
+    at: usize,
+    up: usize,
+    parent: Parent,
+    levels: Levels,
+) -> usize
     requires { ⌜ Claimed (now sheet) ⌝ }
     requires { ⌜ at < totalOf (now sheet) ⌝ }
     requires { ⌜ up < totalOf (now sheet) ⌝ }
     requires { ⌜ rowWidth * totalOf (now sheet) ≤ length (now rows) ⌝ }
+    requires { ⌜ AtMost at levels ⌝ }
     ensures { λ r. ⌜ r ≡ at + size (treeAt (slots (now (sheet .entry))) at) ⌝ }
-    ensures { λ _. ⌜ now (rows .exit) ≡ placed (now (rows .entry)) (rowWidth * at) (rowsFrom at up parent (slotAt (now (sheet .entry)) up) (treeAt (slots (now (sheet .entry))) at)) ⌝ }
+    ensures { λ _. ⌜ ((path : List SlotBytes) → levels ≡ levelsOf path → now (rows .exit) ≡ placed (now (rows .entry)) (rowWidth * at) (rowsFrom at up parent (slotAt (now (sheet .entry)) up) path (treeAt (slots (now (sheet .entry))) at))) ⌝ }
 {
     let s = sheet::slot_at(sheet, at);
     let n = annotated(s);
     let kind = annotation::resolved_kind(n, is_map_parent(parent));
     let own = role(sheet, up, at, s, parent);
-    let next = write_fields(sheet, rows, at + 1, s.children as usize, at, kind.kind, own);
+    let below = levels_below(levels, s.repetition);
+    let next = write_fields(sheet, rows, at + 1, s.children as usize, at, kind.kind, own, below);
     write_row(
         rows,
         ROW_WIDTH * at,
@@ -87,12 +103,13 @@ fn write_tree(sheet: &[u8], rows: &mut [u32], at: usize, up: usize, parent: Pare
             parent: up as u32,
             end: next as u32,
             role: own,
+            levels: below,
         },
     );
     next
 }
 
-// Writes the rows of the run of so many fields at a number, under the node at up of some kind and role, and answers where the next
+// Writes the rows of the run of so many fields at a number, under the node at up of some kind, role and levels, and answers where the next
 // tree stands: most nodes have no field, and are written without a call.
 fn write_fields(
     sheet: &[u8],
@@ -102,18 +119,20 @@ fn write_fields(
     up: usize,
     kind: u32,
     own: u32,
+    levels: Levels,
 ) -> usize
     requires { ⌜ Claimed (now sheet) ⌝ }
     requires { ⌜ count ≤ Tree·count (trees (drop at (slots (now sheet)))) ⌝ }
     requires { ⌜ up < totalOf (now sheet) ⌝ }
     requires { ⌜ rowWidth * totalOf (now sheet) ≤ length (now rows) ⌝ }
+    requires { ⌜ AtMost at levels ⌝ }
     ensures { λ r. ⌜ r ≡ at + sizes (runAt (slots (now (sheet .entry))) at count) ⌝ }
-    ensures { λ _. ⌜ now (rows .exit) ≡ placed (now (rows .entry)) (rowWidth * at) (runRowsFrom at up (parentBy kind own) (slotAt (now (sheet .entry)) up) (runAt (slots (now (sheet .entry))) at count)) ⌝ }
+    ensures { λ _. ⌜ ((path : List SlotBytes) → levels ≡ levelsOf path → now (rows .exit) ≡ placed (now (rows .entry)) (rowWidth * at) (runRowsFrom at up (parentBy kind own) (slotAt (now (sheet .entry)) up) path (runAt (slots (now (sheet .entry))) at count))) ⌝ }
 {
     if count == 0 {
         return at;
     }
-    write_run(sheet, rows, at, count, up, parent_by(kind, own))
+    write_run(sheet, rows, at, count, up, parent_by(kind, own), levels)
 }
 
 // Writes a row's numbers from base on.
@@ -130,4 +149,6 @@ fn write_row(rows: &mut [u32], base: usize, row: Row)
     rows[base + 6] = row.parent;
     rows[base + 7] = row.end;
     rows[base + 8] = row.role;
+    rows[base + 9] = row.levels.definition;
+    rows[base + 10] = row.levels.repetition;
 }

@@ -2,8 +2,10 @@
 use Rattle.tree.proofs.JudgementLaws.{judged-total, judged-some, judged-claimed}
 use Rattle.tree.proofs.VisitLaws.{root-claimed}
 use Rattle.schema.proofs.ResolvingLaws.{resolve-short, resolve-refused, resolve-rows, written-refused, written-rows}
+use Rattle.schema.specs.Levels.{howMany, levelsOf}
 use native.Mathlib.Omega.{arith}
-use mathlib.Core.Path.{sym, ap, _∙_}
+use mathlib.Core.Path.{refl, sym, ap, _∙_}
+use mathlib.Core.List.{[]}
 use borrow.Author.Needs.{needs}
 use Rattle.schema.specs.declared.resolving.Resolved.{Resolved}
 use Rattle.schema.proofs.resolving.resolve.Statement.{statement}
@@ -33,7 +35,7 @@ write-run-requires : tie.Need-write-run-requires
 write-run-requires c κs =
     let nodes = sym (c .before .before .before .before .before .judge .ensures) ∙ c .before .before .before .judgement2 .given .1 in
     let some = judged-some _ _ nodes in
-    (judged-claimed _ _ nodes, (root-claimed _ (judged-claimed _ _ nodes) some, (some, omega (arith, judged-total _ _ nodes, c .before .if1 .left))))
+    (judged-claimed _ _ nodes, (root-claimed _ (judged-claimed _ _ nodes) some, (some, (omega (arith, judged-total _ _ nodes, c .before .if1 .left), record { definition-most = omega arith; repetition-most = omega arith }))))
 
 returns-2 : tie.Need-returns-2
 returns-2 c =
@@ -44,10 +46,11 @@ same-length : tie.Need-same-length
 same-length c = search needs
 
 returns-3 : tie.Need-returns-3
+unfolding levelsOf howMany
 returns-3 c =
     let nodes = sym (c .before .before .before .before .before .before .before .before .judge .ensures) ∙ c .before .before .before .before .before .before .judgement2 .given .1 in
     let enough = c .before .before .before .before .if1 .left in
-    (sym (resolve-rows _ _ nodes (c .before .before .before .before .before .before .before .before .before .before .before .args .rows .now) enough), written-rows _ _ nodes _ _ enough (c .before .before .write-run .ensures .1))
+    (sym (resolve-rows _ _ nodes (c .before .before .before .before .before .before .before .before .before .before .before .args .rows .now) enough), written-rows _ _ nodes _ _ enough (c .before .before .write-run .ensures .1 [] refl))
 
 pub resolve-spec : {M : Type 1} → statement M
 resolve-spec =

@@ -10,7 +10,8 @@ use Rattle.tree.specs.Steps.{Visited}
 use Rattle.tree.proofs.JudgingSteps.{tree-falls, run-falls, fields-falls}
 use Rattle.tree.proofs.VisitLaws.{run-below, children-claimed, tree-end, tree-within, run-end-empty}
 use Rattle.schema.specs.Steps.{rowNumbers}
-use Rattle.schema.proofs.RowsSteps.{Behind, behind-start, behind-end, behind-next, run-rows-empty, tree-rows, parent-is, row-is, long-enough, row-fits}
+use Rattle.schema.proofs.LevelsLaws.{below-most, at-most}
+use Rattle.schema.proofs.RowsSteps.{Behind, behind-start, behind-end, behind-next, run-rows-empty, tree-rows, parent-is, levels-are, row-is, long-enough, row-fits}
 use borrow.Fn.Kinds.{In}
 use borrow.Fn.PlainCycle.{Measures, is, falls, and}
 use Rattle.schema.proofs.rows.write_fields.Reads as write-fields
@@ -24,6 +25,7 @@ use Rattle.schema.proofs.rows.write_tree.Kinds as write-tree-kinds
 use Rattle.schema.proofs.rows.+write_fields+write_run+write_tree.Lts-write_tree as write-tree-lts
 use Rattle.annotation.proofs.resolved_kind.Reads as resolved-kind-reads
 use Rattle.annotation.proofs.type_length.Reads as type-length-reads
+use Rattle.schema.proofs.levels.levels_below.Reads as levels-below-reads
 use Rattle.schema.proofs.roles.after_first.Reads as after-first-reads
 use Rattle.schema.proofs.roles.is_map_parent.Reads as is-map-parent-reads
 use Rattle.schema.proofs.roles.parent_by.Reads as parent-by-reads
@@ -76,7 +78,7 @@ write-fields-returns : (t : ℕ) → write-fields-lts.Need-returns (
   write-run-below t,
   write-run.Post,
 ) (write-fields-at t) write-fields.Post
-write-fields-returns t c = (run-end-empty _ _ _ (c .if1 .taken), run-rows-empty _ _ _ _ _ _ _ (c .if1 .taken))
+write-fields-returns t c = (run-end-empty _ _ _ (c .if1 .taken), λ path g. run-rows-empty _ _ _ _ _ _ _ path (c .if1 .taken))
 
 write-fields-parent-by-requires : (t : ℕ) → write-fields-lts.Need-parent-by-requires (
   parent-by-reads.Asked,
@@ -113,10 +115,10 @@ write-fields-returns-2 : (t : ℕ) → write-fields-lts.Need-returns-2 (
 write-fields-returns-2 t c = rw (c .before .before .before .parent-by .ensures) at (c .before .before .write-run .ensures)
 
 abbrev write-run-Inv-loop : write-run-lts.InvT-loop
-write-run-Inv-loop sheet rows₀ start count up at₀ left₀ above₀ rows at left above = Behind sheet rows₀ start count up above₀ (slotAt sheet up) rows at left above
+write-run-Inv-loop sheet rows₀ start count up levels at₀ left₀ above₀ rows at left above = Behind sheet rows₀ start count up above₀ (slotAt sheet up) levels rows at left above
 
 abbrev write-run-μ-loop : write-run-lts.MeasureT-loop
-write-run-μ-loop sheet rows₀ start count up at₀ left₀ above₀ rows at left above = left
+write-run-μ-loop sheet rows₀ start count up levels at₀ left₀ above₀ rows at left above = left
 
 write-run-loop-holds : (t : ℕ) → write-run-lts.Need-loop-holds (
   write-tree-below t,
@@ -124,7 +126,7 @@ write-run-loop-holds : (t : ℕ) → write-run-lts.Need-loop-holds (
   after-first-reads.Asked,
   after-first-reads.Learnt,
 ) (write-run-at t) write-run.Post write-run-Inv-loop write-run-μ-loop
-write-run-loop-holds t c = behind-start _ _ _ _ _ _ _ (c .before .before .pre .1 .1 .0)
+write-run-loop-holds t c = behind-start _ _ _ _ _ _ _ _ (c .before .before .pre .1 .1 .0)
 
 write-run-write-tree-requires : (t : ℕ) → write-run-lts.Need-write-tree-requires (
   write-tree-below t,
@@ -137,7 +139,7 @@ write-run-write-tree-requires t c κs =
     let loop = c .before .before .loop in
     let some : loop .left ≡ 0 → ⊥ = λ e. omega (arith, c .before .loop-test .taken) in
     let below = run-below (start .args .sheet .now) (loop .at) (loop .left) (start .pre .1 .0) some (loop .inv .claimed) in
-    (tree-falls _ _ _ _ (loop .inv .reached) (start .pre .0), (start .pre .1 .0, (below, (start .pre .1 .1 .1 .0, long-enough _ _ _ (start .pre .1 .1 .1 .1) (loop .inv .long)))))
+    (tree-falls _ _ _ _ (loop .inv .reached) (start .pre .0), (start .pre .1 .0, (below, (start .pre .1 .1 .1 .0, (long-enough _ _ _ (start .pre .1 .1 .1 .1 .0) (loop .inv .long), at-most _ _ _ (start .pre .1 .1 .1 .1 .1) (loop .inv .reached))))))
 
 write-run-after-first-requires : (t : ℕ) → write-run-lts.Need-after-first-requires (
   write-tree-below t,
@@ -174,7 +176,7 @@ write-run-loop-again t c =
     let loop = c .before .before .before .before .before .before .loop in
     let tree = c .before .before .before .write-tree in
     let some : loop .left ≡ 0 → ⊥ = λ e. omega (arith, c .before .before .before .before .before .loop-test .taken) in
-    behind-next _ _ _ _ _ _ _ _ _ _ _ (loop .inv) (start .pre .1 .0) (start .pre .1 .1 .1 .1) some _ _ _ (tree .ensures .0) (tree .ensures .1) (tree .kept .1 .0) (c .after-first .ensures)
+    behind-next _ _ _ _ _ _ _ _ _ _ _ _ (loop .inv) (start .pre .1 .0) (start .pre .1 .1 .1 .1 .0) some _ _ _ (tree .ensures .0) (tree .ensures .1) (tree .kept .1 .0) (c .after-first .ensures)
 
 write-run-same-length : (t : ℕ) → write-run-lts.Need-same-length (
   write-tree-below t,
@@ -190,7 +192,7 @@ write-run-returns : (t : ℕ) → write-run-lts.Need-returns (
   after-first-reads.Asked,
   after-first-reads.Learnt,
 ) (write-run-at t) write-run.Post write-run-Inv-loop write-run-μ-loop
-write-run-returns t c = behind-end _ _ _ _ _ _ _ _ _ _ _ (c .before .loop .inv) (omega (arith, c .loop-test .left))
+write-run-returns t c = behind-end _ _ _ _ _ _ _ _ _ _ _ _ (c .before .loop .inv) (omega (arith, c .loop-test .left))
 
 write-tree-slot-at-requires : (t : ℕ) → write-tree-lts.Need-slot-at-requires (
   slot-at-reads.Asked,
@@ -203,6 +205,8 @@ write-tree-slot-at-requires : (t : ℕ) → write-tree-lts.Need-slot-at-requires
   resolved-kind-reads.Learnt,
   role-reads.Asked,
   role-reads.Learnt,
+  levels-below-reads.Asked,
+  levels-below-reads.Learnt,
   write-fields-below t,
   write-fields.Post,
   type-length-reads.Asked,
@@ -223,6 +227,8 @@ write-tree-annotated-requires : (t : ℕ) → write-tree-lts.Need-annotated-requ
   resolved-kind-reads.Learnt,
   role-reads.Asked,
   role-reads.Learnt,
+  levels-below-reads.Asked,
+  levels-below-reads.Learnt,
   write-fields-below t,
   write-fields.Post,
   type-length-reads.Asked,
@@ -243,6 +249,8 @@ write-tree-is-map-parent-requires : (t : ℕ) → write-tree-lts.Need-is-map-par
   resolved-kind-reads.Learnt,
   role-reads.Asked,
   role-reads.Learnt,
+  levels-below-reads.Asked,
+  levels-below-reads.Learnt,
   write-fields-below t,
   write-fields.Post,
   type-length-reads.Asked,
@@ -263,6 +271,8 @@ write-tree-resolved-kind-requires : (t : ℕ) → write-tree-lts.Need-resolved-k
   resolved-kind-reads.Learnt,
   role-reads.Asked,
   role-reads.Learnt,
+  levels-below-reads.Asked,
+  levels-below-reads.Learnt,
   write-fields-below t,
   write-fields.Post,
   type-length-reads.Asked,
@@ -283,6 +293,8 @@ write-tree-role-requires : (t : ℕ) → write-tree-lts.Need-role-requires (
   resolved-kind-reads.Learnt,
   role-reads.Asked,
   role-reads.Learnt,
+  levels-below-reads.Asked,
+  levels-below-reads.Learnt,
   write-fields-below t,
   write-fields.Post,
   type-length-reads.Asked,
@@ -291,6 +303,30 @@ write-tree-role-requires : (t : ℕ) → write-tree-lts.Need-role-requires (
   write-row-reads.Learnt,
 ) (write-tree-at t) write-tree.Post
 write-tree-role-requires t c κs = record { claimed = c .before .before .before .before .before .before .pre .1 .0; below = c .before .before .before .before .before .before .pre .1 .1 .0; numbers = c .before .before .before .slot-at .ensures }
+
+write-tree-levels-below-requires : (t : ℕ) → write-tree-lts.Need-levels-below-requires (
+  slot-at-reads.Asked,
+  slot-at-reads.Learnt,
+  annotated-reads.Asked,
+  annotated-reads.Learnt,
+  is-map-parent-reads.Asked,
+  is-map-parent-reads.Learnt,
+  resolved-kind-reads.Asked,
+  resolved-kind-reads.Learnt,
+  role-reads.Asked,
+  role-reads.Learnt,
+  levels-below-reads.Asked,
+  levels-below-reads.Learnt,
+  write-fields-below t,
+  write-fields.Post,
+  type-length-reads.Asked,
+  type-length-reads.Learnt,
+  write-row-reads.Asked,
+  write-row-reads.Learnt,
+) (write-tree-at t) write-tree.Post
+write-tree-levels-below-requires t c κs =
+    let start = c .before .before .before .before .before .before .before in
+    at-most _ _ _ (start .pre .1 .1 .1 .1 .1) (omega (arith, start .pre .1 .1 .0, start .pre .1 .0 .most))
 
 write-tree-add-write-fields : (t : ℕ) → write-tree-lts.Need-add-write-fields (
   slot-at-reads.Asked,
@@ -303,6 +339,8 @@ write-tree-add-write-fields : (t : ℕ) → write-tree-lts.Need-add-write-fields
   resolved-kind-reads.Learnt,
   role-reads.Asked,
   role-reads.Learnt,
+  levels-below-reads.Asked,
+  levels-below-reads.Learnt,
   write-fields-below t,
   write-fields.Post,
   type-length-reads.Asked,
@@ -310,7 +348,7 @@ write-tree-add-write-fields : (t : ℕ) → write-tree-lts.Need-add-write-fields
   write-row-reads.Asked,
   write-row-reads.Learnt,
 ) (write-tree-at t) write-tree.Post
-write-tree-add-write-fields t c = omega (arith, c .before .before .before .before .before .before .before .before .pre .1 .1 .0, c .before .before .before .before .before .before .before .before .pre .1 .0 .most)
+write-tree-add-write-fields t c = omega (arith, c .before .before .before .before .before .before .before .before .before .pre .1 .1 .0, c .before .before .before .before .before .before .before .before .before .pre .1 .0 .most)
 
 write-tree-cast-write-fields : (t : ℕ) → write-tree-lts.Need-cast-write-fields (
   slot-at-reads.Asked,
@@ -323,6 +361,8 @@ write-tree-cast-write-fields : (t : ℕ) → write-tree-lts.Need-cast-write-fiel
   resolved-kind-reads.Learnt,
   role-reads.Asked,
   role-reads.Learnt,
+  levels-below-reads.Asked,
+  levels-below-reads.Learnt,
   write-fields-below t,
   write-fields.Post,
   type-length-reads.Asked,
@@ -343,6 +383,8 @@ write-tree-write-fields-requires : (t : ℕ) → write-tree-lts.Need-write-field
   resolved-kind-reads.Learnt,
   role-reads.Asked,
   role-reads.Learnt,
+  levels-below-reads.Asked,
+  levels-below-reads.Learnt,
   write-fields-below t,
   write-fields.Post,
   type-length-reads.Asked,
@@ -351,9 +393,9 @@ write-tree-write-fields-requires : (t : ℕ) → write-tree-lts.Need-write-field
   write-row-reads.Learnt,
 ) (write-tree-at t) write-tree.Post
 write-tree-write-fields-requires t c κs =
-    let start = c .before .before .before .before .before .before .before .before .before in
-    let visited : Visited (start .args .sheet .now) (start .args .at) (c .before .before .before .before .before .before .slot-at .result) = record { claimed = start .pre .1 .0; below = start .pre .1 .1 .0; numbers = c .before .before .before .before .before .before .slot-at .ensures } in
-    (fields-falls _ _ _ (start .pre .1 .1 .0) (start .pre .0), (start .pre .1 .0, (children-claimed _ _ _ (visited .numbers) (visited .claimed) (visited .below), (start .pre .1 .1 .0, start .pre .1 .1 .1 .1))))
+    let start = c .before .before .before .before .before .before .before .before .before .before in
+    let visited : Visited (start .args .sheet .now) (start .args .at) (c .before .before .before .before .before .before .before .slot-at .result) = record { claimed = start .pre .1 .0; below = start .pre .1 .1 .0; numbers = c .before .before .before .before .before .before .before .slot-at .ensures } in
+    (fields-falls _ _ _ (start .pre .1 .1 .0) (start .pre .0), (start .pre .1 .0, (children-claimed _ _ _ (visited .numbers) (visited .claimed) (visited .below), (start .pre .1 .1 .0, (start .pre .1 .1 .1 .1 .0, below-most _ _ _ _ (start .pre .1 .1 .1 .1 .1) (c .before .before .levels-below .ensures))))))
 
 write-tree-mul-write-row : (t : ℕ) → write-tree-lts.Need-mul-write-row (
   slot-at-reads.Asked,
@@ -366,6 +408,8 @@ write-tree-mul-write-row : (t : ℕ) → write-tree-lts.Need-mul-write-row (
   resolved-kind-reads.Learnt,
   role-reads.Asked,
   role-reads.Learnt,
+  levels-below-reads.Asked,
+  levels-below-reads.Learnt,
   write-fields-below t,
   write-fields.Post,
   type-length-reads.Asked,
@@ -373,47 +417,7 @@ write-tree-mul-write-row : (t : ℕ) → write-tree-lts.Need-mul-write-row (
   write-row-reads.Asked,
   write-row-reads.Learnt,
 ) (write-tree-at t) write-tree.Post
-write-tree-mul-write-row t c = omega (arith, c .before .before .before .before .before .before .before .before .before .before .before .before .before .pre .1 .1 .0, c .before .before .before .before .before .before .before .before .before .before .before .before .before .pre .1 .0 .most)
-
-write-tree-cast-t19 : (t : ℕ) → write-tree-lts.Need-cast-t19 (
-  slot-at-reads.Asked,
-  slot-at-reads.Learnt,
-  annotated-reads.Asked,
-  annotated-reads.Learnt,
-  is-map-parent-reads.Asked,
-  is-map-parent-reads.Learnt,
-  resolved-kind-reads.Asked,
-  resolved-kind-reads.Learnt,
-  role-reads.Asked,
-  role-reads.Learnt,
-  write-fields-below t,
-  write-fields.Post,
-  type-length-reads.Asked,
-  type-length-reads.Learnt,
-  write-row-reads.Asked,
-  write-row-reads.Learnt,
-) (write-tree-at t) write-tree.Post
-write-tree-cast-t19 t c = search needs
-
-write-tree-type-length-requires : (t : ℕ) → write-tree-lts.Need-type-length-requires (
-  slot-at-reads.Asked,
-  slot-at-reads.Learnt,
-  annotated-reads.Asked,
-  annotated-reads.Learnt,
-  is-map-parent-reads.Asked,
-  is-map-parent-reads.Learnt,
-  resolved-kind-reads.Asked,
-  resolved-kind-reads.Learnt,
-  role-reads.Asked,
-  role-reads.Learnt,
-  write-fields-below t,
-  write-fields.Post,
-  type-length-reads.Asked,
-  type-length-reads.Learnt,
-  write-row-reads.Asked,
-  write-row-reads.Learnt,
-) (write-tree-at t) write-tree.Post
-write-tree-type-length-requires t c κs = search needs
+write-tree-mul-write-row t c = omega (arith, c .before .before .before .before .before .before .before .before .before .before .before .before .before .before .pre .1 .1 .0, c .before .before .before .before .before .before .before .before .before .before .before .before .before .before .pre .1 .0 .most)
 
 write-tree-cast-t21 : (t : ℕ) → write-tree-lts.Need-cast-t21 (
   slot-at-reads.Asked,
@@ -426,6 +430,8 @@ write-tree-cast-t21 : (t : ℕ) → write-tree-lts.Need-cast-t21 (
   resolved-kind-reads.Learnt,
   role-reads.Asked,
   role-reads.Learnt,
+  levels-below-reads.Asked,
+  levels-below-reads.Learnt,
   write-fields-below t,
   write-fields.Post,
   type-length-reads.Asked,
@@ -435,7 +441,7 @@ write-tree-cast-t21 : (t : ℕ) → write-tree-lts.Need-cast-t21 (
 ) (write-tree-at t) write-tree.Post
 write-tree-cast-t21 t c = search needs
 
-write-tree-cast-t22 : (t : ℕ) → write-tree-lts.Need-cast-t22 (
+write-tree-type-length-requires : (t : ℕ) → write-tree-lts.Need-type-length-requires (
   slot-at-reads.Asked,
   slot-at-reads.Learnt,
   annotated-reads.Asked,
@@ -446,6 +452,8 @@ write-tree-cast-t22 : (t : ℕ) → write-tree-lts.Need-cast-t22 (
   resolved-kind-reads.Learnt,
   role-reads.Asked,
   role-reads.Learnt,
+  levels-below-reads.Asked,
+  levels-below-reads.Learnt,
   write-fields-below t,
   write-fields.Post,
   type-length-reads.Asked,
@@ -453,7 +461,7 @@ write-tree-cast-t22 : (t : ℕ) → write-tree-lts.Need-cast-t22 (
   write-row-reads.Asked,
   write-row-reads.Learnt,
 ) (write-tree-at t) write-tree.Post
-write-tree-cast-t22 t c = omega (arith, c .before .before .before .before .before .before .before .before .before .before .before .before .before .before .before .before .pre .1 .1 .1 .0, c .before .before .before .before .before .before .before .before .before .before .before .before .before .before .before .before .pre .1 .0 .most)
+write-tree-type-length-requires t c κs = search needs
 
 write-tree-cast-t23 : (t : ℕ) → write-tree-lts.Need-cast-t23 (
   slot-at-reads.Asked,
@@ -466,6 +474,8 @@ write-tree-cast-t23 : (t : ℕ) → write-tree-lts.Need-cast-t23 (
   resolved-kind-reads.Learnt,
   role-reads.Asked,
   role-reads.Learnt,
+  levels-below-reads.Asked,
+  levels-below-reads.Learnt,
   write-fields-below t,
   write-fields.Post,
   type-length-reads.Asked,
@@ -473,9 +483,53 @@ write-tree-cast-t23 : (t : ℕ) → write-tree-lts.Need-cast-t23 (
   write-row-reads.Asked,
   write-row-reads.Learnt,
 ) (write-tree-at t) write-tree.Post
-write-tree-cast-t23 t c =
-    let start = c .before .before .before .before .before .before .before .before .before .before .before .before .before .before .before .before in
-    let visited : Visited (start .args .sheet .now) (start .args .at) (c .before .before .before .before .before .before .before .before .before .before .before .before .before .slot-at .result) = record { claimed = start .pre .1 .0; below = start .pre .1 .1 .0; numbers = c .before .before .before .before .before .before .before .before .before .before .before .before .before .slot-at .ensures } in
+write-tree-cast-t23 t c = search needs
+
+write-tree-cast-t24 : (t : ℕ) → write-tree-lts.Need-cast-t24 (
+  slot-at-reads.Asked,
+  slot-at-reads.Learnt,
+  annotated-reads.Asked,
+  annotated-reads.Learnt,
+  is-map-parent-reads.Asked,
+  is-map-parent-reads.Learnt,
+  resolved-kind-reads.Asked,
+  resolved-kind-reads.Learnt,
+  role-reads.Asked,
+  role-reads.Learnt,
+  levels-below-reads.Asked,
+  levels-below-reads.Learnt,
+  write-fields-below t,
+  write-fields.Post,
+  type-length-reads.Asked,
+  type-length-reads.Learnt,
+  write-row-reads.Asked,
+  write-row-reads.Learnt,
+) (write-tree-at t) write-tree.Post
+write-tree-cast-t24 t c = omega (arith, c .before .before .before .before .before .before .before .before .before .before .before .before .before .before .before .before .before .pre .1 .1 .1 .0, c .before .before .before .before .before .before .before .before .before .before .before .before .before .before .before .before .before .pre .1 .0 .most)
+
+write-tree-cast-t25 : (t : ℕ) → write-tree-lts.Need-cast-t25 (
+  slot-at-reads.Asked,
+  slot-at-reads.Learnt,
+  annotated-reads.Asked,
+  annotated-reads.Learnt,
+  is-map-parent-reads.Asked,
+  is-map-parent-reads.Learnt,
+  resolved-kind-reads.Asked,
+  resolved-kind-reads.Learnt,
+  role-reads.Asked,
+  role-reads.Learnt,
+  levels-below-reads.Asked,
+  levels-below-reads.Learnt,
+  write-fields-below t,
+  write-fields.Post,
+  type-length-reads.Asked,
+  type-length-reads.Learnt,
+  write-row-reads.Asked,
+  write-row-reads.Learnt,
+) (write-tree-at t) write-tree.Post
+write-tree-cast-t25 t c =
+    let start = c .before .before .before .before .before .before .before .before .before .before .before .before .before .before .before .before .before in
+    let visited : Visited (start .args .sheet .now) (start .args .at) (c .before .before .before .before .before .before .before .before .before .before .before .before .before .before .slot-at .result) = record { claimed = start .pre .1 .0; below = start .pre .1 .1 .0; numbers = c .before .before .before .before .before .before .before .before .before .before .before .before .before .before .slot-at .ensures } in
     let end = tree-end (start .args .sheet .now) (start .args .at) _ visited _ (c .before .before .before .before .before .before .write-fields .ensures .0) in
     omega (arith, tree-within (start .args .sheet .now) (start .args .at) (start .pre .1 .0) (start .pre .1 .1 .0), start .pre .1 .0 .most, end)
 
@@ -490,6 +544,8 @@ write-tree-write-row-requires : (t : ℕ) → write-tree-lts.Need-write-row-requ
   resolved-kind-reads.Learnt,
   role-reads.Asked,
   role-reads.Learnt,
+  levels-below-reads.Asked,
+  levels-below-reads.Learnt,
   write-fields-below t,
   write-fields.Post,
   type-length-reads.Asked,
@@ -497,7 +553,7 @@ write-tree-write-row-requires : (t : ℕ) → write-tree-lts.Need-write-row-requ
   write-row-reads.Asked,
   write-row-reads.Learnt,
 ) (write-tree-at t) write-tree.Post
-write-tree-write-row-requires t c κs = row-fits _ _ _ _ (c .before .before .before .before .before .before .before .before .before .before .before .before .before .before .before .before .pre .1 .1 .0) (c .before .before .before .before .before .before .before .before .before .before .before .before .before .before .before .before .pre .1 .1 .1 .1) (c .before .before .before .before .before .before .write-fields .kept .1 .0)
+write-tree-write-row-requires t c κs = row-fits _ _ _ _ (c .before .before .before .before .before .before .before .before .before .before .before .before .before .before .before .before .before .pre .1 .1 .0) (c .before .before .before .before .before .before .before .before .before .before .before .before .before .before .before .before .before .pre .1 .1 .1 .1 .0) (c .before .before .before .before .before .before .write-fields .kept .1 .0)
 
 write-tree-same-length : (t : ℕ) → write-tree-lts.Need-same-length (
   slot-at-reads.Asked,
@@ -510,6 +566,8 @@ write-tree-same-length : (t : ℕ) → write-tree-lts.Need-same-length (
   resolved-kind-reads.Learnt,
   role-reads.Asked,
   role-reads.Learnt,
+  levels-below-reads.Asked,
+  levels-below-reads.Learnt,
   write-fields-below t,
   write-fields.Post,
   type-length-reads.Asked,
@@ -530,6 +588,8 @@ write-tree-returns : (t : ℕ) → write-tree-lts.Need-returns (
   resolved-kind-reads.Learnt,
   role-reads.Asked,
   role-reads.Learnt,
+  levels-below-reads.Asked,
+  levels-below-reads.Learnt,
   write-fields-below t,
   write-fields.Post,
   type-length-reads.Asked,
@@ -539,18 +599,21 @@ write-tree-returns : (t : ℕ) → write-tree-lts.Need-returns (
 ) (write-tree-at t) write-tree.Post
 unfolding rowNumbers
 write-tree-returns t c =
-    let start = c .before .before .before .before .before .before .before .before .before .before .before .before .before .before .before .before .before .before .before in
-    let visited : Visited (start .args .sheet .now) (start .args .at) (c .before .before .before .before .before .before .before .before .before .before .before .before .before .before .before .before .slot-at .result) = record { claimed = start .pre .1 .0; below = start .pre .1 .1 .0; numbers = c .before .before .before .before .before .before .before .before .before .before .before .before .before .before .before .before .slot-at .ensures } in
+    let start = c .before .before .before .before .before .before .before .before .before .before .before .before .before .before .before .before .before .before .before .before in
+    let visited : Visited (start .args .sheet .now) (start .args .at) (c .before .before .before .before .before .before .before .before .before .before .before .before .before .before .before .before .before .slot-at .result) = record { claimed = start .pre .1 .0; below = start .pre .1 .1 .0; numbers = c .before .before .before .before .before .before .before .before .before .before .before .before .before .before .before .before .before .slot-at .ensures } in
     let run = c .before .before .before .before .before .before .before .before .before .write-fields in
     let end = tree-end (start .args .sheet .now) (start .args .at) _ visited _ (run .ensures .0) in
     let above = slotAt (start .args .sheet .now) (start .args .up) in
-    let numbers = c .before .before .before .before .before .before .before .before .before .before .before .before .before .before .before .annotated .ensures in
-    let map = c .before .before .before .before .before .before .before .before .before .before .before .before .before .before .is-map-parent .ensures in
-    let kind = c .before .before .before .before .before .before .before .before .before .before .before .before .before .resolved-kind .ensures in
-    let own = c .before .before .before .before .before .before .before .before .before .before .before .before .role .ensures in
+    let numbers = c .before .before .before .before .before .before .before .before .before .before .before .before .before .before .before .before .annotated .ensures in
+    let map = c .before .before .before .before .before .before .before .before .before .before .before .before .before .before .before .is-map-parent .ensures in
+    let kind = c .before .before .before .before .before .before .before .before .before .before .before .before .before .before .resolved-kind .ensures in
+    let own = c .before .before .before .before .before .before .before .before .before .before .before .before .before .role .ensures in
     let below = parent-is (start .args .sheet .now) (start .args .rows .now) (start .args .at) (start .args .up) _ (start .args .parent) above visited _ _ _ _ _ numbers map kind own refl in
-    let row = row-is (start .args .sheet .now) (start .args .rows .now) (start .args .at) (start .args .up) _ (start .args .parent) above visited _ _ _ _ _ _ numbers map kind own end (c .before .before .before .before .type-length .ensures) in
-    (end, tree-rows (start .args .sheet .now) (start .args .rows .now) (start .args .at) (start .args .up) _ (start .args .parent) above visited (start .pre .1 .1 .1 .1) _ below _ (run .ensures .1) _ _ row (c .before .before .write-row .ensures))
+    let levels = c .before .before .before .before .before .before .before .before .before .before .before .before .levels-below .ensures in
+    (end, λ path g.
+    let row = row-is (start .args .sheet .now) (start .args .rows .now) (start .args .at) (start .args .up) _ (start .args .parent) above visited path _ _ g levels _ _ _ _ _ _ numbers map kind own end (c .before .before .before .before .type-length .ensures) in
+    let fields = run .ensures .1 _ (levels-are (start .args .sheet .now) (start .args .rows .now) (start .args .at) (start .args .up) _ (start .args .parent) above visited path _ _ g levels) in
+    tree-rows (start .args .sheet .now) (start .args .rows .now) (start .args .at) (start .args .up) _ (start .args .parent) above visited path (start .pre .1 .1 .1 .1 .0) _ below _ fields _ _ row (c .before .before .write-row .ensures))
 
 pub +write-fields+write-run+write-tree-spec : {M : Type 1} → statement M
 +write-fields+write-run+write-tree-spec =
@@ -596,6 +659,8 @@ pub +write-fields+write-run+write-tree-spec : {M : Type 1} → statement M
       resolved-kind-reads.Learnt,
       role-reads.Asked,
       role-reads.Learnt,
+      levels-below-reads.Asked,
+      levels-below-reads.Learnt,
       write-fields-below t,
       write-fields.Post,
       type-length-reads.Asked,
@@ -610,15 +675,16 @@ pub +write-fields+write-run+write-tree-spec : {M : Type 1} → statement M
     (write-tree-is-map-parent-requires t)
     (write-tree-resolved-kind-requires t)
     (write-tree-role-requires t)
+    (write-tree-levels-below-requires t)
     (write-tree-add-write-fields t)
     (write-tree-cast-write-fields t)
     (write-tree-write-fields-requires t)
     (write-tree-mul-write-row t)
-    (write-tree-cast-t19 t)
-    (write-tree-type-length-requires t)
     (write-tree-cast-t21 t)
-    (write-tree-cast-t22 t)
+    (write-tree-type-length-requires t)
     (write-tree-cast-t23 t)
+    (write-tree-cast-t24 t)
+    (write-tree-cast-t25 t)
     (write-tree-write-row-requires t)
     (write-tree-same-length t)
     (write-tree-returns t)

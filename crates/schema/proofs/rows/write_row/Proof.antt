@@ -1,5 +1,5 @@
 -- `schema::rows::write_row` meets its contract.
-use Rattle.schema.proofs.PlacingLaws.{nine-placed}
+use Rattle.schema.proofs.PlacingLaws.{eleven-placed}
 use Rattle.schema.specs.Steps.{rowNumbers}
 use lib.ListN.{length-set}
 use native.Mathlib.Omega.{arith}
@@ -85,12 +85,30 @@ mul-rows-9 c = search needs
 slice-write-rows-9 : tie.Need-slice-write-rows-9
 slice-write-rows-9 c = simp length-set (omega arith)
 
+add-rows-9 : tie.Need-add-rows-9
+add-rows-9 c = search needs
+
+mul-rows-10 : tie.Need-mul-rows-10
+mul-rows-10 c = search needs
+
+slice-write-rows-10 : tie.Need-slice-write-rows-10
+slice-write-rows-10 c = simp length-set (omega arith)
+
+add-rows-10 : tie.Need-add-rows-10
+add-rows-10 c = search needs
+
+mul-rows-11 : tie.Need-mul-rows-11
+mul-rows-11 c = search needs
+
+slice-write-rows-11 : tie.Need-slice-write-rows-11
+slice-write-rows-11 c = simp length-set (omega arith)
+
 same-length : tie.Need-same-length
-same-length c = search needs
+same-length c = simp length-set
 
 returns : tie.Need-returns
 unfolding rowNumbers
-returns c = nine-placed _ _ _ _ _ _ _ _ _ _ _ (c .pre)
+returns c = eleven-placed _ _ _ _ _ _ _ _ _ _ _ _ _ (c .pre)
 
 pub write-row-spec : {M : Type 1} → statement M
 write-row-spec =
@@ -122,5 +140,11 @@ write-row-spec =
     add-rows-8
     mul-rows-9
     slice-write-rows-9
+    add-rows-9
+    mul-rows-10
+    slice-write-rows-10
+    add-rows-10
+    mul-rows-11
+    slice-write-rows-11
     same-length
     returns)
