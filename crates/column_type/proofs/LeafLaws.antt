@@ -36,9 +36,9 @@ use Rattle.column_type.proofs.FitsLaws.{isLeaf-upto}
 use Rattle.column_type.proofs.KeptLaws.{columnWith, InRange, kept-lawful}
 
 -- the column type in a row
-column-row : (at up : ℕ) (q : Parent) (above s : SlotBytes) (fs : Fields) (rest : List ℕ) → columnOf (row at up q above s fs ++ rest) ≡ columnWith (annotated s) (kind (isMapParent q) s)
+column-row : (at up : ℕ) (q : Parent) (above : SlotBytes) (path : List SlotBytes) (s : SlotBytes) (fs : Fields) (rest : List ℕ) → columnOf (row at up q above path s fs ++ rest) ≡ columnWith (annotated s) (kind (isMapParent q) s)
 unfolding columnOf row columnWith annotated numbersOf
-column-row at up q above s fs rest = refl
+column-row at up q above path s fs rest = refl
 
 -- the numbers of a slot of bytes
 slot-range : (s : SlotBytes) → Bytes s → InRange (annotated s)
@@ -89,12 +89,12 @@ module _ (c : ColumnType) (sheet lent : List ℕ) (k : ℕ) (h : IsLeafOf c shee
   unfolding size
   below-size = omega (arith, ap length (tree .1 .lists), slots-length sheet, h .below)
 
-  -- its row stands at 9k
+  -- its row stands at 11k
   begins : BeginsWith (slotAt sheet k) (drop (rowWidth * k) (written (outcome sheet (length lent)) sheet lent))
   unfolding rows
   begins =
       rw (rows-are sheet lent (tree .0) sound (accepted-enough sheet (length lent) (h .accepted)) (tree .1), ← slot-listed)
-      (row-at (tree .0) Root parent.Other 0 0 [] (drop (rowWidth * totalOf sheet) lent) (tree .1 .keeps) refl k below-size)
+      (row-at (tree .0) Root parent.Other 0 0 [] [] (drop (rowWidth * totalOf sheet) lent) (tree .1 .keeps) refl k below-size)
 
   column-is : c ≡ columnWith (annotated (slotAt sheet k)) (kind (underMap (begins .place)) (slotAt sheet k))
   unfolding columnAt
@@ -102,7 +102,7 @@ module _ (c : ColumnType) (sheet lent : List ℕ) (k : ℕ) (h : IsLeafOf c shee
       let b = begins in
       sym (h .column)
       ∙ ap columnOf (b .begins)
-      ∙ column-row (b .at) (b .up) (b .«parent») (b .above) (slotAt sheet k) (b .fields) (b .rest)
+      ∙ column-row (b .at) (b .up) (b .«parent») (b .above) (b .path) (slotAt sheet k) (b .fields) (b .rest)
       ∙ ap (λ (under : Bool). columnWith (annotated (slotAt sheet k)) (kind under (slotAt sheet k))) (sym (b .alike))
 
   physical-is : c .physical ≡ physical (slotAt sheet k)

@@ -11,7 +11,7 @@ use Rattle.schema.specs.Outcome.{outcome, written}
 use Rattle.schema.specs.Demand.{Accepted}
 use Rattle.column_type.specs.declared.types.ColumnType.{ColumnType}
 
--- "Nine unsigned 32-bit numbers per node: physical, type length, repetition, kind, p1, p2, parent, end, role": the column type that a row has
+-- "physical, type length, repetition, kind, p1, p2, parent, end, role" and the two levels: the column type that a row has
 unfoldable pub columnOf : List ℕ → ColumnType
 columnOf row =
     record {

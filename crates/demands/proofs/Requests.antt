@@ -1,7 +1,24 @@
 -- What the requests of document 02 ask holds.
+use Prim.Native.Nat.{ℕ, zero, suc, _*_, _≤_, _<_}
+use mathlib.Core.Path.{_≡_, refl, sym, ap, _∙_}
+use mathlib.Core.List.{List, _++_}
+use native.Mathlib.Omega.{arith}
+use borrow.Author.Tests.{lt-ltb}
+use lib.ListN.{length, drop}
+use lib.Seq.{drop-at}
+use Rattle.sheet.specs.Block.{totalOf}
+use Rattle.tree.specs.Judgement.{refusal, judgement}
+use Rattle.tree.specs.declared.refusal.Verdict.{Verdict}
+use Rattle.schema.specs.Rows.{rowWidth, rows}
+use Rattle.schema.specs.Outcome.{answer, outcome, written}
+use Rattle.schema.specs.Demand.{Accepted}
+use Rattle.schema.specs.declared.resolving.Resolved.{Resolved}
+use Rattle.schema.proofs.AcceptedLaws.{accepted-sound, accepted-enough}
+use Rattle.schema.proofs.DemandLaws.{no-refusal-rows, accepted-exactly, rows-are, rows-length, refused-unchanged}
+use Rattle.schema.proofs.NodeLevelsLaws.{accepted-root, accepted-field}
 use Rattle.schema.proofs.RepeatedFieldLaws as repeated
-use Rattle.demands.specs.Requests.{Request2, one}
-use Rattle.demands.proofs.SheetPoints.{repeated-rows}
+use Rattle.demands.specs.Requests.{one, Request2, left, definitionIn, repetitionLevelIn, Request8}
+use Rattle.demands.proofs.SheetPoints.{repeated-rows, example-rows}
 
 pub request2 : Request2
 request2 =
@@ -12,4 +29,59 @@ request2 =
       refused = λ p list layer s fs h. repeated.no-element list layer s fs (h .group) (h .repeated) p;
       repeated-list = repeated.repeated-list;
       example = repeated-rows;
+    }
+
+-- R-8 ----------------------------------------------------------------------------------------------------------------------
+
+module _ (sheet lent : List ℕ) (a : Accepted (outcome sheet (length lent))) where
+  levels-ordered : (k : ℕ) → k < totalOf sheet → repetitionLevelIn (left sheet lent) k ≤ definitionIn (left sheet lent) k
+  levels-ordered zero h = omega (arith, accepted-root sheet lent a .0, accepted-root sheet lent a .1)
+  levels-ordered (suc k) h = accepted-field sheet lent a (suc k) (omega arith) h .ordered
+
+  levels-most : (k : ℕ) → k < totalOf sheet → definitionIn (left sheet lent) k ≤ 32
+  levels-most zero h = omega (arith, accepted-root sheet lent a .0)
+  levels-most (suc k) h = accepted-field sheet lent a (suc k) (omega arith) h .most
+
+  -- past the rows
+  rows-past : drop (11 * totalOf sheet) (left sheet lent) ≡ drop (11 * totalOf sheet) lent
+  rows-past =
+      let sound = accepted-sound sheet (length lent) a in
+      let enough = accepted-enough sheet (length lent) a in
+      let tree = accepted-exactly sheet (length lent) sound enough .0 a in
+      ap (drop (11 * totalOf sheet)) (rows-are sheet lent (tree .0) sound enough (tree .1))
+      ∙ drop-at (rows (tree .0)) (drop (11 * totalOf sheet) lent) (11 * totalOf sheet) (rows-length sheet (tree .0) (tree .1))
+
+short-output : (sheet : List ℕ) (lent : ℕ) → judgement sheet ≡ Verdict.Lawful → lent < 11 * totalOf sheet → outcome sheet lent ≡ Resolved.Refused (refusal 14 0)
+unfolding outcome answer
+short-output sheet lent e h = rw (e, lt-ltb lent (rowWidth * totalOf sheet) h)
+
+enough-output : (sheet : List ℕ) (lent : ℕ) → judgement sheet ≡ Verdict.Lawful → 11 * totalOf sheet ≤ lent → outcome sheet lent ≡ Resolved.Rows (totalOf sheet)
+unfolding outcome
+enough-output sheet lent e h = no-refusal-rows (judgement sheet) (totalOf sheet) lent e h
+
+accepted-answer : (o : Resolved) (n : ℕ) → o ≡ Resolved.Rows n → Accepted o
+unfolding Accepted
+accepted-answer o n e = rw e tt
+
+past-left : (sheet lent : List ℕ) → drop (11 * totalOf sheet) (left sheet lent) ≡ drop (11 * totalOf sheet) lent
+past-left sheet lent = cases (outcome sheet (length lent)) refl
+  where
+    cases : (o : Resolved) → outcome sheet (length lent) ≡ o → drop (11 * totalOf sheet) (left sheet lent) ≡ drop (11 * totalOf sheet) lent
+    cases (Resolved.Rows n) e = rows-past sheet lent (accepted-answer (outcome sheet (length lent)) n e)
+    cases (Resolved.Refused r) e = ap (drop (11 * totalOf sheet)) (refused-unchanged sheet lent r e)
+
+pub request8 : Request8
+request8 =
+    record {
+      root-definition = λ sheet lent a. accepted-root sheet lent a .0;
+      root-repetition = λ sheet lent a. accepted-root sheet lent a .1;
+      parent-before = λ sheet lent k a p h. accepted-field sheet lent a k p h .earlier;
+      definition-below = λ sheet lent k a p h. accepted-field sheet lent a k p h .definition-is;
+      repetition-below = λ sheet lent k a p h. accepted-field sheet lent a k p h .repetition-is;
+      ordered = λ sheet lent k a. levels-ordered sheet lent a k;
+      at-most-32 = λ sheet lent k a. levels-most sheet lent a k;
+      short = short-output;
+      enough = enough-output;
+      beyond = past-left;
+      example = example-rows;
     }

@@ -2,7 +2,7 @@
 use Prim.Native.Nat.{ℕ, _*_, _-_, _/_, _%_}
 use mathlib.Core.Path.{_≡_, refl}
 use mathlib.Core.Bool.{true}
-use mathlib.Core.List.{List, [], _∷_, _++_}
+use mathlib.Core.List.{List}
 use lib.ListN.{length, replicate}
 use Rattle.sheet.specs.Number.{numberAt, signed32}
 use Rattle.sheet.specs.Block.{firstSlotAt, checkAt, slotSize, versionNow, blockCount, blockAt, blockNumber, nodesHere, version, total, storedCheck, totalOf}
@@ -33,6 +33,7 @@ use Rattle.tree.specs.Annotated.{annotated, kind, rule9, rule10, rule11}
 use Rattle.tree.specs.Tree.{listing, count, size, depths}
 use Rattle.tree.specs.Rules.{isList, isMap, placeBelow, isNought, lengthShape, decimalShape, shape, rule8, namedElement, isRepeated, isElementGroup, holdsElement, listChild, listRun, listKept, rule12, rule13}
 use Rattle.tree.specs.Faults.{broken, faults}
+use Rattle.schema.specs.Levels.{howMany, levelsOf}
 use Rattle.schema.specs.Rows.{listRole, role, parentBy, row, parentOf, rowsFrom, rows, rowWidth}
 use Rattle.tree.specs.Reading.{takeFields, dropFields, trees, firstTree, treeOf}
 use Rattle.tree.specs.OpenPlaces.{sum, openPlaces, isNoPlace}
@@ -40,7 +41,7 @@ use Rattle.tree.specs.Judgement.{refusal, orElse, leftOver, missing, firstFault
 use Rattle.schema.specs.Outcome.{answer, outcome, written}
 use Rattle.schema.specs.declared.resolving.Resolved.{Resolved}
 use Rattle.demands.specs.Sheets.{sheetOf, rootSlot, leafSheet, exampleSheet, repeatedSheet}
-use Rattle.demands.specs.Requests.{repeatedRows}
+use Rattle.demands.specs.Requests.{repeatedRows, exampleRows}
 
 -- `outcome`, with all that it is made of open: what names it on its line computes
 opened : List ℕ → ℕ → Resolved
@@ -66,17 +67,14 @@ pub example-accepted : outcome exampleSheet (rowWidth * 4) ≡ Resolved.Rows 4
 unfolding opened
 example-accepted = refl
 
-pub example-rows : written (outcome exampleSheet (rowWidth * 4)) exampleSheet (replicate (rowWidth * 4) 0) ≡
-    (255 ∷ 0 ∷ 255 ∷ 30 ∷ 0 ∷ 0 ∷ 0 ∷ 4 ∷ 0 ∷ [])
-    ++ (255 ∷ 0 ∷ 0 ∷ 3 ∷ 0 ∷ 0 ∷ 0 ∷ 4 ∷ 0 ∷ [])
-    ++ (255 ∷ 0 ∷ 2 ∷ 30 ∷ 0 ∷ 0 ∷ 1 ∷ 4 ∷ 1 ∷ [])
-    ++ (6 ∷ 0 ∷ 1 ∷ 1 ∷ 0 ∷ 0 ∷ 2 ∷ 4 ∷ 2 ∷ [])
-unfolding opened written rows rowsFrom row parentOf parentBy role listRole size listing
+-- with the levels of document 02's R-8
+pub example-rows : written (outcome exampleSheet (rowWidth * 4)) exampleSheet (replicate (rowWidth * 4) 0) ≡ exampleRows
+unfolding opened written rows rowsFrom row parentOf parentBy role listRole levelsOf howMany size listing
 example-rows = refl
 
 -- document 02, R-2
 pub repeated-rows : written (outcome repeatedSheet (rowWidth * 4)) repeatedSheet (replicate (rowWidth * 4) 0) ≡ repeatedRows
-unfolding opened written rows rowsFrom row parentOf parentBy role listRole size listing
+unfolding opened written rows rowsFrom row parentOf parentBy role listRole levelsOf howMany size listing
 repeated-rows = refl
 
 -- "FIXED 1 precision 3: 11"

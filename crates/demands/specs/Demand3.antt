@@ -25,7 +25,7 @@ pub record Demand3 : Type 1 where
   pub one-tree : (sheet : List ℕ) (t u : Tree) → IsTreeOf sheet t → IsTreeOf sheet u → t ≡ u
   -- "the rows written are that tree's", and numbers beyond them stay
   pub rows-are : (sheet lent : List ℕ) (t : Tree) → Sound sheet → EnoughOutput sheet (length lent) → IsTreeOf sheet t → written (outcome sheet (length lent)) sheet lent ≡ rows t ++ drop (rowWidth * totalOf sheet) lent
-  -- they are nine numbers for each node
+  -- they are eleven numbers for each node
   pub rows-length : (sheet : List ℕ) (t : Tree) → IsTreeOf sheet t → length (rows t) ≡ rowWidth * totalOf sheet
   -- "blocks are sound where refusals 1 to 3 don't hold, node slots where 4 doesn't": together, exactly where opening refuses nothing
   pub sound-exactly : (sheet : List ℕ) → Sound sheet ↔ (openOf sheet ≡ Nodes (totalOf sheet))

@@ -1,9 +1,10 @@
 -- What the requests of document 02 ask of the definitions.
-use Prim.Native.Nat.{ℕ, _*_}
+use Prim.Native.Nat.{ℕ, _+_, _*_, _≤_, _<_}
 use mathlib.Core.Path.{_≡_}
 use mathlib.Core.Bool.{true, false}
 use mathlib.Core.List.{List, [], _∷_, _++_}
-use lib.ListN.{replicate}
+use lib.ListN.{length, drop, replicate}
+use Rattle.sheet.specs.Block.{totalOf}
 use Rattle.sheet.specs.Slot.{physical, repetition}
 use Rattle.parquet.specs.Repetition.{REPEATED}
 use Rattle.parquet.specs.Logical as logical
@@ -12,10 +13,15 @@ use Rattle.tree.specs.Tree.{SlotBytes, Fields, node, empty, field}
 use Rattle.tree.specs.Rules.{isGroup, isRequiredOrOptional, isList, namedElement, rule12, KeepsAt}
 use Rattle.tree.specs.declared.place.Place.{Place}
 use Rattle.tree.specs.declared.place.Place.the-variants.{Field}
-use Rattle.schema.specs.Rows.{isMapParent, ELEMENT-LAYER, BARE-REPEATED, role, parentOf, rowWidth}
+use Rattle.tree.specs.Judgement.{refusal, judgement}
+use Rattle.tree.specs.declared.refusal.Verdict.{Verdict}
+use Rattle.schema.specs.Levels.{isOptionalOrRepeated, isRepeatedCode, counted}
+use Rattle.schema.specs.Rows.{isMapParent, ELEMENT-LAYER, BARE-REPEATED, role, parentOf, rowWidth, numberIn}
 use Rattle.schema.specs.Outcome.{outcome, written}
+use Rattle.schema.specs.Demand.{Accepted}
+use Rattle.schema.specs.declared.resolving.Resolved.{Resolved}
 use Rattle.schema.specs.declared.roles.Parent.{Parent}
-use Rattle.demands.specs.Sheets.{repeatedSheet}
+use Rattle.demands.specs.Sheets.{exampleSheet, repeatedSheet}
 
 -- R-2. "A list whose one field repeats" ----------------------------------------------------------------------------------
 
@@ -31,10 +37,10 @@ pub record IsLayer (layer : SlotBytes) : Type 0 where
 -- the rows of `repeatedSheet`
 abbrev pub repeatedRows : List ℕ
 repeatedRows =
-    (255 ∷ 0 ∷ 255 ∷ 30 ∷ 0 ∷ 0 ∷ 0 ∷ 4 ∷ 0 ∷ [])
-    ++ (255 ∷ 0 ∷ 0 ∷ 3 ∷ 0 ∷ 0 ∷ 0 ∷ 4 ∷ 0 ∷ [])
-    ++ (255 ∷ 0 ∷ 2 ∷ 30 ∷ 0 ∷ 0 ∷ 1 ∷ 4 ∷ 3 ∷ [])
-    ++ (1 ∷ 0 ∷ 2 ∷ 0 ∷ 0 ∷ 0 ∷ 2 ∷ 4 ∷ 7 ∷ [])
+    (255 ∷ 0 ∷ 255 ∷ 30 ∷ 0 ∷ 0 ∷ 0 ∷ 4 ∷ 0 ∷ 0 ∷ 0 ∷ [])
+    ++ (255 ∷ 0 ∷ 0 ∷ 3 ∷ 0 ∷ 0 ∷ 0 ∷ 4 ∷ 0 ∷ 0 ∷ 0 ∷ [])
+    ++ (255 ∷ 0 ∷ 2 ∷ 30 ∷ 0 ∷ 0 ∷ 1 ∷ 4 ∷ 3 ∷ 1 ∷ 1 ∷ [])
+    ++ (1 ∷ 0 ∷ 2 ∷ 0 ∷ 0 ∷ 0 ∷ 2 ∷ 4 ∷ 7 ∷ 2 ∷ 2 ∷ [])
 
 -- the layer's one field is the node of s
 pub record Request2 : Type 1 where
@@ -50,3 +56,51 @@ pub record Request2 : Type 1 where
   pub repeated-list : (p : Place) (s : SlotBytes) (fs : Fields) → isList p s ≡ true → repetition s ≡ REPEATED → rule12 p s fs ≡ false
   -- a sheet of such a LIST
   pub example : written (outcome repeatedSheet (rowWidth * 4)) repeatedSheet (replicate (rowWidth * 4) 0) ≡ repeatedRows
+
+-- R-8. "Levels in the rows" ------------------------------------------------------------------------------------------------
+
+-- what is left in the numbers that were lent, once a sheet is resolved
+abbrev pub left : List ℕ → List ℕ → List ℕ
+left sheet lent = written (outcome sheet (length lent)) sheet lent
+
+-- what stands in the row of node k: its repetition, its parent, and its levels, the greatest that a definition and a repetition have in its column
+abbrev pub repetitionIn : List ℕ → ℕ → ℕ
+repetitionIn numbers k = numberIn numbers k 2
+
+abbrev pub parentIn : List ℕ → ℕ → ℕ
+parentIn numbers k = numberIn numbers k 6
+
+abbrev pub definitionIn : List ℕ → ℕ → ℕ
+definitionIn numbers k = numberIn numbers k 9
+
+abbrev pub repetitionLevelIn : List ℕ → ℕ → ℕ
+repetitionLevelIn numbers k = numberIn numbers k 10
+
+-- "document 01's example gains ` 0 0`, ` 0 0`, ` 1 1`, ` 2 1` at the ends of its four lines"
+abbrev pub exampleRows : List ℕ
+exampleRows =
+    (255 ∷ 0 ∷ 255 ∷ 30 ∷ 0 ∷ 0 ∷ 0 ∷ 4 ∷ 0 ∷ 0 ∷ 0 ∷ [])
+    ++ (255 ∷ 0 ∷ 0 ∷ 3 ∷ 0 ∷ 0 ∷ 0 ∷ 4 ∷ 0 ∷ 0 ∷ 0 ∷ [])
+    ++ (255 ∷ 0 ∷ 2 ∷ 30 ∷ 0 ∷ 0 ∷ 1 ∷ 4 ∷ 1 ∷ 1 ∷ 1 ∷ [])
+    ++ (6 ∷ 0 ∷ 1 ∷ 1 ∷ 0 ∷ 0 ∷ 2 ∷ 4 ∷ 2 ∷ 2 ∷ 1 ∷ [])
+
+-- what a reader of pages may take from the rows of an accepted sheet; that they are the counts over the path to each node is their definition
+-- (`schema/specs/Levels`), and demand 3 has them for the tree's
+pub record Request8 : Type 1 where
+  -- the root counts in neither level
+  pub root-definition : (sheet lent : List ℕ) → Accepted (outcome sheet (length lent)) → definitionIn (left sheet lent) 0 ≡ 0
+  pub root-repetition : (sheet lent : List ℕ) → Accepted (outcome sheet (length lent)) → repetitionLevelIn (left sheet lent) 0 ≡ 0
+  -- every other node's parent has its row before it
+  pub parent-before : (sheet lent : List ℕ) (k : ℕ) → Accepted (outcome sheet (length lent)) → 0 < k → k < totalOf sheet → parentIn (left sheet lent) k < k
+  -- and its levels are its parent's and what its own repetition adds
+  pub definition-below : (sheet lent : List ℕ) (k : ℕ) → Accepted (outcome sheet (length lent)) → 0 < k → k < totalOf sheet → definitionIn (left sheet lent) k ≡ definitionIn (left sheet lent) (parentIn (left sheet lent) k) + counted isOptionalOrRepeated (repetitionIn (left sheet lent) k)
+  pub repetition-below : (sheet lent : List ℕ) (k : ℕ) → Accepted (outcome sheet (length lent)) → 0 < k → k < totalOf sheet → repetitionLevelIn (left sheet lent) k ≡ repetitionLevelIn (left sheet lent) (parentIn (left sheet lent) k) + counted isRepeatedCode (repetitionIn (left sheet lent) k)
+  -- the second is never above the first, and neither above 32
+  pub ordered : (sheet lent : List ℕ) (k : ℕ) → Accepted (outcome sheet (length lent)) → k < totalOf sheet → repetitionLevelIn (left sheet lent) k ≤ definitionIn (left sheet lent) k
+  pub at-most-32 : (sheet lent : List ℕ) (k : ℕ) → Accepted (outcome sheet (length lent)) → k < totalOf sheet → definitionIn (left sheet lent) k ≤ 32
+  -- "14 now compares with 11T"
+  pub short : (sheet : List ℕ) (lent : ℕ) → judgement sheet ≡ Verdict.Lawful → lent < 11 * totalOf sheet → outcome sheet lent ≡ Resolved.Refused (refusal 14 0)
+  pub enough : (sheet : List ℕ) (lent : ℕ) → judgement sheet ≡ Verdict.Lawful → 11 * totalOf sheet ≤ lent → outcome sheet lent ≡ Resolved.Rows (totalOf sheet)
+  -- "numbers beyond 11T stay"
+  pub beyond : (sheet lent : List ℕ) → drop (11 * totalOf sheet) (left sheet lent) ≡ drop (11 * totalOf sheet) lent
+  pub example : left exampleSheet (replicate (rowWidth * 4) 0) ≡ exampleRows

@@ -17,3 +17,4 @@ pub mod RewriteDemandLaws
 pub mod AcceptedLaws
 pub mod NodeRowLaws
 pub mod RowKindLaws
+pub mod NodeLevelsLaws

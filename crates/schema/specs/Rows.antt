@@ -1,5 +1,5 @@
 -- The rows of a tree: eleven numbers for each node, in listing order.
-use Prim.Native.Nat.{ℕ, zero, suc, _+_}
+use Prim.Native.Nat.{ℕ, zero, suc, _+_, _*_}
 use mathlib.Core.Bool.{Bool, true, false, cond}
 use mathlib.Core.List.{List, [], _∷_, _++_}
 use lib.Dec.{eqb}
@@ -126,3 +126,7 @@ rowWidth = 11
 unfoldable pub kindsIn : List ℕ → ℕ → List Kind
 kindsIn numbers zero = []
 kindsIn numbers (suc n) = record { kind = getD numbers 3 0; p1 = getD numbers 4 0; p2 = getD numbers 5 0 } ∷ kindsIn (drop rowWidth numbers) n
+
+-- number j, from 0, of the row of node k
+unfoldable pub numberIn : List ℕ → ℕ → ℕ → ℕ
+numberIn numbers k j = getD (drop (rowWidth * k) numbers) j 0
