@@ -38,7 +38,7 @@ extern "C" {
 #define GRIFFELJOL_MAX_VALUE 65536
 
 /* The numbers of a row, and which stands where in it. Rows of every sheet fit into GRIFFELJOL_MAX_ROWS numbers. */
-#define GRIFFELJOL_ROW_WIDTH 9
+#define GRIFFELJOL_ROW_WIDTH 11
 #define GRIFFELJOL_MAX_ROWS (GRIFFELJOL_ROW_WIDTH * GRIFFELJOL_MAX_NODES)
 #define GRIFFELJOL_ROW_PHYSICAL 0
 #define GRIFFELJOL_ROW_TYPE_LENGTH 1
@@ -49,6 +49,10 @@ extern "C" {
 #define GRIFFELJOL_ROW_PARENT 6 /* the parent's node number; the root's is 0 */
 #define GRIFFELJOL_ROW_END 7    /* one past the last descendant */
 #define GRIFFELJOL_ROW_ROLE 8
+/* How many nodes on the path from the root to this node, itself included, are optional or repeated, and how many are repeated: the
+ * greatest definition and repetition level of its column. */
+#define GRIFFELJOL_ROW_DEFINITION_LEVEL 9
+#define GRIFFELJOL_ROW_REPETITION_LEVEL 10
 
 /* The numbers that griffeljol_read writes. */
 #define GRIFFELJOL_READ_WIDTH 2

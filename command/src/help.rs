@@ -26,7 +26,8 @@ pub const ROWS: &str = "\
 griffeljol rows FILE [--json]
 
 Judges the sheet in FILE, or on standard input for -, and prints 'nodes T' and then a line for each of its T nodes:
-physical, type length, repetition, kind, p1, p2, parent, end and role.
+physical, type length, repetition, kind, p1, p2, parent, end, role, definition level and repetition level: how many
+nodes on the path from the root to this one are optional or repeated, and how many are repeated.
 
   --json   prints an object with the number of nodes and the rows, each with its numbers by name. A refusal is
            printed as an object, besides its words on standard error

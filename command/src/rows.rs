@@ -34,16 +34,17 @@ fn lines(rows: &[Row]) -> String {
 
 /// A row's numbers by their names.
 pub fn object(row: &Row) -> Json {
-    let Row { physical, type_length, repetition, kind, p1, p2, parent, end, role } = *row;
     Json::Object(vec![
-        ("physical", Json::number(physical)),
-        ("type_length", Json::number(type_length)),
-        ("repetition", Json::number(repetition)),
-        ("kind", Json::number(kind)),
-        ("p1", Json::number(p1)),
-        ("p2", Json::number(p2)),
-        ("parent", Json::number(parent)),
-        ("end", Json::number(end)),
-        ("role", Json::number(role)),
+        ("physical", Json::number(row.physical)),
+        ("type_length", Json::number(row.type_length)),
+        ("repetition", Json::number(row.repetition)),
+        ("kind", Json::number(row.kind)),
+        ("p1", Json::number(row.p1)),
+        ("p2", Json::number(row.p2)),
+        ("parent", Json::number(row.parent)),
+        ("end", Json::number(row.end)),
+        ("role", Json::number(row.role)),
+        ("definition_level", Json::number(row.definition_level)),
+        ("repetition_level", Json::number(row.repetition_level)),
     ])
 }

@@ -34,8 +34,8 @@ static void check_helpers(void)
 
 static void check_resolve(const uint8_t *sheet)
 {
-    const uint32_t expected[ROWS] = {255, 0, 255, 30, 0, 0, 0, 4, 0, 255, 0, 0, 3, 0, 0, 0, 4, 0,
-                                     255, 0, 2,   30, 0, 0, 1, 4, 1, 6,   0, 1, 1, 0, 0, 2, 4, 2};
+    const uint32_t expected[ROWS] = {255, 0, 255, 30, 0, 0, 0, 4, 0, 0, 0, 255, 0, 0, 3, 0, 0, 0, 4, 0, 0, 0,
+                                     255, 0, 2,   30, 0, 0, 1, 4, 1, 1, 1, 6,   0, 1, 1, 0, 0, 2, 4, 2, 2, 1};
     uint32_t rows[ROWS + 1], before[ROWS + 1];
     uint8_t wrong[SHEET];
     memset(rows, 0xA5, sizeof rows);

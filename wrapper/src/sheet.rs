@@ -10,7 +10,7 @@ pub const MAX_SHEET: usize = 65_536;
 pub const MAX_NODES: usize = 896;
 
 /// The numbers of a row.
-pub const ROW_WIDTH: usize = 9;
+pub const ROW_WIDTH: usize = 11;
 
 /// Judges a sheet and writes [`ROW_WIDTH`] numbers for each of its nodes, in listing order; answers T, how many nodes it has.
 /// Numbers beyond the rows stay.
@@ -24,7 +24,7 @@ pub const ROW_WIDTH: usize = 9;
 /// let mut rows = [0; ROW_WIDTH * MAX_NODES];
 /// let nodes = resolve(&sheet, &mut rows)? as usize;
 /// assert_eq!(nodes, 4);
-/// assert_eq!(rows[ROW_WIDTH..2 * ROW_WIDTH], [255, 0, 0, 3, 0, 0, 0, 4, 0]);
+/// assert_eq!(rows[ROW_WIDTH..2 * ROW_WIDTH], [255, 0, 0, 3, 0, 0, 0, 4, 0, 0, 0]);
 /// # Ok::<(), Box<dyn std::error::Error>>(())
 /// ```
 pub fn resolve(sheet: &[u8], rows: &mut [u32]) -> Result<u32, Refusal> {
@@ -52,6 +52,10 @@ pub struct Row {
     pub end: u32,
     /// One of [`crate::codes::role`].
     pub role: u32,
+    /// How many nodes on the path from the root to this one, itself included, are optional or repeated: at most 32.
+    pub definition_level: u32,
+    /// How many of them are repeated: never more.
+    pub repetition_level: u32,
 }
 
 impl Row {
@@ -61,17 +65,29 @@ impl Row {
         ColumnType { physical, type_length, kind, p1, p2 }
     }
 
-    /// The numbers in the order of document 01.
+    /// The numbers in their order.
     pub fn numbers(&self) -> [u32; ROW_WIDTH] {
-        let Row { physical, type_length, repetition, kind, p1, p2, parent, end, role } = *self;
-        [physical, type_length, repetition, kind, p1, p2, parent, end, role]
+        [
+            self.physical,
+            self.type_length,
+            self.repetition,
+            self.kind,
+            self.p1,
+            self.p2,
+            self.parent,
+            self.end,
+            self.role,
+            self.definition_level,
+            self.repetition_level,
+        ]
     }
 }
 
 impl From<[u32; ROW_WIDTH]> for Row {
     fn from(numbers: [u32; ROW_WIDTH]) -> Self {
-        let [physical, type_length, repetition, kind, p1, p2, parent, end, role] = numbers;
-        Row { physical, type_length, repetition, kind, p1, p2, parent, end, role }
+        let [physical, type_length, repetition, kind, p1, p2, parent, end, role, definition_level, repetition_level] =
+            numbers;
+        Row { physical, type_length, repetition, kind, p1, p2, parent, end, role, definition_level, repetition_level }
     }
 }
 
@@ -84,6 +100,7 @@ impl From<[u32; ROW_WIDTH]> for Row {
 /// let rows = rows(&sheet)?;
 /// let element = rows[3];
 /// assert_eq!(element.role, codes::role::ELEMENT);
+/// assert_eq!((element.definition_level, element.repetition_level), (2, 1));
 /// assert_eq!(element.column_type().kind, codes::kind::STRING);
 /// # Ok::<(), Box<dyn std::error::Error>>(())
 /// ```

@@ -16,8 +16,8 @@ fn rows_of_the_longest_sheet() {
     nodes.resize(896, Node::leaf("x", INT32, OPTIONAL));
     let sheet = sheet(&nodes);
     assert_eq!(sheet.len(), 65_536);
-    let expected = "nodes 896\n255 0 255 30 0 0 0 896 0\n".to_owned()
-        + &(1..896).map(|node| format!("1 0 1 0 0 0 0 {} 0\n", node + 1)).collect::<String>();
+    let expected = "nodes 896\n255 0 255 30 0 0 0 896 0 0 0\n".to_owned()
+        + &(1..896).map(|node| format!("1 0 1 0 0 0 0 {} 0 1 0\n", node + 1)).collect::<String>();
     prints("rows -", &sheet, &expected);
 }
 
@@ -29,7 +29,7 @@ fn rows_of_a_list_whose_one_field_repeats() {
         Node::group("list", REPEATED, 1),
         Node::leaf("x", INT32, REPEATED),
     ];
-    let expected = "nodes 4\n255 0 255 30 0 0 0 4 0\n255 0 0 3 0 0 0 4 0\n255 0 2 30 0 0 1 4 3\n1 0 2 0 0 0 2 4 7\n";
+    let expected = "nodes 4\n255 0 255 30 0 0 0 4 0 0 0\n255 0 0 3 0 0 0 4 0 0 0\n255 0 2 30 0 0 1 4 3 1 1\n1 0 2 0 0 0 2 4 7 2 2\n";
     prints("rows -", &sheet(&nodes), expected);
 }
 

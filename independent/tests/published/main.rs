@@ -3,7 +3,9 @@
 mod tables;
 
 use independent::sheet::{assemble, Sheet, Slot, BLOCK};
-use independent::{decimal, decode, encode, order, read, resolve, rewrite, utf8, ColumnType, Fields, Refusal, Value};
+use independent::{
+    decimal, decode, encode, order, read, resolve, rewrite, utf8, ColumnType, Fields, Refusal, Value, ROW_WIDTH,
+};
 use tables::*;
 
 fn fields([year, month, day, hour, minute, second, fraction]: [i64; 7]) -> Fields {
@@ -104,11 +106,11 @@ fn slot(
 fn sheets() {
     for (title, slots, expected) in SHEETS {
         let sheet = assemble(&slots.iter().map(|&given| slot(given)).collect::<Vec<_>>());
-        let mut rows = [0; 9 * 8];
+        let mut rows = [0; ROW_WIDTH * 10];
         match (resolve(&sheet, &mut rows), expected) {
             (Ok(count), Ok(expected)) => {
                 assert_eq!(count as usize, expected.len(), "{title}");
-                assert_eq!(rows[..9 * expected.len()], expected.concat(), "{title}");
+                assert_eq!(rows[..ROW_WIDTH * expected.len()], expected.concat(), "{title}");
             }
             (Err(refusal), Err((number, place))) => assert_eq!(refusal, Refusal { number, place }, "{title}"),
             (found, _) => panic!("{title}: {found:?}"),
@@ -130,9 +132,9 @@ fn rewritten_sheets() {
         let mut again = vec![0; made.len()];
         rewrite(&made, &mut again, 0).unwrap();
         assert_eq!(again, made, "{title}");
-        let mut resolved = [0; 9 * 8];
+        let mut resolved = [0; ROW_WIDTH * 10];
         resolve(&made, &mut resolved).unwrap();
-        assert_eq!(resolved[..9 * rows.len()], rows.concat(), "{title}");
+        assert_eq!(resolved[..ROW_WIDTH * rows.len()], rows.concat(), "{title}");
     }
 }
 

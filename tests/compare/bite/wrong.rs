@@ -241,6 +241,17 @@ pub const ALL: &[Wrong] = &[
         "    rows.iter_mut().skip(ROW_WIDTH * count).take(1).for_each(|next| *next = 0);\n    let rows = rows.get_mut(",
     ),
     wrong(
+        "14 left at 9T",
+        "rows.rs",
+        "rows.get_mut(..ROW_WIDTH * count)",
+        "rows.get_mut(..(ROW_WIDTH * count).min(rows.len().max(9 * count)))",
+    ),
+    wrong("the node itself not counted", "rows.rs", "path.filter(", "path.skip(1).filter("),
+    wrong("its parent not counted", "rows.rs", "path.filter(", "path.take(1).filter("),
+    wrong("optional counted as repeated", "rows.rs", "level(tree, node, &[REPEATED])", "level(tree, node, &[OPTIONAL, REPEATED])"),
+    wrong("repeated not counted in the first level", "rows.rs", "level(tree, node, &[OPTIONAL, REPEATED])", "level(tree, node, &[OPTIONAL])"),
+    wrong("the levels of the field before", "rows.rs", "(below > 0).then(|| tree.parent(below))", "(below > 0).then(|| below - 1)"),
+    wrong(
         "scale and precision exchanged",
         "annotation.rs",
         "(slot.precision as u32, slot.scale as u32)",

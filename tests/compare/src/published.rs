@@ -60,7 +60,7 @@ pub fn run(side: &dyn Side) -> Result<usize, String> {
     }
     for (title, slots, expected) in SHEETS {
         let sheet = assemble(&slots.iter().map(slot).collect::<Vec<_>>());
-        let mut rows = [0; ROW_WIDTH * 8];
+        let mut rows = [0; ROW_WIDTH * 10];
         let answer = side.resolve(&sheet, &mut rows);
         let right = match expected {
             Ok(expected) => answer == expected.len() as u64 && rows[..ROW_WIDTH * expected.len()] == expected.concat(),

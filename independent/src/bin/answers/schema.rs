@@ -63,7 +63,7 @@ const LOGICAL: [&str; 15] = [
 ];
 
 /// The most numbers that are lent.
-const MOST_LENT: usize = 8192;
+const MOST_LENT: usize = 9984;
 
 struct Vector {
     title: String,
@@ -83,7 +83,9 @@ impl Vectors {
     /// A sheet to resolve, with a few more numbers lent than its rows need.
     fn sheet(&mut self, title: impl Into<String>, sheet: Vec<u8>) {
         let lent = match sheet[..] {
-            [_, _, _, _, low, high, ..] if sheet.len() <= 65536 => 9 * usize::from(u16::from_le_bytes([low, high])) + 4,
+            [_, _, _, _, low, high, ..] if sheet.len() <= 65536 => {
+                ROW_WIDTH * usize::from(u16::from_le_bytes([low, high])) + 4
+            }
             _ => 40,
         };
         self.lend(title, sheet, lent);
@@ -113,6 +115,7 @@ fn vectors() -> Vectors {
         sheets,
         places,
         depths,
+        levels,
         shapes,
         annotated,
         disagreements,
@@ -275,14 +278,14 @@ fn rewrites(vectors: &[Vector]) -> Vec<Rewrite<'_>> {
 }
 
 fn outputs(vectors: &mut Vectors) {
-    for lent in [0, 35, 36, 37, 8192] {
+    for lent in [0, 35, 36, 43, 44, 45, MOST_LENT] {
         vectors.lend(format!("example, {lent} lent"), sheet_of(&example()), lent);
     }
-    for lent in [0, 8, 9, 10] {
+    for lent in [0, 9, 10, 11, 12] {
         vectors.lend(format!("root alone, {lent} lent"), sheet_of(&root([])), lent);
     }
-    vectors.lend("fault and too little lent", sheet_of(&root([int32().length(1)])), 17);
-    vectors.lend("too deep and too little lent", sheet_of(&root([chain(34)])), 9);
+    vectors.lend("fault and too little lent", sheet_of(&root([int32().length(1)])), 21);
+    vectors.lend("too deep and too little lent", sheet_of(&root([chain(34)])), 11);
     vectors.lend("too few nodes and too little lent", sheet_of(&root([int32()]).claiming(2)), 0);
 }
 
@@ -397,9 +400,62 @@ fn depths(vectors: &mut Vectors) {
         vectors.lend(title, sheet_of(&top), MOST_LENT);
     }
     let flat = |count| (0..count).map(|_| int32());
-    vectors.lend("896 nodes flat, 8063 lent", sheet_of(&root(flat(895))), 8063);
-    vectors.lend("896 nodes, the last too deep", sheet_of(&root(flat(862).chain([chain(34)]))), 8064);
-    vectors.lend("896 nodes, a fault at the last", sheet_of(&root(flat(894).chain([int32().length(1)]))), 8064);
+    for lent in [8064, 9855, 9856] {
+        vectors.lend(format!("896 nodes flat, {lent} lent"), sheet_of(&root(flat(895))), lent);
+    }
+    vectors.lend("896 nodes, the last too deep", sheet_of(&root(flat(862).chain([chain(34)]))), 9856);
+    vectors.lend("896 nodes, a fault at the last", sheet_of(&root(flat(894).chain([int32().length(1)]))), 9856);
+}
+
+/// Document 02, R-8: nodes of each repetition above, before and behind one another.
+fn levels(vectors: &mut Vectors) {
+    let repetitions = [REQUIRED, OPTIONAL, REPEATED];
+    // Down to depth 32, the deepest first.
+    let path = |of: &dyn Fn(usize) -> u8| {
+        (1..32).rev().fold(int32().repetition(of(32)), |below, depth| group([below]).repetition(of(depth)))
+    };
+    for repetition in repetitions {
+        vectors.tree(format!("levels, 32 nodes of repetition {repetition}"), root([path(&|_| repetition)]));
+    }
+    for at in [1, 2, 16, 31, 32] {
+        for repetition in [OPTIONAL, REPEATED] {
+            let one = path(&|depth| if depth == at { repetition } else { REQUIRED });
+            vectors.tree(format!("levels, repetition {repetition} at depth {at} alone"), root([one]));
+            let others = path(&|depth| if depth == at { REQUIRED } else { repetition });
+            vectors.tree(format!("levels, repetition {repetition} everywhere but at depth {at}"), root([others]));
+        }
+    }
+    vectors.tree("levels, each repetition in turn", root([path(&|depth| repetitions[depth % 3])]));
+    for first in repetitions {
+        for second in repetitions {
+            let title = |shape: &str| format!("levels, {shape} of repetitions {first} and {second}");
+            let leaves = || [int32().repetition(first), int32().repetition(second), int32()];
+            vectors.tree(title("leaves"), root(leaves()));
+            vectors.tree(
+                title("leaves in a group in another"),
+                root([group([group(leaves()).repetition(second), int32()]).repetition(first)]),
+            );
+            let groups = leaves().map(|field| group([int32(), field.clone(), repeated()]).repetition(field.repetition));
+            vectors.tree(title("groups"), root(groups));
+        }
+    }
+    let optional = |node: Node| node.repetition(OPTIONAL);
+    let element = || optional(int32().named("element"));
+    vectors.field("levels, optional LIST of optional elements", optional(list([layer([element()])])));
+    let inner = optional(list([layer([element()])]));
+    vectors.field("levels, such a LIST in such a LIST", optional(list([layer([inner.clone()])])));
+    vectors.field("levels, such a LIST in the value of an optional MAP", optional(map_to(inner)));
+    vectors.field("levels, a MAP's key and value", map_to(element()));
+    let comb = (0..31).fold(optional(int32()), |spine, depth| {
+        let teeth = [repeated(), optional(int32())];
+        let fields = if depth % 2 == 0 {
+            vec![spine, teeth[0].clone(), int32()]
+        } else {
+            vec![teeth[1].clone(), spine, int32()]
+        };
+        group(fields).repetition(repetitions[depth % 3])
+    });
+    vectors.tree("levels, fields before and behind a spine of 32", root([comb, int32()]));
 }
 
 fn leaf_chain(count: usize) -> Node {

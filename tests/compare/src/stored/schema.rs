@@ -11,7 +11,7 @@ use super::Answered;
 use crate::side::{refusal_of, shown, value_of, Side};
 
 /// More numbers than the rows of the longest sheet have.
-const MOST_LENT: usize = 8192;
+const MOST_LENT: usize = 9984;
 
 pub fn ask(side: &dyn Side, questions: &[u8]) -> Result<Answered, String> {
     let mut questions = Questions::new(questions);
