@@ -16,9 +16,12 @@ unfolding levelsOf howMany levelsBelow
 levels-step s path = refl
 
 -- it adds one to each at the most
-one-most : (b : Bool) → cond b 1 0 ≤ 1
+pub one-most : (b : Bool) → cond b 1 0 ≤ 1
 one-most true = omega arith
 one-most false = omega arith
+
+pub most-one : (b : Bool) (n : ℕ) → n ≡ cond b 1 0 → n ≤ 1
+most-one b n e = omega (arith, one-most b)
 
 pub below-most : (n : ℕ) (l o : Levels) (code : ℕ) → AtMost n l → o ≡ levelsBelow l code → AtMost (n + 1) o
 unfolding levelsBelow

@@ -28,6 +28,7 @@ use Rattle.schema.specs.Demand.{IsTreeOf, Sound, EnoughOutput, Accepted}
 use Rattle.schema.specs.declared.roles.Parent.{Parent}
 use Rattle.schema.proofs.AcceptedLaws.{accepted-sound, accepted-enough}
 use Rattle.schema.proofs.DemandLaws.{accepted-exactly, rows-are}
+use Rattle.schema.proofs.LevelsLaws.{one-most}
 use Rattle.schema.proofs.RowsLaws.{length-row, length-rowsFrom}
 
 -- the levels of a path ------------------------------------------------------------------------------------------------------
@@ -46,14 +47,6 @@ levels-ordered : (path : List SlotBytes) → howMany isRepeatedCode path ≤ how
 unfolding howMany
 levels-ordered [] = omega arith
 levels-ordered (s ∷ path) = omega (arith, levels-ordered path, counted-ordered (repetition s))
-
--- a node adds one at the most
-counted-most : (code : ℕ) → counted isOptionalOrRepeated code ≤ 1
-counted-most code = on (isOptionalOrRepeated code)
-  where
-    on : (b : Bool) → cond b 1 0 ≤ 1
-    on true = omega arith
-    on false = omega arith
 
 -- a row among the numbers ----------------------------------------------------------------------------------------------------
 
@@ -98,7 +91,7 @@ module _ (numbers : List ℕ) where
           definition-is = rw (own-parent, own-repetition, u .definition-stands) own-definition;
           repetition-is = rw (own-parent, own-repetition, u .repetition-stands) own-repetitions;
           ordered = omega (arith, own-definition, own-repetitions, levels-ordered (s ∷ path));
-          most = omega (arith, own-definition, counted-most (repetition s), u .low);
+          most = omega (arith, own-definition, one-most (isOptionalOrRepeated (repetition s)), u .low);
         }
 
     -- its fields have it for a parent
@@ -149,7 +142,7 @@ module _ (numbers : List ℕ) where
         subst (λ (i : ℕ). InRow numbers i (getD (runDepths (suc d) fs) k 0)) (sym next)
         (run-levels fs (suc at) at (parentOf q above s fs) s (s ∷ path) rest (suc d)
         (ap (λ (i : ℕ). drop (rowWidth * i) numbers) first ∙ behind-rows at 1 (row at up q above path s fs) (run ++ rest) own (length-row at up q above path s fs))
-        (own-fields at up q above path s fs _ own d (omega (arith, counted-most (repetition s), u .low)))
+        (own-fields at up q above path s fs _ own d (omega (arith, one-most (isOptionalOrRepeated (repetition s)), u .low)))
         k (omega arith))
 
     run-levels : (fs : Fields) (at up : ℕ) (q : Parent) (above : SlotBytes) (path : List SlotBytes) (rest : List ℕ) (d : ℕ) → drop (rowWidth * at) numbers ≡ runRowsFrom at up q above path fs ++ rest → Under path up at d → (k : ℕ) → k < length (listings fs) → InRow numbers (at + k) (getD (runDepths d fs) k 0)

@@ -89,24 +89,23 @@ module _ (b lent : List ℕ) (start n up : ℕ) (p : Parent) (above : SlotBytes)
         found = λ path g. r .found path g ∙ sym (run-rows b rows at left up q above path h k (r .claimed) next e room below m (w path g) o (placed m (rowWidth * next) (runRowsFrom next up o above path (runAt (slots b) next (left - 1)))) u refl);
       }
 
+-- a node's levels
+pub levels-are : (b : List ℕ) (at : ℕ) (s : Numbers) → Visited b at s → (path : List SlotBytes) (l own : Levels) → l ≡ levelsOf path → own ≡ levelsBelow l (s .repetition) → own ≡ levelsOf (slotAt b at ∷ path)
+unfolding numbersOf
+levels-are b at s v path l own g e = rw (e, g, v .numbers) (sym (levels-step (slotAt b at) path))
+
 module _ (b l : List ℕ) (at up : ℕ) (s : Numbers) (p : Parent) (above : SlotBytes) (v : Visited b at s) where
   -- what a node is to its fields
   pub parent-is : (n : Annotated) (u : Bool) (k : Kind) (own : ℕ) (q : Parent) → n ≡ annotatedBy s → u ≡ isMapParent p → k ≡ kindOf n u → own ≡ role p above (slotAt b at) (fieldsAt b at) → q ≡ parentBy (k .kind) own → q ≡ parentOf p above (slotAt b at) (fieldsAt b at)
   unfolding parentOf kind annotated
   parent-is n u k own q a w d o e = e ∙ rw (d, a, w, o, v .numbers)
 
-  module _ (path : List SlotBytes) (above-levels own-levels : Levels) (g : above-levels ≡ levelsOf path) (ls : own-levels ≡ levelsBelow above-levels (s .repetition)) where
-    -- a node's levels
-    pub levels-are : own-levels ≡ levelsOf (slotAt b at ∷ path)
-    unfolding numbersOf
-    levels-are = rw (ls, g, v .numbers) (sym (levels-step (slotAt b at) path))
-
-    -- a node's row
-    pub row-is : (n : Annotated) (u : Bool) (k : Kind) (own next bytes : ℕ) → n ≡ annotatedBy s → u ≡ isMapParent p → k ≡ kindOf n u → own ≡ role p above (slotAt b at) (fieldsAt b at) → next ≡ at + size (treeAt (slots b) at) → bytes ≡ natural (n .«type_length»)
-        → s .physical ∷ bytes ∷ s .repetition ∷ k .kind ∷ k .p1 ∷ k .p2 ∷ up ∷ next ∷ own ∷ own-levels .definition ∷ own-levels .repetition ∷ [] ≡ row at up p above path (slotAt b at) (fieldsAt b at)
-    unfolding row kind annotated numbersOf
-    row-is n u k own next bytes a w d o e t =
-        rw (t, d, a, w, o, levels-are, v .numbers, e, treeAt-slot b at (v .claimed) (v .below))
+  -- a node's row
+  pub row-is : (path : List SlotBytes) (levels : Levels) → levels ≡ levelsOf (slotAt b at ∷ path) → (n : Annotated) (u : Bool) (k : Kind) (own next bytes : ℕ) → n ≡ annotatedBy s → u ≡ isMapParent p → k ≡ kindOf n u → own ≡ role p above (slotAt b at) (fieldsAt b at) → next ≡ at + size (treeAt (slots b) at) → bytes ≡ natural (n .«type_length»)
+      → s .physical ∷ bytes ∷ s .repetition ∷ k .kind ∷ k .p1 ∷ k .p2 ∷ up ∷ next ∷ own ∷ levels .definition ∷ levels .repetition ∷ [] ≡ row at up p above path (slotAt b at) (fieldsAt b at)
+  unfolding row kind annotated numbersOf
+  row-is path levels g n u k own next bytes a w d o e t =
+      rw (t, d, a, w, o, g, v .numbers, e, treeAt-slot b at (v .claimed) (v .below))
 
   module _ (path : List SlotBytes) (f : rowWidth * totalOf b ≤ length l) (q : Parent) (w : q ≡ parentOf p above (slotAt b at) (fieldsAt b at)) (m : List ℕ) (e : m ≡ placed l (rowWidth * (at + 1)) (runRowsFrom (at + 1) at q (slotAt b at) (slotAt b at ∷ path) (runAt (slots b) (at + 1) (s .children)))) where
     rest : List ℕ

@@ -1,5 +1,6 @@
 // The levels of a node.
 ghost use mathlib.Core.Path.{_≡_};
+ghost use mathlib.Core.Bool.{cond};
 ghost use Rattle.sheet.specs.Block.{mostNodes};
 ghost use Rattle.schema.specs.Steps.{AtMost, levelsBelow};
 use parquet::repetition;
@@ -15,17 +16,16 @@ pub(crate) fn levels_below(above: Levels, code: u8) -> Levels
     requires { ⌜ AtMost mostNodes above ⌝ }
     ensures { λ r. ⌜ r ≡ levelsBelow above code ⌝ }
 {
-    if code == repetition::REPEATED {
-        return Levels {
-            definition: above.definition + 1,
-            repetition: above.repetition + 1,
-        };
+    let counted = one_if((code == repetition::OPTIONAL) | (code == repetition::REPEATED));
+    let repeated = one_if(code == repetition::REPEATED);
+    Levels {
+        definition: above.definition + counted,
+        repetition: above.repetition + repeated,
     }
-    if code == repetition::OPTIONAL {
-        return Levels {
-            definition: above.definition + 1,
-            repetition: above.repetition,
-        };
-    }
-    above
+}
+
+fn one_if(counts: bool) -> u32
+    ensures { λ r. ⌜ r ≡ cond counts 1 0 ⌝ }
+{
+    if counts { 1 } else { 0 }
 }

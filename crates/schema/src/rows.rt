@@ -1,6 +1,6 @@
 // The rows of a tree, written from a node to its run and back.
 ghost use mathlib.Core.Path.{_≡_};
-ghost use mathlib.Core.List.{List};
+ghost use mathlib.Core.List.{List, _∷_};
 ghost use Prim.Native.Nat.{_+_, _*_, _≤_, _<_};
 ghost use lib.ListN.{length, drop};
 ghost use Rattle.sheet.specs.Block.{totalOf};
@@ -60,14 +60,16 @@ pub(crate) fn write_run(
     let mut left = count;
     let mut above = parent;
     while left > 0 {
-        at = write_tree(sheet, rows, at, up, above, levels);
+        let field = sheet::slot_at(sheet, at);
+        let own = levels_below(levels, field.repetition);
+        at = write_tree(sheet, rows, at, up, above, own);
         above = after_first(above);
         left = left - 1;
     }
     at
 }
 
-// Writes the rows of the tree at a number, under the node at up, which has these levels, and answers where the next tree stands.
+// Writes the rows of the tree at a number, which has these levels, under the node at up, and answers where the next tree stands.
 fn write_tree(
     sheet: &[u8],
     rows: &mut [u32],
@@ -80,16 +82,24 @@ fn write_tree(
     requires { ⌜ at < totalOf (now sheet) ⌝ }
     requires { ⌜ up < totalOf (now sheet) ⌝ }
     requires { ⌜ rowWidth * totalOf (now sheet) ≤ length (now rows) ⌝ }
-    requires { ⌜ AtMost at levels ⌝ }
+    requires { ⌜ AtMost (at + 1) levels ⌝ }
     ensures { λ r. ⌜ r ≡ at + size (treeAt (slots (now (sheet .entry))) at) ⌝ }
-    ensures { λ _. ⌜ ((path : List SlotBytes) → levels ≡ levelsOf path → now (rows .exit) ≡ placed (now (rows .entry)) (rowWidth * at) (rowsFrom at up parent (slotAt (now (sheet .entry)) up) path (treeAt (slots (now (sheet .entry))) at))) ⌝ }
+    ensures { λ _. ⌜ ((path : List SlotBytes) → levels ≡ levelsOf (slotAt (now (sheet .entry)) at ∷ path) → now (rows .exit) ≡ placed (now (rows .entry)) (rowWidth * at) (rowsFrom at up parent (slotAt (now (sheet .entry)) up) path (treeAt (slots (now (sheet .entry))) at))) ⌝ }
 {
     let s = sheet::slot_at(sheet, at);
     let n = annotated(s);
     let kind = annotation::resolved_kind(n, is_map_parent(parent));
     let own = role(sheet, up, at, s, parent);
-    let below = levels_below(levels, s.repetition);
-    let next = write_fields(sheet, rows, at + 1, s.children as usize, at, kind.kind, own, below);
+    let next = write_fields(
+        sheet,
+        rows,
+        at + 1,
+        s.children as usize,
+        at,
+        kind.kind,
+        own,
+        levels,
+    );
     write_row(
         rows,
         ROW_WIDTH * at,
@@ -103,7 +113,7 @@ fn write_tree(
             parent: up as u32,
             end: next as u32,
             role: own,
-            levels: below,
+            levels: levels,
         },
     );
     next

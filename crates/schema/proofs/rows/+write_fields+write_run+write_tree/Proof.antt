@@ -121,6 +121,10 @@ abbrev write-run-μ-loop : write-run-lts.MeasureT-loop
 write-run-μ-loop sheet rows₀ start count up levels at₀ left₀ above₀ rows at left above = left
 
 write-run-loop-holds : (t : ℕ) → write-run-lts.Need-loop-holds (
+  slot-at-reads.Asked,
+  slot-at-reads.Learnt,
+  levels-below-reads.Asked,
+  levels-below-reads.Learnt,
   write-tree-below t,
   write-tree.Post,
   after-first-reads.Asked,
@@ -128,20 +132,58 @@ write-run-loop-holds : (t : ℕ) → write-run-lts.Need-loop-holds (
 ) (write-run-at t) write-run.Post write-run-Inv-loop write-run-μ-loop
 write-run-loop-holds t c = behind-start _ _ _ _ _ _ _ _ (c .before .before .pre .1 .1 .0)
 
+write-run-slot-at-requires : (t : ℕ) → write-run-lts.Need-slot-at-requires (
+  slot-at-reads.Asked,
+  slot-at-reads.Learnt,
+  levels-below-reads.Asked,
+  levels-below-reads.Learnt,
+  write-tree-below t,
+  write-tree.Post,
+  after-first-reads.Asked,
+  after-first-reads.Learnt,
+) (write-run-at t) write-run.Post write-run-Inv-loop write-run-μ-loop
+write-run-slot-at-requires t c κs = search needs
+
+write-run-levels-below-requires : (t : ℕ) → write-run-lts.Need-levels-below-requires (
+  slot-at-reads.Asked,
+  slot-at-reads.Learnt,
+  levels-below-reads.Asked,
+  levels-below-reads.Learnt,
+  write-tree-below t,
+  write-tree.Post,
+  after-first-reads.Asked,
+  after-first-reads.Learnt,
+) (write-run-at t) write-run.Post write-run-Inv-loop write-run-μ-loop
+write-run-levels-below-requires t c κs =
+    let start = c .before .before .before .before .before in
+    let loop = c .before .before .loop in
+    let some : loop .left ≡ 0 → ⊥ = λ e. omega (arith, c .before .loop-test .taken) in
+    let below = run-below (start .args .sheet .now) (loop .at) (loop .left) (start .pre .1 .0) some (loop .inv .claimed) in
+    at-most _ _ _ (start .pre .1 .1 .1 .1 .1) (omega (arith, loop .inv .reached, below, start .pre .1 .0 .most))
+
 write-run-write-tree-requires : (t : ℕ) → write-run-lts.Need-write-tree-requires (
+  slot-at-reads.Asked,
+  slot-at-reads.Learnt,
+  levels-below-reads.Asked,
+  levels-below-reads.Learnt,
   write-tree-below t,
   write-tree.Post,
   after-first-reads.Asked,
   after-first-reads.Learnt,
 ) (write-run-at t) write-run.Post write-run-Inv-loop write-run-μ-loop
 write-run-write-tree-requires t c κs =
-    let start = c .before .before .before .before .before in
-    let loop = c .before .before .loop in
-    let some : loop .left ≡ 0 → ⊥ = λ e. omega (arith, c .before .loop-test .taken) in
+    let start = c .before .before .before .before .before .before .before in
+    let loop = c .before .before .before .before .loop in
+    let some : loop .left ≡ 0 → ⊥ = λ e. omega (arith, c .before .before .before .loop-test .taken) in
     let below = run-below (start .args .sheet .now) (loop .at) (loop .left) (start .pre .1 .0) some (loop .inv .claimed) in
-    (tree-falls _ _ _ _ (loop .inv .reached) (start .pre .0), (start .pre .1 .0, (below, (start .pre .1 .1 .1 .0, (long-enough _ _ _ (start .pre .1 .1 .1 .1 .0) (loop .inv .long), at-most _ _ _ (start .pre .1 .1 .1 .1 .1) (loop .inv .reached))))))
+    let levels = below-most _ _ _ _ (at-most _ _ _ (start .pre .1 .1 .1 .1 .1) (loop .inv .reached)) (c .before .levels-below .ensures) in
+    (tree-falls _ _ _ _ (loop .inv .reached) (start .pre .0), (start .pre .1 .0, (below, (start .pre .1 .1 .1 .0, (long-enough _ _ _ (start .pre .1 .1 .1 .1 .0) (loop .inv .long), levels)))))
 
 write-run-after-first-requires : (t : ℕ) → write-run-lts.Need-after-first-requires (
+  slot-at-reads.Asked,
+  slot-at-reads.Learnt,
+  levels-below-reads.Asked,
+  levels-below-reads.Learnt,
   write-tree-below t,
   write-tree.Post,
   after-first-reads.Asked,
@@ -150,35 +192,55 @@ write-run-after-first-requires : (t : ℕ) → write-run-lts.Need-after-first-re
 write-run-after-first-requires t c κs = search needs
 
 write-run-sub-left : (t : ℕ) → write-run-lts.Need-sub-left (
+  slot-at-reads.Asked,
+  slot-at-reads.Learnt,
+  levels-below-reads.Asked,
+  levels-below-reads.Learnt,
   write-tree-below t,
   write-tree.Post,
   after-first-reads.Asked,
   after-first-reads.Learnt,
 ) (write-run-at t) write-run.Post write-run-Inv-loop write-run-μ-loop
-write-run-sub-left t c = omega (arith, c .before .before .before .before .before .loop-test .taken)
+write-run-sub-left t c = omega (arith, c .before .before .before .before .before .before .before .loop-test .taken)
 
 write-run-loop-less : (t : ℕ) → write-run-lts.Need-loop-less (
+  slot-at-reads.Asked,
+  slot-at-reads.Learnt,
+  levels-below-reads.Asked,
+  levels-below-reads.Learnt,
   write-tree-below t,
   write-tree.Post,
   after-first-reads.Asked,
   after-first-reads.Learnt,
 ) (write-run-at t) write-run.Post write-run-Inv-loop write-run-μ-loop
-write-run-loop-less t c = omega (arith, c .before .before .before .before .before .loop-test .taken)
+write-run-loop-less t c = omega (arith, c .before .before .before .before .before .before .before .loop-test .taken)
 
 write-run-loop-again : (t : ℕ) → write-run-lts.Need-loop-again (
+  slot-at-reads.Asked,
+  slot-at-reads.Learnt,
+  levels-below-reads.Asked,
+  levels-below-reads.Learnt,
   write-tree-below t,
   write-tree.Post,
   after-first-reads.Asked,
   after-first-reads.Learnt,
 ) (write-run-at t) write-run.Post write-run-Inv-loop write-run-μ-loop
 write-run-loop-again t c =
-    let start = c .before .before .before .before .before .before .before .before .before in
-    let loop = c .before .before .before .before .before .before .loop in
+    let start = c .before .before .before .before .before .before .before .before .before .before .before in
+    let loop = c .before .before .before .before .before .before .before .before .loop in
     let tree = c .before .before .before .write-tree in
-    let some : loop .left ≡ 0 → ⊥ = λ e. omega (arith, c .before .before .before .before .before .loop-test .taken) in
-    behind-next _ _ _ _ _ _ _ _ _ _ _ _ (loop .inv) (start .pre .1 .0) (start .pre .1 .1 .1 .1 .0) some _ _ _ (tree .ensures .0) (tree .ensures .1) (tree .kept .1 .0) (c .after-first .ensures)
+    let some : loop .left ≡ 0 → ⊥ = λ e. omega (arith, c .before .before .before .before .before .before .before .loop-test .taken) in
+    let below = run-below (start .args .sheet .now) (loop .at) (loop .left) (start .pre .1 .0) some (loop .inv .claimed) in
+    let visited : Visited (start .args .sheet .now) (loop .at) (c .before .before .before .before .before .before .slot-at .result) = record { claimed = start .pre .1 .0; below = below; numbers = c .before .before .before .before .before .before .slot-at .ensures } in
+    behind-next _ _ _ _ _ _ _ _ _ _ _ _ (loop .inv) (start .pre .1 .0) (start .pre .1 .1 .1 .1 .0) some _ _ _ (tree .ensures .0)
+    (λ path g. tree .ensures .1 path (levels-are _ _ _ visited path _ _ g (c .before .before .before .before .before .levels-below .ensures)))
+    (tree .kept .1 .0) (c .after-first .ensures)
 
 write-run-same-length : (t : ℕ) → write-run-lts.Need-same-length (
+  slot-at-reads.Asked,
+  slot-at-reads.Learnt,
+  levels-below-reads.Asked,
+  levels-below-reads.Learnt,
   write-tree-below t,
   write-tree.Post,
   after-first-reads.Asked,
@@ -187,6 +249,10 @@ write-run-same-length : (t : ℕ) → write-run-lts.Need-same-length (
 write-run-same-length t c = c .before .loop .inv .long
 
 write-run-returns : (t : ℕ) → write-run-lts.Need-returns (
+  slot-at-reads.Asked,
+  slot-at-reads.Learnt,
+  levels-below-reads.Asked,
+  levels-below-reads.Learnt,
   write-tree-below t,
   write-tree.Post,
   after-first-reads.Asked,
@@ -205,8 +271,6 @@ write-tree-slot-at-requires : (t : ℕ) → write-tree-lts.Need-slot-at-requires
   resolved-kind-reads.Learnt,
   role-reads.Asked,
   role-reads.Learnt,
-  levels-below-reads.Asked,
-  levels-below-reads.Learnt,
   write-fields-below t,
   write-fields.Post,
   type-length-reads.Asked,
@@ -227,8 +291,6 @@ write-tree-annotated-requires : (t : ℕ) → write-tree-lts.Need-annotated-requ
   resolved-kind-reads.Learnt,
   role-reads.Asked,
   role-reads.Learnt,
-  levels-below-reads.Asked,
-  levels-below-reads.Learnt,
   write-fields-below t,
   write-fields.Post,
   type-length-reads.Asked,
@@ -249,8 +311,6 @@ write-tree-is-map-parent-requires : (t : ℕ) → write-tree-lts.Need-is-map-par
   resolved-kind-reads.Learnt,
   role-reads.Asked,
   role-reads.Learnt,
-  levels-below-reads.Asked,
-  levels-below-reads.Learnt,
   write-fields-below t,
   write-fields.Post,
   type-length-reads.Asked,
@@ -271,8 +331,6 @@ write-tree-resolved-kind-requires : (t : ℕ) → write-tree-lts.Need-resolved-k
   resolved-kind-reads.Learnt,
   role-reads.Asked,
   role-reads.Learnt,
-  levels-below-reads.Asked,
-  levels-below-reads.Learnt,
   write-fields-below t,
   write-fields.Post,
   type-length-reads.Asked,
@@ -293,8 +351,6 @@ write-tree-role-requires : (t : ℕ) → write-tree-lts.Need-role-requires (
   resolved-kind-reads.Learnt,
   role-reads.Asked,
   role-reads.Learnt,
-  levels-below-reads.Asked,
-  levels-below-reads.Learnt,
   write-fields-below t,
   write-fields.Post,
   type-length-reads.Asked,
@@ -303,30 +359,6 @@ write-tree-role-requires : (t : ℕ) → write-tree-lts.Need-role-requires (
   write-row-reads.Learnt,
 ) (write-tree-at t) write-tree.Post
 write-tree-role-requires t c κs = record { claimed = c .before .before .before .before .before .before .pre .1 .0; below = c .before .before .before .before .before .before .pre .1 .1 .0; numbers = c .before .before .before .slot-at .ensures }
-
-write-tree-levels-below-requires : (t : ℕ) → write-tree-lts.Need-levels-below-requires (
-  slot-at-reads.Asked,
-  slot-at-reads.Learnt,
-  annotated-reads.Asked,
-  annotated-reads.Learnt,
-  is-map-parent-reads.Asked,
-  is-map-parent-reads.Learnt,
-  resolved-kind-reads.Asked,
-  resolved-kind-reads.Learnt,
-  role-reads.Asked,
-  role-reads.Learnt,
-  levels-below-reads.Asked,
-  levels-below-reads.Learnt,
-  write-fields-below t,
-  write-fields.Post,
-  type-length-reads.Asked,
-  type-length-reads.Learnt,
-  write-row-reads.Asked,
-  write-row-reads.Learnt,
-) (write-tree-at t) write-tree.Post
-write-tree-levels-below-requires t c κs =
-    let start = c .before .before .before .before .before .before .before in
-    at-most _ _ _ (start .pre .1 .1 .1 .1 .1) (omega (arith, start .pre .1 .1 .0, start .pre .1 .0 .most))
 
 write-tree-add-write-fields : (t : ℕ) → write-tree-lts.Need-add-write-fields (
   slot-at-reads.Asked,
@@ -339,8 +371,6 @@ write-tree-add-write-fields : (t : ℕ) → write-tree-lts.Need-add-write-fields
   resolved-kind-reads.Learnt,
   role-reads.Asked,
   role-reads.Learnt,
-  levels-below-reads.Asked,
-  levels-below-reads.Learnt,
   write-fields-below t,
   write-fields.Post,
   type-length-reads.Asked,
@@ -348,7 +378,7 @@ write-tree-add-write-fields : (t : ℕ) → write-tree-lts.Need-add-write-fields
   write-row-reads.Asked,
   write-row-reads.Learnt,
 ) (write-tree-at t) write-tree.Post
-write-tree-add-write-fields t c = omega (arith, c .before .before .before .before .before .before .before .before .before .pre .1 .1 .0, c .before .before .before .before .before .before .before .before .before .pre .1 .0 .most)
+write-tree-add-write-fields t c = omega (arith, c .before .before .before .before .before .before .before .before .pre .1 .1 .0, c .before .before .before .before .before .before .before .before .pre .1 .0 .most)
 
 write-tree-cast-write-fields : (t : ℕ) → write-tree-lts.Need-cast-write-fields (
   slot-at-reads.Asked,
@@ -361,8 +391,6 @@ write-tree-cast-write-fields : (t : ℕ) → write-tree-lts.Need-cast-write-fiel
   resolved-kind-reads.Learnt,
   role-reads.Asked,
   role-reads.Learnt,
-  levels-below-reads.Asked,
-  levels-below-reads.Learnt,
   write-fields-below t,
   write-fields.Post,
   type-length-reads.Asked,
@@ -383,8 +411,6 @@ write-tree-write-fields-requires : (t : ℕ) → write-tree-lts.Need-write-field
   resolved-kind-reads.Learnt,
   role-reads.Asked,
   role-reads.Learnt,
-  levels-below-reads.Asked,
-  levels-below-reads.Learnt,
   write-fields-below t,
   write-fields.Post,
   type-length-reads.Asked,
@@ -393,9 +419,9 @@ write-tree-write-fields-requires : (t : ℕ) → write-tree-lts.Need-write-field
   write-row-reads.Learnt,
 ) (write-tree-at t) write-tree.Post
 write-tree-write-fields-requires t c κs =
-    let start = c .before .before .before .before .before .before .before .before .before .before in
-    let visited : Visited (start .args .sheet .now) (start .args .at) (c .before .before .before .before .before .before .before .slot-at .result) = record { claimed = start .pre .1 .0; below = start .pre .1 .1 .0; numbers = c .before .before .before .before .before .before .before .slot-at .ensures } in
-    (fields-falls _ _ _ (start .pre .1 .1 .0) (start .pre .0), (start .pre .1 .0, (children-claimed _ _ _ (visited .numbers) (visited .claimed) (visited .below), (start .pre .1 .1 .0, (start .pre .1 .1 .1 .1 .0, below-most _ _ _ _ (start .pre .1 .1 .1 .1 .1) (c .before .before .levels-below .ensures))))))
+    let start = c .before .before .before .before .before .before .before .before .before in
+    let visited : Visited (start .args .sheet .now) (start .args .at) (c .before .before .before .before .before .before .slot-at .result) = record { claimed = start .pre .1 .0; below = start .pre .1 .1 .0; numbers = c .before .before .before .before .before .before .slot-at .ensures } in
+    (fields-falls _ _ _ (start .pre .1 .1 .0) (start .pre .0), (start .pre .1 .0, (children-claimed _ _ _ (visited .numbers) (visited .claimed) (visited .below), (start .pre .1 .1 .0, (start .pre .1 .1 .1 .1 .0, start .pre .1 .1 .1 .1 .1)))))
 
 write-tree-mul-write-row : (t : ℕ) → write-tree-lts.Need-mul-write-row (
   slot-at-reads.Asked,
@@ -408,8 +434,6 @@ write-tree-mul-write-row : (t : ℕ) → write-tree-lts.Need-mul-write-row (
   resolved-kind-reads.Learnt,
   role-reads.Asked,
   role-reads.Learnt,
-  levels-below-reads.Asked,
-  levels-below-reads.Learnt,
   write-fields-below t,
   write-fields.Post,
   type-length-reads.Asked,
@@ -417,9 +441,9 @@ write-tree-mul-write-row : (t : ℕ) → write-tree-lts.Need-mul-write-row (
   write-row-reads.Asked,
   write-row-reads.Learnt,
 ) (write-tree-at t) write-tree.Post
-write-tree-mul-write-row t c = omega (arith, c .before .before .before .before .before .before .before .before .before .before .before .before .before .before .pre .1 .1 .0, c .before .before .before .before .before .before .before .before .before .before .before .before .before .before .pre .1 .0 .most)
+write-tree-mul-write-row t c = omega (arith, c .before .before .before .before .before .before .before .before .before .before .before .before .before .pre .1 .1 .0, c .before .before .before .before .before .before .before .before .before .before .before .before .before .pre .1 .0 .most)
 
-write-tree-cast-t21 : (t : ℕ) → write-tree-lts.Need-cast-t21 (
+write-tree-cast-t20 : (t : ℕ) → write-tree-lts.Need-cast-t20 (
   slot-at-reads.Asked,
   slot-at-reads.Learnt,
   annotated-reads.Asked,
@@ -430,8 +454,6 @@ write-tree-cast-t21 : (t : ℕ) → write-tree-lts.Need-cast-t21 (
   resolved-kind-reads.Learnt,
   role-reads.Asked,
   role-reads.Learnt,
-  levels-below-reads.Asked,
-  levels-below-reads.Learnt,
   write-fields-below t,
   write-fields.Post,
   type-length-reads.Asked,
@@ -439,7 +461,7 @@ write-tree-cast-t21 : (t : ℕ) → write-tree-lts.Need-cast-t21 (
   write-row-reads.Asked,
   write-row-reads.Learnt,
 ) (write-tree-at t) write-tree.Post
-write-tree-cast-t21 t c = search needs
+write-tree-cast-t20 t c = search needs
 
 write-tree-type-length-requires : (t : ℕ) → write-tree-lts.Need-type-length-requires (
   slot-at-reads.Asked,
@@ -452,8 +474,6 @@ write-tree-type-length-requires : (t : ℕ) → write-tree-lts.Need-type-length-
   resolved-kind-reads.Learnt,
   role-reads.Asked,
   role-reads.Learnt,
-  levels-below-reads.Asked,
-  levels-below-reads.Learnt,
   write-fields-below t,
   write-fields.Post,
   type-length-reads.Asked,
@@ -462,6 +482,26 @@ write-tree-type-length-requires : (t : ℕ) → write-tree-lts.Need-type-length-
   write-row-reads.Learnt,
 ) (write-tree-at t) write-tree.Post
 write-tree-type-length-requires t c κs = search needs
+
+write-tree-cast-t22 : (t : ℕ) → write-tree-lts.Need-cast-t22 (
+  slot-at-reads.Asked,
+  slot-at-reads.Learnt,
+  annotated-reads.Asked,
+  annotated-reads.Learnt,
+  is-map-parent-reads.Asked,
+  is-map-parent-reads.Learnt,
+  resolved-kind-reads.Asked,
+  resolved-kind-reads.Learnt,
+  role-reads.Asked,
+  role-reads.Learnt,
+  write-fields-below t,
+  write-fields.Post,
+  type-length-reads.Asked,
+  type-length-reads.Learnt,
+  write-row-reads.Asked,
+  write-row-reads.Learnt,
+) (write-tree-at t) write-tree.Post
+write-tree-cast-t22 t c = search needs
 
 write-tree-cast-t23 : (t : ℕ) → write-tree-lts.Need-cast-t23 (
   slot-at-reads.Asked,
@@ -474,8 +514,6 @@ write-tree-cast-t23 : (t : ℕ) → write-tree-lts.Need-cast-t23 (
   resolved-kind-reads.Learnt,
   role-reads.Asked,
   role-reads.Learnt,
-  levels-below-reads.Asked,
-  levels-below-reads.Learnt,
   write-fields-below t,
   write-fields.Post,
   type-length-reads.Asked,
@@ -483,7 +521,7 @@ write-tree-cast-t23 : (t : ℕ) → write-tree-lts.Need-cast-t23 (
   write-row-reads.Asked,
   write-row-reads.Learnt,
 ) (write-tree-at t) write-tree.Post
-write-tree-cast-t23 t c = search needs
+write-tree-cast-t23 t c = omega (arith, c .before .before .before .before .before .before .before .before .before .before .before .before .before .before .before .before .pre .1 .1 .1 .0, c .before .before .before .before .before .before .before .before .before .before .before .before .before .before .before .before .pre .1 .0 .most)
 
 write-tree-cast-t24 : (t : ℕ) → write-tree-lts.Need-cast-t24 (
   slot-at-reads.Asked,
@@ -496,8 +534,6 @@ write-tree-cast-t24 : (t : ℕ) → write-tree-lts.Need-cast-t24 (
   resolved-kind-reads.Learnt,
   role-reads.Asked,
   role-reads.Learnt,
-  levels-below-reads.Asked,
-  levels-below-reads.Learnt,
   write-fields-below t,
   write-fields.Post,
   type-length-reads.Asked,
@@ -505,31 +541,9 @@ write-tree-cast-t24 : (t : ℕ) → write-tree-lts.Need-cast-t24 (
   write-row-reads.Asked,
   write-row-reads.Learnt,
 ) (write-tree-at t) write-tree.Post
-write-tree-cast-t24 t c = omega (arith, c .before .before .before .before .before .before .before .before .before .before .before .before .before .before .before .before .before .pre .1 .1 .1 .0, c .before .before .before .before .before .before .before .before .before .before .before .before .before .before .before .before .before .pre .1 .0 .most)
-
-write-tree-cast-t25 : (t : ℕ) → write-tree-lts.Need-cast-t25 (
-  slot-at-reads.Asked,
-  slot-at-reads.Learnt,
-  annotated-reads.Asked,
-  annotated-reads.Learnt,
-  is-map-parent-reads.Asked,
-  is-map-parent-reads.Learnt,
-  resolved-kind-reads.Asked,
-  resolved-kind-reads.Learnt,
-  role-reads.Asked,
-  role-reads.Learnt,
-  levels-below-reads.Asked,
-  levels-below-reads.Learnt,
-  write-fields-below t,
-  write-fields.Post,
-  type-length-reads.Asked,
-  type-length-reads.Learnt,
-  write-row-reads.Asked,
-  write-row-reads.Learnt,
-) (write-tree-at t) write-tree.Post
-write-tree-cast-t25 t c =
-    let start = c .before .before .before .before .before .before .before .before .before .before .before .before .before .before .before .before .before in
-    let visited : Visited (start .args .sheet .now) (start .args .at) (c .before .before .before .before .before .before .before .before .before .before .before .before .before .before .slot-at .result) = record { claimed = start .pre .1 .0; below = start .pre .1 .1 .0; numbers = c .before .before .before .before .before .before .before .before .before .before .before .before .before .before .slot-at .ensures } in
+write-tree-cast-t24 t c =
+    let start = c .before .before .before .before .before .before .before .before .before .before .before .before .before .before .before .before in
+    let visited : Visited (start .args .sheet .now) (start .args .at) (c .before .before .before .before .before .before .before .before .before .before .before .before .before .slot-at .result) = record { claimed = start .pre .1 .0; below = start .pre .1 .1 .0; numbers = c .before .before .before .before .before .before .before .before .before .before .before .before .before .slot-at .ensures } in
     let end = tree-end (start .args .sheet .now) (start .args .at) _ visited _ (c .before .before .before .before .before .before .write-fields .ensures .0) in
     omega (arith, tree-within (start .args .sheet .now) (start .args .at) (start .pre .1 .0) (start .pre .1 .1 .0), start .pre .1 .0 .most, end)
 
@@ -544,8 +558,6 @@ write-tree-write-row-requires : (t : ℕ) → write-tree-lts.Need-write-row-requ
   resolved-kind-reads.Learnt,
   role-reads.Asked,
   role-reads.Learnt,
-  levels-below-reads.Asked,
-  levels-below-reads.Learnt,
   write-fields-below t,
   write-fields.Post,
   type-length-reads.Asked,
@@ -553,7 +565,7 @@ write-tree-write-row-requires : (t : ℕ) → write-tree-lts.Need-write-row-requ
   write-row-reads.Asked,
   write-row-reads.Learnt,
 ) (write-tree-at t) write-tree.Post
-write-tree-write-row-requires t c κs = row-fits _ _ _ _ (c .before .before .before .before .before .before .before .before .before .before .before .before .before .before .before .before .before .pre .1 .1 .0) (c .before .before .before .before .before .before .before .before .before .before .before .before .before .before .before .before .before .pre .1 .1 .1 .1 .0) (c .before .before .before .before .before .before .write-fields .kept .1 .0)
+write-tree-write-row-requires t c κs = row-fits _ _ _ _ (c .before .before .before .before .before .before .before .before .before .before .before .before .before .before .before .before .pre .1 .1 .0) (c .before .before .before .before .before .before .before .before .before .before .before .before .before .before .before .before .pre .1 .1 .1 .1 .0) (c .before .before .before .before .before .before .write-fields .kept .1 .0)
 
 write-tree-same-length : (t : ℕ) → write-tree-lts.Need-same-length (
   slot-at-reads.Asked,
@@ -566,8 +578,6 @@ write-tree-same-length : (t : ℕ) → write-tree-lts.Need-same-length (
   resolved-kind-reads.Learnt,
   role-reads.Asked,
   role-reads.Learnt,
-  levels-below-reads.Asked,
-  levels-below-reads.Learnt,
   write-fields-below t,
   write-fields.Post,
   type-length-reads.Asked,
@@ -588,8 +598,6 @@ write-tree-returns : (t : ℕ) → write-tree-lts.Need-returns (
   resolved-kind-reads.Learnt,
   role-reads.Asked,
   role-reads.Learnt,
-  levels-below-reads.Asked,
-  levels-below-reads.Learnt,
   write-fields-below t,
   write-fields.Post,
   type-length-reads.Asked,
@@ -599,21 +607,21 @@ write-tree-returns : (t : ℕ) → write-tree-lts.Need-returns (
 ) (write-tree-at t) write-tree.Post
 unfolding rowNumbers
 write-tree-returns t c =
-    let start = c .before .before .before .before .before .before .before .before .before .before .before .before .before .before .before .before .before .before .before .before in
-    let visited : Visited (start .args .sheet .now) (start .args .at) (c .before .before .before .before .before .before .before .before .before .before .before .before .before .before .before .before .before .slot-at .result) = record { claimed = start .pre .1 .0; below = start .pre .1 .1 .0; numbers = c .before .before .before .before .before .before .before .before .before .before .before .before .before .before .before .before .before .slot-at .ensures } in
+    let start = c .before .before .before .before .before .before .before .before .before .before .before .before .before .before .before .before .before .before .before in
+    let visited : Visited (start .args .sheet .now) (start .args .at) (c .before .before .before .before .before .before .before .before .before .before .before .before .before .before .before .before .slot-at .result) = record { claimed = start .pre .1 .0; below = start .pre .1 .1 .0; numbers = c .before .before .before .before .before .before .before .before .before .before .before .before .before .before .before .before .slot-at .ensures } in
     let run = c .before .before .before .before .before .before .before .before .before .write-fields in
     let end = tree-end (start .args .sheet .now) (start .args .at) _ visited _ (run .ensures .0) in
     let above = slotAt (start .args .sheet .now) (start .args .up) in
-    let numbers = c .before .before .before .before .before .before .before .before .before .before .before .before .before .before .before .before .annotated .ensures in
-    let map = c .before .before .before .before .before .before .before .before .before .before .before .before .before .before .before .is-map-parent .ensures in
-    let kind = c .before .before .before .before .before .before .before .before .before .before .before .before .before .before .resolved-kind .ensures in
-    let own = c .before .before .before .before .before .before .before .before .before .before .before .before .before .role .ensures in
-    let below = parent-is (start .args .sheet .now) (start .args .rows .now) (start .args .at) (start .args .up) _ (start .args .parent) above visited _ _ _ _ _ numbers map kind own refl in
-    let levels = c .before .before .before .before .before .before .before .before .before .before .before .before .levels-below .ensures in
-    (end, λ path g.
-    let row = row-is (start .args .sheet .now) (start .args .rows .now) (start .args .at) (start .args .up) _ (start .args .parent) above visited path _ _ g levels _ _ _ _ _ _ numbers map kind own end (c .before .before .before .before .type-length .ensures) in
-    let fields = run .ensures .1 _ (levels-are (start .args .sheet .now) (start .args .rows .now) (start .args .at) (start .args .up) _ (start .args .parent) above visited path _ _ g levels) in
-    tree-rows (start .args .sheet .now) (start .args .rows .now) (start .args .at) (start .args .up) _ (start .args .parent) above visited path (start .pre .1 .1 .1 .1 .0) _ below _ fields _ _ row (c .before .before .write-row .ensures))
+    let numbers = c .before .before .before .before .before .before .before .before .before .before .before .before .before .before .before .annotated .ensures in
+    let map = c .before .before .before .before .before .before .before .before .before .before .before .before .before .before .is-map-parent .ensures in
+    let kind = c .before .before .before .before .before .before .before .before .before .before .before .before .before .resolved-kind .ensures in
+    let own = c .before .before .before .before .before .before .before .before .before .before .before .before .role .ensures in
+    let below = parent-is (start .args .sheet .now) (start .args .rows .now) (start .args .at) (start .args .up) _ (start .args .parent) above visited _ _ _ _ _ numbers map kind own refl in (
+      end,
+      λ path g.
+          let row = row-is (start .args .sheet .now) (start .args .rows .now) (start .args .at) (start .args .up) _ (start .args .parent) above visited path _ g _ _ _ _ _ _ numbers map kind own end (c .before .before .before .before .type-length .ensures) in
+          tree-rows (start .args .sheet .now) (start .args .rows .now) (start .args .at) (start .args .up) _ (start .args .parent) above visited path (start .pre .1 .1 .1 .1 .0) _ below _ (run .ensures .1 _ g) _ _ row (c .before .before .write-row .ensures),
+    )
 
 pub +write-fields+write-run+write-tree-spec : {M : Type 1} → statement M
 +write-fields+write-run+write-tree-spec =
@@ -631,6 +639,10 @@ pub +write-fields+write-run+write-tree-spec : {M : Type 1} → statement M
     (write-fields-same-length t)
     (write-fields-returns-2 t))
     (λ t. write-run-lts.spec (
+      slot-at-reads.Asked,
+      slot-at-reads.Learnt,
+      levels-below-reads.Asked,
+      levels-below-reads.Learnt,
       write-tree-below t,
       write-tree.Post,
       after-first-reads.Asked,
@@ -641,6 +653,8 @@ pub +write-fields+write-run+write-tree-spec : {M : Type 1} → statement M
     write-run-Inv-loop
     write-run-μ-loop
     (write-run-loop-holds t)
+    (write-run-slot-at-requires t)
+    (write-run-levels-below-requires t)
     (write-run-write-tree-requires t)
     (write-run-after-first-requires t)
     (write-run-sub-left t)
@@ -659,8 +673,6 @@ pub +write-fields+write-run+write-tree-spec : {M : Type 1} → statement M
       resolved-kind-reads.Learnt,
       role-reads.Asked,
       role-reads.Learnt,
-      levels-below-reads.Asked,
-      levels-below-reads.Learnt,
       write-fields-below t,
       write-fields.Post,
       type-length-reads.Asked,
@@ -675,16 +687,15 @@ pub +write-fields+write-run+write-tree-spec : {M : Type 1} → statement M
     (write-tree-is-map-parent-requires t)
     (write-tree-resolved-kind-requires t)
     (write-tree-role-requires t)
-    (write-tree-levels-below-requires t)
     (write-tree-add-write-fields t)
     (write-tree-cast-write-fields t)
     (write-tree-write-fields-requires t)
     (write-tree-mul-write-row t)
-    (write-tree-cast-t21 t)
+    (write-tree-cast-t20 t)
     (write-tree-type-length-requires t)
+    (write-tree-cast-t22 t)
     (write-tree-cast-t23 t)
     (write-tree-cast-t24 t)
-    (write-tree-cast-t25 t)
     (write-tree-write-row-requires t)
     (write-tree-same-length t)
     (write-tree-returns t)
