@@ -20,9 +20,6 @@ pub one-most : (b : Bool) → cond b 1 0 ≤ 1
 one-most true = omega arith
 one-most false = omega arith
 
-pub most-one : (b : Bool) (n : ℕ) → n ≡ cond b 1 0 → n ≤ 1
-most-one b n e = omega (arith, one-most b)
-
 pub below-most : (n : ℕ) (l o : Levels) (code : ℕ) → AtMost n l → o ≡ levelsBelow l code → AtMost (n + 1) o
 unfolding levelsBelow
 below-most n l o code h e =
