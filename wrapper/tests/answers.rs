@@ -29,7 +29,19 @@ fn rows_are_those_of_resolving() {
     assert_eq!(behind, [7]);
     let rows = rows(&sheet).expect("the sample is accepted");
     assert_eq!(rows.iter().flat_map(Row::numbers).collect::<Vec<_>>(), written);
-    let last = Row { physical: 6, type_length: 0, repetition: 1, kind: 1, p1: 0, p2: 0, parent: 2, end: 4, role: 2 };
+    let last = Row {
+        physical: 6,
+        type_length: 0,
+        repetition: 1,
+        kind: 1,
+        p1: 0,
+        p2: 0,
+        parent: 2,
+        end: 4,
+        role: 2,
+        definition_level: 2,
+        repetition_level: 1,
+    };
     assert_eq!(rows[3], last);
     assert_eq!(Row::from(last.numbers()), last);
 }
