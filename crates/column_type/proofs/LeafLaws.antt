@@ -36,7 +36,7 @@ use Rattle.column_type.proofs.FitsLaws.{isLeaf-upto}
 use Rattle.column_type.proofs.KeptLaws.{columnWith, InRange, kept-lawful}
 
 -- the column type in a row
-column-row : (at up : ℕ) (q : Parent) (above : SlotBytes) (path : List SlotBytes) (s : SlotBytes) (fs : Fields) (rest : List ℕ) → columnOf (row at up q above path s fs ++ rest) ≡ columnWith (annotated s) (kind (isMapParent q) s)
+column-row : (at up : ℕ) (q : Parent) (above : SlotBytes) (path : List Tree) (s : SlotBytes) (fs : Fields) (rest : List ℕ) → columnOf (row at up q above path s fs ++ rest) ≡ columnWith (annotated s) (kind (isMapParent q) s)
 unfolding columnOf row columnWith annotated numbersOf
 column-row at up q above path s fs rest = refl
 

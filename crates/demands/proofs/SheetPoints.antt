@@ -33,7 +33,7 @@ use Rattle.tree.specs.Annotated.{annotated, kind, rule9, rule10, rule11}
 use Rattle.tree.specs.Tree.{listing, count, size, depths}
 use Rattle.tree.specs.Rules.{isList, isMap, placeBelow, isNought, lengthShape, decimalShape, shape, rule8, namedElement, isRepeated, isElementGroup, holdsElement, listChild, listRun, listKept, rule12, rule13}
 use Rattle.tree.specs.Faults.{broken, faults}
-use Rattle.schema.specs.Levels.{howMany, levelsOf}
+use Rattle.schema.specs.Levels.{howMany}
 use Rattle.schema.specs.Rows.{listRole, role, parentBy, row, parentOf, rowsFrom, rows, rowWidth}
 use Rattle.tree.specs.Reading.{takeFields, dropFields, trees, firstTree, treeOf}
 use Rattle.tree.specs.OpenPlaces.{sum, openPlaces, isNoPlace}
@@ -69,12 +69,12 @@ example-accepted = refl
 
 -- with the levels of document 02's R-8
 pub example-rows : written (outcome exampleSheet (rowWidth * 4)) exampleSheet (replicate (rowWidth * 4) 0) ≡ exampleRows
-unfolding opened written rows rowsFrom row parentOf parentBy role listRole levelsOf howMany size listing
+unfolding opened written rows rowsFrom row parentOf parentBy role listRole howMany size listing
 example-rows = refl
 
 -- document 02, R-2
 pub repeated-rows : written (outcome repeatedSheet (rowWidth * 4)) repeatedSheet (replicate (rowWidth * 4) 0) ≡ repeatedRows
-unfolding opened written rows rowsFrom row parentOf parentBy role listRole levelsOf howMany size listing
+unfolding opened written rows rowsFrom row parentOf parentBy role listRole howMany size listing
 repeated-rows = refl
 
 -- "FIXED 1 precision 3: 11"

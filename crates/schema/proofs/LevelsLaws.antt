@@ -1,35 +1,39 @@
--- Levels: those of a node by its parent's, and how great they are.
+-- Levels: what one node more on a path adds.
 use Prim.Native.Nat.{ℕ, _+_, _≤_}
-use mathlib.Core.Path.{_≡_, refl}
+use mathlib.Core.Path.{_≡_}
 use mathlib.Core.Bool.{Bool, true, false, cond}
 use mathlib.Core.List.{List, _∷_}
 use native.Mathlib.Omega.{arith}
-use Rattle.sheet.specs.Slot.{repetition}
-use Rattle.tree.specs.Tree.{SlotBytes}
-use Rattle.schema.specs.Levels.{isOptionalOrRepeated, isRepeatedCode, howMany, levelsOf}
-use Rattle.schema.specs.Steps.{levelsBelow, AtMost}
-use Rattle.schema.specs.declared.levels.Levels.{Levels}
+use Rattle.sheet.specs.Slot.{slotAt, numbersOf}
+use Rattle.tree.specs.Tree.{Tree, node}
+use Rattle.tree.specs.Steps.{Visited, fieldsAt}
+use Rattle.sheet.specs.declared.slots.Slot.{Slot as Numbers}
+use Rattle.schema.specs.Levels.{isOptionalOrRepeated, isRepeatedCode, counted, howMany}
+use Rattle.schema.specs.Steps.{HasLevels, LevelsAtMost}
 
--- one node more on the path
-pub levels-step : (s : SlotBytes) (path : List SlotBytes) → levelsOf (s ∷ path) ≡ levelsBelow (levelsOf path) (repetition s)
-unfolding levelsOf howMany levelsBelow
-levels-step s path = refl
+-- one at the most
+pub counted-most : (counts : ℕ → Bool) (code : ℕ) → counted counts code ≤ 1
+counted-most counts code = on (counts code)
+  where
+    on : (b : Bool) → cond b 1 0 ≤ 1
+    on true = omega arith
+    on false = omega arith
 
--- it adds one to each at the most
-pub one-most : (b : Bool) → cond b 1 0 ≤ 1
-one-most true = omega arith
-one-most false = omega arith
+-- the levels of a node of a sheet, by its parent's
+module _ (b : List ℕ) (at : ℕ) (s : Numbers) (d r in-d in-r own-d own-r : ℕ) (a : in-d ≡ counted isOptionalOrRepeated (s .repetition)) (c : in-r ≡ counted isRepeatedCode (s .repetition)) (e : own-d ≡ d + in-d) (f : own-r ≡ r + in-r) where
+  pub levels-below : Visited b at s → (path : List Tree) → HasLevels path d r → HasLevels (node (slotAt b at) (fieldsAt b at) ∷ path) own-d own-r
+  unfolding howMany numbersOf
+  levels-below v path g =
+      record { definition-is = rw (e, g .definition-is, a, v .numbers); repetition-is = rw (f, g .repetition-is, c, v .numbers) }
 
-pub below-most : (n : ℕ) (l o : Levels) (code : ℕ) → AtMost n l → o ≡ levelsBelow l code → AtMost (n + 1) o
-unfolding levelsBelow
-below-most n l o code h e =
-    rw e
-    (record {
-      definition-most = omega (arith, h .definition-most, one-most (isOptionalOrRepeated code));
-      repetition-most = omega (arith, h .repetition-most, one-most (isRepeatedCode code));
-    })
+  pub levels-most : (n : ℕ) → LevelsAtMost n d r → LevelsAtMost (n + 1) own-d own-r
+  levels-most n h =
+      record {
+        definition-most = omega (arith, h .definition-most, e, a, counted-most isOptionalOrRepeated (s .repetition));
+        repetition-most = omega (arith, h .repetition-most, f, c, counted-most isRepeatedCode (s .repetition));
+      }
 
 -- levels that n nodes make are levels of more
-pub at-most : (n m : ℕ) (l : Levels) → AtMost n l → n ≤ m → AtMost m l
-at-most n m l h k =
+pub at-most : (n m d r : ℕ) → LevelsAtMost n d r → n ≤ m → LevelsAtMost m d r
+at-most n m d r h k =
     record { definition-most = omega (arith, h .definition-most); repetition-most = omega (arith, h .repetition-most) }

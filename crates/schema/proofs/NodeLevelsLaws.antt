@@ -21,14 +21,14 @@ use Rattle.tree.specs.Tree.{SlotBytes, Tree, Fields, node, empty, field, listin
 use Rattle.tree.specs.Rules.{isGroup, rootShape, lengthShape, decimalShape, shape, rule8, Keeps}
 use Rattle.tree.specs.declared.place.Place.the-variants.{Root}
 use Rattle.tree.proofs.JudgingLaws.{length-depths}
-use Rattle.schema.specs.Levels.{isOptionalOrRepeated, isRepeatedCode, counted, howMany, levelsOf}
+use Rattle.schema.specs.Levels.{isOptionalOrRepeated, isRepeatedCode, counted, howMany}
 use Rattle.schema.specs.Rows.{row, parentOf, afterFirst, rowsFrom, runRowsFrom, rows, rowWidth, numberIn}
 use Rattle.schema.specs.Outcome.{outcome, written}
 use Rattle.schema.specs.Demand.{IsTreeOf, Sound, EnoughOutput, Accepted}
 use Rattle.schema.specs.declared.roles.Parent.{Parent}
 use Rattle.schema.proofs.AcceptedLaws.{accepted-sound, accepted-enough}
 use Rattle.schema.proofs.DemandLaws.{accepted-exactly, rows-are}
-use Rattle.schema.proofs.LevelsLaws.{one-most}
+use Rattle.schema.proofs.LevelsLaws.{counted-most}
 use Rattle.schema.proofs.RowsLaws.{length-row, length-rowsFrom}
 
 -- the levels of a path ------------------------------------------------------------------------------------------------------
@@ -43,10 +43,10 @@ counted-ordered code = on (eqb code OPTIONAL) (eqb code REPEATED)
     on false true = omega arith
     on false false = omega arith
 
-levels-ordered : (path : List SlotBytes) → howMany isRepeatedCode path ≤ howMany isOptionalOrRepeated path
+levels-ordered : (path : List Tree) → howMany isRepeatedCode path ≤ howMany isOptionalOrRepeated path
 unfolding howMany
 levels-ordered [] = omega arith
-levels-ordered (s ∷ path) = omega (arith, levels-ordered path, counted-ordered (repetition s))
+levels-ordered (node s fs ∷ path) = omega (arith, levels-ordered path, counted-ordered (repetition s))
 
 -- a row among the numbers ----------------------------------------------------------------------------------------------------
 
@@ -60,13 +60,13 @@ pub record InRow (numbers : List ℕ) (k d : ℕ) : Type 0 where
 
 module _ (numbers : List ℕ) where
   -- the levels of a path stand in the row at `up`; what has that parent stands at `at` or after, at depth d
-  record Under (path : List SlotBytes) (up at d : ℕ) : Type 0 where
+  record Under (path : List Tree) (up at d : ℕ) : Type 0 where
     definition-stands : numberIn numbers up 9 ≡ howMany isOptionalOrRepeated path
     repetition-stands : numberIn numbers up 10 ≡ howMany isRepeatedCode path
     before : up < at
     low : suc (howMany isOptionalOrRepeated path) ≤ d
 
-  module _ (at up : ℕ) (q : Parent) (above : SlotBytes) (path : List SlotBytes) (s : SlotBytes) (fs : Fields) (rest : List ℕ) (e : drop (rowWidth * at) numbers ≡ row at up q above path s fs ++ rest) where
+  module _ (at up : ℕ) (q : Parent) (above : SlotBytes) (path : List Tree) (s : SlotBytes) (fs : Fields) (rest : List ℕ) (e : drop (rowWidth * at) numbers ≡ row at up q above path s fs ++ rest) where
     own-repetition : numberIn numbers at 2 ≡ repetition s
     unfolding numberIn row
     own-repetition = rw e
@@ -75,12 +75,12 @@ module _ (numbers : List ℕ) where
     unfolding numberIn row
     own-parent = rw e
 
-    own-definition : numberIn numbers at 9 ≡ howMany isOptionalOrRepeated (s ∷ path)
-    unfolding numberIn row levelsOf
+    own-definition : numberIn numbers at 9 ≡ howMany isOptionalOrRepeated (node s fs ∷ path)
+    unfolding numberIn row
     own-definition = rw e
 
-    own-repetitions : numberIn numbers at 10 ≡ howMany isRepeatedCode (s ∷ path)
-    unfolding numberIn row levelsOf
+    own-repetitions : numberIn numbers at 10 ≡ howMany isRepeatedCode (node s fs ∷ path)
+    unfolding numberIn row
     own-repetitions = rw e
 
     own-row : (d : ℕ) → Under path up at d → InRow numbers at d
@@ -90,12 +90,12 @@ module _ (numbers : List ℕ) where
           earlier = rw own-parent (u .before);
           definition-is = rw (own-parent, own-repetition, u .definition-stands) own-definition;
           repetition-is = rw (own-parent, own-repetition, u .repetition-stands) own-repetitions;
-          ordered = omega (arith, own-definition, own-repetitions, levels-ordered (s ∷ path));
-          most = omega (arith, own-definition, one-most (isOptionalOrRepeated (repetition s)), u .low);
+          ordered = omega (arith, own-definition, own-repetitions, levels-ordered (node s fs ∷ path));
+          most = omega (arith, own-definition, counted-most isOptionalOrRepeated (repetition s), u .low);
         }
 
     -- its fields have it for a parent
-    own-fields : (d : ℕ) → howMany isOptionalOrRepeated (s ∷ path) ≤ d → Under (s ∷ path) at (suc at) (suc d)
+    own-fields : (d : ℕ) → howMany isOptionalOrRepeated (node s fs ∷ path) ≤ d → Under (node s fs ∷ path) at (suc at) (suc d)
     own-fields d l =
         record { definition-stands = own-definition; repetition-stands = own-repetitions; before = omega arith; low = omega (arith, l) }
 
@@ -124,28 +124,28 @@ module _ (numbers : List ℕ) where
           let deep : getD (depths d t ++ runDepths d fs) k 0 ≡ getD (runDepths d fs) j 0 = ap (λ (i : ℕ). getD (depths d t ++ runDepths d fs) i 0) same ∙ getD-append-add (depths d t) (runDepths d fs) j 0 in
           rw (place, deep) (g j (omega arith))
 
-  later-field : (path : List SlotBytes) (up at d n : ℕ) → Under path up at d → Under path up (at + n) d
+  later-field : (path : List Tree) (up at d n : ℕ) → Under path up at d → Under path up (at + n) d
   later-field path up at d n u =
       record { definition-stands = u .definition-stands; repetition-stands = u .repetition-stands; before = omega (arith, u .before); low = u .low }
 
   mutual
     unfolding rowsFrom depths size listing howMany
 
-    tree-levels : (t : Tree) (at up : ℕ) (q : Parent) (above : SlotBytes) (path : List SlotBytes) (rest : List ℕ) (d : ℕ) → drop (rowWidth * at) numbers ≡ rowsFrom at up q above path t ++ rest → Under path up at d → (k : ℕ) → k < size t → InRow numbers (at + k) (getD (depths d t) k 0)
+    tree-levels : (t : Tree) (at up : ℕ) (q : Parent) (above : SlotBytes) (path : List Tree) (rest : List ℕ) (d : ℕ) → drop (rowWidth * at) numbers ≡ rowsFrom at up q above path t ++ rest → Under path up at d → (k : ℕ) → k < size t → InRow numbers (at + k) (getD (depths d t) k 0)
     tree-levels (node s fs) at up q above path rest d e u zero l =
         rw add-zero (own-row at up q above path s fs _ (e ∙ append-assoc (row at up q above path s fs) _ rest) d u)
     tree-levels (node s fs) at up q above path rest d e u (suc k) l =
-        let run = runRowsFrom (suc at) at (parentOf q above s fs) s (s ∷ path) fs in
+        let run = runRowsFrom (suc at) at (parentOf q above s fs) s (node s fs ∷ path) fs in
         let own = e ∙ append-assoc (row at up q above path s fs) run rest in
         let next : at + suc k ≡ suc at + k = omega arith in
         let first : suc at ≡ at + 1 = omega arith in
         subst (λ (i : ℕ). InRow numbers i (getD (runDepths (suc d) fs) k 0)) (sym next)
-        (run-levels fs (suc at) at (parentOf q above s fs) s (s ∷ path) rest (suc d)
+        (run-levels fs (suc at) at (parentOf q above s fs) s (node s fs ∷ path) rest (suc d)
         (ap (λ (i : ℕ). drop (rowWidth * i) numbers) first ∙ behind-rows at 1 (row at up q above path s fs) (run ++ rest) own (length-row at up q above path s fs))
-        (own-fields at up q above path s fs _ own d (omega (arith, one-most (isOptionalOrRepeated (repetition s)), u .low)))
+        (own-fields at up q above path s fs _ own d (omega (arith, counted-most isOptionalOrRepeated (repetition s), u .low)))
         k (omega arith))
 
-    run-levels : (fs : Fields) (at up : ℕ) (q : Parent) (above : SlotBytes) (path : List SlotBytes) (rest : List ℕ) (d : ℕ) → drop (rowWidth * at) numbers ≡ runRowsFrom at up q above path fs ++ rest → Under path up at d → (k : ℕ) → k < length (listings fs) → InRow numbers (at + k) (getD (runDepths d fs) k 0)
+    run-levels : (fs : Fields) (at up : ℕ) (q : Parent) (above : SlotBytes) (path : List Tree) (rest : List ℕ) (d : ℕ) → drop (rowWidth * at) numbers ≡ runRowsFrom at up q above path fs ++ rest → Under path up at d → (k : ℕ) → k < length (listings fs) → InRow numbers (at + k) (getD (runDepths d fs) k 0)
     run-levels empty at up q above path rest d e u k l = absurd (omega arith)
     run-levels (field t fs) at up q above path rest d e u k l =
         let first = rowsFrom at up q above path t in
@@ -173,17 +173,17 @@ root-none s fs e =
     (and-eq-true-iff group bare .0 (and-eq-true-iff (group && bare) old .0 (and-eq-true-iff (group && bare && old) new .0 kept .0) .0) .1)
 
 -- and so counts in neither level
-root-definition : (s : SlotBytes) → repetition s ≡ repetition.NONE → howMany isOptionalOrRepeated (s ∷ []) ≡ 0
+root-definition : (s : SlotBytes) (fs : Fields) → repetition s ≡ repetition.NONE → howMany isOptionalOrRepeated (node s fs ∷ []) ≡ 0
 unfolding howMany
-root-definition s e = rw e
+root-definition s fs e = rw e
 
-root-repetition : (s : SlotBytes) → repetition s ≡ repetition.NONE → howMany isRepeatedCode (s ∷ []) ≡ 0
+root-repetition : (s : SlotBytes) (fs : Fields) → repetition s ≡ repetition.NONE → howMany isRepeatedCode (node s fs ∷ []) ≡ 0
 unfolding howMany
-root-repetition s e = rw e
+root-repetition s fs e = rw e
 
 -- numbers that begin with the rows of a tree
 module _ (numbers rest : List ℕ) where
-  root-row : (s : SlotBytes) (fs : Fields) → numbers ≡ rows (node s fs) ++ rest → drop (rowWidth * 0) numbers ≡ row 0 0 Parent.Other [] [] s fs ++ (runRowsFrom 1 0 (parentOf Parent.Other [] s fs) s (s ∷ []) fs ++ rest)
+  root-row : (s : SlotBytes) (fs : Fields) → numbers ≡ rows (node s fs) ++ rest → drop (rowWidth * 0) numbers ≡ row 0 0 Parent.Other [] [] s fs ++ (runRowsFrom 1 0 (parentOf Parent.Other [] s fs) s (node s fs ∷ []) fs ++ rest)
   unfolding rows rowsFrom
   root-row s fs e = e ∙ append-assoc (row 0 0 Parent.Other [] [] s fs) _ rest
 
@@ -191,7 +191,7 @@ module _ (numbers rest : List ℕ) where
   unfolding Keeps
   root-levels (node s fs) e h =
       let none = root-none s fs (h .0 .shape) in
-      (own-definition numbers 0 0 Parent.Other [] [] s fs _ (root-row s fs e) ∙ root-definition s none, own-repetitions numbers 0 0 Parent.Other [] [] s fs _ (root-row s fs e) ∙ root-repetition s none)
+      (own-definition numbers 0 0 Parent.Other [] [] s fs _ (root-row s fs e) ∙ root-definition s fs none, own-repetitions numbers 0 0 Parent.Other [] [] s fs _ (root-row s fs e) ∙ root-repetition s fs none)
 
   field-levels : (t : Tree) → numbers ≡ rows t ++ rest → Keeps Root t → (k : ℕ) → suc k < size t → InRow numbers (suc k) (getD (depths 0 t) (suc k) 0)
   unfolding Keeps depths size listing
@@ -200,9 +200,9 @@ module _ (numbers rest : List ℕ) where
       let none = root-none s fs (h .0 .shape) in
       let next : 1 + k ≡ suc k = omega arith in
       rw next at
-      (run-levels numbers fs 1 0 (parentOf Parent.Other [] s fs) s (s ∷ []) rest 1
+      (run-levels numbers fs 1 0 (parentOf Parent.Other [] s fs) s (node s fs ∷ []) rest 1
       (behind-rows numbers 0 1 (row 0 0 Parent.Other [] [] s fs) _ own (length-row 0 0 Parent.Other [] [] s fs))
-      (own-fields numbers 0 0 Parent.Other [] [] s fs _ own 0 (omega (arith, root-definition s none)))
+      (own-fields numbers 0 0 Parent.Other [] [] s fs _ own 0 (omega (arith, root-definition s fs none)))
       k (omega arith))
 
 module _ (bytes lent : List ℕ) (accepted : Accepted (outcome bytes (length lent))) where

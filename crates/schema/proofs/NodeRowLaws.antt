@@ -21,7 +21,7 @@ pub record BeginsWith (s : SlotBytes) (numbers : List ℕ) : Type 0 where
   pub at : ℕ
   pub up : ℕ
   pub above : SlotBytes
-  pub path : List SlotBytes
+  pub path : List Tree
   pub fields : Fields
   pub rest : List ℕ
   pub keeps : KeepsAt place s fields
@@ -53,7 +53,7 @@ mutual
   unfolding Keeps rowsFrom listing size
 
   -- the row of node k stands at 11k
-  pub row-at : (t : Tree) (p : Place) (q : Parent) (at up : ℕ) (above : SlotBytes) (path : List SlotBytes) (rest : List ℕ) → Keeps p t → underMap p ≡ isMapParent q → (k : ℕ) → k < size t → BeginsWith (getD (listing t) k []) (drop (rowWidth * k) (rowsFrom at up q above path t ++ rest))
+  pub row-at : (t : Tree) (p : Place) (q : Parent) (at up : ℕ) (above : SlotBytes) (path : List Tree) (rest : List ℕ) → Keeps p t → underMap p ≡ isMapParent q → (k : ℕ) → k < size t → BeginsWith (getD (listing t) k []) (drop (rowWidth * k) (rowsFrom at up q above path t ++ rest))
   row-at (node s fs) p q at up above path rest h e zero l =
       record {
         place = p;
@@ -63,20 +63,20 @@ mutual
         above = above;
         path = path;
         fields = fs;
-        rest = runRowsFrom (suc at) at (parentOf q above s fs) s (s ∷ path) fs ++ rest;
+        rest = runRowsFrom (suc at) at (parentOf q above s fs) s (node s fs ∷ path) fs ++ rest;
         keeps = h .0;
         alike = e;
-        begins = append-assoc (row at up q above path s fs) (runRowsFrom (suc at) at (parentOf q above s fs) s (s ∷ path) fs) rest;
+        begins = append-assoc (row at up q above path s fs) (runRowsFrom (suc at) at (parentOf q above s fs) s (node s fs ∷ path) fs) rest;
       }
   row-at (node s fs) p q at up above path rest h e (suc k) l =
       let own = row at up q above path s fs in
-      let run = runRowsFrom (suc at) at (parentOf q above s fs) s (s ∷ path) fs in
+      let run = runRowsFrom (suc at) at (parentOf q above s fs) s (node s fs ∷ path) fs in
       let next : suc k ≡ 1 + k = omega arith in
       subst (BeginsWith (getD (listings fs) k []))
       (sym (ap (drop (rowWidth * suc k)) (append-assoc own run rest) ∙ rw next (drop-rows 1 k own (run ++ rest) (length-row at up q above path s fs))))
-      (row-in fs (placeBelow p s) (parentOf q above s fs) (suc at) at s (s ∷ path) rest (h .1) (map-below p q above s fs e) k (omega arith))
+      (row-in fs (placeBelow p s) (parentOf q above s fs) (suc at) at s (node s fs ∷ path) rest (h .1) (map-below p q above s fs e) k (omega arith))
 
-  row-in : (fs : Fields) (p : Place) (q : Parent) (at up : ℕ) (above : SlotBytes) (path : List SlotBytes) (rest : List ℕ) → KeepsAll p fs → underMap p ≡ isMapParent q → (k : ℕ) → k < length (listings fs) → BeginsWith (getD (listings fs) k []) (drop (rowWidth * k) (runRowsFrom at up q above path fs ++ rest))
+  row-in : (fs : Fields) (p : Place) (q : Parent) (at up : ℕ) (above : SlotBytes) (path : List Tree) (rest : List ℕ) → KeepsAll p fs → underMap p ≡ isMapParent q → (k : ℕ) → k < length (listings fs) → BeginsWith (getD (listings fs) k []) (drop (rowWidth * k) (runRowsFrom at up q above path fs ++ rest))
   row-in empty p q at up above path rest h e k l = absurd (omega arith)
   row-in (field t fs) p q at up above path rest h e k l =
       in-run (listing t) (listings fs) (rowsFrom at up q above path t) (runRowsFrom (at + size t) up (afterFirst q) above path fs) rest k (length-rowsFrom t at up q above path) l

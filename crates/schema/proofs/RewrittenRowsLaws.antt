@@ -12,13 +12,11 @@ use Rattle.tree.specs.Annotated.{kind}
 use Rattle.tree.specs.Tree.{SlotBytes, Tree, Fields, node, empty, field, listing, listings, size}
 use Rattle.tree.specs.Rules.{underMap, placeUnder, placeBelow, KeepsAt, Keeps, KeepsAll}
 use Rattle.schema.specs.Rows.{isMapParent, LIST-LAYER, KEY-VALUE-LAYER, listRole, ownRole, role, parentBy, parentOf, afterFirst, row, rowsFrom, runRowsFrom, rows}
-use Rattle.schema.specs.Levels.{levelsOf}
-use Rattle.schema.specs.Steps.{levelsBelow}
+use Rattle.schema.specs.Levels.{isOptionalOrRepeated, isRepeatedCode, howMany}
 use Rattle.tree.specs.declared.place.Place.{Place}
 use Rattle.tree.specs.declared.place.Place.the-variants.{Root, Field, MapField}
 use Rattle.schema.specs.declared.roles.Parent.{Parent}
 use Rattle.schema.specs.declared.roles.Parent.the-variants as parent
-use Rattle.schema.proofs.LevelsLaws.{levels-step}
 use Rattle.schema.proofs.RewrittenSlotLaws.{rewrittenSlot, slot-copied, kind-rewritten}
 use Rattle.schema.proofs.RewrittenTreeLaws.{rewrittenTree, rewrittenRun, Long, LongAll, resolves, element-group}
 
@@ -83,23 +81,22 @@ role-rewritten parent.Map above copy s fs p e = refl
 role-rewritten parent.KeyValue above copy s fs p e = refl
 role-rewritten parent.KeyValueRest above copy s fs p e = refl
 
--- and the same levels, below nodes of the same
-levels-rewritten : (under : Bool) (s : SlotBytes) (path copies : List SlotBytes) → levelsOf copies ≡ levelsOf path → levelsOf (rewrittenSlot under s ∷ copies) ≡ levelsOf (s ∷ path)
-levels-rewritten under s path copies g =
-    levels-step (rewrittenSlot under s) copies
-    ∙ ap₂ levelsBelow g (slot-copied under s .repetition-is)
-    ∙ sym (levels-step s path)
+-- and adds the same to its levels
+levels-rewritten : (under : Bool) (s : SlotBytes) (fs gs : Fields) (path copies : List Tree) → ((counts : ℕ → Bool) → howMany counts copies ≡ howMany counts path) → (counts : ℕ → Bool) → howMany counts (node (rewrittenSlot under s) gs ∷ copies) ≡ howMany counts (node s fs ∷ path)
+unfolding howMany
+levels-rewritten under s fs gs path copies g counts = rw (g counts, slot-copied under s .repetition-is)
 
 module _ (p : Place) (q : Parent) (above copy s : SlotBytes) (fs : Fields) (long : childCountAt ≤ length s) (h : KeepsAt p s fs) (agree : underMap p ≡ isMapParent q) (e : name copy ≡ name above) where
   kind-row : kind (isMapParent q) (rewrittenSlot (underMap p) s) ≡ kind (isMapParent q) s
   kind-row = rw (← agree) (kind-rewritten (underMap p) s (resolves p s fs long h))
 
   -- the same row
-  row-rewritten : (at up : ℕ) (path copies : List SlotBytes) → levelsOf copies ≡ levelsOf path → row at up q copy copies (rewrittenSlot (underMap p) s) (rewrittenRun (placeBelow p s) fs) ≡ row at up q above path s fs
+  row-rewritten : (at up : ℕ) (path copies : List Tree) → ((counts : ℕ → Bool) → howMany counts copies ≡ howMany counts path) → row at up q copy copies (rewrittenSlot (underMap p) s) (rewrittenRun (placeBelow p s) fs) ≡ row at up q above path s fs
   unfolding row rewrittenTree
   row-rewritten at up path copies g =
       let same = slot-copied (underMap p) s in
-      rw (levels-rewritten (underMap p) s path copies g, same .physical-is, same .typeLength-is, same .repetition-is, kind-row, size-rewritten (node s fs) p, role-rewritten q above copy s fs p e)
+      let levels = levels-rewritten (underMap p) s fs (rewrittenRun (placeBelow p s) fs) path copies g in
+      rw (levels isOptionalOrRepeated, levels isRepeatedCode, same .physical-is, same .typeLength-is, same .repetition-is, kind-row, size-rewritten (node s fs) p, role-rewritten q above copy s fs p e)
 
   -- and is the same to its fields
   parent-rewritten : parentOf q copy (rewrittenSlot (underMap p) s) (rewrittenRun (placeBelow p s) fs) ≡ parentOf q above s fs
@@ -109,15 +106,16 @@ module _ (p : Place) (q : Parent) (above copy s : SlotBytes) (fs : Fields) (long
 mutual
   unfolding rewrittenTree rowsFrom Keeps Long
 
-  rowsFrom-rewritten : (t : Tree) (p : Place) (q : Parent) (at up : ℕ) (above copy : SlotBytes) (path copies : List SlotBytes) → Long t → Keeps p t → underMap p ≡ isMapParent q → name copy ≡ name above → levelsOf copies ≡ levelsOf path → rowsFrom at up q copy copies (rewrittenTree p t) ≡ rowsFrom at up q above path t
+  rowsFrom-rewritten : (t : Tree) (p : Place) (q : Parent) (at up : ℕ) (above copy : SlotBytes) (path copies : List Tree) → Long t → Keeps p t → underMap p ≡ isMapParent q → name copy ≡ name above → ((counts : ℕ → Bool) → howMany counts copies ≡ howMany counts path) → rowsFrom at up q copy copies (rewrittenTree p t) ≡ rowsFrom at up q above path t
   rowsFrom-rewritten (node s fs) p q at up above copy path copies long h agree e g =
       let slot = rewrittenSlot (underMap p) s in
+      let run = rewrittenRun (placeBelow p s) fs in
       ap₂ _++_
       (row-rewritten p q above copy s fs (long .0) (h .0) agree e at up path copies g)
-      (ap (λ (o : Parent). runRowsFrom (suc at) at o slot (slot ∷ copies) (rewrittenRun (placeBelow p s) fs)) (parent-rewritten p q above copy s fs (long .0) (h .0) agree e)
-      ∙ runRowsFrom-rewritten fs (placeBelow p s) (parentOf q above s fs) (suc at) at s slot (s ∷ path) (slot ∷ copies) (long .1) (h .1) (map-below p q above s fs agree) (slot-copied (underMap p) s .name-is) (levels-rewritten (underMap p) s path copies g))
+      (ap (λ (o : Parent). runRowsFrom (suc at) at o slot (node slot run ∷ copies) run) (parent-rewritten p q above copy s fs (long .0) (h .0) agree e)
+      ∙ runRowsFrom-rewritten fs (placeBelow p s) (parentOf q above s fs) (suc at) at s slot (node s fs ∷ path) (node slot run ∷ copies) (long .1) (h .1) (map-below p q above s fs agree) (slot-copied (underMap p) s .name-is) (levels-rewritten (underMap p) s fs run path copies g))
 
-  runRowsFrom-rewritten : (fs : Fields) (p : Place) (q : Parent) (at up : ℕ) (above copy : SlotBytes) (path copies : List SlotBytes) → LongAll fs → KeepsAll p fs → underMap p ≡ isMapParent q → name copy ≡ name above → levelsOf copies ≡ levelsOf path → runRowsFrom at up q copy copies (rewrittenRun p fs) ≡ runRowsFrom at up q above path fs
+  runRowsFrom-rewritten : (fs : Fields) (p : Place) (q : Parent) (at up : ℕ) (above copy : SlotBytes) (path copies : List Tree) → LongAll fs → KeepsAll p fs → underMap p ≡ isMapParent q → name copy ≡ name above → ((counts : ℕ → Bool) → howMany counts copies ≡ howMany counts path) → runRowsFrom at up q copy copies (rewrittenRun p fs) ≡ runRowsFrom at up q above path fs
   runRowsFrom-rewritten empty p q at up above copy path copies long h agree e g = refl
   runRowsFrom-rewritten (field t fs) p q at up above copy path copies long h agree e g =
       ap₂ _++_
@@ -128,4 +126,4 @@ mutual
 -- a tree that keeps every rule has the same rows once it is rewritten
 pub rows-rewritten : (t : Tree) → Long t → Keeps Root t → rows (rewrittenTree Root t) ≡ rows t
 unfolding rows
-rows-rewritten t long h = rowsFrom-rewritten t Root parent.Other 0 0 [] [] [] [] long h refl refl refl
+rows-rewritten t long h = rowsFrom-rewritten t Root parent.Other 0 0 [] [] [] [] long h refl refl (λ counts. refl)

@@ -33,11 +33,11 @@ kindsIn-more (suc m) n zs =
 mutual
   unfolding rowsFrom row size listing judgedKinds kindsIn
 
-  tree-kinds : (t : Tree) (p : Place) (q : Parent) (at up : ℕ) (above : SlotBytes) (path : List SlotBytes) (rest : List ℕ) → underMap p ≡ isMapParent q → kindsIn (rowsFrom at up q above path t ++ rest) (size t) ≡ judgedKinds p t
+  tree-kinds : (t : Tree) (p : Place) (q : Parent) (at up : ℕ) (above : SlotBytes) (path : List Tree) (rest : List ℕ) → underMap p ≡ isMapParent q → kindsIn (rowsFrom at up q above path t ++ rest) (size t) ≡ judgedKinds p t
   tree-kinds (node s fs) p q at up above path rest e =
-      ap₂ _∷_ (ap (λ (b : Bool). kind b s) (sym e)) (run-kinds fs (placeBelow p s) (parentOf q above s fs) (suc at) at s (s ∷ path) rest (map-below p q above s fs e))
+      ap₂ _∷_ (ap (λ (b : Bool). kind b s) (sym e)) (run-kinds fs (placeBelow p s) (parentOf q above s fs) (suc at) at s (node s fs ∷ path) rest (map-below p q above s fs e))
 
-  run-kinds : (fs : Fields) (p : Place) (q : Parent) (at up : ℕ) (above : SlotBytes) (path : List SlotBytes) (rest : List ℕ) → underMap p ≡ isMapParent q → kindsIn (runRowsFrom at up q above path fs ++ rest) (length (listings fs)) ≡ runKinds p fs
+  run-kinds : (fs : Fields) (p : Place) (q : Parent) (at up : ℕ) (above : SlotBytes) (path : List Tree) (rest : List ℕ) → underMap p ≡ isMapParent q → kindsIn (runRowsFrom at up q above path fs ++ rest) (length (listings fs)) ≡ runKinds p fs
   run-kinds empty p q at up above path rest e = refl
   run-kinds (field t fs) p q at up above path rest e =
       let first = rowsFrom at up q above path t in

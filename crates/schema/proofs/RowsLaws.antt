@@ -8,19 +8,19 @@ use Rattle.tree.specs.Tree.{SlotBytes, Tree, Fields, node, empty, field, listin
 use Rattle.schema.specs.Rows.{row, rowsFrom, runRowsFrom, parentOf, afterFirst, rowWidth}
 use Rattle.schema.specs.declared.roles.Parent.{Parent}
 
-pub length-row : (at up : ℕ) (p : Parent) (above : SlotBytes) (path : List SlotBytes) (s : SlotBytes) (fs : Fields) → length (row at up p above path s fs) ≡ rowWidth
+pub length-row : (at up : ℕ) (p : Parent) (above : SlotBytes) (path : List Tree) (s : SlotBytes) (fs : Fields) → length (row at up p above path s fs) ≡ rowWidth
 unfolding row
 length-row at up p above path s fs = refl
 
 mutual
   unfolding rowsFrom size listing
 
-  pub length-rowsFrom : (t : Tree) (at up : ℕ) (p : Parent) (above : SlotBytes) (path : List SlotBytes) → length (rowsFrom at up p above path t) ≡ rowWidth * size t
+  pub length-rowsFrom : (t : Tree) (at up : ℕ) (p : Parent) (above : SlotBytes) (path : List Tree) → length (rowsFrom at up p above path t) ≡ rowWidth * size t
   length-rowsFrom (node s fs) at up p above path =
       length-append (row at up p above path s fs) _
-      ∙ (let a = length-row at up p above path s fs in let b = length-runRowsFrom fs (suc at) at (parentOf p above s fs) s (s ∷ path) in omega arith)
+      ∙ (let a = length-row at up p above path s fs in let b = length-runRowsFrom fs (suc at) at (parentOf p above s fs) s (node s fs ∷ path) in omega arith)
 
-  pub length-runRowsFrom : (fs : Fields) (at up : ℕ) (p : Parent) (above : SlotBytes) (path : List SlotBytes) → length (runRowsFrom at up p above path fs) ≡ rowWidth * length (listings fs)
+  pub length-runRowsFrom : (fs : Fields) (at up : ℕ) (p : Parent) (above : SlotBytes) (path : List Tree) → length (runRowsFrom at up p above path fs) ≡ rowWidth * length (listings fs)
   length-runRowsFrom empty at up p above path = refl
   length-runRowsFrom (field t fs) at up p above path =
       length-append (rowsFrom at up p above path t) _

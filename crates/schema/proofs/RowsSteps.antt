@@ -15,21 +15,18 @@ use Rattle.annotation.specs.Signed.{natural}
 use Rattle.annotation.specs.declared.slot.Annotated.{Annotated}
 use Rattle.annotation.specs.declared.resolution.Kind.{Kind}
 use Rattle.tree.specs.Annotated.{annotatedBy, annotated, kind}
-use Rattle.tree.specs.Tree.{SlotBytes, Tree, Fields, count, size}
+use Rattle.tree.specs.Tree.{SlotBytes, Tree, Fields, node, count, size}
 use Rattle.tree.specs.Reading.{trees}
 use Rattle.schema.specs.Rows.{isMapParent, role, parentBy, parentOf, afterFirst, row, rowsFrom, runRowsFrom, rowWidth}
 use Rattle.tree.specs.Steps.{Claimed, Visited, treeAt, runAt, fieldsAt, sizes}
-use Rattle.schema.specs.Levels.{levelsOf}
-use Rattle.schema.specs.Steps.{placed, levelsBelow}
-use Rattle.schema.specs.declared.levels.Levels.{Levels}
+use Rattle.schema.specs.Steps.{HasLevels, placed}
 use Rattle.schema.specs.declared.roles.Parent.{Parent}
 use Rattle.tree.proofs.StandingLaws.{runAt-zero, size-node}
 use Rattle.tree.proofs.VisitLaws.{treeAt-slot, run-at, run-below, next-after, next-claimed, run-split, run-end, run-end-empty, tree-within}
-use Rattle.schema.proofs.LevelsLaws.{levels-step}
 use Rattle.schema.proofs.PlacingLaws.{placed-empty, placed-after, placed-before}
 use Rattle.schema.proofs.RowsLaws.{length-row, length-rowsFrom, length-runRowsFrom}
 
-module _ (b l : List ℕ) (at n up : ℕ) (p : Parent) (above : SlotBytes) (path : List SlotBytes) where
+module _ (b l : List ℕ) (at n up : ℕ) (p : Parent) (above : SlotBytes) (path : List Tree) where
   pub run-rows-empty : n ≡ 0 → l ≡ placed l (rowWidth * at) (runRowsFrom at up p above path (runAt (slots b) at n))
   unfolding runRowsFrom
   run-rows-empty e = sym (rw (e, runAt-zero) (placed-empty l (rowWidth * at)))
@@ -59,40 +56,35 @@ module _ (b l : List ℕ) (at n up : ℕ) (p : Parent) (above : SlotBytes) (path
           ∙ ap (λ (fs : Fields). placed l (rowWidth * at) (runRowsFrom at up p above path fs)) (sym (run-split b at n h k c next e))
 
 -- the rows of a run written up to one of its fields: with those of the others they are the run's, whatever path has the levels that they stand below
-pub record Behind (b lent : List ℕ) (start n up : ℕ) (p : Parent) (above : SlotBytes) (l : Levels) (rows : List ℕ) (at left : ℕ) (q : Parent) : Type 0 where
+pub record Behind (b lent : List ℕ) (start n up : ℕ) (p : Parent) (above : SlotBytes) (d r : ℕ) (rows : List ℕ) (at left : ℕ) (q : Parent) : Type 0 where
   pub reached : start ≤ at
   pub claimed : left ≤ count (trees (drop at (slots b)))
   pub long : length rows ≡ length lent
   pub ended : start + sizes (runAt (slots b) start n) ≡ at + sizes (runAt (slots b) at left)
-  pub found : (path : List SlotBytes) → l ≡ levelsOf path → placed lent (rowWidth * start) (runRowsFrom start up p above path (runAt (slots b) start n)) ≡ placed rows (rowWidth * at) (runRowsFrom at up q above path (runAt (slots b) at left))
+  pub found : (path : List Tree) → HasLevels path d r → placed lent (rowWidth * start) (runRowsFrom start up p above path (runAt (slots b) start n)) ≡ placed rows (rowWidth * at) (runRowsFrom at up q above path (runAt (slots b) at left))
 
-pub behind-start : (b lent : List ℕ) (start n up : ℕ) (p : Parent) (above : SlotBytes) (l : Levels) → n ≤ count (trees (drop start (slots b))) → Behind b lent start n up p above l lent start n p
-behind-start b lent start n up p above l c =
-    record { reached = le-refl start; claimed = c; long = refl; ended = refl; found = λ path h. refl }
+pub behind-start : (b lent : List ℕ) (start n up : ℕ) (p : Parent) (above : SlotBytes) (d r : ℕ) → n ≤ count (trees (drop start (slots b))) → Behind b lent start n up p above d r lent start n p
+behind-start b lent start n up p above d r c =
+    record { reached = le-refl start; claimed = c; long = refl; ended = refl; found = λ path g. refl }
 
-module _ (b lent : List ℕ) (start n up : ℕ) (p : Parent) (above : SlotBytes) (l : Levels) (rows : List ℕ) (at left : ℕ) (q : Parent) (r : Behind b lent start n up p above l rows at left q) where
-  pub behind-end : left ≡ 0 → (at ≡ start + sizes (runAt (slots b) start n)) × ((path : List SlotBytes) → l ≡ levelsOf path → rows ≡ placed lent (rowWidth * start) (runRowsFrom start up p above path (runAt (slots b) start n)))
+module _ (b lent : List ℕ) (start n up : ℕ) (p : Parent) (above : SlotBytes) (d r : ℕ) (rows : List ℕ) (at left : ℕ) (q : Parent) (i : Behind b lent start n up p above d r rows at left q) where
+  pub behind-end : left ≡ 0 → (at ≡ start + sizes (runAt (slots b) start n)) × ((path : List Tree) → HasLevels path d r → rows ≡ placed lent (rowWidth * start) (runRowsFrom start up p above path (runAt (slots b) start n)))
   behind-end e = (
-    run-end-empty b at left e ∙ sym (r .ended),
-    (λ path h. run-rows-empty b rows at left up q above path e ∙ sym (r .found path h)),
+    run-end-empty b at left e ∙ sym (i .ended),
+    (λ path h. run-rows-empty b rows at left up q above path e ∙ sym (i .found path h)),
   )
 
-  pub behind-next : Claimed b → rowWidth * totalOf b ≤ length lent → (left ≡ 0 → ⊥) → (next : ℕ) (m : List ℕ) (o : Parent) → next ≡ at + size (treeAt (slots b) at) → ((path : List SlotBytes) → l ≡ levelsOf path → m ≡ placed rows (rowWidth * at) (rowsFrom at up q above path (treeAt (slots b) at))) → length m ≡ length rows → o ≡ afterFirst q → Behind b lent start n up p above l m next (left - 1) o
+  pub behind-next : Claimed b → rowWidth * totalOf b ≤ length lent → (left ≡ 0 → ⊥) → (next : ℕ) (m : List ℕ) (o : Parent) → next ≡ at + size (treeAt (slots b) at) → ((path : List Tree) → HasLevels path d r → m ≡ placed rows (rowWidth * at) (rowsFrom at up q above path (treeAt (slots b) at))) → length m ≡ length rows → o ≡ afterFirst q → Behind b lent start n up p above d r m next (left - 1) o
   behind-next h f k next m o e w long u =
-      let below = run-below b at left h k (r .claimed) in
-      let room : rowWidth * totalOf b ≤ length rows = omega (arith, r .long) in
+      let below = run-below b at left h k (i .claimed) in
+      let room : rowWidth * totalOf b ≤ length rows = omega (arith, i .long) in
       record {
-        reached = omega (arith, r .reached, next-after b at left h k (r .claimed) next e);
-        claimed = next-claimed b at left h k (r .claimed) next e;
-        long = long ∙ r .long;
-        ended = r .ended ∙ run-end b at left h k (r .claimed) next e;
-        found = λ path g. r .found path g ∙ sym (run-rows b rows at left up q above path h k (r .claimed) next e room below m (w path g) o (placed m (rowWidth * next) (runRowsFrom next up o above path (runAt (slots b) next (left - 1)))) u refl);
+        reached = omega (arith, i .reached, next-after b at left h k (i .claimed) next e);
+        claimed = next-claimed b at left h k (i .claimed) next e;
+        long = long ∙ i .long;
+        ended = i .ended ∙ run-end b at left h k (i .claimed) next e;
+        found = λ path g. i .found path g ∙ sym (run-rows b rows at left up q above path h k (i .claimed) next e room below m (w path g) o (placed m (rowWidth * next) (runRowsFrom next up o above path (runAt (slots b) next (left - 1)))) u refl);
       }
-
--- a node's levels
-pub levels-are : (b : List ℕ) (at : ℕ) (s : Numbers) → Visited b at s → (path : List SlotBytes) (l own : Levels) → l ≡ levelsOf path → own ≡ levelsBelow l (s .repetition) → own ≡ levelsOf (slotAt b at ∷ path)
-unfolding numbersOf
-levels-are b at s v path l own g e = rw (e, g, v .numbers) (sym (levels-step (slotAt b at) path))
 
 module _ (b l : List ℕ) (at up : ℕ) (s : Numbers) (p : Parent) (above : SlotBytes) (v : Visited b at s) where
   -- what a node is to its fields
@@ -101,15 +93,15 @@ module _ (b l : List ℕ) (at up : ℕ) (s : Numbers) (p : Parent) (above : Slot
   parent-is n u k own q a w d o e = e ∙ rw (d, a, w, o, v .numbers)
 
   -- a node's row
-  pub row-is : (path : List SlotBytes) (levels : Levels) → levels ≡ levelsOf (slotAt b at ∷ path) → (n : Annotated) (u : Bool) (k : Kind) (own next bytes : ℕ) → n ≡ annotatedBy s → u ≡ isMapParent p → k ≡ kindOf n u → own ≡ role p above (slotAt b at) (fieldsAt b at) → next ≡ at + size (treeAt (slots b) at) → bytes ≡ natural (n .«type_length»)
-      → s .physical ∷ bytes ∷ s .repetition ∷ k .kind ∷ k .p1 ∷ k .p2 ∷ up ∷ next ∷ own ∷ levels .definition ∷ levels .repetition ∷ [] ≡ row at up p above path (slotAt b at) (fieldsAt b at)
+  pub row-is : (path : List Tree) (d r : ℕ) → HasLevels (node (slotAt b at) (fieldsAt b at) ∷ path) d r → (n : Annotated) (u : Bool) (k : Kind) (own next bytes : ℕ) → n ≡ annotatedBy s → u ≡ isMapParent p → k ≡ kindOf n u → own ≡ role p above (slotAt b at) (fieldsAt b at) → next ≡ at + size (treeAt (slots b) at) → bytes ≡ natural (n .«type_length»)
+      → s .physical ∷ bytes ∷ s .repetition ∷ k .kind ∷ k .p1 ∷ k .p2 ∷ up ∷ next ∷ own ∷ d ∷ r ∷ [] ≡ row at up p above path (slotAt b at) (fieldsAt b at)
   unfolding row kind annotated numbersOf
-  row-is path levels g n u k own next bytes a w d o e t =
-      rw (t, d, a, w, o, g, v .numbers, e, treeAt-slot b at (v .claimed) (v .below))
+  row-is path d r g n u k own next bytes a w c o e t =
+      rw (g .definition-is, g .repetition-is, t, c, a, w, o, v .numbers, e, treeAt-slot b at (v .claimed) (v .below))
 
-  module _ (path : List SlotBytes) (f : rowWidth * totalOf b ≤ length l) (q : Parent) (w : q ≡ parentOf p above (slotAt b at) (fieldsAt b at)) (m : List ℕ) (e : m ≡ placed l (rowWidth * (at + 1)) (runRowsFrom (at + 1) at q (slotAt b at) (slotAt b at ∷ path) (runAt (slots b) (at + 1) (s .children)))) where
+  module _ (path : List Tree) (f : rowWidth * totalOf b ≤ length l) (q : Parent) (w : q ≡ parentOf p above (slotAt b at) (fieldsAt b at)) (m : List ℕ) (e : m ≡ placed l (rowWidth * (at + 1)) (runRowsFrom (at + 1) at q (slotAt b at) (node (slotAt b at) (fieldsAt b at) ∷ path) (runAt (slots b) (at + 1) (s .children)))) where
     rest : List ℕ
-    rest = runRowsFrom (suc at) at (parentOf p above (slotAt b at) (fieldsAt b at)) (slotAt b at) (slotAt b at ∷ path) (fieldsAt b at)
+    rest = runRowsFrom (suc at) at (parentOf p above (slotAt b at) (fieldsAt b at)) (slotAt b at) (node (slotAt b at) (fieldsAt b at) ∷ path) (fieldsAt b at)
 
     rest-is : m ≡ placed l (rowWidth * (at + 1)) rest
     unfolding rest
@@ -121,7 +113,7 @@ module _ (b l : List ℕ) (at up : ℕ) (s : Numbers) (p : Parent) (above : Slot
 
     rest-fits : rowWidth * (at + 1) + length rest ≤ length l
     unfolding rest sizes
-    rest-fits = omega (arith, length-runRowsFrom (fieldsAt b at) (suc at) at (parentOf p above (slotAt b at) (fieldsAt b at)) (slotAt b at) (slotAt b at ∷ path), end-within)
+    rest-fits = omega (arith, length-runRowsFrom (fieldsAt b at) (suc at) at (parentOf p above (slotAt b at) (fieldsAt b at)) (slotAt b at) (node (slotAt b at) (fieldsAt b at) ∷ path), end-within)
 
     pub tree-rows : (r ns : List ℕ) → ns ≡ row at up p above path (slotAt b at) (fieldsAt b at) → r ≡ placed m (rowWidth * at) ns → r ≡ placed l (rowWidth * at) (rowsFrom at up p above path (treeAt (slots b) at))
     unfolding rowsFrom rest

@@ -5,8 +5,7 @@ use mathlib.Core.List.{List, [], _∷_}
 use lib.Dec.{eqb}
 use Rattle.parquet.specs.Repetition.{OPTIONAL, REPEATED}
 use Rattle.sheet.specs.Slot.{repetition}
-use Rattle.tree.specs.Tree.{SlotBytes}
-use Rattle.schema.specs.declared.levels.Levels.{Levels}
+use Rattle.tree.specs.Tree.{Tree, node}
 
 -- the repetitions that count in the one level and in the other
 abbrev pub isOptionalOrRepeated : ℕ → Bool
@@ -19,12 +18,14 @@ isRepeatedCode code = eqb code REPEATED
 abbrev pub counted : (ℕ → Bool) → ℕ → ℕ
 counted counts code = cond (counts code) 1 0
 
--- a path is the slots of some nodes: first the one that it leads to, then the parent of each, the root last. How many of them count:
-unfoldable pub howMany : (ℕ → Bool) → List SlotBytes → ℕ
+-- a path is some nodes with what stands below them: first the one that it leads to, then the parent of each, the root last. How many of them count:
+unfoldable pub howMany : (ℕ → Bool) → List Tree → ℕ
 howMany counts [] = 0
-howMany counts (s ∷ above) = howMany counts above + counted counts (repetition s)
+howMany counts (node s fs ∷ above) = howMany counts above + counted counts (repetition s)
 
 -- the levels of the node that a path leads to
-unfoldable pub levelsOf : List SlotBytes → Levels
-levelsOf path =
-    record { definition = howMany isOptionalOrRepeated path; repetition = howMany isRepeatedCode path }
+abbrev pub definitionLevel : List Tree → ℕ
+definitionLevel path = howMany isOptionalOrRepeated path
+
+abbrev pub repetitionLevel : List Tree → ℕ
+repetitionLevel path = howMany isRepeatedCode path

@@ -12,7 +12,7 @@ use Rattle.sheet.specs.Slot.{physical, repetition, typeLength}
 use Rattle.tree.specs.Annotated.{kind}
 use Rattle.tree.specs.Tree.{SlotBytes, Tree, Fields, node, empty, field, size}
 use Rattle.tree.specs.Rules.{isGroup, isElementGroup}
-use Rattle.schema.specs.Levels.{levelsOf}
+use Rattle.schema.specs.Levels.{definitionLevel, repetitionLevel}
 use Rattle.schema.specs.declared.roles.Parent.{Parent}
 use Rattle.schema.specs.declared.roles.Parent.the-variants as parent
 
@@ -86,7 +86,7 @@ afterFirst parent.KeyValue = parent.KeyValueRest
 afterFirst parent.KeyValueRest = parent.KeyValueRest
 
 -- one row: physical, type length, repetition, kind, p1, p2, parent, end, role and, of document 02's R-8, the two levels
-unfoldable pub row : ℕ → ℕ → Parent → SlotBytes → List SlotBytes → SlotBytes → Fields → List ℕ
+unfoldable pub row : ℕ → ℕ → Parent → SlotBytes → List Tree → SlotBytes → Fields → List ℕ
 row at up p above path s fs =
     physical s
     ∷ natural (typeLength s)
@@ -97,8 +97,8 @@ row at up p above path s fs =
     ∷ up
     ∷ (at + size (node s fs))
     ∷ role p above s fs
-    ∷ levelsOf (s ∷ path) .definition
-    ∷ levelsOf (s ∷ path) .repetition
+    ∷ definitionLevel (node s fs ∷ path)
+    ∷ repetitionLevel (node s fs ∷ path)
     ∷ []
 
 -- what a node is to its fields
@@ -107,10 +107,10 @@ parentOf p above s fs = parentBy (kind (isMapParent p) s .kind) (role p above s 
 
 -- the rows of a tree whose root has the number `at`, under the node `above` of number `up`, which is p to it; the path leads from the root to `above`
 unfoldable mutual
-  pub rowsFrom : ℕ → ℕ → Parent → SlotBytes → List SlotBytes → Tree → List ℕ
-  rowsFrom at up p above path (node s fs) = row at up p above path s fs ++ runRowsFrom (suc at) at (parentOf p above s fs) s (s ∷ path) fs
+  pub rowsFrom : ℕ → ℕ → Parent → SlotBytes → List Tree → Tree → List ℕ
+  rowsFrom at up p above path (node s fs) = row at up p above path s fs ++ runRowsFrom (suc at) at (parentOf p above s fs) s (node s fs ∷ path) fs
 
-  pub runRowsFrom : ℕ → ℕ → Parent → SlotBytes → List SlotBytes → Fields → List ℕ
+  pub runRowsFrom : ℕ → ℕ → Parent → SlotBytes → List Tree → Fields → List ℕ
   runRowsFrom at up p above path empty = []
   runRowsFrom at up p above path (field t fs) = rowsFrom at up p above path t ++ runRowsFrom (at + size t) up (afterFirst p) above path fs
 

@@ -1,5 +1,6 @@
 -- What the steps of writing rows and of rewriting answer, which the contracts of private functions cite. Nothing here is a promise to a caller.
 use Prim.Native.Nat.{ℕ, _+_, _≤_}
+use mathlib.Core.Path.{_≡_}
 use mathlib.Core.List.{List, [], _∷_, _++_}
 use lib.ListN.{length, take, drop}
 use mathlib.Core.Bool.{Bool}
@@ -8,9 +9,8 @@ use Rattle.parquet.specs.Logical as logical
 use Rattle.annotation.specs.Rewriting.{writtenOf}
 use Rattle.annotation.specs.declared.rewriting.Rewriting.{Rewriting}
 use Rattle.tree.specs.Annotated.{annotated}
-use Rattle.tree.specs.Tree.{SlotBytes}
-use Rattle.schema.specs.Levels.{isOptionalOrRepeated, isRepeatedCode, counted}
-use Rattle.schema.specs.declared.levels.Levels.{Levels}
+use Rattle.tree.specs.Tree.{SlotBytes, Tree}
+use Rattle.schema.specs.Levels.{definitionLevel, repetitionLevel}
 use Rattle.schema.specs.declared.rows.Row.{Row}
 
 -- a list with some numbers in place of those from i on
@@ -20,20 +20,17 @@ placed l i vs = take i l ++ vs ++ drop (i + length vs) l
 -- a row's numbers in their order
 unfoldable pub rowNumbers : Row → List ℕ
 rowNumbers r =
-    r .physical ∷ r .«type_length» ∷ r .repetition ∷ r .kind ∷ r .p1 ∷ r .p2 ∷ r .parent ∷ r .end ∷ r .role ∷ r .levels .definition ∷ r .levels .repetition ∷ []
+    r .physical ∷ r .«type_length» ∷ r .repetition ∷ r .kind ∷ r .p1 ∷ r .p2 ∷ r .parent ∷ r .end ∷ r .role ∷ r .«definition_level» ∷ r .«repetition_level» ∷ []
 
--- the levels of a node, by those of its parent and its own repetition
-unfoldable pub levelsBelow : Levels → ℕ → Levels
-levelsBelow above code =
-    record {
-      definition = above .definition + counted isOptionalOrRepeated code;
-      repetition = above .repetition + counted isRepeatedCode code;
-    }
+-- a path has these levels
+pub record HasLevels (path : List Tree) (definition repetition : ℕ) : Type 0 where
+  pub definition-is : definition ≡ definitionLevel path
+  pub repetition-is : repetition ≡ repetitionLevel path
 
 -- levels that so many nodes at the most make
-pub record AtMost (n : ℕ) (l : Levels) : Type 0 where
-  pub definition-most : l .definition ≤ n
-  pub repetition-most : l .repetition ≤ n
+pub record LevelsAtMost (n definition repetition : ℕ) : Type 0 where
+  pub definition-most : definition ≤ n
+  pub repetition-most : repetition ≤ n
 
 -- whether a node, its parent a resolved MAP or not, is written as a MAP
 unfoldable pub isWrittenMap : Bool → SlotBytes → Bool

@@ -1,27 +1,21 @@
-// The levels of a node.
+// What a node adds to the levels.
 ghost use mathlib.Core.Path.{_≡_};
 ghost use mathlib.Core.Bool.{cond};
-ghost use Rattle.sheet.specs.Block.{mostNodes};
-ghost use Rattle.schema.specs.Steps.{AtMost, levelsBelow};
+ghost use Rattle.schema.specs.Levels.{isOptionalOrRepeated, isRepeatedCode, counted};
 use parquet::repetition;
 
-// How many nodes on the path from the root to a node are optional or repeated, and how many are repeated.
-pub struct Levels {
-    pub definition: u32,
-    pub repetition: u32,
+// What a node of this repetition adds to the definition level.
+pub(crate) fn in_definition(code: u8) -> u32
+    ensures { λ r. ⌜ r ≡ counted isOptionalOrRepeated code ⌝ }
+{
+    one_if((code == repetition::OPTIONAL) | (code == repetition::REPEATED))
 }
 
-// The levels of a node, by those of its parent and its own repetition.
-pub(crate) fn levels_below(above: Levels, code: u8) -> Levels
-    requires { ⌜ AtMost mostNodes above ⌝ }
-    ensures { λ r. ⌜ r ≡ levelsBelow above code ⌝ }
+// What it adds to the repetition level.
+pub(crate) fn in_repetition(code: u8) -> u32
+    ensures { λ r. ⌜ r ≡ counted isRepeatedCode code ⌝ }
 {
-    let counted = one_if((code == repetition::OPTIONAL) | (code == repetition::REPEATED));
-    let repeated = one_if(code == repetition::REPEATED);
-    Levels {
-        definition: above.definition + counted,
-        repetition: above.repetition + repeated,
-    }
+    one_if(code == repetition::REPEATED)
 }
 
 fn one_if(counts: bool) -> u32

@@ -1,5 +1,5 @@
 // What a sheet is resolved into: the rows of its tree, and the rewritten sheet.
-mod levels; // levels.rt: the levels of a node
+mod levels; // levels.rt: what a node adds to the levels
 mod output; // output.rt: the refusal of an output that is not enough
 mod rewriting; // rewriting.rt: the rewritten sheet, or the refusal
 mod resolving; // resolving.rt: a sheet's rows, or the refusal

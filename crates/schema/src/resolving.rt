@@ -3,7 +3,6 @@ ghost use mathlib.Core.Path.{_≡_};
 ghost use Prim.Native.Nat.{_*_, _<_};
 ghost use lib.ListN.{length};
 ghost use Rattle.schema.specs.Outcome.{outcome, written};
-use crate::levels::Levels;
 use crate::output::short_output;
 use crate::roles::Parent;
 use crate::rows::ROW_WIDTH;
@@ -31,11 +30,7 @@ pub fn resolve(sheet: &[u8], rows: &mut [u32]) -> Resolved
             if rows.len() < ROW_WIDTH * total {
                 return Resolved::Refused(short_output());
             }
-            let none = Levels {
-                definition: 0,
-                repetition: 0,
-            };
-            write_run(sheet, rows, 0, 1, 0, Parent::Other, none);
+            write_run(sheet, rows, 0, 1, 0, Parent::Other, 0, 0);
             Resolved::Rows(total)
         }
     }

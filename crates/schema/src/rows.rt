@@ -1,18 +1,17 @@
 // The rows of a tree, written from a node to its run and back.
 ghost use mathlib.Core.Path.{_≡_};
-ghost use mathlib.Core.List.{List, _∷_};
+ghost use mathlib.Core.List.{List};
 ghost use Prim.Native.Nat.{_+_, _*_, _≤_, _<_};
 ghost use lib.ListN.{length, drop};
 ghost use Rattle.sheet.specs.Block.{totalOf};
 ghost use Rattle.sheet.specs.Slot.{slots, slotAt};
-ghost use Rattle.tree.specs.Tree.{SlotBytes, count as Tree·count, size};
+ghost use Rattle.tree.specs.Tree.{Tree, count as Tree·count, size};
 ghost use Rattle.schema.specs.Rows.{rowWidth, rowsFrom, runRowsFrom, parentBy};
-ghost use Rattle.schema.specs.Levels.{levelsOf};
 ghost use Rattle.tree.specs.Reading.{trees};
 ghost use Rattle.tree.specs.Steps.{Claimed, treeAt, runAt, sizes};
-ghost use Rattle.schema.specs.Steps.{AtMost, placed, rowNumbers};
-use crate::levels::Levels;
-use crate::levels::levels_below;
+ghost use Rattle.schema.specs.Steps.{HasLevels, LevelsAtMost, placed, rowNumbers};
+use crate::levels::in_definition;
+use crate::levels::in_repetition;
 use crate::roles::Parent;
 use crate::roles::after_first;
 use crate::roles::is_map_parent;
@@ -34,7 +33,8 @@ struct Row {
     parent: u32,
     end: u32,
     role: u32,
-    levels: Levels,
+    definition_level: u32,
+    repetition_level: u32,
 }
 
 // Writes the rows of the run of so many fields at a number, one field after the other, under the node at up, which has these levels,
@@ -46,50 +46,60 @@ pub(crate) fn write_run(
     count: usize,
     up: usize,
     parent: Parent,
-    levels: Levels,
+    definition_level: u32,
+    repetition_level: u32,
 ) -> usize
     requires { ⌜ Claimed (now sheet) ⌝ }
     requires { ⌜ count ≤ Tree·count (trees (drop start (slots (now sheet)))) ⌝ }
     requires { ⌜ up < totalOf (now sheet) ⌝ }
     requires { ⌜ rowWidth * totalOf (now sheet) ≤ length (now rows) ⌝ }
-    requires { ⌜ AtMost start levels ⌝ }
+    requires { ⌜ LevelsAtMost start «definition_level» «repetition_level» ⌝ }
     ensures { λ r. ⌜ r ≡ start + sizes (runAt (slots (now (sheet .entry))) start count) ⌝ }
-    ensures { λ _. ⌜ ((path : List SlotBytes) → levels ≡ levelsOf path → now (rows .exit) ≡ placed (now (rows .entry)) (rowWidth * start) (runRowsFrom start up parent (slotAt (now (sheet .entry)) up) path (runAt (slots (now (sheet .entry))) start count))) ⌝ }
+    ensures { λ _. ⌜ ((path : List Tree) → HasLevels path «definition_level» «repetition_level» → now (rows .exit) ≡ placed (now (rows .entry)) (rowWidth * start) (runRowsFrom start up parent (slotAt (now (sheet .entry)) up) path (runAt (slots (now (sheet .entry))) start count))) ⌝ }
 {
     let mut at = start;
     let mut left = count;
     let mut above = parent;
     while left > 0 {
-        let field = sheet::slot_at(sheet, at);
-        let own = levels_below(levels, field.repetition);
-        at = write_tree(sheet, rows, at, up, above, own);
+        at = write_tree(
+            sheet,
+            rows,
+            at,
+            up,
+            above,
+            definition_level,
+            repetition_level,
+        );
         above = after_first(above);
         left = left - 1;
     }
     at
 }
 
-// Writes the rows of the tree at a number, which has these levels, under the node at up, and answers where the next tree stands.
+// Writes the rows of the tree at a number, under the node at up, which has these levels, and answers where the next tree stands.
 fn write_tree(
     sheet: &[u8],
     rows: &mut [u32],
     at: usize,
     up: usize,
     parent: Parent,
-    levels: Levels,
+    definition_level: u32,
+    repetition_level: u32,
 ) -> usize
     requires { ⌜ Claimed (now sheet) ⌝ }
     requires { ⌜ at < totalOf (now sheet) ⌝ }
     requires { ⌜ up < totalOf (now sheet) ⌝ }
     requires { ⌜ rowWidth * totalOf (now sheet) ≤ length (now rows) ⌝ }
-    requires { ⌜ AtMost (at + 1) levels ⌝ }
+    requires { ⌜ LevelsAtMost at «definition_level» «repetition_level» ⌝ }
     ensures { λ r. ⌜ r ≡ at + size (treeAt (slots (now (sheet .entry))) at) ⌝ }
-    ensures { λ _. ⌜ ((path : List SlotBytes) → levels ≡ levelsOf (slotAt (now (sheet .entry)) at ∷ path) → now (rows .exit) ≡ placed (now (rows .entry)) (rowWidth * at) (rowsFrom at up parent (slotAt (now (sheet .entry)) up) path (treeAt (slots (now (sheet .entry))) at))) ⌝ }
+    ensures { λ _. ⌜ ((path : List Tree) → HasLevels path «definition_level» «repetition_level» → now (rows .exit) ≡ placed (now (rows .entry)) (rowWidth * at) (rowsFrom at up parent (slotAt (now (sheet .entry)) up) path (treeAt (slots (now (sheet .entry))) at))) ⌝ }
 {
     let s = sheet::slot_at(sheet, at);
     let n = annotated(s);
     let kind = annotation::resolved_kind(n, is_map_parent(parent));
     let own = role(sheet, up, at, s, parent);
+    let own_definition = definition_level + in_definition(s.repetition);
+    let own_repetition = repetition_level + in_repetition(s.repetition);
     let next = write_fields(
         sheet,
         rows,
@@ -98,7 +108,8 @@ fn write_tree(
         at,
         kind.kind,
         own,
-        levels,
+        own_definition,
+        own_repetition,
     );
     write_row(
         rows,
@@ -113,7 +124,8 @@ fn write_tree(
             parent: up as u32,
             end: next as u32,
             role: own,
-            levels: levels,
+            definition_level: own_definition,
+            repetition_level: own_repetition,
         },
     );
     next
@@ -129,20 +141,30 @@ fn write_fields(
     up: usize,
     kind: u32,
     own: u32,
-    levels: Levels,
+    definition_level: u32,
+    repetition_level: u32,
 ) -> usize
     requires { ⌜ Claimed (now sheet) ⌝ }
     requires { ⌜ count ≤ Tree·count (trees (drop at (slots (now sheet)))) ⌝ }
     requires { ⌜ up < totalOf (now sheet) ⌝ }
     requires { ⌜ rowWidth * totalOf (now sheet) ≤ length (now rows) ⌝ }
-    requires { ⌜ AtMost at levels ⌝ }
+    requires { ⌜ LevelsAtMost at «definition_level» «repetition_level» ⌝ }
     ensures { λ r. ⌜ r ≡ at + sizes (runAt (slots (now (sheet .entry))) at count) ⌝ }
-    ensures { λ _. ⌜ ((path : List SlotBytes) → levels ≡ levelsOf path → now (rows .exit) ≡ placed (now (rows .entry)) (rowWidth * at) (runRowsFrom at up (parentBy kind own) (slotAt (now (sheet .entry)) up) path (runAt (slots (now (sheet .entry))) at count))) ⌝ }
+    ensures { λ _. ⌜ ((path : List Tree) → HasLevels path «definition_level» «repetition_level» → now (rows .exit) ≡ placed (now (rows .entry)) (rowWidth * at) (runRowsFrom at up (parentBy kind own) (slotAt (now (sheet .entry)) up) path (runAt (slots (now (sheet .entry))) at count))) ⌝ }
 {
     if count == 0 {
         return at;
     }
-    write_run(sheet, rows, at, count, up, parent_by(kind, own), levels)
+    write_run(
+        sheet,
+        rows,
+        at,
+        count,
+        up,
+        parent_by(kind, own),
+        definition_level,
+        repetition_level,
+    )
 }
 
 // Writes a row's numbers from base on.
@@ -159,6 +181,6 @@ fn write_row(rows: &mut [u32], base: usize, row: Row)
     rows[base + 6] = row.parent;
     rows[base + 7] = row.end;
     rows[base + 8] = row.role;
-    rows[base + 9] = row.levels.definition;
-    rows[base + 10] = row.levels.repetition;
+    rows[base + 9] = row.definition_level;
+    rows[base + 10] = row.repetition_level;
 }

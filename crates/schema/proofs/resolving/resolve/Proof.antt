@@ -2,7 +2,7 @@
 use Rattle.tree.proofs.JudgementLaws.{judged-total, judged-some, judged-claimed}
 use Rattle.tree.proofs.VisitLaws.{root-claimed}
 use Rattle.schema.proofs.ResolvingLaws.{resolve-short, resolve-refused, resolve-rows, written-refused, written-rows}
-use Rattle.schema.specs.Levels.{howMany, levelsOf}
+use Rattle.schema.specs.Levels.{howMany}
 use native.Mathlib.Omega.{arith}
 use mathlib.Core.Path.{refl, sym, ap, _∙_}
 use mathlib.Core.List.{[]}
@@ -46,11 +46,11 @@ same-length : tie.Need-same-length
 same-length c = search needs
 
 returns-3 : tie.Need-returns-3
-unfolding levelsOf howMany
+unfolding howMany
 returns-3 c =
     let nodes = sym (c .before .before .before .before .before .before .before .before .judge .ensures) ∙ c .before .before .before .before .before .before .judgement2 .given .1 in
     let enough = c .before .before .before .before .if1 .left in
-    (sym (resolve-rows _ _ nodes (c .before .before .before .before .before .before .before .before .before .before .before .args .rows .now) enough), written-rows _ _ nodes _ _ enough (c .before .before .write-run .ensures .1 [] refl))
+    (sym (resolve-rows _ _ nodes (c .before .before .before .before .before .before .before .before .before .before .before .args .rows .now) enough), written-rows _ _ nodes _ _ enough (c .before .before .write-run .ensures .1 [] (record { definition-is = refl; repetition-is = refl })))
 
 pub resolve-spec : {M : Type 1} → statement M
 resolve-spec =

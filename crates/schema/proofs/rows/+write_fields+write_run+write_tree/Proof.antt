@@ -9,9 +9,10 @@ use Rattle.sheet.specs.Slot.{slotAt}
 use Rattle.tree.specs.Steps.{Visited}
 use Rattle.tree.proofs.JudgingSteps.{tree-falls, run-falls, fields-falls}
 use Rattle.tree.proofs.VisitLaws.{run-below, children-claimed, tree-end, tree-within, run-end-empty}
+use Rattle.schema.specs.Levels.{isOptionalOrRepeated, isRepeatedCode}
 use Rattle.schema.specs.Steps.{rowNumbers}
-use Rattle.schema.proofs.LevelsLaws.{below-most, at-most}
-use Rattle.schema.proofs.RowsSteps.{Behind, behind-start, behind-end, behind-next, run-rows-empty, tree-rows, parent-is, levels-are, row-is, long-enough, row-fits}
+use Rattle.schema.proofs.LevelsLaws.{levels-below, levels-most, counted-most, at-most}
+use Rattle.schema.proofs.RowsSteps.{Behind, behind-start, behind-end, behind-next, run-rows-empty, tree-rows, parent-is, row-is, long-enough, row-fits}
 use borrow.Fn.Kinds.{In}
 use borrow.Fn.PlainCycle.{Measures, is, falls, and}
 use Rattle.schema.proofs.rows.write_fields.Reads as write-fields
@@ -25,7 +26,8 @@ use Rattle.schema.proofs.rows.write_tree.Kinds as write-tree-kinds
 use Rattle.schema.proofs.rows.+write_fields+write_run+write_tree.Lts-write_tree as write-tree-lts
 use Rattle.annotation.proofs.resolved_kind.Reads as resolved-kind-reads
 use Rattle.annotation.proofs.type_length.Reads as type-length-reads
-use Rattle.schema.proofs.levels.levels_below.Reads as levels-below-reads
+use Rattle.schema.proofs.levels.in_definition.Reads as in-definition-reads
+use Rattle.schema.proofs.levels.in_repetition.Reads as in-repetition-reads
 use Rattle.schema.proofs.roles.after_first.Reads as after-first-reads
 use Rattle.schema.proofs.roles.is_map_parent.Reads as is-map-parent-reads
 use Rattle.schema.proofs.roles.parent_by.Reads as parent-by-reads
@@ -115,75 +117,33 @@ write-fields-returns-2 : (t : ℕ) → write-fields-lts.Need-returns-2 (
 write-fields-returns-2 t c = rw (c .before .before .before .parent-by .ensures) at (c .before .before .write-run .ensures)
 
 abbrev write-run-Inv-loop : write-run-lts.InvT-loop
-write-run-Inv-loop sheet rows₀ start count up levels at₀ left₀ above₀ rows at left above = Behind sheet rows₀ start count up above₀ (slotAt sheet up) levels rows at left above
+write-run-Inv-loop sheet rows₀ start count up definition repetition at₀ left₀ above₀ rows at left above = Behind sheet rows₀ start count up above₀ (slotAt sheet up) definition repetition rows at left above
 
 abbrev write-run-μ-loop : write-run-lts.MeasureT-loop
-write-run-μ-loop sheet rows₀ start count up levels at₀ left₀ above₀ rows at left above = left
+write-run-μ-loop sheet rows₀ start count up definition repetition at₀ left₀ above₀ rows at left above = left
 
 write-run-loop-holds : (t : ℕ) → write-run-lts.Need-loop-holds (
-  slot-at-reads.Asked,
-  slot-at-reads.Learnt,
-  levels-below-reads.Asked,
-  levels-below-reads.Learnt,
   write-tree-below t,
   write-tree.Post,
   after-first-reads.Asked,
   after-first-reads.Learnt,
 ) (write-run-at t) write-run.Post write-run-Inv-loop write-run-μ-loop
-write-run-loop-holds t c = behind-start _ _ _ _ _ _ _ _ (c .before .before .pre .1 .1 .0)
-
-write-run-slot-at-requires : (t : ℕ) → write-run-lts.Need-slot-at-requires (
-  slot-at-reads.Asked,
-  slot-at-reads.Learnt,
-  levels-below-reads.Asked,
-  levels-below-reads.Learnt,
-  write-tree-below t,
-  write-tree.Post,
-  after-first-reads.Asked,
-  after-first-reads.Learnt,
-) (write-run-at t) write-run.Post write-run-Inv-loop write-run-μ-loop
-write-run-slot-at-requires t c κs = search needs
-
-write-run-levels-below-requires : (t : ℕ) → write-run-lts.Need-levels-below-requires (
-  slot-at-reads.Asked,
-  slot-at-reads.Learnt,
-  levels-below-reads.Asked,
-  levels-below-reads.Learnt,
-  write-tree-below t,
-  write-tree.Post,
-  after-first-reads.Asked,
-  after-first-reads.Learnt,
-) (write-run-at t) write-run.Post write-run-Inv-loop write-run-μ-loop
-write-run-levels-below-requires t c κs =
-    let start = c .before .before .before .before .before in
-    let loop = c .before .before .loop in
-    let some : loop .left ≡ 0 → ⊥ = λ e. omega (arith, c .before .loop-test .taken) in
-    let below = run-below (start .args .sheet .now) (loop .at) (loop .left) (start .pre .1 .0) some (loop .inv .claimed) in
-    at-most _ _ _ (start .pre .1 .1 .1 .1 .1) (omega (arith, loop .inv .reached, below, start .pre .1 .0 .most))
+write-run-loop-holds t c = behind-start _ _ _ _ _ _ _ _ _ (c .before .before .pre .1 .1 .0)
 
 write-run-write-tree-requires : (t : ℕ) → write-run-lts.Need-write-tree-requires (
-  slot-at-reads.Asked,
-  slot-at-reads.Learnt,
-  levels-below-reads.Asked,
-  levels-below-reads.Learnt,
   write-tree-below t,
   write-tree.Post,
   after-first-reads.Asked,
   after-first-reads.Learnt,
 ) (write-run-at t) write-run.Post write-run-Inv-loop write-run-μ-loop
 write-run-write-tree-requires t c κs =
-    let start = c .before .before .before .before .before .before .before in
-    let loop = c .before .before .before .before .loop in
-    let some : loop .left ≡ 0 → ⊥ = λ e. omega (arith, c .before .before .before .loop-test .taken) in
+    let start = c .before .before .before .before .before in
+    let loop = c .before .before .loop in
+    let some : loop .left ≡ 0 → ⊥ = λ e. omega (arith, c .before .loop-test .taken) in
     let below = run-below (start .args .sheet .now) (loop .at) (loop .left) (start .pre .1 .0) some (loop .inv .claimed) in
-    let levels = below-most _ _ _ _ (at-most _ _ _ (start .pre .1 .1 .1 .1 .1) (loop .inv .reached)) (c .before .levels-below .ensures) in
-    (tree-falls _ _ _ _ (loop .inv .reached) (start .pre .0), (start .pre .1 .0, (below, (start .pre .1 .1 .1 .0, (long-enough _ _ _ (start .pre .1 .1 .1 .1 .0) (loop .inv .long), levels)))))
+    (tree-falls _ _ _ _ (loop .inv .reached) (start .pre .0), (start .pre .1 .0, (below, (start .pre .1 .1 .1 .0, (long-enough _ _ _ (start .pre .1 .1 .1 .1 .0) (loop .inv .long), at-most _ _ _ _ (start .pre .1 .1 .1 .1 .1) (loop .inv .reached))))))
 
 write-run-after-first-requires : (t : ℕ) → write-run-lts.Need-after-first-requires (
-  slot-at-reads.Asked,
-  slot-at-reads.Learnt,
-  levels-below-reads.Asked,
-  levels-below-reads.Learnt,
   write-tree-below t,
   write-tree.Post,
   after-first-reads.Asked,
@@ -192,55 +152,35 @@ write-run-after-first-requires : (t : ℕ) → write-run-lts.Need-after-first-re
 write-run-after-first-requires t c κs = search needs
 
 write-run-sub-left : (t : ℕ) → write-run-lts.Need-sub-left (
-  slot-at-reads.Asked,
-  slot-at-reads.Learnt,
-  levels-below-reads.Asked,
-  levels-below-reads.Learnt,
   write-tree-below t,
   write-tree.Post,
   after-first-reads.Asked,
   after-first-reads.Learnt,
 ) (write-run-at t) write-run.Post write-run-Inv-loop write-run-μ-loop
-write-run-sub-left t c = omega (arith, c .before .before .before .before .before .before .before .loop-test .taken)
+write-run-sub-left t c = omega (arith, c .before .before .before .before .before .loop-test .taken)
 
 write-run-loop-less : (t : ℕ) → write-run-lts.Need-loop-less (
-  slot-at-reads.Asked,
-  slot-at-reads.Learnt,
-  levels-below-reads.Asked,
-  levels-below-reads.Learnt,
   write-tree-below t,
   write-tree.Post,
   after-first-reads.Asked,
   after-first-reads.Learnt,
 ) (write-run-at t) write-run.Post write-run-Inv-loop write-run-μ-loop
-write-run-loop-less t c = omega (arith, c .before .before .before .before .before .before .before .loop-test .taken)
+write-run-loop-less t c = omega (arith, c .before .before .before .before .before .loop-test .taken)
 
 write-run-loop-again : (t : ℕ) → write-run-lts.Need-loop-again (
-  slot-at-reads.Asked,
-  slot-at-reads.Learnt,
-  levels-below-reads.Asked,
-  levels-below-reads.Learnt,
   write-tree-below t,
   write-tree.Post,
   after-first-reads.Asked,
   after-first-reads.Learnt,
 ) (write-run-at t) write-run.Post write-run-Inv-loop write-run-μ-loop
 write-run-loop-again t c =
-    let start = c .before .before .before .before .before .before .before .before .before .before .before in
-    let loop = c .before .before .before .before .before .before .before .before .loop in
+    let start = c .before .before .before .before .before .before .before .before .before in
+    let loop = c .before .before .before .before .before .before .loop in
     let tree = c .before .before .before .write-tree in
-    let some : loop .left ≡ 0 → ⊥ = λ e. omega (arith, c .before .before .before .before .before .before .before .loop-test .taken) in
-    let below = run-below (start .args .sheet .now) (loop .at) (loop .left) (start .pre .1 .0) some (loop .inv .claimed) in
-    let visited : Visited (start .args .sheet .now) (loop .at) (c .before .before .before .before .before .before .slot-at .result) = record { claimed = start .pre .1 .0; below = below; numbers = c .before .before .before .before .before .before .slot-at .ensures } in
-    behind-next _ _ _ _ _ _ _ _ _ _ _ _ (loop .inv) (start .pre .1 .0) (start .pre .1 .1 .1 .1 .0) some _ _ _ (tree .ensures .0)
-    (λ path g. tree .ensures .1 path (levels-are _ _ _ visited path _ _ g (c .before .before .before .before .before .levels-below .ensures)))
-    (tree .kept .1 .0) (c .after-first .ensures)
+    let some : loop .left ≡ 0 → ⊥ = λ e. omega (arith, c .before .before .before .before .before .loop-test .taken) in
+    behind-next _ _ _ _ _ _ _ _ _ _ _ _ _ (loop .inv) (start .pre .1 .0) (start .pre .1 .1 .1 .1 .0) some _ _ _ (tree .ensures .0) (tree .ensures .1) (tree .kept .1 .0) (c .after-first .ensures)
 
 write-run-same-length : (t : ℕ) → write-run-lts.Need-same-length (
-  slot-at-reads.Asked,
-  slot-at-reads.Learnt,
-  levels-below-reads.Asked,
-  levels-below-reads.Learnt,
   write-tree-below t,
   write-tree.Post,
   after-first-reads.Asked,
@@ -249,16 +189,12 @@ write-run-same-length : (t : ℕ) → write-run-lts.Need-same-length (
 write-run-same-length t c = c .before .loop .inv .long
 
 write-run-returns : (t : ℕ) → write-run-lts.Need-returns (
-  slot-at-reads.Asked,
-  slot-at-reads.Learnt,
-  levels-below-reads.Asked,
-  levels-below-reads.Learnt,
   write-tree-below t,
   write-tree.Post,
   after-first-reads.Asked,
   after-first-reads.Learnt,
 ) (write-run-at t) write-run.Post write-run-Inv-loop write-run-μ-loop
-write-run-returns t c = behind-end _ _ _ _ _ _ _ _ _ _ _ _ (c .before .loop .inv) (omega (arith, c .loop-test .left))
+write-run-returns t c = behind-end _ _ _ _ _ _ _ _ _ _ _ _ _ (c .before .loop .inv) (omega (arith, c .loop-test .left))
 
 write-tree-slot-at-requires : (t : ℕ) → write-tree-lts.Need-slot-at-requires (
   slot-at-reads.Asked,
@@ -271,6 +207,10 @@ write-tree-slot-at-requires : (t : ℕ) → write-tree-lts.Need-slot-at-requires
   resolved-kind-reads.Learnt,
   role-reads.Asked,
   role-reads.Learnt,
+  in-definition-reads.Asked,
+  in-definition-reads.Learnt,
+  in-repetition-reads.Asked,
+  in-repetition-reads.Learnt,
   write-fields-below t,
   write-fields.Post,
   type-length-reads.Asked,
@@ -291,6 +231,10 @@ write-tree-annotated-requires : (t : ℕ) → write-tree-lts.Need-annotated-requ
   resolved-kind-reads.Learnt,
   role-reads.Asked,
   role-reads.Learnt,
+  in-definition-reads.Asked,
+  in-definition-reads.Learnt,
+  in-repetition-reads.Asked,
+  in-repetition-reads.Learnt,
   write-fields-below t,
   write-fields.Post,
   type-length-reads.Asked,
@@ -311,6 +255,10 @@ write-tree-is-map-parent-requires : (t : ℕ) → write-tree-lts.Need-is-map-par
   resolved-kind-reads.Learnt,
   role-reads.Asked,
   role-reads.Learnt,
+  in-definition-reads.Asked,
+  in-definition-reads.Learnt,
+  in-repetition-reads.Asked,
+  in-repetition-reads.Learnt,
   write-fields-below t,
   write-fields.Post,
   type-length-reads.Asked,
@@ -331,6 +279,10 @@ write-tree-resolved-kind-requires : (t : ℕ) → write-tree-lts.Need-resolved-k
   resolved-kind-reads.Learnt,
   role-reads.Asked,
   role-reads.Learnt,
+  in-definition-reads.Asked,
+  in-definition-reads.Learnt,
+  in-repetition-reads.Asked,
+  in-repetition-reads.Learnt,
   write-fields-below t,
   write-fields.Post,
   type-length-reads.Asked,
@@ -351,6 +303,10 @@ write-tree-role-requires : (t : ℕ) → write-tree-lts.Need-role-requires (
   resolved-kind-reads.Learnt,
   role-reads.Asked,
   role-reads.Learnt,
+  in-definition-reads.Asked,
+  in-definition-reads.Learnt,
+  in-repetition-reads.Asked,
+  in-repetition-reads.Learnt,
   write-fields-below t,
   write-fields.Post,
   type-length-reads.Asked,
@@ -359,6 +315,106 @@ write-tree-role-requires : (t : ℕ) → write-tree-lts.Need-role-requires (
   write-row-reads.Learnt,
 ) (write-tree-at t) write-tree.Post
 write-tree-role-requires t c κs = record { claimed = c .before .before .before .before .before .before .pre .1 .0; below = c .before .before .before .before .before .before .pre .1 .1 .0; numbers = c .before .before .before .slot-at .ensures }
+
+write-tree-in-definition-requires : (t : ℕ) → write-tree-lts.Need-in-definition-requires (
+  slot-at-reads.Asked,
+  slot-at-reads.Learnt,
+  annotated-reads.Asked,
+  annotated-reads.Learnt,
+  is-map-parent-reads.Asked,
+  is-map-parent-reads.Learnt,
+  resolved-kind-reads.Asked,
+  resolved-kind-reads.Learnt,
+  role-reads.Asked,
+  role-reads.Learnt,
+  in-definition-reads.Asked,
+  in-definition-reads.Learnt,
+  in-repetition-reads.Asked,
+  in-repetition-reads.Learnt,
+  write-fields-below t,
+  write-fields.Post,
+  type-length-reads.Asked,
+  type-length-reads.Learnt,
+  write-row-reads.Asked,
+  write-row-reads.Learnt,
+) (write-tree-at t) write-tree.Post
+write-tree-in-definition-requires t c κs = search needs
+
+write-tree-add-own-definition : (t : ℕ) → write-tree-lts.Need-add-own-definition (
+  slot-at-reads.Asked,
+  slot-at-reads.Learnt,
+  annotated-reads.Asked,
+  annotated-reads.Learnt,
+  is-map-parent-reads.Asked,
+  is-map-parent-reads.Learnt,
+  resolved-kind-reads.Asked,
+  resolved-kind-reads.Learnt,
+  role-reads.Asked,
+  role-reads.Learnt,
+  in-definition-reads.Asked,
+  in-definition-reads.Learnt,
+  in-repetition-reads.Asked,
+  in-repetition-reads.Learnt,
+  write-fields-below t,
+  write-fields.Post,
+  type-length-reads.Asked,
+  type-length-reads.Learnt,
+  write-row-reads.Asked,
+  write-row-reads.Learnt,
+) (write-tree-at t) write-tree.Post
+write-tree-add-own-definition t c =
+    let start = c .before .before .before .before .before .before .before .before in
+    omega (arith, start .pre .1 .1 .0, start .pre .1 .0 .most, start .pre .1 .1 .1 .1 .1 .definition-most, c .in-definition .ensures, counted-most isOptionalOrRepeated (c .before .before .before .before .before .slot-at .result .repetition))
+
+write-tree-in-repetition-requires : (t : ℕ) → write-tree-lts.Need-in-repetition-requires (
+  slot-at-reads.Asked,
+  slot-at-reads.Learnt,
+  annotated-reads.Asked,
+  annotated-reads.Learnt,
+  is-map-parent-reads.Asked,
+  is-map-parent-reads.Learnt,
+  resolved-kind-reads.Asked,
+  resolved-kind-reads.Learnt,
+  role-reads.Asked,
+  role-reads.Learnt,
+  in-definition-reads.Asked,
+  in-definition-reads.Learnt,
+  in-repetition-reads.Asked,
+  in-repetition-reads.Learnt,
+  write-fields-below t,
+  write-fields.Post,
+  type-length-reads.Asked,
+  type-length-reads.Learnt,
+  write-row-reads.Asked,
+  write-row-reads.Learnt,
+) (write-tree-at t) write-tree.Post
+write-tree-in-repetition-requires t c κs = search needs
+
+write-tree-add-own-repetition : (t : ℕ) → write-tree-lts.Need-add-own-repetition (
+  slot-at-reads.Asked,
+  slot-at-reads.Learnt,
+  annotated-reads.Asked,
+  annotated-reads.Learnt,
+  is-map-parent-reads.Asked,
+  is-map-parent-reads.Learnt,
+  resolved-kind-reads.Asked,
+  resolved-kind-reads.Learnt,
+  role-reads.Asked,
+  role-reads.Learnt,
+  in-definition-reads.Asked,
+  in-definition-reads.Learnt,
+  in-repetition-reads.Asked,
+  in-repetition-reads.Learnt,
+  write-fields-below t,
+  write-fields.Post,
+  type-length-reads.Asked,
+  type-length-reads.Learnt,
+  write-row-reads.Asked,
+  write-row-reads.Learnt,
+) (write-tree-at t) write-tree.Post
+write-tree-add-own-repetition t c =
+    let start = c .before .before .before .before .before .before .before .before .before in
+    omega (arith, start .pre .1 .1 .0, start .pre .1 .0 .most, start .pre .1 .1 .1 .1 .1 .repetition-most, c .in-repetition .ensures, counted-most isRepeatedCode (c .before .before .before .before .before .before .slot-at .result .repetition))
 
 write-tree-add-write-fields : (t : ℕ) → write-tree-lts.Need-add-write-fields (
   slot-at-reads.Asked,
@@ -371,6 +427,10 @@ write-tree-add-write-fields : (t : ℕ) → write-tree-lts.Need-add-write-fields
   resolved-kind-reads.Learnt,
   role-reads.Asked,
   role-reads.Learnt,
+  in-definition-reads.Asked,
+  in-definition-reads.Learnt,
+  in-repetition-reads.Asked,
+  in-repetition-reads.Learnt,
   write-fields-below t,
   write-fields.Post,
   type-length-reads.Asked,
@@ -378,7 +438,7 @@ write-tree-add-write-fields : (t : ℕ) → write-tree-lts.Need-add-write-fields
   write-row-reads.Asked,
   write-row-reads.Learnt,
 ) (write-tree-at t) write-tree.Post
-write-tree-add-write-fields t c = omega (arith, c .before .before .before .before .before .before .before .before .pre .1 .1 .0, c .before .before .before .before .before .before .before .before .pre .1 .0 .most)
+write-tree-add-write-fields t c = omega (arith, c .before .before .before .before .before .before .before .before .before .before .pre .1 .1 .0, c .before .before .before .before .before .before .before .before .before .before .pre .1 .0 .most)
 
 write-tree-cast-write-fields : (t : ℕ) → write-tree-lts.Need-cast-write-fields (
   slot-at-reads.Asked,
@@ -391,6 +451,10 @@ write-tree-cast-write-fields : (t : ℕ) → write-tree-lts.Need-cast-write-fiel
   resolved-kind-reads.Learnt,
   role-reads.Asked,
   role-reads.Learnt,
+  in-definition-reads.Asked,
+  in-definition-reads.Learnt,
+  in-repetition-reads.Asked,
+  in-repetition-reads.Learnt,
   write-fields-below t,
   write-fields.Post,
   type-length-reads.Asked,
@@ -411,6 +475,10 @@ write-tree-write-fields-requires : (t : ℕ) → write-tree-lts.Need-write-field
   resolved-kind-reads.Learnt,
   role-reads.Asked,
   role-reads.Learnt,
+  in-definition-reads.Asked,
+  in-definition-reads.Learnt,
+  in-repetition-reads.Asked,
+  in-repetition-reads.Learnt,
   write-fields-below t,
   write-fields.Post,
   type-length-reads.Asked,
@@ -419,9 +487,9 @@ write-tree-write-fields-requires : (t : ℕ) → write-tree-lts.Need-write-field
   write-row-reads.Learnt,
 ) (write-tree-at t) write-tree.Post
 write-tree-write-fields-requires t c κs =
-    let start = c .before .before .before .before .before .before .before .before .before in
-    let visited : Visited (start .args .sheet .now) (start .args .at) (c .before .before .before .before .before .before .slot-at .result) = record { claimed = start .pre .1 .0; below = start .pre .1 .1 .0; numbers = c .before .before .before .before .before .before .slot-at .ensures } in
-    (fields-falls _ _ _ (start .pre .1 .1 .0) (start .pre .0), (start .pre .1 .0, (children-claimed _ _ _ (visited .numbers) (visited .claimed) (visited .below), (start .pre .1 .1 .0, (start .pre .1 .1 .1 .1 .0, start .pre .1 .1 .1 .1 .1)))))
+    let start = c .before .before .before .before .before .before .before .before .before .before .before in
+    let visited : Visited (start .args .sheet .now) (start .args .at) (c .before .before .before .before .before .before .before .before .slot-at .result) = record { claimed = start .pre .1 .0; below = start .pre .1 .1 .0; numbers = c .before .before .before .before .before .before .before .before .slot-at .ensures } in
+    (fields-falls _ _ _ (start .pre .1 .1 .0) (start .pre .0), (start .pre .1 .0, (children-claimed _ _ _ (visited .numbers) (visited .claimed) (visited .below), (start .pre .1 .1 .0, (start .pre .1 .1 .1 .1 .0, levels-most (start .args .sheet .now) (start .args .at) (c .before .before .before .before .before .before .before .before .slot-at .result) _ _ _ _ _ _ (c .before .before .before .in-definition .ensures) (c .before .before .in-repetition .ensures) refl refl _ (start .pre .1 .1 .1 .1 .1))))))
 
 write-tree-mul-write-row : (t : ℕ) → write-tree-lts.Need-mul-write-row (
   slot-at-reads.Asked,
@@ -434,6 +502,10 @@ write-tree-mul-write-row : (t : ℕ) → write-tree-lts.Need-mul-write-row (
   resolved-kind-reads.Learnt,
   role-reads.Asked,
   role-reads.Learnt,
+  in-definition-reads.Asked,
+  in-definition-reads.Learnt,
+  in-repetition-reads.Asked,
+  in-repetition-reads.Learnt,
   write-fields-below t,
   write-fields.Post,
   type-length-reads.Asked,
@@ -441,9 +513,9 @@ write-tree-mul-write-row : (t : ℕ) → write-tree-lts.Need-mul-write-row (
   write-row-reads.Asked,
   write-row-reads.Learnt,
 ) (write-tree-at t) write-tree.Post
-write-tree-mul-write-row t c = omega (arith, c .before .before .before .before .before .before .before .before .before .before .before .before .before .pre .1 .1 .0, c .before .before .before .before .before .before .before .before .before .before .before .before .before .pre .1 .0 .most)
+write-tree-mul-write-row t c = omega (arith, c .before .before .before .before .before .before .before .before .before .before .before .before .before .before .before .pre .1 .1 .0, c .before .before .before .before .before .before .before .before .before .before .before .before .before .before .before .pre .1 .0 .most)
 
-write-tree-cast-t20 : (t : ℕ) → write-tree-lts.Need-cast-t20 (
+write-tree-cast-t16 : (t : ℕ) → write-tree-lts.Need-cast-t16 (
   slot-at-reads.Asked,
   slot-at-reads.Learnt,
   annotated-reads.Asked,
@@ -454,6 +526,10 @@ write-tree-cast-t20 : (t : ℕ) → write-tree-lts.Need-cast-t20 (
   resolved-kind-reads.Learnt,
   role-reads.Asked,
   role-reads.Learnt,
+  in-definition-reads.Asked,
+  in-definition-reads.Learnt,
+  in-repetition-reads.Asked,
+  in-repetition-reads.Learnt,
   write-fields-below t,
   write-fields.Post,
   type-length-reads.Asked,
@@ -461,7 +537,7 @@ write-tree-cast-t20 : (t : ℕ) → write-tree-lts.Need-cast-t20 (
   write-row-reads.Asked,
   write-row-reads.Learnt,
 ) (write-tree-at t) write-tree.Post
-write-tree-cast-t20 t c = search needs
+write-tree-cast-t16 t c = search needs
 
 write-tree-type-length-requires : (t : ℕ) → write-tree-lts.Need-type-length-requires (
   slot-at-reads.Asked,
@@ -474,6 +550,10 @@ write-tree-type-length-requires : (t : ℕ) → write-tree-lts.Need-type-length-
   resolved-kind-reads.Learnt,
   role-reads.Asked,
   role-reads.Learnt,
+  in-definition-reads.Asked,
+  in-definition-reads.Learnt,
+  in-repetition-reads.Asked,
+  in-repetition-reads.Learnt,
   write-fields-below t,
   write-fields.Post,
   type-length-reads.Asked,
@@ -483,7 +563,7 @@ write-tree-type-length-requires : (t : ℕ) → write-tree-lts.Need-type-length-
 ) (write-tree-at t) write-tree.Post
 write-tree-type-length-requires t c κs = search needs
 
-write-tree-cast-t22 : (t : ℕ) → write-tree-lts.Need-cast-t22 (
+write-tree-cast-t25 : (t : ℕ) → write-tree-lts.Need-cast-t25 (
   slot-at-reads.Asked,
   slot-at-reads.Learnt,
   annotated-reads.Asked,
@@ -494,6 +574,10 @@ write-tree-cast-t22 : (t : ℕ) → write-tree-lts.Need-cast-t22 (
   resolved-kind-reads.Learnt,
   role-reads.Asked,
   role-reads.Learnt,
+  in-definition-reads.Asked,
+  in-definition-reads.Learnt,
+  in-repetition-reads.Asked,
+  in-repetition-reads.Learnt,
   write-fields-below t,
   write-fields.Post,
   type-length-reads.Asked,
@@ -501,9 +585,9 @@ write-tree-cast-t22 : (t : ℕ) → write-tree-lts.Need-cast-t22 (
   write-row-reads.Asked,
   write-row-reads.Learnt,
 ) (write-tree-at t) write-tree.Post
-write-tree-cast-t22 t c = search needs
+write-tree-cast-t25 t c = search needs
 
-write-tree-cast-t23 : (t : ℕ) → write-tree-lts.Need-cast-t23 (
+write-tree-cast-t26 : (t : ℕ) → write-tree-lts.Need-cast-t26 (
   slot-at-reads.Asked,
   slot-at-reads.Learnt,
   annotated-reads.Asked,
@@ -514,6 +598,10 @@ write-tree-cast-t23 : (t : ℕ) → write-tree-lts.Need-cast-t23 (
   resolved-kind-reads.Learnt,
   role-reads.Asked,
   role-reads.Learnt,
+  in-definition-reads.Asked,
+  in-definition-reads.Learnt,
+  in-repetition-reads.Asked,
+  in-repetition-reads.Learnt,
   write-fields-below t,
   write-fields.Post,
   type-length-reads.Asked,
@@ -521,9 +609,9 @@ write-tree-cast-t23 : (t : ℕ) → write-tree-lts.Need-cast-t23 (
   write-row-reads.Asked,
   write-row-reads.Learnt,
 ) (write-tree-at t) write-tree.Post
-write-tree-cast-t23 t c = omega (arith, c .before .before .before .before .before .before .before .before .before .before .before .before .before .before .before .before .pre .1 .1 .1 .0, c .before .before .before .before .before .before .before .before .before .before .before .before .before .before .before .before .pre .1 .0 .most)
+write-tree-cast-t26 t c = omega (arith, c .before .before .before .before .before .before .before .before .before .before .before .before .before .before .before .before .before .before .pre .1 .1 .1 .0, c .before .before .before .before .before .before .before .before .before .before .before .before .before .before .before .before .before .before .pre .1 .0 .most)
 
-write-tree-cast-t24 : (t : ℕ) → write-tree-lts.Need-cast-t24 (
+write-tree-cast-t27 : (t : ℕ) → write-tree-lts.Need-cast-t27 (
   slot-at-reads.Asked,
   slot-at-reads.Learnt,
   annotated-reads.Asked,
@@ -534,6 +622,10 @@ write-tree-cast-t24 : (t : ℕ) → write-tree-lts.Need-cast-t24 (
   resolved-kind-reads.Learnt,
   role-reads.Asked,
   role-reads.Learnt,
+  in-definition-reads.Asked,
+  in-definition-reads.Learnt,
+  in-repetition-reads.Asked,
+  in-repetition-reads.Learnt,
   write-fields-below t,
   write-fields.Post,
   type-length-reads.Asked,
@@ -541,9 +633,9 @@ write-tree-cast-t24 : (t : ℕ) → write-tree-lts.Need-cast-t24 (
   write-row-reads.Asked,
   write-row-reads.Learnt,
 ) (write-tree-at t) write-tree.Post
-write-tree-cast-t24 t c =
-    let start = c .before .before .before .before .before .before .before .before .before .before .before .before .before .before .before .before in
-    let visited : Visited (start .args .sheet .now) (start .args .at) (c .before .before .before .before .before .before .before .before .before .before .before .before .before .slot-at .result) = record { claimed = start .pre .1 .0; below = start .pre .1 .1 .0; numbers = c .before .before .before .before .before .before .before .before .before .before .before .before .before .slot-at .ensures } in
+write-tree-cast-t27 t c =
+    let start = c .before .before .before .before .before .before .before .before .before .before .before .before .before .before .before .before .before .before in
+    let visited : Visited (start .args .sheet .now) (start .args .at) (c .before .before .before .before .before .before .before .before .before .before .before .before .before .before .before .slot-at .result) = record { claimed = start .pre .1 .0; below = start .pre .1 .1 .0; numbers = c .before .before .before .before .before .before .before .before .before .before .before .before .before .before .before .slot-at .ensures } in
     let end = tree-end (start .args .sheet .now) (start .args .at) _ visited _ (c .before .before .before .before .before .before .write-fields .ensures .0) in
     omega (arith, tree-within (start .args .sheet .now) (start .args .at) (start .pre .1 .0) (start .pre .1 .1 .0), start .pre .1 .0 .most, end)
 
@@ -558,6 +650,10 @@ write-tree-write-row-requires : (t : ℕ) → write-tree-lts.Need-write-row-requ
   resolved-kind-reads.Learnt,
   role-reads.Asked,
   role-reads.Learnt,
+  in-definition-reads.Asked,
+  in-definition-reads.Learnt,
+  in-repetition-reads.Asked,
+  in-repetition-reads.Learnt,
   write-fields-below t,
   write-fields.Post,
   type-length-reads.Asked,
@@ -565,7 +661,7 @@ write-tree-write-row-requires : (t : ℕ) → write-tree-lts.Need-write-row-requ
   write-row-reads.Asked,
   write-row-reads.Learnt,
 ) (write-tree-at t) write-tree.Post
-write-tree-write-row-requires t c κs = row-fits _ _ _ _ (c .before .before .before .before .before .before .before .before .before .before .before .before .before .before .before .before .pre .1 .1 .0) (c .before .before .before .before .before .before .before .before .before .before .before .before .before .before .before .before .pre .1 .1 .1 .1 .0) (c .before .before .before .before .before .before .write-fields .kept .1 .0)
+write-tree-write-row-requires t c κs = row-fits _ _ _ _ (c .before .before .before .before .before .before .before .before .before .before .before .before .before .before .before .before .before .before .pre .1 .1 .0) (c .before .before .before .before .before .before .before .before .before .before .before .before .before .before .before .before .before .before .pre .1 .1 .1 .1 .0) (c .before .before .before .before .before .before .write-fields .kept .1 .0)
 
 write-tree-same-length : (t : ℕ) → write-tree-lts.Need-same-length (
   slot-at-reads.Asked,
@@ -578,6 +674,10 @@ write-tree-same-length : (t : ℕ) → write-tree-lts.Need-same-length (
   resolved-kind-reads.Learnt,
   role-reads.Asked,
   role-reads.Learnt,
+  in-definition-reads.Asked,
+  in-definition-reads.Learnt,
+  in-repetition-reads.Asked,
+  in-repetition-reads.Learnt,
   write-fields-below t,
   write-fields.Post,
   type-length-reads.Asked,
@@ -598,6 +698,10 @@ write-tree-returns : (t : ℕ) → write-tree-lts.Need-returns (
   resolved-kind-reads.Learnt,
   role-reads.Asked,
   role-reads.Learnt,
+  in-definition-reads.Asked,
+  in-definition-reads.Learnt,
+  in-repetition-reads.Asked,
+  in-repetition-reads.Learnt,
   write-fields-below t,
   write-fields.Post,
   type-length-reads.Asked,
@@ -607,20 +711,21 @@ write-tree-returns : (t : ℕ) → write-tree-lts.Need-returns (
 ) (write-tree-at t) write-tree.Post
 unfolding rowNumbers
 write-tree-returns t c =
-    let start = c .before .before .before .before .before .before .before .before .before .before .before .before .before .before .before .before .before .before .before in
-    let visited : Visited (start .args .sheet .now) (start .args .at) (c .before .before .before .before .before .before .before .before .before .before .before .before .before .before .before .before .slot-at .result) = record { claimed = start .pre .1 .0; below = start .pre .1 .1 .0; numbers = c .before .before .before .before .before .before .before .before .before .before .before .before .before .before .before .before .slot-at .ensures } in
+    let start = c .before .before .before .before .before .before .before .before .before .before .before .before .before .before .before .before .before .before .before .before .before in
+    let visited : Visited (start .args .sheet .now) (start .args .at) (c .before .before .before .before .before .before .before .before .before .before .before .before .before .before .before .before .before .before .slot-at .result) = record { claimed = start .pre .1 .0; below = start .pre .1 .1 .0; numbers = c .before .before .before .before .before .before .before .before .before .before .before .before .before .before .before .before .before .before .slot-at .ensures } in
     let run = c .before .before .before .before .before .before .before .before .before .write-fields in
     let end = tree-end (start .args .sheet .now) (start .args .at) _ visited _ (run .ensures .0) in
     let above = slotAt (start .args .sheet .now) (start .args .up) in
-    let numbers = c .before .before .before .before .before .before .before .before .before .before .before .before .before .before .before .annotated .ensures in
-    let map = c .before .before .before .before .before .before .before .before .before .before .before .before .before .before .is-map-parent .ensures in
-    let kind = c .before .before .before .before .before .before .before .before .before .before .before .before .before .resolved-kind .ensures in
-    let own = c .before .before .before .before .before .before .before .before .before .before .before .before .role .ensures in
+    let numbers = c .before .before .before .before .before .before .before .before .before .before .before .before .before .before .before .before .before .annotated .ensures in
+    let map = c .before .before .before .before .before .before .before .before .before .before .before .before .before .before .before .before .is-map-parent .ensures in
+    let kind = c .before .before .before .before .before .before .before .before .before .before .before .before .before .before .before .resolved-kind .ensures in
+    let own = c .before .before .before .before .before .before .before .before .before .before .before .before .before .before .role .ensures in
     let below = parent-is (start .args .sheet .now) (start .args .rows .now) (start .args .at) (start .args .up) _ (start .args .parent) above visited _ _ _ _ _ numbers map kind own refl in (
       end,
       λ path g.
-          let row = row-is (start .args .sheet .now) (start .args .rows .now) (start .args .at) (start .args .up) _ (start .args .parent) above visited path _ g _ _ _ _ _ _ numbers map kind own end (c .before .before .before .before .type-length .ensures) in
-          tree-rows (start .args .sheet .now) (start .args .rows .now) (start .args .at) (start .args .up) _ (start .args .parent) above visited path (start .pre .1 .1 .1 .1 .0) _ below _ (run .ensures .1 _ g) _ _ row (c .before .before .write-row .ensures),
+          let levels = levels-below (start .args .sheet .now) (start .args .at) _ _ _ _ _ _ _ (c .before .before .before .before .before .before .before .before .before .before .before .before .before .in-definition .ensures) (c .before .before .before .before .before .before .before .before .before .before .before .before .in-repetition .ensures) refl refl visited path g in
+          let row = row-is (start .args .sheet .now) (start .args .rows .now) (start .args .at) (start .args .up) _ (start .args .parent) above visited path _ _ levels _ _ _ _ _ _ numbers map kind own end (c .before .before .before .before .type-length .ensures) in
+          tree-rows (start .args .sheet .now) (start .args .rows .now) (start .args .at) (start .args .up) _ (start .args .parent) above visited path (start .pre .1 .1 .1 .1 .0) _ below _ (run .ensures .1 _ levels) _ _ row (c .before .before .write-row .ensures),
     )
 
 pub +write-fields+write-run+write-tree-spec : {M : Type 1} → statement M
@@ -639,10 +744,6 @@ pub +write-fields+write-run+write-tree-spec : {M : Type 1} → statement M
     (write-fields-same-length t)
     (write-fields-returns-2 t))
     (λ t. write-run-lts.spec (
-      slot-at-reads.Asked,
-      slot-at-reads.Learnt,
-      levels-below-reads.Asked,
-      levels-below-reads.Learnt,
       write-tree-below t,
       write-tree.Post,
       after-first-reads.Asked,
@@ -653,8 +754,6 @@ pub +write-fields+write-run+write-tree-spec : {M : Type 1} → statement M
     write-run-Inv-loop
     write-run-μ-loop
     (write-run-loop-holds t)
-    (write-run-slot-at-requires t)
-    (write-run-levels-below-requires t)
     (write-run-write-tree-requires t)
     (write-run-after-first-requires t)
     (write-run-sub-left t)
@@ -673,6 +772,10 @@ pub +write-fields+write-run+write-tree-spec : {M : Type 1} → statement M
       resolved-kind-reads.Learnt,
       role-reads.Asked,
       role-reads.Learnt,
+      in-definition-reads.Asked,
+      in-definition-reads.Learnt,
+      in-repetition-reads.Asked,
+      in-repetition-reads.Learnt,
       write-fields-below t,
       write-fields.Post,
       type-length-reads.Asked,
@@ -687,15 +790,19 @@ pub +write-fields+write-run+write-tree-spec : {M : Type 1} → statement M
     (write-tree-is-map-parent-requires t)
     (write-tree-resolved-kind-requires t)
     (write-tree-role-requires t)
+    (write-tree-in-definition-requires t)
+    (write-tree-add-own-definition t)
+    (write-tree-in-repetition-requires t)
+    (write-tree-add-own-repetition t)
     (write-tree-add-write-fields t)
     (write-tree-cast-write-fields t)
     (write-tree-write-fields-requires t)
     (write-tree-mul-write-row t)
-    (write-tree-cast-t20 t)
+    (write-tree-cast-t16 t)
     (write-tree-type-length-requires t)
-    (write-tree-cast-t22 t)
-    (write-tree-cast-t23 t)
-    (write-tree-cast-t24 t)
+    (write-tree-cast-t25 t)
+    (write-tree-cast-t26 t)
+    (write-tree-cast-t27 t)
     (write-tree-write-row-requires t)
     (write-tree-same-length t)
     (write-tree-returns t)
