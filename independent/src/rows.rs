@@ -1,7 +1,5 @@
 //! Resolved rows.
 
-use std::iter;
-
 use crate::codes::repetition::{OPTIONAL, REPEATED};
 use crate::refusal::{self, Refusal};
 use crate::rules::Schema;
@@ -15,14 +13,15 @@ pub fn resolve(sheet: &[u8], rows: &mut [u32]) -> Result<u32, Refusal> {
     let schema = Schema::read(sheet)?;
     let count = schema.nodes().len();
     let rows = rows.get_mut(..ROW_WIDTH * count).ok_or(Refusal::whole(refusal::OUTPUT))?;
+    let levels = levels(schema.tree());
     for (node, row) in rows.chunks_exact_mut(ROW_WIDTH).enumerate() {
-        row.copy_from_slice(&row_of(&schema, node));
+        row.copy_from_slice(&row_of(&schema, node, levels[node]));
     }
     Ok(count as u32)
 }
 
 /// The row of a node.
-fn row_of(schema: &Schema, node: usize) -> [u32; ROW_WIDTH] {
+fn row_of(schema: &Schema, node: usize, [definition_level, repetition_level]: [u32; 2]) -> [u32; ROW_WIDTH] {
     let tree = schema.tree();
     let slot = tree.slot(node);
     let annotation = schema.nodes()[node].annotation;
@@ -38,13 +37,21 @@ fn row_of(schema: &Schema, node: usize) -> [u32; ROW_WIDTH] {
         tree.parent(node) as u32,
         tree.end(node) as u32,
         schema.nodes()[node].role as u32,
-        level(tree, node, &[OPTIONAL, REPEATED]),
-        level(tree, node, &[REPEATED]),
+        definition_level,
+        repetition_level,
     ]
 }
 
-/// How many nodes on the path from the root to a node, itself included, have one of these repetitions.
-fn level(tree: &Tree, node: usize, counted: &[u8]) -> u32 {
-    let path = iter::successors(Some(node), |&below| (below > 0).then(|| tree.parent(below)));
-    path.filter(|&on_path| counted.contains(&tree.slot(on_path).repetition)).count() as u32
+/// For each node, how many nodes on the path from the root to it, itself included, are optional or repeated, and how many are repeated.
+fn levels(tree: &Tree) -> Vec<[u32; 2]> {
+    let mut levels: Vec<[u32; 2]> = Vec::with_capacity(tree.node_count());
+    for node in 0..tree.node_count() {
+        let [definition, repetition] = if node == 0 { [0, 0] } else { levels[tree.parent(node)] };
+        levels.push(match tree.slot(node).repetition {
+            OPTIONAL => [definition + 1, repetition],
+            REPEATED => [definition + 1, repetition + 1],
+            _ => [definition, repetition],
+        });
+    }
+    levels
 }

@@ -1,5 +1,7 @@
 //! Rounds of comparisons. A round is told by the seed and its number alone, so that one can be run again by itself.
 
+use std::iter;
+
 use independent::sheet::{self, MAX_NODES};
 use independent::tree::MAX_DEPTH;
 use independent::ROW_WIDTH;
@@ -88,6 +90,9 @@ fn accepted(comparison: &mut Comparison, random: &mut Random, sheet: &[u8]) -> R
         return Err(broken("resolve", format!("a lawful tree was refused by {}", refusal_of(answer)), sheet));
     }
     let rows = comparison.resolved(answer);
+    if !levels_count_the_path(&rows) {
+        return Err(broken("resolve", "levels that are not the counts over the path".to_string(), sheet));
+    }
     let start = random.below(20);
     let answer = comparison.rewrite(sheet, start + sheet.len() + 3, start)?;
     if answer != sheet.len() as u64 {
@@ -103,6 +108,16 @@ fn accepted(comparison: &mut Comparison, random: &mut Random, sheet: &[u8]) -> R
         return Err(broken("rewrite", "the rewritten sheet is rewritten to another".to_string(), sheet));
     }
     both(comparison, random, sheet)
+}
+
+/// Whether the levels in each row count the nodes from its own up to the root, by the repetitions and parents in the rows.
+fn levels_count_the_path(rows: &[u32]) -> bool {
+    let rows: Vec<&[u32]> = rows.chunks_exact(ROW_WIDTH).collect();
+    (0..rows.len()).all(|node| {
+        let path = || iter::successors(Some(node), |&below| (below > 0).then(|| rows[below][6] as usize));
+        let counted = |repetitions: &[u32]| path().filter(|&on| repetitions.contains(&rows[on][2])).count() as u32;
+        rows[node][9..] == [counted(&[1, 2]), counted(&[2])]
+    })
 }
 
 /// Resolves and rewrites bytes, with enough lent or not.
