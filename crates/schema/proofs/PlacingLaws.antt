@@ -1,12 +1,12 @@
 -- Numbers placed in a list one stretch after the other.
-use Prim.Native.Nat.{ℕ, suc, _+_, _≤_}
+use Prim.Native.Nat.{ℕ, suc, _+_, _≤_, _<_}
 use mathlib.Core.Path.{_≡_, sym, ap, _∙_}
 use mathlib.Core.List.{List, [], _∷_, _++_, append-assoc, append-nil}
 use native.Mathlib.Omega.{arith}
-use native.Mathlib.Nat.{add-assoc, add-zero, add-suc}
+use native.Mathlib.Nat.{add-assoc, add-zero, add-suc, zero-add, suc-add}
 use native.Mathlib.Numerals.{add-one, add-two, add-three, add-four, add-five, add-six, add-seven, add-eight}
-use lib.ListN.{length, take, drop, set, length-append, take-append-drop}
-use lib.Seq.{length-take-le, take-append-le, take-at, drop-at, drop-drop, take-take, sets, sets-eq}
+use lib.ListN.{length, take, drop, set, length-append, length-set, take-append-drop}
+use lib.Seq.{set-append-left, length-take-le, take-append-le, take-at, drop-at, drop-drop, take-take, sets, sets-eq}
 use Rattle.schema.specs.Steps.{placed}
 
 -- what is placed element by element
@@ -50,6 +50,20 @@ placed-before l i us vs h =
     ∙ ap (λ (x : List ℕ). take i l ++ us ++ x) back
     ∙ sym (append-assoc (take i l ++ us) vs (drop (i + length (us ++ vs)) l))
     ∙ ap (λ (x : List ℕ). x ++ drop (i + length (us ++ vs)) l) (append-assoc (take i l) us vs)
+
+-- a number put in place of one of those that were placed
+set-behind : (xs ys : List ℕ) (j x : ℕ) → set (xs ++ ys) (length xs + j) x ≡ xs ++ set ys j x
+set-behind [] ys j x = ap (λ (k : ℕ). set ys k x) (zero-add j)
+set-behind (y ∷ xs) ys j x = ap (λ (k : ℕ). set (y ∷ (xs ++ ys)) k x) (suc-add (length xs) j) ∙ ap (λ (zs : List ℕ). y ∷ zs) (set-behind xs ys j x)
+
+pub placed-set : (l : List ℕ) (i : ℕ) (vs : List ℕ) (j x : ℕ) → i + length vs ≤ length l → j < length vs → set (placed l i vs) (i + j) x ≡ placed l i (set vs j x)
+unfolding placed
+placed-set l i vs j x h k =
+    let n : length (take i l) ≡ i = length-take-le i l (omega arith) in
+    set-append-left (take i l ++ vs) (drop (i + length vs) l) (i + j) x (omega (arith, length-append (take i l) vs))
+    ∙ ap (λ (m : ℕ). set (take i l ++ vs) (m + j) x ++ drop (i + length vs) l) (sym n)
+    ∙ ap (λ (zs : List ℕ). zs ++ drop (i + length vs) l) (set-behind (take i l) vs j x)
+    ∙ ap (λ (m : ℕ). take i l ++ set vs j x ++ drop (i + m) l) (sym (length-set vs j x))
 
 add-nine : (n : ℕ) → n + 9 ≡ suc (suc (suc (suc (suc (suc (suc (suc (suc n))))))))
 add-nine n = add-suc n 8 ∙ ap suc (add-eight n)

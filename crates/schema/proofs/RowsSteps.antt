@@ -6,7 +6,8 @@ use mathlib.Core.List.{List, [], _∷_, _++_}
 use native.Mathlib.Omega.{arith}
 use native.Mathlib.Nat.{le-refl}
 use native.Mathlib.Numerals.{add-one}
-use lib.ListN.{length, drop}
+use lib.ListN.{length, drop, set, length-append}
+use lib.Seq.{set-append-left}
 use Rattle.sheet.specs.Block.{totalOf}
 use Rattle.sheet.specs.Slot.{slots, slotAt, numbersOf}
 use Rattle.sheet.specs.declared.slots.Slot.{Slot as Numbers}
@@ -23,8 +24,8 @@ use Rattle.schema.specs.Steps.{HasLevels, placed}
 use Rattle.schema.specs.declared.roles.Parent.{Parent}
 use Rattle.tree.proofs.StandingLaws.{runAt-zero, size-node}
 use Rattle.tree.proofs.VisitLaws.{treeAt-slot, run-at, run-below, next-after, next-claimed, run-split, run-end, run-end-empty, tree-within}
-use Rattle.schema.proofs.PlacingLaws.{placed-empty, placed-after, placed-before}
-use Rattle.schema.proofs.RowsLaws.{length-row, length-rowsFrom, length-runRowsFrom}
+use Rattle.schema.proofs.PlacingLaws.{placed-empty, placed-after, placed-set}
+use Rattle.schema.proofs.RowsLaws.{length-rowsFrom, length-runRowsFrom}
 
 module _ (b l : List ℕ) (at n up : ℕ) (p : Parent) (above : SlotBytes) (path : List Tree) where
   pub run-rows-empty : n ≡ 0 → l ≡ placed l (rowWidth * at) (runRowsFrom at up p above path (runAt (slots b) at n))
@@ -99,31 +100,38 @@ module _ (b l : List ℕ) (at up : ℕ) (s : Numbers) (p : Parent) (above : Slot
   row-is path d r g n u k own next bytes a w c o e t =
       rw (g .definition-is, g .repetition-is, t, c, a, w, o, v .numbers, e, treeAt-slot b at (v .claimed) (v .below))
 
-  module _ (path : List Tree) (f : rowWidth * totalOf b ≤ length l) (q : Parent) (w : q ≡ parentOf p above (slotAt b at) (fieldsAt b at)) (m : List ℕ) (e : m ≡ placed l (rowWidth * (at + 1)) (runRowsFrom (at + 1) at q (slotAt b at) (node (slotAt b at) (fieldsAt b at) ∷ path) (runAt (slots b) (at + 1) (s .children)))) where
+  -- its rows: its own, whose end is not known until its run is written, and those of its run
+  module _ (path : List Tree) (f : rowWidth * totalOf b ≤ length l) (q : Parent) (w : q ≡ parentOf p above (slotAt b at) (fieldsAt b at)) (ns k m : List ℕ) (g : length ns ≡ rowWidth) (u : k ≡ placed l (rowWidth * at) ns) (e : m ≡ placed k (rowWidth * (at + 1)) (runRowsFrom (at + 1) at q (slotAt b at) (node (slotAt b at) (fieldsAt b at) ∷ path) (runAt (slots b) (at + 1) (s .children)))) where
     rest : List ℕ
     rest = runRowsFrom (suc at) at (parentOf p above (slotAt b at) (fieldsAt b at)) (slotAt b at) (node (slotAt b at) (fieldsAt b at) ∷ path) (fieldsAt b at)
 
-    rest-is : m ≡ placed l (rowWidth * (at + 1)) rest
+    rest-is : m ≡ placed k (rowWidth * (at + 1)) rest
     unfolding rest
-    rest-is = e ∙ ap (placed l (rowWidth * (at + 1))) (rw (run-at b at s (v .numbers), w, add-one))
+    rest-is = e ∙ ap (placed k (rowWidth * (at + 1))) (rw (run-at b at s (v .numbers), w, add-one))
 
     end-within : suc at + sizes (fieldsAt b at) ≤ totalOf b
     end-within =
         omega (arith, tree-within b at (v .claimed) (v .below), ap size (treeAt-slot b at (v .claimed) (v .below)), size-node (slotAt b at) (fieldsAt b at))
 
-    rest-fits : rowWidth * (at + 1) + length rest ≤ length l
+    both-fit : rowWidth * at + length (ns ++ rest) ≤ length l
     unfolding rest sizes
-    rest-fits = omega (arith, length-runRowsFrom (fieldsAt b at) (suc at) at (parentOf p above (slotAt b at) (fieldsAt b at)) (slotAt b at) (node (slotAt b at) (fieldsAt b at) ∷ path), end-within)
+    both-fit = omega (arith, g, length-append ns rest, length-runRowsFrom (fieldsAt b at) (suc at) at (parentOf p above (slotAt b at) (fieldsAt b at)) (slotAt b at) (node (slotAt b at) (fieldsAt b at) ∷ path), end-within)
 
-    pub tree-rows : (r ns : List ℕ) → ns ≡ row at up p above path (slotAt b at) (fieldsAt b at) → r ≡ placed m (rowWidth * at) ns → r ≡ placed l (rowWidth * at) (rowsFrom at up p above path (treeAt (slots b) at))
+    both-placed : m ≡ placed l (rowWidth * at) (ns ++ rest)
+    both-placed =
+        let base : rowWidth * (at + 1) ≡ rowWidth * at + length ns = omega (arith, g) in
+        rest-is
+        ∙ ap (λ (z : List ℕ). placed z (rowWidth * (at + 1)) rest) u
+        ∙ ap (λ (i : ℕ). placed (placed l (rowWidth * at) ns) i rest) base
+        ∙ placed-after l (rowWidth * at) ns rest (omega (arith, both-fit, length-append ns rest))
+
+    pub tree-rows : (next : ℕ) (r : List ℕ) → set ns 7 next ≡ row at up p above path (slotAt b at) (fieldsAt b at) → r ≡ set m (rowWidth * at + 7) next → r ≡ placed l (rowWidth * at) (rowsFrom at up p above path (treeAt (slots b) at))
     unfolding rowsFrom rest
-    tree-rows r ns x y =
-        let own = row at up p above path (slotAt b at) (fieldsAt b at) in
-        let base : rowWidth * (at + 1) ≡ rowWidth * at + length own = omega (arith, length-row at up p above path (slotAt b at) (fieldsAt b at)) in
+    tree-rows next r x y =
         y
-        ∙ ap (placed m (rowWidth * at)) x
-        ∙ ap (λ (z : List ℕ). placed z (rowWidth * at) own) (rest-is ∙ ap (λ (i : ℕ). placed l i rest) base)
-        ∙ placed-before l (rowWidth * at) own rest (omega (arith, rest-fits, base))
+        ∙ ap (λ (z : List ℕ). set z (rowWidth * at + 7) next) both-placed
+        ∙ placed-set l (rowWidth * at) (ns ++ rest) 7 next both-fit (omega (arith, g, length-append ns rest))
+        ∙ ap (placed l (rowWidth * at)) (set-append-left ns rest 7 next (omega (arith, g)) ∙ ap (λ (z : List ℕ). z ++ rest) x)
         ∙ ap (λ (t : Tree). placed l (rowWidth * at) (rowsFrom at up p above path t)) (sym (treeAt-slot b at (v .claimed) (v .below)))
 
 -- room for the rows, in what is as long as it was

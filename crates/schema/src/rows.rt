@@ -22,6 +22,9 @@ use tree::annotated;
 // How many numbers a row has.
 pub const ROW_WIDTH: usize = 11;
 
+// Where a row's end stands in it.
+const END: usize = 7;
+
 // A node's row.
 struct Row {
     physical: u32,
@@ -100,6 +103,25 @@ fn write_tree(
     let own = role(sheet, up, at, s, parent);
     let own_definition = definition_level + in_definition(s.repetition);
     let own_repetition = repetition_level + in_repetition(s.repetition);
+    let base = ROW_WIDTH * at;
+    write_row(
+        rows,
+        base,
+        Row {
+            physical: s.physical as u32,
+            type_length: annotation::type_length(n),
+            repetition: s.repetition as u32,
+            kind: kind.kind,
+            p1: kind.p1,
+            p2: kind.p2,
+            parent: up as u32,
+            // It is known once the fields are written.
+            end: 0,
+            role: own,
+            definition_level: own_definition,
+            repetition_level: own_repetition,
+        },
+    );
     let next = write_fields(
         sheet,
         rows,
@@ -111,23 +133,7 @@ fn write_tree(
         own_definition,
         own_repetition,
     );
-    write_row(
-        rows,
-        ROW_WIDTH * at,
-        Row {
-            physical: s.physical as u32,
-            type_length: annotation::type_length(n),
-            repetition: s.repetition as u32,
-            kind: kind.kind,
-            p1: kind.p1,
-            p2: kind.p2,
-            parent: up as u32,
-            end: next as u32,
-            role: own,
-            definition_level: own_definition,
-            repetition_level: own_repetition,
-        },
-    );
+    rows[base + END] = next as u32;
     next
 }
 

@@ -3,6 +3,7 @@
 use Prim.Native.Nat.{ℕ, _+_, _*_, _-_, _<_}
 use mathlib.Core.Path.{_≡_, refl, _∙_}
 use borrow.Author.Needs.{needs}
+use lib.ListN.{length-set}
 use native.Mathlib.Omega.{arith}
 use Rattle.sheet.specs.Block.{totalOf}
 use Rattle.sheet.specs.Slot.{slotAt}
@@ -211,12 +212,12 @@ write-tree-slot-at-requires : (t : ℕ) → write-tree-lts.Need-slot-at-requires
   in-definition-reads.Learnt,
   in-repetition-reads.Asked,
   in-repetition-reads.Learnt,
-  write-fields-below t,
-  write-fields.Post,
   type-length-reads.Asked,
   type-length-reads.Learnt,
   write-row-reads.Asked,
   write-row-reads.Learnt,
+  write-fields-below t,
+  write-fields.Post,
 ) (write-tree-at t) write-tree.Post
 write-tree-slot-at-requires t c κs = search needs
 
@@ -235,12 +236,12 @@ write-tree-annotated-requires : (t : ℕ) → write-tree-lts.Need-annotated-requ
   in-definition-reads.Learnt,
   in-repetition-reads.Asked,
   in-repetition-reads.Learnt,
-  write-fields-below t,
-  write-fields.Post,
   type-length-reads.Asked,
   type-length-reads.Learnt,
   write-row-reads.Asked,
   write-row-reads.Learnt,
+  write-fields-below t,
+  write-fields.Post,
 ) (write-tree-at t) write-tree.Post
 write-tree-annotated-requires t c κs = search needs
 
@@ -259,12 +260,12 @@ write-tree-is-map-parent-requires : (t : ℕ) → write-tree-lts.Need-is-map-par
   in-definition-reads.Learnt,
   in-repetition-reads.Asked,
   in-repetition-reads.Learnt,
-  write-fields-below t,
-  write-fields.Post,
   type-length-reads.Asked,
   type-length-reads.Learnt,
   write-row-reads.Asked,
   write-row-reads.Learnt,
+  write-fields-below t,
+  write-fields.Post,
 ) (write-tree-at t) write-tree.Post
 write-tree-is-map-parent-requires t c κs = search needs
 
@@ -283,12 +284,12 @@ write-tree-resolved-kind-requires : (t : ℕ) → write-tree-lts.Need-resolved-k
   in-definition-reads.Learnt,
   in-repetition-reads.Asked,
   in-repetition-reads.Learnt,
-  write-fields-below t,
-  write-fields.Post,
   type-length-reads.Asked,
   type-length-reads.Learnt,
   write-row-reads.Asked,
   write-row-reads.Learnt,
+  write-fields-below t,
+  write-fields.Post,
 ) (write-tree-at t) write-tree.Post
 write-tree-resolved-kind-requires t c κs = search needs
 
@@ -307,12 +308,12 @@ write-tree-role-requires : (t : ℕ) → write-tree-lts.Need-role-requires (
   in-definition-reads.Learnt,
   in-repetition-reads.Asked,
   in-repetition-reads.Learnt,
-  write-fields-below t,
-  write-fields.Post,
   type-length-reads.Asked,
   type-length-reads.Learnt,
   write-row-reads.Asked,
   write-row-reads.Learnt,
+  write-fields-below t,
+  write-fields.Post,
 ) (write-tree-at t) write-tree.Post
 write-tree-role-requires t c κs = record { claimed = c .before .before .before .before .before .before .pre .1 .0; below = c .before .before .before .before .before .before .pre .1 .1 .0; numbers = c .before .before .before .slot-at .ensures }
 
@@ -331,12 +332,12 @@ write-tree-in-definition-requires : (t : ℕ) → write-tree-lts.Need-in-definit
   in-definition-reads.Learnt,
   in-repetition-reads.Asked,
   in-repetition-reads.Learnt,
-  write-fields-below t,
-  write-fields.Post,
   type-length-reads.Asked,
   type-length-reads.Learnt,
   write-row-reads.Asked,
   write-row-reads.Learnt,
+  write-fields-below t,
+  write-fields.Post,
 ) (write-tree-at t) write-tree.Post
 write-tree-in-definition-requires t c κs = search needs
 
@@ -355,12 +356,12 @@ write-tree-add-own-definition : (t : ℕ) → write-tree-lts.Need-add-own-defini
   in-definition-reads.Learnt,
   in-repetition-reads.Asked,
   in-repetition-reads.Learnt,
-  write-fields-below t,
-  write-fields.Post,
   type-length-reads.Asked,
   type-length-reads.Learnt,
   write-row-reads.Asked,
   write-row-reads.Learnt,
+  write-fields-below t,
+  write-fields.Post,
 ) (write-tree-at t) write-tree.Post
 write-tree-add-own-definition t c =
     let start = c .before .before .before .before .before .before .before .before in
@@ -381,12 +382,12 @@ write-tree-in-repetition-requires : (t : ℕ) → write-tree-lts.Need-in-repetit
   in-definition-reads.Learnt,
   in-repetition-reads.Asked,
   in-repetition-reads.Learnt,
-  write-fields-below t,
-  write-fields.Post,
   type-length-reads.Asked,
   type-length-reads.Learnt,
   write-row-reads.Asked,
   write-row-reads.Learnt,
+  write-fields-below t,
+  write-fields.Post,
 ) (write-tree-at t) write-tree.Post
 write-tree-in-repetition-requires t c κs = search needs
 
@@ -405,16 +406,160 @@ write-tree-add-own-repetition : (t : ℕ) → write-tree-lts.Need-add-own-repeti
   in-definition-reads.Learnt,
   in-repetition-reads.Asked,
   in-repetition-reads.Learnt,
-  write-fields-below t,
-  write-fields.Post,
   type-length-reads.Asked,
   type-length-reads.Learnt,
   write-row-reads.Asked,
   write-row-reads.Learnt,
+  write-fields-below t,
+  write-fields.Post,
 ) (write-tree-at t) write-tree.Post
 write-tree-add-own-repetition t c =
     let start = c .before .before .before .before .before .before .before .before .before in
     omega (arith, start .pre .1 .1 .0, start .pre .1 .0 .most, start .pre .1 .1 .1 .1 .1 .repetition-most, c .in-repetition .ensures, counted-most isRepeatedCode (c .before .before .before .before .before .before .slot-at .result .repetition))
+
+write-tree-mul-base : (t : ℕ) → write-tree-lts.Need-mul-base (
+  slot-at-reads.Asked,
+  slot-at-reads.Learnt,
+  annotated-reads.Asked,
+  annotated-reads.Learnt,
+  is-map-parent-reads.Asked,
+  is-map-parent-reads.Learnt,
+  resolved-kind-reads.Asked,
+  resolved-kind-reads.Learnt,
+  role-reads.Asked,
+  role-reads.Learnt,
+  in-definition-reads.Asked,
+  in-definition-reads.Learnt,
+  in-repetition-reads.Asked,
+  in-repetition-reads.Learnt,
+  type-length-reads.Asked,
+  type-length-reads.Learnt,
+  write-row-reads.Asked,
+  write-row-reads.Learnt,
+  write-fields-below t,
+  write-fields.Post,
+) (write-tree-at t) write-tree.Post
+write-tree-mul-base t c = omega (arith, c .before .before .before .before .before .before .before .before .before .pre .1 .1 .0, c .before .before .before .before .before .before .before .before .before .pre .1 .0 .most)
+
+write-tree-cast-rows : (t : ℕ) → write-tree-lts.Need-cast-rows (
+  slot-at-reads.Asked,
+  slot-at-reads.Learnt,
+  annotated-reads.Asked,
+  annotated-reads.Learnt,
+  is-map-parent-reads.Asked,
+  is-map-parent-reads.Learnt,
+  resolved-kind-reads.Asked,
+  resolved-kind-reads.Learnt,
+  role-reads.Asked,
+  role-reads.Learnt,
+  in-definition-reads.Asked,
+  in-definition-reads.Learnt,
+  in-repetition-reads.Asked,
+  in-repetition-reads.Learnt,
+  type-length-reads.Asked,
+  type-length-reads.Learnt,
+  write-row-reads.Asked,
+  write-row-reads.Learnt,
+  write-fields-below t,
+  write-fields.Post,
+) (write-tree-at t) write-tree.Post
+write-tree-cast-rows t c = search needs
+
+write-tree-type-length-requires : (t : ℕ) → write-tree-lts.Need-type-length-requires (
+  slot-at-reads.Asked,
+  slot-at-reads.Learnt,
+  annotated-reads.Asked,
+  annotated-reads.Learnt,
+  is-map-parent-reads.Asked,
+  is-map-parent-reads.Learnt,
+  resolved-kind-reads.Asked,
+  resolved-kind-reads.Learnt,
+  role-reads.Asked,
+  role-reads.Learnt,
+  in-definition-reads.Asked,
+  in-definition-reads.Learnt,
+  in-repetition-reads.Asked,
+  in-repetition-reads.Learnt,
+  type-length-reads.Asked,
+  type-length-reads.Learnt,
+  write-row-reads.Asked,
+  write-row-reads.Learnt,
+  write-fields-below t,
+  write-fields.Post,
+) (write-tree-at t) write-tree.Post
+write-tree-type-length-requires t c κs = search needs
+
+write-tree-cast-t22 : (t : ℕ) → write-tree-lts.Need-cast-t22 (
+  slot-at-reads.Asked,
+  slot-at-reads.Learnt,
+  annotated-reads.Asked,
+  annotated-reads.Learnt,
+  is-map-parent-reads.Asked,
+  is-map-parent-reads.Learnt,
+  resolved-kind-reads.Asked,
+  resolved-kind-reads.Learnt,
+  role-reads.Asked,
+  role-reads.Learnt,
+  in-definition-reads.Asked,
+  in-definition-reads.Learnt,
+  in-repetition-reads.Asked,
+  in-repetition-reads.Learnt,
+  type-length-reads.Asked,
+  type-length-reads.Learnt,
+  write-row-reads.Asked,
+  write-row-reads.Learnt,
+  write-fields-below t,
+  write-fields.Post,
+) (write-tree-at t) write-tree.Post
+write-tree-cast-t22 t c = search needs
+
+write-tree-cast-t23 : (t : ℕ) → write-tree-lts.Need-cast-t23 (
+  slot-at-reads.Asked,
+  slot-at-reads.Learnt,
+  annotated-reads.Asked,
+  annotated-reads.Learnt,
+  is-map-parent-reads.Asked,
+  is-map-parent-reads.Learnt,
+  resolved-kind-reads.Asked,
+  resolved-kind-reads.Learnt,
+  role-reads.Asked,
+  role-reads.Learnt,
+  in-definition-reads.Asked,
+  in-definition-reads.Learnt,
+  in-repetition-reads.Asked,
+  in-repetition-reads.Learnt,
+  type-length-reads.Asked,
+  type-length-reads.Learnt,
+  write-row-reads.Asked,
+  write-row-reads.Learnt,
+  write-fields-below t,
+  write-fields.Post,
+) (write-tree-at t) write-tree.Post
+write-tree-cast-t23 t c = omega (arith, c .before .before .before .before .before .before .before .before .before .before .before .before .before .pre .1 .1 .1 .0, c .before .before .before .before .before .before .before .before .before .before .before .before .before .pre .1 .0 .most)
+
+write-tree-write-row-requires : (t : ℕ) → write-tree-lts.Need-write-row-requires (
+  slot-at-reads.Asked,
+  slot-at-reads.Learnt,
+  annotated-reads.Asked,
+  annotated-reads.Learnt,
+  is-map-parent-reads.Asked,
+  is-map-parent-reads.Learnt,
+  resolved-kind-reads.Asked,
+  resolved-kind-reads.Learnt,
+  role-reads.Asked,
+  role-reads.Learnt,
+  in-definition-reads.Asked,
+  in-definition-reads.Learnt,
+  in-repetition-reads.Asked,
+  in-repetition-reads.Learnt,
+  type-length-reads.Asked,
+  type-length-reads.Learnt,
+  write-row-reads.Asked,
+  write-row-reads.Learnt,
+  write-fields-below t,
+  write-fields.Post,
+) (write-tree-at t) write-tree.Post
+write-tree-write-row-requires t c κs = row-fits _ _ _ _ (c .before .before .before .before .before .before .before .before .before .before .before .before .before .pre .1 .1 .0) (c .before .before .before .before .before .before .before .before .before .before .before .before .before .pre .1 .1 .1 .1 .0) refl
 
 write-tree-add-write-fields : (t : ℕ) → write-tree-lts.Need-add-write-fields (
   slot-at-reads.Asked,
@@ -431,14 +576,14 @@ write-tree-add-write-fields : (t : ℕ) → write-tree-lts.Need-add-write-fields
   in-definition-reads.Learnt,
   in-repetition-reads.Asked,
   in-repetition-reads.Learnt,
-  write-fields-below t,
-  write-fields.Post,
   type-length-reads.Asked,
   type-length-reads.Learnt,
   write-row-reads.Asked,
   write-row-reads.Learnt,
+  write-fields-below t,
+  write-fields.Post,
 ) (write-tree-at t) write-tree.Post
-write-tree-add-write-fields t c = omega (arith, c .before .before .before .before .before .before .before .before .before .before .pre .1 .1 .0, c .before .before .before .before .before .before .before .before .before .before .pre .1 .0 .most)
+write-tree-add-write-fields t c = omega (arith, c .before .before .before .before .before .before .before .before .before .before .before .before .before .before .before .before .before .pre .1 .1 .0, c .before .before .before .before .before .before .before .before .before .before .before .before .before .before .before .before .before .pre .1 .0 .most)
 
 write-tree-cast-write-fields : (t : ℕ) → write-tree-lts.Need-cast-write-fields (
   slot-at-reads.Asked,
@@ -455,12 +600,12 @@ write-tree-cast-write-fields : (t : ℕ) → write-tree-lts.Need-cast-write-fiel
   in-definition-reads.Learnt,
   in-repetition-reads.Asked,
   in-repetition-reads.Learnt,
-  write-fields-below t,
-  write-fields.Post,
   type-length-reads.Asked,
   type-length-reads.Learnt,
   write-row-reads.Asked,
   write-row-reads.Learnt,
+  write-fields-below t,
+  write-fields.Post,
 ) (write-tree-at t) write-tree.Post
 write-tree-cast-write-fields t c = search needs
 
@@ -479,167 +624,48 @@ write-tree-write-fields-requires : (t : ℕ) → write-tree-lts.Need-write-field
   in-definition-reads.Learnt,
   in-repetition-reads.Asked,
   in-repetition-reads.Learnt,
-  write-fields-below t,
-  write-fields.Post,
   type-length-reads.Asked,
   type-length-reads.Learnt,
   write-row-reads.Asked,
   write-row-reads.Learnt,
+  write-fields-below t,
+  write-fields.Post,
 ) (write-tree-at t) write-tree.Post
 write-tree-write-fields-requires t c κs =
-    let start = c .before .before .before .before .before .before .before .before .before .before .before in
-    let visited : Visited (start .args .sheet .now) (start .args .at) (c .before .before .before .before .before .before .before .before .slot-at .result) = record { claimed = start .pre .1 .0; below = start .pre .1 .1 .0; numbers = c .before .before .before .before .before .before .before .before .slot-at .ensures } in
-    (fields-falls _ _ _ (start .pre .1 .1 .0) (start .pre .0), (start .pre .1 .0, (children-claimed _ _ _ (visited .numbers) (visited .claimed) (visited .below), (start .pre .1 .1 .0, (start .pre .1 .1 .1 .1 .0, levels-most (start .args .sheet .now) (start .args .at) (c .before .before .before .before .before .before .before .before .slot-at .result) _ _ _ _ _ _ (c .before .before .before .in-definition .ensures) (c .before .before .in-repetition .ensures) refl refl _ (start .pre .1 .1 .1 .1 .1))))))
-
-write-tree-mul-write-row : (t : ℕ) → write-tree-lts.Need-mul-write-row (
-  slot-at-reads.Asked,
-  slot-at-reads.Learnt,
-  annotated-reads.Asked,
-  annotated-reads.Learnt,
-  is-map-parent-reads.Asked,
-  is-map-parent-reads.Learnt,
-  resolved-kind-reads.Asked,
-  resolved-kind-reads.Learnt,
-  role-reads.Asked,
-  role-reads.Learnt,
-  in-definition-reads.Asked,
-  in-definition-reads.Learnt,
-  in-repetition-reads.Asked,
-  in-repetition-reads.Learnt,
-  write-fields-below t,
-  write-fields.Post,
-  type-length-reads.Asked,
-  type-length-reads.Learnt,
-  write-row-reads.Asked,
-  write-row-reads.Learnt,
-) (write-tree-at t) write-tree.Post
-write-tree-mul-write-row t c = omega (arith, c .before .before .before .before .before .before .before .before .before .before .before .before .before .before .before .pre .1 .1 .0, c .before .before .before .before .before .before .before .before .before .before .before .before .before .before .before .pre .1 .0 .most)
-
-write-tree-cast-t16 : (t : ℕ) → write-tree-lts.Need-cast-t16 (
-  slot-at-reads.Asked,
-  slot-at-reads.Learnt,
-  annotated-reads.Asked,
-  annotated-reads.Learnt,
-  is-map-parent-reads.Asked,
-  is-map-parent-reads.Learnt,
-  resolved-kind-reads.Asked,
-  resolved-kind-reads.Learnt,
-  role-reads.Asked,
-  role-reads.Learnt,
-  in-definition-reads.Asked,
-  in-definition-reads.Learnt,
-  in-repetition-reads.Asked,
-  in-repetition-reads.Learnt,
-  write-fields-below t,
-  write-fields.Post,
-  type-length-reads.Asked,
-  type-length-reads.Learnt,
-  write-row-reads.Asked,
-  write-row-reads.Learnt,
-) (write-tree-at t) write-tree.Post
-write-tree-cast-t16 t c = search needs
-
-write-tree-type-length-requires : (t : ℕ) → write-tree-lts.Need-type-length-requires (
-  slot-at-reads.Asked,
-  slot-at-reads.Learnt,
-  annotated-reads.Asked,
-  annotated-reads.Learnt,
-  is-map-parent-reads.Asked,
-  is-map-parent-reads.Learnt,
-  resolved-kind-reads.Asked,
-  resolved-kind-reads.Learnt,
-  role-reads.Asked,
-  role-reads.Learnt,
-  in-definition-reads.Asked,
-  in-definition-reads.Learnt,
-  in-repetition-reads.Asked,
-  in-repetition-reads.Learnt,
-  write-fields-below t,
-  write-fields.Post,
-  type-length-reads.Asked,
-  type-length-reads.Learnt,
-  write-row-reads.Asked,
-  write-row-reads.Learnt,
-) (write-tree-at t) write-tree.Post
-write-tree-type-length-requires t c κs = search needs
-
-write-tree-cast-t25 : (t : ℕ) → write-tree-lts.Need-cast-t25 (
-  slot-at-reads.Asked,
-  slot-at-reads.Learnt,
-  annotated-reads.Asked,
-  annotated-reads.Learnt,
-  is-map-parent-reads.Asked,
-  is-map-parent-reads.Learnt,
-  resolved-kind-reads.Asked,
-  resolved-kind-reads.Learnt,
-  role-reads.Asked,
-  role-reads.Learnt,
-  in-definition-reads.Asked,
-  in-definition-reads.Learnt,
-  in-repetition-reads.Asked,
-  in-repetition-reads.Learnt,
-  write-fields-below t,
-  write-fields.Post,
-  type-length-reads.Asked,
-  type-length-reads.Learnt,
-  write-row-reads.Asked,
-  write-row-reads.Learnt,
-) (write-tree-at t) write-tree.Post
-write-tree-cast-t25 t c = search needs
-
-write-tree-cast-t26 : (t : ℕ) → write-tree-lts.Need-cast-t26 (
-  slot-at-reads.Asked,
-  slot-at-reads.Learnt,
-  annotated-reads.Asked,
-  annotated-reads.Learnt,
-  is-map-parent-reads.Asked,
-  is-map-parent-reads.Learnt,
-  resolved-kind-reads.Asked,
-  resolved-kind-reads.Learnt,
-  role-reads.Asked,
-  role-reads.Learnt,
-  in-definition-reads.Asked,
-  in-definition-reads.Learnt,
-  in-repetition-reads.Asked,
-  in-repetition-reads.Learnt,
-  write-fields-below t,
-  write-fields.Post,
-  type-length-reads.Asked,
-  type-length-reads.Learnt,
-  write-row-reads.Asked,
-  write-row-reads.Learnt,
-) (write-tree-at t) write-tree.Post
-write-tree-cast-t26 t c = omega (arith, c .before .before .before .before .before .before .before .before .before .before .before .before .before .before .before .before .before .before .pre .1 .1 .1 .0, c .before .before .before .before .before .before .before .before .before .before .before .before .before .before .before .before .before .before .pre .1 .0 .most)
-
-write-tree-cast-t27 : (t : ℕ) → write-tree-lts.Need-cast-t27 (
-  slot-at-reads.Asked,
-  slot-at-reads.Learnt,
-  annotated-reads.Asked,
-  annotated-reads.Learnt,
-  is-map-parent-reads.Asked,
-  is-map-parent-reads.Learnt,
-  resolved-kind-reads.Asked,
-  resolved-kind-reads.Learnt,
-  role-reads.Asked,
-  role-reads.Learnt,
-  in-definition-reads.Asked,
-  in-definition-reads.Learnt,
-  in-repetition-reads.Asked,
-  in-repetition-reads.Learnt,
-  write-fields-below t,
-  write-fields.Post,
-  type-length-reads.Asked,
-  type-length-reads.Learnt,
-  write-row-reads.Asked,
-  write-row-reads.Learnt,
-) (write-tree-at t) write-tree.Post
-write-tree-cast-t27 t c =
     let start = c .before .before .before .before .before .before .before .before .before .before .before .before .before .before .before .before .before .before in
-    let visited : Visited (start .args .sheet .now) (start .args .at) (c .before .before .before .before .before .before .before .before .before .before .before .before .before .before .before .slot-at .result) = record { claimed = start .pre .1 .0; below = start .pre .1 .1 .0; numbers = c .before .before .before .before .before .before .before .before .before .before .before .before .before .before .before .slot-at .ensures } in
-    let end = tree-end (start .args .sheet .now) (start .args .at) _ visited _ (c .before .before .before .before .before .before .write-fields .ensures .0) in
+    let s = c .before .before .before .before .before .before .before .before .before .before .before .before .before .before .before .slot-at in
+    let levels = levels-most (start .args .sheet .now) (start .args .at) (s .result) _ _ _ _ _ _ (c .before .before .before .before .before .before .before .before .before .before .in-definition .ensures) (c .before .before .before .before .before .before .before .before .before .in-repetition .ensures) refl refl _ (start .pre .1 .1 .1 .1 .1) in
+    (fields-falls _ _ _ (start .pre .1 .1 .0) (start .pre .0), (start .pre .1 .0, (children-claimed _ _ _ (s .ensures) (start .pre .1 .0) (start .pre .1 .1 .0), (start .pre .1 .1 .0, (long-enough _ _ _ (start .pre .1 .1 .1 .1 .0) (c .before .before .before .before .write-row .kept .0), levels)))))
+
+write-tree-cast-rows-2 : (t : ℕ) → write-tree-lts.Need-cast-rows-2 (
+  slot-at-reads.Asked,
+  slot-at-reads.Learnt,
+  annotated-reads.Asked,
+  annotated-reads.Learnt,
+  is-map-parent-reads.Asked,
+  is-map-parent-reads.Learnt,
+  resolved-kind-reads.Asked,
+  resolved-kind-reads.Learnt,
+  role-reads.Asked,
+  role-reads.Learnt,
+  in-definition-reads.Asked,
+  in-definition-reads.Learnt,
+  in-repetition-reads.Asked,
+  in-repetition-reads.Learnt,
+  type-length-reads.Asked,
+  type-length-reads.Learnt,
+  write-row-reads.Asked,
+  write-row-reads.Learnt,
+  write-fields-below t,
+  write-fields.Post,
+) (write-tree-at t) write-tree.Post
+write-tree-cast-rows-2 t c =
+    let start = c .before .before .before .before .before .before .before .before .before .before .before .before .before .before .before .before .before .before .before .before .before in
+    let visited : Visited (start .args .sheet .now) (start .args .at) (c .before .before .before .before .before .before .before .before .before .before .before .before .before .before .before .before .before .before .slot-at .result) = record { claimed = start .pre .1 .0; below = start .pre .1 .1 .0; numbers = c .before .before .before .before .before .before .before .before .before .before .before .before .before .before .before .before .before .before .slot-at .ensures } in
+    let end = tree-end (start .args .sheet .now) (start .args .at) _ visited _ (c .before .before .write-fields .ensures .0) in
     omega (arith, tree-within (start .args .sheet .now) (start .args .at) (start .pre .1 .0) (start .pre .1 .1 .0), start .pre .1 .0 .most, end)
 
-write-tree-write-row-requires : (t : ℕ) → write-tree-lts.Need-write-row-requires (
+write-tree-add-rows : (t : ℕ) → write-tree-lts.Need-add-rows (
   slot-at-reads.Asked,
   slot-at-reads.Learnt,
   annotated-reads.Asked,
@@ -654,14 +680,64 @@ write-tree-write-row-requires : (t : ℕ) → write-tree-lts.Need-write-row-requ
   in-definition-reads.Learnt,
   in-repetition-reads.Asked,
   in-repetition-reads.Learnt,
-  write-fields-below t,
-  write-fields.Post,
   type-length-reads.Asked,
   type-length-reads.Learnt,
   write-row-reads.Asked,
   write-row-reads.Learnt,
+  write-fields-below t,
+  write-fields.Post,
 ) (write-tree-at t) write-tree.Post
-write-tree-write-row-requires t c κs = row-fits _ _ _ _ (c .before .before .before .before .before .before .before .before .before .before .before .before .before .before .before .before .before .before .pre .1 .1 .0) (c .before .before .before .before .before .before .before .before .before .before .before .before .before .before .before .before .before .before .pre .1 .1 .1 .1 .0) (c .before .before .before .before .before .before .write-fields .kept .1 .0)
+write-tree-add-rows t c = omega (arith, c .before .before .before .before .before .before .before .before .before .before .before .before .before .before .before .before .before .before .before .before .before .pre .1 .1 .0, c .before .before .before .before .before .before .before .before .before .before .before .before .before .before .before .before .before .before .before .before .before .pre .1 .0 .most)
+
+write-tree-mul-rows : (t : ℕ) → write-tree-lts.Need-mul-rows (
+  slot-at-reads.Asked,
+  slot-at-reads.Learnt,
+  annotated-reads.Asked,
+  annotated-reads.Learnt,
+  is-map-parent-reads.Asked,
+  is-map-parent-reads.Learnt,
+  resolved-kind-reads.Asked,
+  resolved-kind-reads.Learnt,
+  role-reads.Asked,
+  role-reads.Learnt,
+  in-definition-reads.Asked,
+  in-definition-reads.Learnt,
+  in-repetition-reads.Asked,
+  in-repetition-reads.Learnt,
+  type-length-reads.Asked,
+  type-length-reads.Learnt,
+  write-row-reads.Asked,
+  write-row-reads.Learnt,
+  write-fields-below t,
+  write-fields.Post,
+) (write-tree-at t) write-tree.Post
+write-tree-mul-rows t c = omega (arith, c .before .before .before .before .before .before .before .before .before .before .before .before .before .before .before .before .before .before .before .before .before .pre .1 .1 .0, c .before .before .before .before .before .before .before .before .before .before .before .before .before .before .before .before .before .before .before .before .before .pre .1 .0 .most)
+
+write-tree-slice-write-rows : (t : ℕ) → write-tree-lts.Need-slice-write-rows (
+  slot-at-reads.Asked,
+  slot-at-reads.Learnt,
+  annotated-reads.Asked,
+  annotated-reads.Learnt,
+  is-map-parent-reads.Asked,
+  is-map-parent-reads.Learnt,
+  resolved-kind-reads.Asked,
+  resolved-kind-reads.Learnt,
+  role-reads.Asked,
+  role-reads.Learnt,
+  in-definition-reads.Asked,
+  in-definition-reads.Learnt,
+  in-repetition-reads.Asked,
+  in-repetition-reads.Learnt,
+  type-length-reads.Asked,
+  type-length-reads.Learnt,
+  write-row-reads.Asked,
+  write-row-reads.Learnt,
+  write-fields-below t,
+  write-fields.Post,
+) (write-tree-at t) write-tree.Post
+write-tree-slice-write-rows t c =
+    let start = c .before .before .before .before .before .before .before .before .before .before .before .before .before .before .before .before .before .before .before .before .before in
+    omega (arith, start .pre .1 .1 .0, start .pre .1 .1 .1 .1 .0, c .before .before .before .before .before .before .before .write-row .kept .0, c .before .before .write-fields .kept .1 .0)
 
 write-tree-same-length : (t : ℕ) → write-tree-lts.Need-same-length (
   slot-at-reads.Asked,
@@ -678,14 +754,14 @@ write-tree-same-length : (t : ℕ) → write-tree-lts.Need-same-length (
   in-definition-reads.Learnt,
   in-repetition-reads.Asked,
   in-repetition-reads.Learnt,
-  write-fields-below t,
-  write-fields.Post,
   type-length-reads.Asked,
   type-length-reads.Learnt,
   write-row-reads.Asked,
   write-row-reads.Learnt,
+  write-fields-below t,
+  write-fields.Post,
 ) (write-tree-at t) write-tree.Post
-write-tree-same-length t c = c .before .before .write-row .kept .0 ∙ c .before .before .before .before .before .before .before .before .before .write-fields .kept .1 .0
+write-tree-same-length t c = simp length-set (c .before .before .write-fields .kept .1 .0 ∙ c .before .before .before .before .before .before .before .write-row .kept .0)
 
 write-tree-returns : (t : ℕ) → write-tree-lts.Need-returns (
   slot-at-reads.Asked,
@@ -702,18 +778,18 @@ write-tree-returns : (t : ℕ) → write-tree-lts.Need-returns (
   in-definition-reads.Learnt,
   in-repetition-reads.Asked,
   in-repetition-reads.Learnt,
-  write-fields-below t,
-  write-fields.Post,
   type-length-reads.Asked,
   type-length-reads.Learnt,
   write-row-reads.Asked,
   write-row-reads.Learnt,
+  write-fields-below t,
+  write-fields.Post,
 ) (write-tree-at t) write-tree.Post
 unfolding rowNumbers
 write-tree-returns t c =
     let start = c .before .before .before .before .before .before .before .before .before .before .before .before .before .before .before .before .before .before .before .before .before in
     let visited : Visited (start .args .sheet .now) (start .args .at) (c .before .before .before .before .before .before .before .before .before .before .before .before .before .before .before .before .before .before .slot-at .result) = record { claimed = start .pre .1 .0; below = start .pre .1 .1 .0; numbers = c .before .before .before .before .before .before .before .before .before .before .before .before .before .before .before .before .before .before .slot-at .ensures } in
-    let run = c .before .before .before .before .before .before .before .before .before .write-fields in
+    let run = c .before .before .write-fields in
     let end = tree-end (start .args .sheet .now) (start .args .at) _ visited _ (run .ensures .0) in
     let above = slotAt (start .args .sheet .now) (start .args .up) in
     let numbers = c .before .before .before .before .before .before .before .before .before .before .before .before .before .before .before .before .before .annotated .ensures in
@@ -724,8 +800,8 @@ write-tree-returns t c =
       end,
       λ path g.
           let levels = levels-below (start .args .sheet .now) (start .args .at) _ _ _ _ _ _ _ (c .before .before .before .before .before .before .before .before .before .before .before .before .before .in-definition .ensures) (c .before .before .before .before .before .before .before .before .before .before .before .before .in-repetition .ensures) refl refl visited path g in
-          let row = row-is (start .args .sheet .now) (start .args .rows .now) (start .args .at) (start .args .up) _ (start .args .parent) above visited path _ _ levels _ _ _ _ _ _ numbers map kind own end (c .before .before .before .before .type-length .ensures) in
-          tree-rows (start .args .sheet .now) (start .args .rows .now) (start .args .at) (start .args .up) _ (start .args .parent) above visited path (start .pre .1 .1 .1 .1 .0) _ below _ (run .ensures .1 _ levels) _ _ row (c .before .before .write-row .ensures),
+          let row = row-is (start .args .sheet .now) (start .args .rows .now) (start .args .at) (start .args .up) _ (start .args .parent) above visited path _ _ levels _ _ _ _ _ _ numbers map kind own end (c .before .before .before .before .before .before .before .before .before .type-length .ensures) in
+          tree-rows (start .args .sheet .now) (start .args .rows .now) (start .args .at) (start .args .up) _ (start .args .parent) above visited path (start .pre .1 .1 .1 .1 .0) _ below _ _ _ refl (c .before .before .before .before .before .before .before .write-row .ensures) (run .ensures .1 _ levels) _ _ row refl,
     )
 
 pub +write-fields+write-run+write-tree-spec : {M : Type 1} → statement M
@@ -776,12 +852,12 @@ pub +write-fields+write-run+write-tree-spec : {M : Type 1} → statement M
       in-definition-reads.Learnt,
       in-repetition-reads.Asked,
       in-repetition-reads.Learnt,
-      write-fields-below t,
-      write-fields.Post,
       type-length-reads.Asked,
       type-length-reads.Learnt,
       write-row-reads.Asked,
       write-row-reads.Learnt,
+      write-fields-below t,
+      write-fields.Post,
     )
     (write-tree-at t)
     write-tree.Post
@@ -794,15 +870,18 @@ pub +write-fields+write-run+write-tree-spec : {M : Type 1} → statement M
     (write-tree-add-own-definition t)
     (write-tree-in-repetition-requires t)
     (write-tree-add-own-repetition t)
+    (write-tree-mul-base t)
+    (write-tree-cast-rows t)
+    (write-tree-type-length-requires t)
+    (write-tree-cast-t22 t)
+    (write-tree-cast-t23 t)
+    (write-tree-write-row-requires t)
     (write-tree-add-write-fields t)
     (write-tree-cast-write-fields t)
     (write-tree-write-fields-requires t)
-    (write-tree-mul-write-row t)
-    (write-tree-cast-t16 t)
-    (write-tree-type-length-requires t)
-    (write-tree-cast-t25 t)
-    (write-tree-cast-t26 t)
-    (write-tree-cast-t27 t)
-    (write-tree-write-row-requires t)
+    (write-tree-cast-rows-2 t)
+    (write-tree-add-rows t)
+    (write-tree-mul-rows t)
+    (write-tree-slice-write-rows t)
     (write-tree-same-length t)
     (write-tree-returns t)
