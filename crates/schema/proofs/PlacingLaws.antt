@@ -32,25 +32,6 @@ placed-after l i us vs h =
     ∙ ap (λ (x : List ℕ). take i l ++ us ++ vs ++ x) rest
     ∙ ap (λ (x : List ℕ). x ++ drop (i + length (us ++ vs)) l) (append-assoc (take i l) us vs)
 
--- the stretch before one, placed after it
-pub placed-before : (l : List ℕ) (i : ℕ) (us vs : List ℕ) → i + length us ≤ length l → placed (placed l (i + length us) vs) i us ≡ placed l i (us ++ vs)
-unfolding placed
-placed-before l i us vs h =
-    let j = i + length us in
-    let n : length (take j l) ≡ j = length-take-le j l h in
-    let front : take i (take j l ++ vs ++ drop (j + length vs) l) ≡ take i l =
-    ap (take i) (append-assoc (take j l) vs (drop (j + length vs) l))
-    ∙ take-append-le i (take j l) (vs ++ drop (j + length vs) l) (omega arith)
-    ∙ take-take i j l (omega arith) in
-    let back : drop j (take j l ++ vs ++ drop (j + length vs) l) ≡ vs ++ drop (i + length (us ++ vs)) l =
-    ap (drop j) (append-assoc (take j l) vs (drop (j + length vs) l))
-    ∙ drop-at (take j l) (vs ++ drop (j + length vs) l) j n
-    ∙ ap (λ (k : ℕ). vs ++ drop k l) (add-assoc i (length us) (length vs) ∙ ap (λ (k : ℕ). i + k) (sym (length-append us vs))) in
-    ap (λ (x : List ℕ). x ++ us ++ drop j (take j l ++ vs ++ drop (j + length vs) l)) front
-    ∙ ap (λ (x : List ℕ). take i l ++ us ++ x) back
-    ∙ sym (append-assoc (take i l ++ us) vs (drop (i + length (us ++ vs)) l))
-    ∙ ap (λ (x : List ℕ). x ++ drop (i + length (us ++ vs)) l) (append-assoc (take i l) us vs)
-
 -- a number put in place of one of those that were placed
 set-behind : (xs ys : List ℕ) (j x : ℕ) → set (xs ++ ys) (length xs + j) x ≡ xs ++ set ys j x
 set-behind [] ys j x = ap (λ (k : ℕ). set ys k x) (zero-add j)
