@@ -1,11 +1,11 @@
 -- The rows of a tree and its run.
 use Prim.Native.Nat.{ℕ, suc, _+_, _*_}
-use mathlib.Core.Path.{_≡_, refl, _∙_}
+use mathlib.Core.Path.{_≡_, refl, ap₂, _∙_}
 use mathlib.Core.List.{List, _∷_}
 use native.Mathlib.Omega.{arith}
 use lib.ListN.{length, length-append}
 use Rattle.tree.specs.Tree.{SlotBytes, Tree, Fields, node, empty, field, listing, listings, size}
-use Rattle.schema.specs.Rows.{row, rowsFrom, runRowsFrom, parentOf, afterFirst, rowWidth}
+use Rattle.schema.specs.Rows.{row, rowsFrom, runRowsFrom, parentOf, rowWidth}
 use Rattle.schema.specs.declared.roles.Parent.{Parent}
 
 pub length-row : (at up : ℕ) (p : Parent) (above : SlotBytes) (path : List Tree) (s : SlotBytes) (fs : Fields) → length (row at up p above path s fs) ≡ rowWidth
@@ -24,4 +24,5 @@ mutual
   length-runRowsFrom empty at up p above path = refl
   length-runRowsFrom (field t fs) at up p above path =
       length-append (rowsFrom at up p above path t) _
-      ∙ (let a = length-rowsFrom t at up p above path in let b = length-runRowsFrom fs (at + size t) up (afterFirst p) above path in omega (arith, length-append (listing t) (listings fs)))
+      ∙ ap₂ _+_ (length-rowsFrom t at up p above path) (length-runRowsFrom fs _ _ _ _ _)
+      ∙ (let e = length-append (listing t) (listings fs) in omega arith)
