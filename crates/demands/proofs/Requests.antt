@@ -1,7 +1,7 @@
 -- What the requests of document 02 ask holds.
 use Prim.Native.Nat.{ℕ, zero, suc, _*_, _≤_, _<_}
-use mathlib.Core.Path.{_≡_, refl, sym, ap, _∙_}
-use mathlib.Core.List.{List, _++_}
+use mathlib.Core.Path.{_≡_, refl, ap, _∙_}
+use mathlib.Core.List.{List}
 use native.Mathlib.Omega.{arith}
 use borrow.Author.Tests.{lt-ltb}
 use lib.ListN.{length, drop}
@@ -10,7 +10,7 @@ use Rattle.sheet.specs.Block.{totalOf}
 use Rattle.tree.specs.Judgement.{refusal, judgement}
 use Rattle.tree.specs.declared.refusal.Verdict.{Verdict}
 use Rattle.schema.specs.Rows.{rowWidth, rows}
-use Rattle.schema.specs.Outcome.{answer, outcome, written}
+use Rattle.schema.specs.Outcome.{answer, outcome}
 use Rattle.schema.specs.Demand.{Accepted}
 use Rattle.schema.specs.declared.resolving.Resolved.{Resolved}
 use Rattle.schema.proofs.AcceptedLaws.{accepted-sound, accepted-enough}

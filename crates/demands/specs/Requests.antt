@@ -63,7 +63,7 @@ pub record Request2 : Type 1 where
 abbrev pub left : List ℕ → List ℕ → List ℕ
 left sheet lent = written (outcome sheet (length lent)) sheet lent
 
--- what stands in the row of node k: its repetition, its parent, and its levels, the greatest that a definition and a repetition have in its column
+-- what stands in the row of node k: its repetition, its parent, and its definition and repetition level
 abbrev pub repetitionIn : List ℕ → ℕ → ℕ
 repetitionIn numbers k = numberIn numbers k 2
 

@@ -6,7 +6,7 @@ use native.Mathlib.Omega.{arith}
 use native.Mathlib.Nat.{add-assoc, add-zero, add-suc, zero-add, suc-add}
 use native.Mathlib.Numerals.{add-one, add-two, add-three, add-four, add-five, add-six, add-seven, add-eight}
 use lib.ListN.{length, take, drop, set, length-append, length-set, take-append-drop}
-use lib.Seq.{set-append-left, length-take-le, take-append-le, take-at, drop-at, drop-drop, take-take, sets, sets-eq}
+use lib.Seq.{set-append-left, length-take-le, take-at, drop-at, drop-drop, sets, sets-eq}
 use Rattle.schema.specs.Steps.{placed}
 
 -- what is placed element by element
