@@ -13,7 +13,7 @@ use Rattle.parquet.specs.Physical as physical
 use Rattle.sheet.specs.Sound.{slotSound}
 use Rattle.sheet.proofs.NumberLaws.{Bytes}
 use Rattle.sheet.proofs.FieldLaws.{physical-lt, typeLength-mag, scale-mag, precision-mag}
-use Rattle.sheet.proofs.SlotLaws.{slots-length, slots-at, slotAt-bytes}
+use Rattle.sheet.proofs.SlotLaws.{slots-at, slotAt-bytes}
 use Rattle.sheet.proofs.SoundLaws.{sound-physical}
 use Rattle.sheet.proofs.OpeningLaws.{openOf-accepts, openOf-sound}
 use Rattle.tree.specs.Annotated.{annotated, kind, rule10, rule11}
@@ -26,9 +26,9 @@ use Rattle.tree.specs.declared.place.Place.{Place}
 use Rattle.tree.specs.declared.place.Place.the-variants.{Root}
 use Rattle.schema.specs.declared.roles.Parent.{Parent}
 use Rattle.schema.specs.declared.roles.Parent.the-variants as parent
-use Rattle.schema.proofs.AcceptedLaws.{accepted-sound, accepted-enough}
+use Rattle.schema.proofs.AcceptedLaws.{accepted-sound, accepted-rows}
 use Rattle.schema.proofs.NodeRowLaws.{BeginsWith, row-at}
-use Rattle.schema.proofs.DemandLaws.{accepted-exactly, rows-are}
+use Rattle.schema.proofs.DemandLaws.{size-is}
 use Rattle.column_type.specs.Lawful.{isLeaf, isLawful}
 use Rattle.column_type.specs.Leaf.{columnOf, columnAt, IsLeafOf, HasLeaf}
 use Rattle.column_type.specs.declared.types.ColumnType.{ColumnType}
@@ -78,22 +78,21 @@ module _ (c : ColumnType) (sheet lent : List ℕ) (k : ℕ) (h : IsLeafOf c shee
   sound : Sound sheet
   sound = accepted-sound sheet (length lent) (h .accepted)
 
-  tree : (t : Tree) × IsTreeOf sheet t
-  tree = accepted-exactly sheet (length lent) sound (accepted-enough sheet (length lent) (h .accepted)) .0 (h .accepted)
+  tree : (t : Tree) × IsTreeOf sheet t × (written (outcome sheet (length lent)) sheet lent ≡ rows t ++ drop (rowWidth * totalOf sheet) lent)
+  tree = accepted-rows sheet lent (h .accepted)
 
   -- node k is listed as the k-th
   slot-listed : getD (listing (tree .0)) k [] ≡ slotAt sheet k
   slot-listed = ap (λ (ss : List SlotBytes). getD ss k []) (tree .1 .lists) ∙ slots-at sheet k [] (h .below)
 
   below-size : k < size (tree .0)
-  unfolding size
-  below-size = omega (arith, ap length (tree .1 .lists), slots-length sheet, h .below)
+  below-size = omega (arith, size-is sheet (tree .0) (tree .1), h .below)
 
   -- its row stands at 11k
   begins : BeginsWith (slotAt sheet k) (drop (rowWidth * k) (written (outcome sheet (length lent)) sheet lent))
   unfolding rows
   begins =
-      rw (rows-are sheet lent (tree .0) sound (accepted-enough sheet (length lent) (h .accepted)) (tree .1), ← slot-listed)
+      rw (tree .2, ← slot-listed)
       (row-at (tree .0) Root parent.Other 0 0 [] [] (drop (rowWidth * totalOf sheet) lent) (tree .1 .keeps) refl k below-size)
 
   column-is : c ≡ columnWith (annotated (slotAt sheet k)) (kind (underMap (begins .place)) (slotAt sheet k))

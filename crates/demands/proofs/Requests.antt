@@ -1,21 +1,22 @@
 -- What the requests of document 02 ask holds.
 use Prim.Native.Nat.{ℕ, zero, suc, _*_, _≤_, _<_}
 use mathlib.Core.Path.{_≡_, refl, ap, _∙_}
-use mathlib.Core.List.{List}
+use mathlib.Core.List.{List, _++_}
 use native.Mathlib.Omega.{arith}
 use borrow.Author.Tests.{lt-ltb}
 use lib.ListN.{length, drop}
 use lib.Seq.{drop-at}
 use Rattle.sheet.specs.Block.{totalOf}
+use Rattle.tree.specs.Tree.{Tree}
 use Rattle.tree.specs.Judgement.{refusal, judgement}
 use Rattle.tree.specs.declared.refusal.Verdict.{Verdict}
 use Rattle.schema.specs.Rows.{rowWidth, rows}
 use Rattle.schema.specs.Outcome.{answer, outcome}
-use Rattle.schema.specs.Demand.{Accepted}
+use Rattle.schema.specs.Demand.{IsTreeOf, Accepted}
 use Rattle.schema.specs.declared.resolving.Resolved.{Resolved}
-use Rattle.schema.proofs.AcceptedLaws.{accepted-sound, accepted-enough}
-use Rattle.schema.proofs.DemandLaws.{no-refusal-rows, accepted-exactly, rows-are, rows-length, refused-unchanged}
-use Rattle.schema.proofs.NodeLevelsLaws.{accepted-root, accepted-field}
+use Rattle.schema.proofs.AcceptedLaws.{accepted-rows}
+use Rattle.schema.proofs.DemandLaws.{no-refusal-rows, size-is, rows-length, refused-unchanged}
+use Rattle.schema.proofs.NodeLevelsLaws.{InRow, root-levels, field-levels}
 use Rattle.schema.proofs.RepeatedFieldLaws as repeated
 use Rattle.demands.specs.Requests.{one, Request2, left, definitionIn, repetitionLevelIn, Request8}
 use Rattle.demands.proofs.SheetPoints.{repeated-rows, example-rows}
@@ -34,21 +35,27 @@ request2 =
 -- R-8 ----------------------------------------------------------------------------------------------------------------------
 
 module _ (sheet lent : List ℕ) (a : Accepted (outcome sheet (length lent))) where
+  tree : (t : Tree) × IsTreeOf sheet t × (left sheet lent ≡ rows t ++ drop (11 * totalOf sheet) lent)
+  tree = accepted-rows sheet lent a
+
+  root : (definitionIn (left sheet lent) 0 ≡ 0) × (repetitionLevelIn (left sheet lent) 0 ≡ 0)
+  root = root-levels (left sheet lent) _ (tree .0) (tree .2) (tree .1 .keeps)
+
+  field : (k : ℕ) → 0 < k → k < totalOf sheet → InRow (left sheet lent) k 32
+  field k p h = field-levels (left sheet lent) _ (tree .0) (tree .2) (tree .1 .keeps) 32 (tree .1 .deep) k p (omega (arith, size-is sheet (tree .0) (tree .1)))
+
   levels-ordered : (k : ℕ) → k < totalOf sheet → repetitionLevelIn (left sheet lent) k ≤ definitionIn (left sheet lent) k
-  levels-ordered zero h = omega (arith, accepted-root sheet lent a .0, accepted-root sheet lent a .1)
-  levels-ordered (suc k) h = accepted-field sheet lent a (suc k) (omega arith) h .ordered
+  levels-ordered zero h = omega (arith, root .0, root .1)
+  levels-ordered (suc k) h = field (suc k) (omega arith) h .ordered
 
   levels-most : (k : ℕ) → k < totalOf sheet → definitionIn (left sheet lent) k ≤ 32
-  levels-most zero h = omega (arith, accepted-root sheet lent a .0)
-  levels-most (suc k) h = accepted-field sheet lent a (suc k) (omega arith) h .most
+  levels-most zero h = omega (arith, root .0)
+  levels-most (suc k) h = field (suc k) (omega arith) h .most
 
   -- past the rows
   rows-past : drop (11 * totalOf sheet) (left sheet lent) ≡ drop (11 * totalOf sheet) lent
   rows-past =
-      let sound = accepted-sound sheet (length lent) a in
-      let enough = accepted-enough sheet (length lent) a in
-      let tree = accepted-exactly sheet (length lent) sound enough .0 a in
-      ap (drop (11 * totalOf sheet)) (rows-are sheet lent (tree .0) sound enough (tree .1))
+      ap (drop (11 * totalOf sheet)) (tree .2)
       ∙ drop-at (rows (tree .0)) (drop (11 * totalOf sheet) lent) (11 * totalOf sheet) (rows-length sheet (tree .0) (tree .1))
 
 short-output : (sheet : List ℕ) (lent : ℕ) → judgement sheet ≡ Verdict.Lawful → lent < 11 * totalOf sheet → outcome sheet lent ≡ Resolved.Refused (refusal 14 0)
@@ -73,11 +80,11 @@ past-left sheet lent = cases (outcome sheet (length lent)) refl
 pub request8 : Request8
 request8 =
     record {
-      root-definition = λ sheet lent a. accepted-root sheet lent a .0;
-      root-repetition = λ sheet lent a. accepted-root sheet lent a .1;
-      parent-before = λ sheet lent k a p h. accepted-field sheet lent a k p h .earlier;
-      definition-below = λ sheet lent k a p h. accepted-field sheet lent a k p h .definition-is;
-      repetition-below = λ sheet lent k a p h. accepted-field sheet lent a k p h .repetition-is;
+      root-definition = λ sheet lent a. root sheet lent a .0;
+      root-repetition = λ sheet lent a. root sheet lent a .1;
+      parent-before = λ sheet lent k a p h. field sheet lent a k p h .earlier;
+      definition-below = λ sheet lent k a p h. field sheet lent a k p h .definition-is;
+      repetition-below = λ sheet lent k a p h. field sheet lent a k p h .repetition-is;
       ordered = λ sheet lent k a. levels-ordered sheet lent a k;
       at-most-32 = λ sheet lent k a. levels-most sheet lent a k;
       short = short-output;

@@ -1,23 +1,25 @@
--- An accepted sheet is sound, and its output is enough.
+-- An accepted sheet is sound, its output is enough, and it has a tree.
 use Prim.Native.Nat.{ℕ, _*_, _≤_}
 use mathlib.Core.Path.{_≡_, refl, sym, subst}
 use mathlib.Core.Bool.{Bool, true, false, cond}
-use mathlib.Core.List.{List}
+use mathlib.Core.List.{List, _++_}
 use native.Mathlib.Omega.{arith}
 use borrow.Author.Tests.{ltb-false}
 use lib.Dec.{ltb}
+use lib.ListN.{length, drop}
 use Rattle.sheet.specs.Block.{totalOf}
 use Rattle.sheet.specs.Opening as sheet
 use Rattle.sheet.specs.declared.opening.Opened.the-variants.{Nodes}
 use Rattle.sheet.proofs.OpeningLaws.{openOf-blocks, openOf-slots}
-use Rattle.schema.specs.Rows.{rowWidth}
+use Rattle.tree.specs.Tree.{Tree}
+use Rattle.schema.specs.Rows.{rowWidth, rows}
 use Rattle.tree.specs.Judgement.{judgement}
-use Rattle.schema.specs.Outcome.{shortOutput, answer, outcome}
-use Rattle.schema.specs.Demand.{Sound, EnoughOutput, Accepted}
+use Rattle.schema.specs.Outcome.{shortOutput, answer, outcome, written}
+use Rattle.schema.specs.Demand.{IsTreeOf, Sound, EnoughOutput, Accepted}
 use Rattle.tree.specs.declared.refusal.Verdict.{Verdict}
 use Rattle.tree.specs.declared.refusal.Verdict.the-variants.{Lawful, Refused}
 use Rattle.schema.specs.declared.resolving.Resolved.{Resolved}
-use Rattle.schema.proofs.DemandLaws.{accepted-no-refusal}
+use Rattle.schema.proofs.DemandLaws.{accepted-no-refusal, accepted-exactly, rows-are}
 use Rattle.tree.proofs.JudgementLaws.{lawful-opened}
 
 -- 14 is not given
@@ -54,6 +56,14 @@ module _ (bytes : List ℕ) (lent : ℕ) (accepted : Accepted (outcome bytes len
   pub accepted-enough : EnoughOutput bytes lent
   unfolding outcome EnoughOutput
   accepted-enough = answer-enough (judgement bytes) (totalOf bytes) lent accepted
+
+-- it has a tree, with whose rows the lent numbers then begin; what stood past them stays
+pub accepted-rows : (bytes lent : List ℕ) → Accepted (outcome bytes (length lent)) → (t : Tree) × IsTreeOf bytes t × (written (outcome bytes (length lent)) bytes lent ≡ rows t ++ drop (rowWidth * totalOf bytes) lent)
+accepted-rows bytes lent a =
+    let sound = accepted-sound bytes (length lent) a in
+    let enough = accepted-enough bytes (length lent) a in
+    let tree = accepted-exactly bytes (length lent) sound enough .0 a in
+    (tree .0, tree .1, rows-are bytes lent (tree .0) sound enough (tree .1))
 
 -- as many numbers are lent as the rows that are answered take
 pub rows-fit : (bytes : List ℕ) (lent n : ℕ) → outcome bytes lent ≡ Resolved.Rows n → rowWidth * n ≤ lent

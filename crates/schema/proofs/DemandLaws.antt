@@ -100,10 +100,15 @@ pub refused-unchanged : (bytes lent : List ℕ) (r : Refusal) → outcome bytes 
 unfolding written
 refused-unchanged bytes lent r e = rw e
 
+-- a sheet's tree has T nodes
+pub size-is : (bytes : List ℕ) (t : Tree) → IsTreeOf bytes t → size t ≡ totalOf bytes
+unfolding size
+size-is bytes t h = ap length (h .lists) ∙ slots-length bytes
+
 -- the rows of a sheet's tree are as many numbers as its nodes need
 pub rows-length : (bytes : List ℕ) (t : Tree) → IsTreeOf bytes t → length (rows t) ≡ rowWidth * totalOf bytes
-unfolding rows size
-rows-length bytes t h = length-rowsFrom t 0 0 Other [] [] ∙ ap (λ (n : ℕ). rowWidth * n) (ap length (h .lists) ∙ slots-length bytes)
+unfolding rows
+rows-length bytes t h = length-rowsFrom t 0 0 Other [] [] ∙ ap (λ (n : ℕ). rowWidth * n) (size-is bytes t h)
 
 -- blocks and slots are sound exactly where opening gives no refusal
 pub sound-exactly : (bytes : List ℕ) → Sound bytes ↔ (sheet.openOf bytes ≡ Nodes (totalOf bytes))

@@ -1,34 +1,28 @@
 -- The levels in the rows of a tree: a node's are its parent's and what its own repetition adds, and they are no greater than the node is deep.
-use Prim.Native.Nat.{ℕ, zero, suc, _+_, _*_, _-_, _≤_, _<_}
+use Prim.Native.Nat.{ℕ, zero, suc, _+_, _*_, _≤_, _<_}
 use mathlib.Core.Path.{_≡_, sym, ap, _∙_, subst}
 use mathlib.Core.Bool.{Bool, true, false, cond, _&&_, _||_, and-eq-true-iff}
 use mathlib.Core.List.{List, [], _∷_, _++_, append-assoc}
-use native.Mathlib.Decide.{decLt}
 use native.Mathlib.Omega.{arith}
-use native.Mathlib.Nat.{add-zero}
+use native.Mathlib.Nat.{add-zero, add-assoc}
 use borrow.Author.Tests.{eqb-true}
 use lib.Dec.{eqb}
 use lib.ListN.{length, getD, drop, length-append, List·getD-append}
 use lib.Seq.{drop-at, drop-drop, getD-append-add}
-use Rattle.sheet.specs.Block.{totalOf}
 use Rattle.sheet.specs.Slot.{repetition, numbersOf}
-use Rattle.sheet.proofs.SlotLaws.{slots-length}
 use Rattle.parquet.specs.Repetition.{OPTIONAL, REPEATED}
 use Rattle.parquet.specs.Repetition as repetition
 use Rattle.parquet.specs.Converted as converted
 use Rattle.parquet.specs.Logical as logical
-use Rattle.tree.specs.Tree.{SlotBytes, Tree, Fields, node, empty, field, listing, listings, size, depths, runDepths, AtMostDeep, mostDepth}
+use Rattle.tree.specs.Tree.{SlotBytes, Tree, Fields, node, empty, field, listing, listings, size, depths, runDepths, AtMostDeep}
 use Rattle.tree.specs.Rules.{isGroup, rootShape, lengthShape, decimalShape, shape, rule8, Keeps}
 use Rattle.tree.specs.declared.place.Place.the-variants.{Root}
 use Rattle.tree.proofs.JudgingLaws.{length-depths}
 use Rattle.schema.specs.Levels.{isOptionalOrRepeated, isRepeatedCode, counted, howMany}
 use Rattle.schema.specs.Rows.{row, parentOf, afterFirst, rowsFrom, runRowsFrom, rows, rowWidth, numberIn}
-use Rattle.schema.specs.Outcome.{outcome, written}
-use Rattle.schema.specs.Demand.{IsTreeOf, Sound, EnoughOutput, Accepted}
 use Rattle.schema.specs.declared.roles.Parent.{Parent}
-use Rattle.schema.proofs.AcceptedLaws.{accepted-sound, accepted-enough}
-use Rattle.schema.proofs.DemandLaws.{accepted-exactly, rows-are}
 use Rattle.schema.proofs.LevelsLaws.{counted-most}
+use Rattle.schema.proofs.NodeRowLaws.{either}
 use Rattle.schema.proofs.RowsLaws.{length-row, length-rowsFrom}
 
 -- the levels of a path ------------------------------------------------------------------------------------------------------
@@ -113,16 +107,11 @@ module _ (numbers : List ℕ) where
       → (k < size t → InRow numbers (at + k) (getD (depths d t) k 0))
       → ((j : ℕ) → j < length (listings fs) → InRow numbers (at + size t + j) (getD (runDepths d fs) j 0))
       → InRow numbers (at + k) (getD (depths d t ++ runDepths d fs) k 0)
-  in-run t fs d at k l f g = cases (decLt k (size t))
-    where
-      cases : Dec (k < size t) → InRow numbers (at + k) (getD (depths d t ++ runDepths d fs) k 0)
-      cases (yes b) = rw (List·getD-append (depths d t) (runDepths d fs) 0 k (omega (arith, length-depths t d, b))) (f b)
-      cases (no b) =
-          let j = k - size t in
-          let same : k ≡ length (depths d t) + j = omega (arith, length-depths t d) in
-          let place : at + k ≡ at + size t + j = omega arith in
-          let deep : getD (depths d t ++ runDepths d fs) k 0 ≡ getD (runDepths d fs) j 0 = ap (λ (i : ℕ). getD (depths d t ++ runDepths d fs) i 0) same ∙ getD-append-add (depths d t) (runDepths d fs) j 0 in
-          rw (place, deep) (g j (omega arith))
+  in-run t fs d at k l f g =
+      let n = length-depths t d in
+      either (λ (i : ℕ). InRow numbers (at + i) (getD (depths d t ++ runDepths d fs) i 0)) (size t) (length (listings fs)) k l
+      (λ b. rw (List·getD-append (depths d t) (runDepths d fs) 0 k (omega (arith, n, b))) (f b))
+      (λ j b. rw (← add-assoc at (size t) j, ← n, getD-append-add (depths d t) (runDepths d fs) j 0, n) (g j b))
 
   later-field : (path : List Tree) (up at d n : ℕ) → Under path up at d → Under path up (at + n) d
   later-field path up at d n u =
@@ -155,7 +144,7 @@ module _ (numbers : List ℕ) where
         (λ h. tree-levels t at up q above path (later ++ rest) d split u k h)
         (λ j h. run-levels fs (at + size t) up (afterFirst q) above path rest d (behind-rows at (size t) first (later ++ rest) split (length-rowsFrom t at up q above path)) (later-field path up at d (size t) u) j h)
 
--- the rows of an accepted sheet --------------------------------------------------------------------------------------------
+-- the rows of a whole tree ---------------------------------------------------------------------------------------------------
 
 -- the root has no repetition
 root-none : (s : SlotBytes) (fs : Fields) → rule8 Root s fs ≡ true → repetition s ≡ repetition.NONE
@@ -187,15 +176,15 @@ module _ (numbers rest : List ℕ) where
   unfolding rows rowsFrom
   root-row s fs e = e ∙ append-assoc (row 0 0 Parent.Other [] [] s fs) _ rest
 
-  root-levels : (t : Tree) → numbers ≡ rows t ++ rest → Keeps Root t → (numberIn numbers 0 9 ≡ 0) × (numberIn numbers 0 10 ≡ 0)
+  pub root-levels : (t : Tree) → numbers ≡ rows t ++ rest → Keeps Root t → (numberIn numbers 0 9 ≡ 0) × (numberIn numbers 0 10 ≡ 0)
   unfolding Keeps
   root-levels (node s fs) e h =
       let none = root-none s fs (h .0 .shape) in
       (own-definition numbers 0 0 Parent.Other [] [] s fs _ (root-row s fs e) ∙ root-definition s fs none, own-repetitions numbers 0 0 Parent.Other [] [] s fs _ (root-row s fs e) ∙ root-repetition s fs none)
 
-  field-levels : (t : Tree) → numbers ≡ rows t ++ rest → Keeps Root t → (k : ℕ) → suc k < size t → InRow numbers (suc k) (getD (depths 0 t) (suc k) 0)
+  levels-by-depth : (t : Tree) → numbers ≡ rows t ++ rest → Keeps Root t → (k : ℕ) → suc k < size t → InRow numbers (suc k) (getD (depths 0 t) (suc k) 0)
   unfolding Keeps depths size listing
-  field-levels (node s fs) e h k l =
+  levels-by-depth (node s fs) e h k l =
       let own = root-row s fs e in
       let none = root-none s fs (h .0 .shape) in
       let next : 1 + k ≡ suc k = omega arith in
@@ -205,31 +194,10 @@ module _ (numbers rest : List ℕ) where
       (own-fields numbers 0 0 Parent.Other [] [] s fs _ own 0 (omega (arith, root-definition s fs none)))
       k (omega arith))
 
-module _ (bytes lent : List ℕ) (accepted : Accepted (outcome bytes (length lent))) where
-  abbrev left : List ℕ
-  left = written (outcome bytes (length lent)) bytes lent
-
-  sound : Sound bytes
-  sound = accepted-sound bytes (length lent) accepted
-
-  enough : EnoughOutput bytes (length lent)
-  enough = accepted-enough bytes (length lent) accepted
-
-  tree : (t : Tree) × IsTreeOf bytes t
-  tree = accepted-exactly bytes (length lent) sound enough .0 accepted
-
-  left-is : left ≡ rows (tree .0) ++ drop (rowWidth * totalOf bytes) lent
-  left-is = rows-are bytes lent (tree .0) sound enough (tree .1)
-
-  -- the root's levels
-  pub accepted-root : (numberIn left 0 9 ≡ 0) × (numberIn left 0 10 ≡ 0)
-  accepted-root = root-levels left _ (tree .0) left-is (tree .1 .keeps)
-
-  -- every other node's
-  pub accepted-field : (k : ℕ) → 0 < k → k < totalOf bytes → InRow left k mostDepth
-  unfolding size AtMostDeep
-  accepted-field zero p l = absurd (omega arith)
-  accepted-field (suc k) p l =
-      let within : suc k < size (tree .0) = omega (arith, ap length (tree .1 .lists), slots-length bytes) in
-      let r = field-levels left _ (tree .0) left-is (tree .1 .keeps) k within in
-      record { earlier = r .earlier; definition-is = r .definition-is; repetition-is = r .repetition-is; ordered = r .ordered; most = omega (arith, r .most, tree .1 .deep (suc k)) }
+  -- of every node but the root
+  pub field-levels : (t : Tree) → numbers ≡ rows t ++ rest → Keeps Root t → (n : ℕ) → AtMostDeep n t → (k : ℕ) → 0 < k → k < size t → InRow numbers k n
+  unfolding AtMostDeep
+  field-levels t e h n deep zero p l = absurd (omega arith)
+  field-levels t e h n deep (suc k) p l =
+      let r = levels-by-depth t e h k l in
+      record { earlier = r .earlier; definition-is = r .definition-is; repetition-is = r .repetition-is; ordered = r .ordered; most = omega (arith, r .most, deep (suc k)) }

@@ -34,20 +34,26 @@ drop-rows n k xs ys e =
     let sum : rowWidth * (n + k) ≡ length xs + rowWidth * k = omega arith in
     rw sum (drop-append-add xs ys (rowWidth * k))
 
+-- one of a + b nodes is one of the first a, or one of the others
+pub either : (P : ℕ → Type 0) (a b k : ℕ) → k < a + b → (k < a → P k) → ((j : ℕ) → j < b → P (a + j)) → P k
+either P a b k l f g = cases (decLt k a)
+  where
+    cases : Dec (k < a) → P k
+    cases (yes h) = f h
+    cases (no h) =
+        let at : k ≡ a + (k - a) = omega arith in
+        subst P (sym at) (g (k - a) (omega arith))
+
 -- a node of a run is one of its first field's, or one of the shorter run's
 in-run : (first others : List SlotBytes) (xs ys rest : List ℕ) (k : ℕ) → length xs ≡ rowWidth * length first → k < length (first ++ others)
     → (k < length first → BeginsWith (getD first k []) (drop (rowWidth * k) (xs ++ (ys ++ rest))))
     → ((j : ℕ) → j < length others → BeginsWith (getD others j []) (drop (rowWidth * j) (ys ++ rest)))
     → BeginsWith (getD (first ++ others) k []) (drop (rowWidth * k) ((xs ++ ys) ++ rest))
-in-run first others xs ys rest k e l f g = cases (decLt k (length first))
-  where
-    cases : Dec (k < length first) → BeginsWith (getD (first ++ others) k []) (drop (rowWidth * k) ((xs ++ ys) ++ rest))
-    cases (yes b) = rw (append-assoc xs ys rest, List·getD-append first others [] k b) (f b)
-    cases (no b) =
-        let j = k - length first in
-        let at : k ≡ length first + j = omega arith in
-        rw (append-assoc xs ys rest, at, getD-append-add first others j [], drop-rows (length first) j xs (ys ++ rest) e)
-        (g j (omega (arith, length-append first others)))
+in-run first others xs ys rest k e l f g =
+    rw (append-assoc xs ys rest)
+    (either (λ (i : ℕ). BeginsWith (getD (first ++ others) i []) (drop (rowWidth * i) (xs ++ (ys ++ rest)))) (length first) (length others) k (omega (arith, length-append first others))
+    (λ b. rw (List·getD-append first others [] k b) (f b))
+    (λ j b. rw (getD-append-add first others j [], drop-rows (length first) j xs (ys ++ rest) e) (g j b)))
 
 mutual
   unfolding Keeps rowsFrom listing size

@@ -137,8 +137,8 @@ fn write_tree(
     next
 }
 
-// Writes the rows of the run of so many fields at a number, under the node at up of some kind, role and levels, and answers where the next
-// tree stands: most nodes have no field, and are written without a call.
+// Writes the rows of the run of so many fields at a number, under the node at up of some kind, role and levels, and answers where
+// the next tree stands: most nodes have no field, and are written without a call.
 fn write_fields(
     sheet: &[u8],
     rows: &mut [u32],
