@@ -1,5 +1,5 @@
 -- The promises to a C caller hold.
-use Prim.Native.Nat.{ℕ, _<_, _^_}
+use Prim.Native.Nat.{ℕ, _≤_, _<_, _^_}
 use mathlib.Core.Path.{_≡_, refl, sym, _∙_}
 use mathlib.Core.Bool.{Bool, true, false, cond}
 use mathlib.Core.List.{List}
@@ -14,14 +14,16 @@ use Rattle.schema.specs.Outcome.{shortOutput, outcome, written}
 use Rattle.schema.specs.Rewriting.{rewriteOutcome, rewriteWritten}
 use Rattle.schema.specs.declared.resolving.Resolved.{Resolved}
 use Rattle.schema.specs.declared.rewriting.Rewritten.{Rewritten}
-use Rattle.column_type.specs.declared.types.ColumnType.{ColumnType}
 use Rattle.column.specs.Outcome as column
 use Rattle.column.specs.Reading.{readOf}
 use Rattle.column.specs.declared.value.Read.{Read}
 use Rattle.column.specs.declared.value.Read.the-variants as read
 use Rattle.column.specs.declared.value.Value.{Value}
 use Rattle.column.specs.declared.value.Value.the-variants as value
+use Rattle.column.specs.Lengths.{mostBytes}
+use Rattle.column.proofs.PlaceLaws.{place-most}
 use Rattle.column_order.specs.Outcome as column_order
+use Rattle.column_order.proofs.FaultLaws.{order-small}
 use Rattle.column_order.specs.Order.{orderOf}
 use Rattle.column_order.specs.declared.answer.Order.{Order}
 use Rattle.column_order.specs.declared.answer.Order.the-variants as order
@@ -30,11 +32,11 @@ use Rattle.timestamp.specs.Count.{isDateTime, countOf}
 use Rattle.timestamp.specs.Outcomes.{Outcome, Decodes, isSigned64, encodingIn}
 use Rattle.timestamp.specs.Outcomes as timestamp
 use Rattle.timestamp.specs.declared.fields.Fields.{Fields}
-use Rattle.c_api.specs.Answers.{packed, RESULT, numberIn, Effect, refused, given, within, answer, left}
+use Rattle.c_api.specs.Answers.{packed, packedFault, RESULT, numberIn, Effect, refused, given, within, answer, left}
 use Rattle.c_api.specs.Sheets.{resolvedAnswer, rewrittenAnswer}
-use Rattle.c_api.specs.Values.{caseOf, readEffect, reading, orderEffect, ordering}
+use Rattle.c_api.specs.Values.{caseOf, readEffect, reading}
 use Rattle.c_api.specs.Timestamps.{decodeEffect, Decoding, areFields, fieldsOf, encodingOf, encodeEffect, encoding}
-use Rattle.c_api.specs.Promises.{Bounded, ResolvedBounded, RewrittenBounded, Packs, PacksResult, PacksRefusal, PacksResolved, PacksRewritten, PacksEffect, Promises}
+use Rattle.c_api.specs.Promises.{Bounded, ResolvedBounded, RewrittenBounded, Packs, PacksResult, PacksRefusal, PacksFault, PacksResolved, PacksRewritten, PacksEffect, PacksOrder, Promises}
 use Rattle.c_api.proofs.RefusalLaws.{resolved-bounded, rewritten-bounded}
 use Rattle.c_api.proofs.ValueLaws.{own-bits}
 
@@ -77,22 +79,25 @@ case-packs (value.Float x) = packs 0 3 (omega arith) (omega arith)
 case-packs (value.Double x) = packs 0 4 (omega arith) (omega arith)
 case-packs (value.Bytes start len) = packs 0 5 (omega arith) (omega arith)
 
-read-packs : (c : ColumnType) (bs : List ℕ) (r : Read) → PacksEffect (readEffect (column.outcomeOf c bs r))
-read-packs c bs (read.Value v) = case-packs v
-read-packs c bs read.Unlawful = refusal-packs 20 0 (omega arith) (omega arith) (omega arith)
-read-packs c bs read.WrongLength = refusal-packs 15 0 (omega arith) (omega arith) (omega arith)
-read-packs c bs read.BreaksAnnotation = refusal-packs 16 0 (omega arith) (omega arith) (omega arith)
+read-packs : (r : Read) → column.placeOf r ≤ mostBytes → PacksEffect (readEffect (column.outcomeOf r))
+read-packs (read.Value v) h = case-packs v
+read-packs read.Unlawful h = refusal-packs 20 0 (omega arith) (omega arith) (omega arith)
+read-packs read.WrongLength h = refusal-packs 15 0 (omega arith) (omega arith) (omega arith)
+read-packs (read.BreaksAnnotation place) h = refusal-packs 16 place (omega arith) (omega arith) (omega arith)
 
-order-packs : (c : ColumnType) (a b : List ℕ) (o : Order) → PacksEffect (orderEffect (column_order.outcomeOf c a b o))
+fault-packs : (value number place : ℕ) → 0 < number → number < 2 ^ 8 → place < 2 ^ 32 → value < 2 ^ 8 → PacksFault (packedFault value number place) number place value
+fault-packs value number place p h k l = record { refuses = p; number-in = omega arith; place-in = omega arith; fault-in = omega arith; below = omega arith }
+
+order-packs : (o : Order) → column_order.placeOf o ≤ mostBytes → column_order.faultOf o ≤ 2 → PacksOrder (column_order.outcomeOf o)
 unfolding column_order.outcomeOf
-order-packs c a b order.Less = packs 0 0 (omega arith) (omega arith)
-order-packs c a b order.Equal = packs 0 1 (omega arith) (omega arith)
-order-packs c a b order.Greater = packs 0 2 (omega arith) (omega arith)
-order-packs c a b order.Unordered = packs 0 3 (omega arith) (omega arith)
-order-packs c a b order.Unlawful = refusal-packs 20 0 (omega arith) (omega arith) (omega arith)
-order-packs c a b order.NoOrder = refusal-packs 17 0 (omega arith) (omega arith) (omega arith)
-order-packs c a b order.WrongLength = refusal-packs 15 0 (omega arith) (omega arith) (omega arith)
-order-packs c a b order.BreaksAnnotation = refusal-packs 16 0 (omega arith) (omega arith) (omega arith)
+order-packs order.Less h k = packs 0 0 (omega arith) (omega arith)
+order-packs order.Equal h k = packs 0 1 (omega arith) (omega arith)
+order-packs order.Greater h k = packs 0 2 (omega arith) (omega arith)
+order-packs order.Unordered h k = packs 0 3 (omega arith) (omega arith)
+order-packs order.Unlawful h k = fault-packs 0 20 0 (omega arith) (omega arith) (omega arith) (omega arith)
+order-packs order.NoOrder h k = fault-packs 0 17 0 (omega arith) (omega arith) (omega arith) (omega arith)
+order-packs (order.WrongLength value) h k = fault-packs value 15 0 (omega arith) (omega arith) (omega arith) (omega arith)
+order-packs (order.BreaksAnnotation value place) h k = fault-packs value 16 place (omega arith) (omega arith) (omega arith) (omega arith)
 
 decode-packs : (u : Option TimeUnit) (count : ℤ) (o : Outcome Fields) → Decodes u count o → PacksEffect (decodeEffect o)
 decode-packs none count o d = rw d (refusal-packs 20 0 (omega arith) (omega arith) (omega arith))
@@ -145,15 +150,15 @@ rewrite-packs : (sheet : List ℕ) (lent start : ℕ) → PacksRewritten (rewrit
 rewrite-packs sheet lent start = rewritten-packs (rewriteOutcome sheet lent start) (rewritten-bounded sheet lent start)
 
 pub promised : Promises
-unfolding reading ordering encoding column.outcome column_order.outcome
+unfolding reading encoding column.outcome column_order.outcome
 promised =
     record {
       resolve-bounded = resolved-bounded;
       rewrite-bounded = rewritten-bounded;
       resolve-packs = resolve-packs;
       rewrite-packs = rewrite-packs;
-      read-packs = λ c bs lent. short-packs lent (readEffect (column.outcomeOf c bs (readOf c bs))) (read-packs c bs (readOf c bs));
-      order-packs = λ c a b. order-packs c a b (orderOf c a b);
+      read-packs = λ c bs lent. short-packs lent (readEffect (column.outcomeOf (readOf c bs))) (read-packs (readOf c bs) (place-most c bs));
+      order-packs = λ c a b. order-packs (orderOf c a b) (order-small c a b .0) (order-small c a b .1);
       decode-packs = λ unit count lent o d. short-packs lent (decodeEffect o) (decode-packs (unitOf unit) count o d);
       encode-packs = λ unit numbers lent. short-packs lent (encodeEffect (encodingOf (unitOf unit) numbers)) (encode-packs (unitOf unit) numbers);
       resolve-unchanged = λ sheet lent. resolved-unchanged (outcome sheet (length lent)) sheet lent (resolve-packs sheet (length lent));

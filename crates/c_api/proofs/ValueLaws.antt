@@ -1,8 +1,9 @@
 -- Values in two numbers: their bits, and the answers of reading and ordering.
-use Prim.Native.Nat.{ℕ, _-_, _*_, _<_}
+use Prim.Native.Nat.{ℕ, _-_, _*_, _<_, _^_}
 use mathlib.Core.Path.{_≡_, refl, sym, ap, _∙_, subst}
 use mathlib.Core.Bool.{Bool, true, false, not, cond}
 use mathlib.Core.List.{List, [], _∷_}
+use mathlib.Core.Logic.{⊎-elim}
 use native.Mathlib.Omega.{arith}
 use lib.Ieee.{Float, Format, top, isNan, ne, ofBits, nanBits, toBits}
 use lib.Ieee.Bits.{toBits-ofBits, nanBits-is}
@@ -10,19 +11,26 @@ use lib.IntN.{ℤ}
 use lib.ListN.{length}
 use lib.Signed.{mag, nonNeg}
 use mir.Val.{boolByte}
+use types.Run.{OneOf}
+use denote.Enum.Declared.{tagOf}
 use Rattle.column_type.specs.declared.types.ColumnType.{ColumnType}
 use Rattle.column.specs.Outcome as column
 use Rattle.column.specs.Reading.{readOf}
 use Rattle.column.specs.declared.value.Read.{Read}
+use Rattle.column.specs.declared.value.Read.the-variants as read
 use Rattle.column.specs.declared.value.Value.{Value}
 use Rattle.column.specs.declared.value.Value.the-variants as value
 use Rattle.column.proofs.FloatLaws.{differs-nan}
+use Rattle.column.proofs.value.Read as Read′
 use Rattle.column_order.specs.Outcome as column_order
 use Rattle.column_order.specs.Order.{orderOf}
 use Rattle.column_order.specs.declared.answer.Order.{Order}
+use Rattle.column_order.specs.declared.answer.Order.the-variants as order
+use Rattle.column_order.proofs.answer.Order as Order′
+use Rattle.column_order.proofs.FaultLaws.{order-small}
 use Rattle.laws.proofs.SignedLaws.{negative-is, nonnegative-is}
-use Rattle.c_api.specs.Answers.{within, answer}
-use Rattle.c_api.specs.Values.{caseOf, twosComplement64, quietNan, floatBits, numbersOf, readEffect, reading, orderEffect, ordering}
+use Rattle.c_api.specs.Answers.{packed, packedFault, refused, within}
+use Rattle.c_api.specs.Values.{caseOf, twosComplement64, quietNan, floatBits, numbersOf, readEffect, reading, orderAnswer, ordering}
 
 -- ---- bits
 
@@ -73,11 +81,61 @@ truth-bits false = refl
 -- ---- answers
 
 -- what reading comes to, of what `column` answers
-pub reading-of : (c : ColumnType) (bs : List ℕ) (lent : ℕ) {r : Read} → r ≡ readOf c bs → reading c bs lent ≡ within lent (readEffect (column.outcomeOf c bs r))
+pub reading-of : (c : ColumnType) (bs : List ℕ) (lent : ℕ) {r : Read} → r ≡ readOf c bs → reading c bs lent ≡ within lent (readEffect (column.outcomeOf r))
 unfolding reading column.outcome
-reading-of c bs lent e = ap (λ (x : Read). within lent (readEffect (column.outcomeOf c bs x))) (sym e)
+reading-of c bs lent e = ap (λ (x : Read). within lent (readEffect (column.outcomeOf x))) (sym e)
+
+-- the effect of a refusal, by its number and place
+pub read-refused : (r : Read) → OneOf (1 ∷ 2 ∷ 3 ∷ []) (tagOf Read′.the-type r) → readEffect (column.outcomeOf r) ≡ refused (column.refusalOf r) (column.placeOf r)
+read-refused (read.Value v) h = ⊎-elim (λ e. absurd (omega arith)) (⊎-elim (λ e. absurd (omega arith)) (λ e. absurd (omega arith))) h
+read-refused read.Unlawful h = refl
+read-refused read.WrongLength h = refl
+read-refused (read.BreaksAnnotation place) h = refl
 
 -- what ordering answers, of what `column_order` answers
-pub ordering-of : (c : ColumnType) (a b : List ℕ) {o : Order} → o ≡ orderOf c a b → answer (ordering c a b) ≡ answer (orderEffect (column_order.outcomeOf c a b o))
+pub ordering-of : (c : ColumnType) (a b : List ℕ) {o : Order} → o ≡ orderOf c a b → ordering c a b ≡ orderAnswer (column_order.outcomeOf o)
 unfolding ordering column_order.outcome
-ordering-of c a b e = ap (λ (x : Order). answer (orderEffect (column_order.outcomeOf c a b x))) (sym e)
+ordering-of c a b e = ap (λ (x : Order). orderAnswer (column_order.outcomeOf x)) (sym e)
+
+-- the value at fault fits its bits
+pub fault-fits : (c : ColumnType) (a b : List ℕ) {o : Order} → o ≡ orderOf c a b → column_order.faultOf o < 2 ^ 8
+fault-fits c a b e = omega (arith, ap column_order.faultOf e, order-small c a b .1)
+
+-- and so does the number
+pub order-number : (o : Order) → column_order.refusalOf o < 2 ^ 8
+order-number order.Less = omega arith
+order-number order.Equal = omega arith
+order-number order.Greater = omega arith
+order-number order.Unordered = omega arith
+order-number order.Unlawful = omega arith
+order-number order.NoOrder = omega arith
+order-number (order.WrongLength value) = omega arith
+order-number (order.BreaksAnnotation value place) = omega arith
+
+-- the answer of a refusal
+pub order-refused : (o : Order) → (column_order.refusalOf o ≡ 0 → ⊥) → packedFault (column_order.faultOf o) (column_order.refusalOf o) (column_order.placeOf o) ≡ orderAnswer (column_order.outcomeOf o)
+unfolding column_order.outcomeOf
+order-refused order.Less h = absurd (h refl)
+order-refused order.Equal h = absurd (h refl)
+order-refused order.Greater h = absurd (h refl)
+order-refused order.Unordered h = absurd (h refl)
+order-refused order.Unlawful h = refl
+order-refused order.NoOrder h = refl
+order-refused (order.WrongLength value) h = refl
+order-refused (order.BreaksAnnotation value place) h = refl
+
+above : (tag : ℕ) → tag < 3 → OneOf (3 ∷ 4 ∷ 5 ∷ 6 ∷ 7 ∷ []) tag → ⊥
+above tag h =
+    ⊎-elim (λ e. omega (arith, h, e)) (⊎-elim (λ e. omega (arith, h, e)) (⊎-elim (λ e. omega (arith, h, e)) (⊎-elim (λ e. omega (arith, h, e)) (λ e. omega (arith, h, e)))))
+
+-- what is neither less, equal nor greater is unordered, unless it is refused
+pub unordered-left : (o : Order) → OneOf (3 ∷ 4 ∷ 5 ∷ 6 ∷ 7 ∷ []) (tagOf Order′.the-type o) → column_order.refusalOf o ≡ 0 → packed 0 3 ≡ orderAnswer (column_order.outcomeOf o)
+unfolding column_order.outcomeOf
+unordered-left order.Less h e = absurd (above 0 (omega arith) h)
+unordered-left order.Equal h e = absurd (above 1 (omega arith) h)
+unordered-left order.Greater h e = absurd (above 2 (omega arith) h)
+unordered-left order.Unordered h e = refl
+unordered-left order.Unlawful h e = absurd (omega (arith, e))
+unordered-left order.NoOrder h e = absurd (omega (arith, e))
+unordered-left (order.WrongLength value) h e = absurd (omega (arith, e))
+unordered-left (order.BreaksAnnotation value place) h e = absurd (omega (arith, e))

@@ -6,7 +6,7 @@ use lib.Dec.{ltb}
 use lib.ListN.{length, drop}
 use Rattle.schema.specs.Outcome.{shortOutput}
 
--- an answer: "bits 32 to 39 the refusal's number (0 for a result), bits 0 to 31 its place, or for a result the value named"; the bits above are 0
+-- an answer: "bits 32 to 39 the refusal's number (0 for a result), bits 0 to 31 its place, or for a result the value named"; the bits above are 0, but for those of an order's refusal
 abbrev pub packed : ℕ → ℕ → ℕ
 packed number low = number * 2 ^ 32 + low
 
@@ -20,6 +20,14 @@ numberIn answer = answer / 2 ^ 32 % 2 ^ 8
 
 abbrev pub lowIn : ℕ → ℕ
 lowIn answer = answer % 2 ^ 32
+
+-- the answer of an order's refusal, which has in bits 40 to 47 "which value is at fault, 1 or 2, and 0 for neither" (document 02, R-6)
+abbrev pub packedFault : ℕ → ℕ → ℕ → ℕ
+packedFault value number low = value * 2 ^ 40 + packed number low
+
+-- and what a caller takes out of it again
+abbrev pub faultIn : ℕ → ℕ
+faultIn answer = answer / 2 ^ 40 % 2 ^ 8
 
 -- what a call comes to: a refusal, by its number and place, or the value named and what is written at the output's start
 pub data Effect (A : Type 0) : Type 0 where

@@ -13,12 +13,13 @@ use Rattle.schema.specs.Rewriting.{rewriteOutcome, rewriteWritten}
 use Rattle.schema.specs.declared.resolving.Resolved.{Resolved}
 use Rattle.schema.specs.declared.rewriting.Rewritten.{Rewritten}
 use Rattle.column_type.specs.declared.types.ColumnType.{ColumnType}
+use Rattle.column_order.specs.Outcome as column_order
 use Rattle.timestamp.specs.Units.{unitOf}
 use Rattle.timestamp.specs.Outcomes.{Outcome, Decodes}
 use Rattle.timestamp.specs.declared.fields.Fields.{Fields}
-use Rattle.c_api.specs.Answers.{RESULT, numberIn, lowIn, Effect, refused, given, within, answer, left}
+use Rattle.c_api.specs.Answers.{RESULT, numberIn, lowIn, faultIn, Effect, refused, given, within, answer, left}
 use Rattle.c_api.specs.Sheets.{resolvedAnswer, rewrittenAnswer}
-use Rattle.c_api.specs.Values.{floatBits, reading, ordering}
+use Rattle.c_api.specs.Values.{floatBits, reading, relationNumber, orderAnswer}
 use Rattle.c_api.specs.Timestamps.{decodeEffect, Decoding, encoding}
 
 -- bounds -----------------------------------------------------------------------------------------------------------------
@@ -56,6 +57,14 @@ pub record PacksRefusal (answered number place : ℕ) : Type 0 where
   pub refuses : RESULT < number
   pub packs : Packs answered number place
 
+-- that of an order's refusal has besides the value at fault, and no bit above it is set
+pub record PacksFault (answered number place value : ℕ) : Type 0 where
+  pub refuses : RESULT < number
+  pub number-in : numberIn answered ≡ number
+  pub place-in : lowIn answered ≡ place
+  pub fault-in : faultIn answered ≡ value
+  pub below : answered < 2 ^ 48
+
 -- of each outcome
 abbrev pub PacksResolved : Resolved → Type 0
 PacksResolved (Resolved.Rows t) = PacksResult (resolvedAnswer (Resolved.Rows t)) t
@@ -69,6 +78,10 @@ abbrev pub PacksEffect : {A : Type 0} → Effect A → Type 0
 PacksEffect {A} (refused number place) = PacksRefusal (answer {A = A} (refused number place)) number place
 PacksEffect (given value numbers) = PacksResult (answer (given value numbers)) value
 
+abbrev pub PacksOrder : column_order.Outcome → Type 0
+PacksOrder (column_order.refused number place value) = PacksFault (orderAnswer (column_order.refused number place value)) number place value
+PacksOrder (column_order.given r) = PacksResult (orderAnswer (column_order.given r)) (relationNumber r)
+
 -- promises ---------------------------------------------------------------------------------------------------------------
 
 -- what holds of every call
@@ -79,7 +92,7 @@ pub record Promises : Type 1 where
   pub resolve-packs : (sheet : List ℕ) (lent : ℕ) → PacksResolved (outcome sheet lent)
   pub rewrite-packs : (sheet : List ℕ) (lent start : ℕ) → PacksRewritten (rewriteOutcome sheet lent start)
   pub read-packs : (c : ColumnType) (bytes : List ℕ) (lent : ℕ) → PacksEffect (reading c bytes lent)
-  pub order-packs : (c : ColumnType) (a b : List ℕ) → PacksEffect (ordering c a b)
+  pub order-packs : (c : ColumnType) (a b : List ℕ) → PacksOrder (column_order.outcome c a b)
   pub decode-packs : (unit : ℕ) (count : ℤ) (lent : ℕ) (o : Outcome Fields) → Decodes (unitOf unit) count o → PacksEffect (within lent (decodeEffect o))
   pub encode-packs : (unit : ℕ) (numbers : List ℤ) (lent : ℕ) → PacksEffect (encoding unit numbers lent)
   -- where an answer has a number, the output is as it was

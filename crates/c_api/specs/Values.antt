@@ -10,7 +10,7 @@ use Rattle.column.specs.declared.value.Value.{Value}
 use Rattle.column.specs.declared.value.Value.the-variants as value
 use Rattle.column_order.specs.Outcome as column_order
 use Rattle.column_order.specs.Outcome.{Relation}
-use Rattle.c_api.specs.Answers.{Effect, refused, given, within}
+use Rattle.c_api.specs.Answers.{packed, packedFault, RESULT, Effect, refused, given, within}
 
 -- a column type of its five numbers
 abbrev pub columnType : ℕ → ℕ → ℕ → ℕ → ℕ → ColumnType
@@ -64,11 +64,11 @@ relationNumber column_order.equal = 1
 relationNumber column_order.greater = 2
 relationNumber column_order.unordered = 3
 
--- what each outcome of ordering comes to, which writes nothing
-abbrev pub orderEffect : column.Outcome Relation → Effect ℕ
-orderEffect (column.refused number place) = refused number place
-orderEffect (column.given r) = given (relationNumber r) []
+-- the answer of each outcome of ordering, which writes nothing
+abbrev pub orderAnswer : column_order.Outcome → ℕ
+orderAnswer (column_order.refused number place value) = packedFault value number place
+orderAnswer (column_order.given r) = packed RESULT (relationNumber r)
 
--- what ordering comes to for any column type and any two values
-unfoldable pub ordering : ColumnType → List ℕ → List ℕ → Effect ℕ
-ordering c a b = orderEffect (column_order.outcome c a b)
+-- the answer of ordering for any column type and any two values
+unfoldable pub ordering : ColumnType → List ℕ → List ℕ → ℕ
+ordering c a b = orderAnswer (column_order.outcome c a b)

@@ -1,17 +1,16 @@
 // Values read and ordered, in a column of five numbers.
 ghost use mathlib.Core.Path.{_≡_};
-ghost use mathlib.Core.List.{List, [], _∷_};
-ghost use Prim.Native.Nat.{ℕ};
+ghost use mathlib.Core.List.{[], _∷_};
 ghost use lib.Ieee.{binary32, binary64};
 ghost use lib.ListN.{length};
-ghost use Rattle.column_type.specs.declared.types.ColumnType.{ColumnType};
 ghost use Rattle.column_order.specs.Outcome.{refusalOf, outcomeOf};
-ghost use Rattle.c_api.specs.Answers.{packed, given, within, answer, left};
-ghost use Rattle.c_api.specs.Values.{columnType, caseOf, twosComplement64, floatBits, numbersOf, orderEffect, reading, ordering};
+ghost use Rattle.c_api.specs.Answers.{packed, RESULT, given, within, answer, left};
+ghost use Rattle.c_api.specs.Values.{columnType, caseOf, twosComplement64, floatBits, numbersOf, orderAnswer, reading, ordering};
 use crate::answers::NO_PLACE;
 use crate::answers::RESULT;
 use crate::answers::SHORT_OUTPUT;
 use crate::answers::packed;
+use crate::answers::packed_fault;
 use column::Read;
 use column::Value;
 use column_order::Order;
@@ -84,13 +83,12 @@ pub extern "C" fn griffeljol_read(
     );
     match read {
         Read::Value(v) => write_value(v, out),
-        Read::Unlawful => packed(column::refusal(read), NO_PLACE),
-        Read::WrongLength => packed(column::refusal(read), NO_PLACE),
-        Read::BreaksAnnotation => packed(column::refusal(read), NO_PLACE),
+        _ => packed(column::refusal(read), column::place(read)),
     }
 }
 
-// Orders two values. The value of the answer is 0 less, 1 equal, 2 greater or 3 unordered.
+// Orders two values. The value of the answer is 0 less, 1 equal, 2 greater or 3 unordered. A refusal has besides the value at
+// fault: 1 or 2, and 0 for neither.
 #[no_mangle]
 pub extern "C" fn griffeljol_order(
     physical: u32,
@@ -101,7 +99,7 @@ pub extern "C" fn griffeljol_order(
     a: &[u8],
     b: &[u8],
 ) -> u64
-    ensures { λ r. ⌜ r ≡ answer (ordering (columnType physical «type_length» kind p1 p2) (now (a .entry)) (now (b .entry))) ⌝ }
+    ensures { λ r. ⌜ r ≡ ordering (columnType physical «type_length» kind p1 p2) (now (a .entry)) (now (b .entry)) ⌝ }
 {
     let order = column_order::order(
         ColumnType {
@@ -114,22 +112,26 @@ pub extern "C" fn griffeljol_order(
         a,
         b,
     );
-    packed(column_order::refusal(order), relation(order))
+    let number = column_order::refusal(order);
+    if number == RESULT {
+        return packed(RESULT, relation(order));
+    }
+    packed_fault(
+        column_order::fault(order) as u32,
+        number,
+        column_order::place(order),
+    )
 }
 
-// The number of an order, and the place of a refusal.
+// The number of an order, which is not asked of a refusal.
 fn relation(o: Order) -> u32
-    ensures { λ r. ⌜ ((c : ColumnType) (a b : List ℕ) → packed (refusalOf o) r ≡ answer (orderEffect (outcomeOf c a b o))) ⌝ }
+    ensures { λ r. ⌜ (refusalOf o ≡ RESULT → packed RESULT r ≡ orderAnswer (outcomeOf o)) ⌝ }
 {
     match o {
         Order::Less => LESS,
         Order::Equal => EQUAL,
         Order::Greater => GREATER,
-        Order::Unordered => UNORDERED,
-        Order::Unlawful => NO_PLACE,
-        Order::NoOrder => NO_PLACE,
-        Order::WrongLength => NO_PLACE,
-        Order::BreaksAnnotation => NO_PLACE,
+        _ => UNORDERED,
     }
 }
 

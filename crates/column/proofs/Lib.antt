@@ -5,3 +5,4 @@ pub mod DayLaws
 pub mod DecimalLaws
 pub mod LengthLaws
 pub mod ReadingLaws
+pub mod PlaceLaws

@@ -13,7 +13,7 @@ use Rattle.column_type.specs.declared.types.ColumnType.{ColumnType}
 use Rattle.column_type.specs.Lawful.{isLawful}
 use Rattle.column.specs.Numbers.{little, signWeight, twosComplement}
 use Rattle.column.specs.Lengths.{isByteForm, lengthRight}
-use Rattle.column.specs.Annotations.{isWhole, wholeKeeps, bytesKeep, keeps}
+use Rattle.column.specs.Annotations.{isWhole, wholeKeeps, bytesKeep, textPlace, annotationPlace, keeps}
 use Rattle.column.specs.Reading.{wholeValue, valueOf, checked, readOf, readLawful}
 use Rattle.column.specs.declared.value.Value.{Value}
 use Rattle.column.specs.declared.value.Read.the-variants as read
@@ -31,7 +31,7 @@ unfolding readOf
 reads c bs v = go (isLawful c) refl (lengthRight c (length bs)) refl (keeps c bs) refl
   where
     go : (l : Bool) → isLawful c ≡ l → (r : Bool) → lengthRight c (length bs) ≡ r → (k : Bool) → keeps c bs ≡ k
-        → cond l (cond r (checked k (valueOf c bs)) read.WrongLength) read.Unlawful ≡ read.Value v → Reads c bs v
+        → cond l (cond r (checked k (annotationPlace c bs) (valueOf c bs)) read.WrongLength) read.Unlawful ≡ read.Value v → Reads c bs v
     go true p true q true s e = record { lawful = p; right = q; kept = s; value = cc }
     go true p true q false s e = absurd (let z : _≡_ {A = ℕ} 0 1 = cc in omega arith)
     go true p false q k s e = absurd (let z : _≡_ {A = ℕ} 0 1 = cc in omega arith)
@@ -42,6 +42,15 @@ pub read-lawful : (c : ColumnType) (bs : List ℕ) → isLawful c ≡ true → r
 unfolding readOf
 read-lawful c bs e = rw e
 
+-- a value under UNKNOWN is refused at no byte
+pub unknown-place : (c : ColumnType) (bs : List ℕ) → c .kind ≡ UNKNOWN → annotationPlace c bs ≡ 0
+unfolding annotationPlace
+unknown-place c bs e = rw e (go (isByteForm c))
+  where
+    go : (t : Bool) → _≡_ {A = ℕ} (cond t 0 0) 0
+    go true = refl
+    go false = refl
+
 -- ---- the value by its physical type
 
 either : (s t : Bool) {A : Type 0} → (s || t) ≡ true → (s ≡ true → A) → (t ≡ true → A) → A
@@ -50,8 +59,9 @@ either false t e f g = g e
 
 module _ (c : ColumnType) (bs : List ℕ) (known : eqb (c .kind) UNKNOWN ≡ false) where
   -- a byte form
-  pub bytes-read : isByteForm c ≡ true → checked (bytesKeep c bs) (Value.Bytes 0 (length bs)) ≡ checked (keeps c bs) (valueOf c bs)
-  unfolding keeps valueOf
+  pub bytes-read : isByteForm c ≡ true
+      → checked (bytesKeep c bs) (textPlace (c .kind) bs) (Value.Bytes 0 (length bs)) ≡ checked (keeps c bs) (annotationPlace c bs) (valueOf c bs)
+  unfolding keeps valueOf annotationPlace
   bytes-read e =
       either (eqb (c .physical) BYTE-ARRAY) (eqb (c .physical) FIXED-LEN-BYTE-ARRAY) e
       (λ p. rw (known, eqb-true (c .physical) BYTE-ARRAY p))
@@ -59,8 +69,8 @@ module _ (c : ColumnType) (bs : List ℕ) (known : eqb (c .kind) UNKNOWN ≡ fal
 
   -- a whole number, whose first bit has the weight of its length
   pub whole-read : (n weight : ℕ) → isWhole c ≡ true → n ≡ little bs → weight ≡ signWeight (length bs)
-      → checked (wholeKeeps c n (twosComplement weight n)) (wholeValue c n (twosComplement weight n)) ≡ checked (keeps c bs) (valueOf c bs)
-  unfolding keeps valueOf
+      → checked (wholeKeeps c n (twosComplement weight n)) 0 (wholeValue c n (twosComplement weight n)) ≡ checked (keeps c bs) (annotationPlace c bs) (valueOf c bs)
+  unfolding keeps valueOf annotationPlace
   whole-read n weight e f g =
       either (eqb (c .physical) INT32) (eqb (c .physical) INT64) e
       (λ p. rw (known, eqb-true (c .physical) INT32 p, f, g))

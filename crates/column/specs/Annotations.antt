@@ -63,6 +63,14 @@ bytesKeep c bs =
     cond (eqb (c .kind) DECIMAL) (inDigits (c .p1) (number bs))
     (cond (isText (c .kind)) (eqb (validUpTo bs) (length bs)) true)
 
+-- document 02, R-6: where text stops short of its end, "the offset where whole valid sequences, read from the start, stop"
+abbrev pub textPlace : ℕ → List ℕ → ℕ
+textPlace kind bs = cond (isText kind) (validUpTo bs) 0
+
+-- "the place of 16 is this offset for STRING, ENUM and JSON, and 0 otherwise". These are BYTE_ARRAY in every lawful column
+unfoldable pub annotationPlace : ColumnType → List ℕ → ℕ
+annotationPlace c bs = cond (isByteForm c) (textPlace (c .kind) bs) 0
+
 -- "BOOLEAN one byte, 0 or 1 (else 16)"
 abbrev pub isTruth : ℕ → Bool
 isTruth n = leb n 1

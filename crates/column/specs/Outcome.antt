@@ -12,10 +12,6 @@ pub data Outcome (A : Type 0) : Type 0 where
   refused : ℕ → ℕ → Outcome A
   given : A → Outcome A
 
--- the place of 16
-abbrev pub annotationPlace : ColumnType → List ℕ → ℕ
-annotationPlace c bs = 0
-
 -- the number of each refusal
 abbrev pub UNLAWFUL : ℕ
 UNLAWFUL = 20
@@ -31,7 +27,14 @@ abbrev pub refusalOf : Read → ℕ
 refusalOf (read.Value v) = 0
 refusalOf read.Unlawful = UNLAWFUL
 refusalOf read.WrongLength = WRONG-LENGTH
-refusalOf read.BreaksAnnotation = BREAKS-ANNOTATION
+refusalOf (read.BreaksAnnotation place) = BREAKS-ANNOTATION
+
+-- its place, and 0 for a value that was read
+abbrev pub placeOf : Read → ℕ
+placeOf (read.Value v) = 0
+placeOf read.Unlawful = 0
+placeOf read.WrongLength = 0
+placeOf (read.BreaksAnnotation place) = place
 
 -- each refusal with its place
 abbrev pub unlawful : {A : Type 0} → Outcome A
@@ -40,16 +43,16 @@ unlawful = refused UNLAWFUL 0
 abbrev pub wrongLength : {A : Type 0} → Outcome A
 wrongLength = refused WRONG-LENGTH 0
 
-abbrev pub breaksAnnotation : {A : Type 0} → ColumnType → List ℕ → Outcome A
-breaksAnnotation c bs = refused BREAKS-ANNOTATION (annotationPlace c bs)
+abbrev pub breaksAnnotation : {A : Type 0} → ℕ → Outcome A
+breaksAnnotation place = refused BREAKS-ANNOTATION place
 
 -- what each answer of reading stands for
-abbrev pub outcomeOf : ColumnType → List ℕ → Read → Outcome Value
-outcomeOf c bs (read.Value v) = given v
-outcomeOf c bs read.Unlawful = unlawful
-outcomeOf c bs read.WrongLength = wrongLength
-outcomeOf c bs read.BreaksAnnotation = breaksAnnotation c bs
+abbrev pub outcomeOf : Read → Outcome Value
+outcomeOf (read.Value v) = given v
+outcomeOf read.Unlawful = unlawful
+outcomeOf read.WrongLength = wrongLength
+outcomeOf (read.BreaksAnnotation place) = breaksAnnotation place
 
 -- the outcome of reading any bytes in any column
 unfoldable pub outcome : ColumnType → List ℕ → Outcome Value
-outcome c bs = outcomeOf c bs (readOf c bs)
+outcome c bs = outcomeOf (readOf c bs)

@@ -11,7 +11,7 @@ use Rattle.column_type.specs.Lawful.{isLawful}
 use Rattle.parquet.specs.Physical.{BOOLEAN, FLOAT, DOUBLE}
 use Rattle.column.specs.Numbers.{little, signed}
 use Rattle.column.specs.Lengths.{lengthRight}
-use Rattle.column.specs.Annotations.{isWhole, isUnsigned, keeps}
+use Rattle.column.specs.Annotations.{isWhole, isUnsigned, annotationPlace, keeps}
 use Rattle.column.specs.declared.value.Value.{Value}
 use Rattle.column.specs.declared.value.Value.the-variants.{Truth, Signed, Unsigned, Float, Double, Bytes}
 use Rattle.column.specs.declared.value.Read.{Read}
@@ -30,13 +30,13 @@ valueOf c bs =
     (cond (eqb (c .physical) FLOAT) (Float (ofBits binary32 (little bs)))
     (cond (eqb (c .physical) DOUBLE) (Double (ofBits binary64 (little bs))) (Bytes 0 (length bs)))))
 
--- a value of the right length: 16 where it breaks its annotation
-abbrev pub checked : Bool → Value → Read
-checked kept v = cond kept (read.Value v) read.BreaksAnnotation
+-- a value of the right length: 16, with its place, where it breaks its annotation
+abbrev pub checked : Bool → ℕ → Value → Read
+checked kept place v = cond kept (read.Value v) (read.BreaksAnnotation place)
 
 -- a value of a lawful column type: 15, then 16
 abbrev pub readLawful : ColumnType → List ℕ → Read
-readLawful c bs = cond (lengthRight c (length bs)) (checked (keeps c bs) (valueOf c bs)) read.WrongLength
+readLawful c bs = cond (lengthRight c (length bs)) (checked (keeps c bs) (annotationPlace c bs) (valueOf c bs)) read.WrongLength
 
 -- "One value is checked for 20, then 15, then 16"
 unfoldable pub readOf : ColumnType → List ℕ → Read

@@ -2,14 +2,12 @@
 ghost use mathlib.Core.Path.{_≡_};
 ghost use mathlib.Core.Bool.{true};
 ghost use Prim.Native.Nat.{_*_, _<_, _≤_, _^_};
-ghost use lib.Dec.{eqb};
 ghost use lib.ListN.{length};
 ghost use Rattle.decimal.specs.Precision.{isLength};
 ghost use Rattle.decimal.specs.Number.{number};
 ghost use Rattle.timestamp.specs.Units.{unitOf};
-ghost use Rattle.parquet.specs.Logical.{DECIMAL};
 ghost use Rattle.column.specs.Numbers.{twosComplement};
-ghost use Rattle.column.specs.Annotations.{isUnsigned, isText, inSignedBits, inDay, inDigits, wholeKeeps, bytesKeep};
+ghost use Rattle.column.specs.Annotations.{isUnsigned, isText, inSignedBits, inDay, inDigits, wholeKeeps};
 use crate::codes;
 use crate::numbers::absolute;
 use crate::numbers::folded;
@@ -73,22 +71,8 @@ fn in_day(n: u64, weight: u64, unit: u32) -> bool
     }
 }
 
-// Whether bytes keep the column's annotation. A decimal has 1 to 256 of them.
-pub(crate) fn bytes_keep(c: ColumnType, value: &[u8]) -> bool
-    requires { ⌜ ((eqb (c .kind) DECIMAL ≡ true) → isLength (length (now value)) ≡ true) ⌝ }
-    ensures { λ r. ⌜ r ≡ bytesKeep c (now (value .entry)) ⌝ }
-{
-    if c.kind == codes::DECIMAL {
-        return decimal_keeps(value, c.p1);
-    }
-    if is_text(c.kind) {
-        return utf8::valid_up_to(value) == value.len();
-    }
-    true
-}
-
 // Whether a decimal keeps to its precision.
-fn decimal_keeps(value: &[u8], precision: u32) -> bool
+pub(crate) fn decimal_keeps(value: &[u8], precision: u32) -> bool
     requires { ⌜ isLength (length (now value)) ≡ true ⌝ }
     ensures { λ r. ⌜ r ≡ inDigits precision (number (now (value .entry))) ⌝ }
 {
@@ -100,7 +84,7 @@ fn decimal_keeps(value: &[u8], precision: u32) -> bool
 }
 
 // Whether values of this kind are text.
-fn is_text(kind: u32) -> bool
+pub(crate) fn is_text(kind: u32) -> bool
     ensures { λ r. ⌜ r ≡ isText kind ⌝ }
 {
     match kind {

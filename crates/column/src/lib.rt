@@ -21,4 +21,5 @@ pub use reading::read;
 pub use reading::read_lawful;
 pub use value::Read;
 pub use value::Value;
+pub use value::place;
 pub use value::refusal;

@@ -4,14 +4,18 @@ ghost use mathlib.Core.Bool.{true, false, cond};
 ghost use Prim.Native.Nat.{_*_, _<_, _≤_, _^_};
 ghost use lib.Dec.{eqb};
 ghost use lib.ListN.{length};
+ghost use Rattle.decimal.specs.Precision.{isLength};
+ghost use Rattle.decimal.specs.Number.{number};
+ghost use Rattle.utf8.specs.Valid.{validUpTo};
 ghost use Rattle.parquet.specs.Physical.{INT32};
-ghost use Rattle.parquet.specs.Logical.{UNKNOWN};
+ghost use Rattle.parquet.specs.Logical.{DECIMAL, UNKNOWN};
 ghost use Rattle.column.specs.Numbers.{little, twosComplement};
-ghost use Rattle.column.specs.Lengths.{isByteForm, lengthRight};
-ghost use Rattle.column.specs.Annotations.{isWhole, isTruth, wholeKeeps, keeps};
+ghost use Rattle.column.specs.Lengths.{mostBytes, isByteForm, lengthRight};
+ghost use Rattle.column.specs.Annotations.{isWhole, isTruth, inDigits, wholeKeeps, bytesKeep, textPlace, annotationPlace, keeps};
 ghost use Rattle.column.specs.Reading.{wholeValue, valueOf, checked, readOf, readLawful};
 ghost use Rattle.column.specs.Outcome.{outcomeOf, outcome};
-use crate::annotations::bytes_keep;
+use crate::annotations::decimal_keeps;
+use crate::annotations::is_text;
 use crate::annotations::is_unsigned;
 use crate::annotations::whole_keeps;
 use crate::codes;
@@ -23,6 +27,7 @@ use crate::numbers::INT32_SIGN;
 use crate::numbers::INT64_SIGN;
 use crate::numbers::little;
 use crate::numbers::signed;
+use crate::value::NO_PLACE;
 use crate::value::Read;
 use crate::value::Value;
 use column_type::ColumnType;
@@ -30,7 +35,7 @@ use column_type::ColumnType;
 // The value that the bytes are in a column of this type, or the first refusal that holds.
 pub fn read(c: ColumnType, value: &[u8]) -> Read
     ensures { λ r. ⌜ r ≡ readOf c (now (value .entry)) ⌝ }
-    ensures { λ r. ⌜ outcomeOf c (now (value .entry)) r ≡ outcome c (now (value .entry)) ⌝ }
+    ensures { λ r. ⌜ outcomeOf r ≡ outcome c (now (value .entry)) ⌝ }
 {
     if !column_type::is_lawful(c) {
         return Read::Unlawful;
@@ -46,7 +51,7 @@ pub fn read_lawful(c: ColumnType, value: &[u8]) -> Read
         return Read::WrongLength;
     }
     if c.kind == codes::UNKNOWN {
-        return Read::BreaksAnnotation;
+        return Read::BreaksAnnotation { place: NO_PLACE };
     }
     read_present(c, value)
 }
@@ -54,13 +59,10 @@ pub fn read_lawful(c: ColumnType, value: &[u8]) -> Read
 // Reads bytes of a right length, under any kind but UNKNOWN.
 fn read_present(c: ColumnType, value: &[u8]) -> Read
     requires { ⌜ (lengthRight c (length (now value)) ≡ true) × (eqb (c .kind) UNKNOWN ≡ false) ⌝ }
-    ensures { λ r. ⌜ r ≡ checked (keeps c (now (value .entry))) (valueOf c (now (value .entry))) ⌝ }
+    ensures { λ r. ⌜ r ≡ checked (keeps c (now (value .entry))) (annotationPlace c (now (value .entry))) (valueOf c (now (value .entry))) ⌝ }
 {
     if is_byte_form(c) {
-        if !bytes_keep(c, value) {
-            return Read::BreaksAnnotation;
-        }
-        return Read::Value(stretch(value.len()));
+        return read_bytes(c, value);
     }
     if is_whole(c) {
         return read_whole(c, little(value), sign_weight(c.physical));
@@ -68,10 +70,48 @@ fn read_present(c: ColumnType, value: &[u8]) -> Read
     read_other(c, value)
 }
 
+// Reads a byte form: a decimal is held to its precision, and text to UTF-8.
+fn read_bytes(c: ColumnType, value: &[u8]) -> Read
+    requires { ⌜ (length (now value) ≤ mostBytes) × ((eqb (c .kind) DECIMAL ≡ true) → isLength (length (now value)) ≡ true) ⌝ }
+    ensures { λ r. ⌜ r ≡ checked (bytesKeep c (now (value .entry))) (textPlace (c .kind) (now (value .entry))) (Value.Bytes 0 (length (now (value .entry)))) ⌝ }
+{
+    if c.kind == codes::DECIMAL {
+        return read_decimal(value, c.p1);
+    }
+    if is_text(c.kind) {
+        return read_text(value);
+    }
+    Read::Value(stretch(value.len()))
+}
+
+// A decimal, which has 1 to 256 bytes.
+fn read_decimal(value: &[u8], precision: u32) -> Read
+    requires { ⌜ isLength (length (now value)) ≡ true ⌝ }
+    ensures { λ r. ⌜ r ≡ checked (inDigits precision (number (now (value .entry)))) 0 (Value.Bytes 0 (length (now (value .entry)))) ⌝ }
+{
+    if !decimal_keeps(value, precision) {
+        return Read::BreaksAnnotation { place: NO_PLACE };
+    }
+    Read::Value(stretch(value.len()))
+}
+
+// Text, which is refused at the byte where whole sequences stop short of its end.
+fn read_text(value: &[u8]) -> Read
+    requires { ⌜ length (now value) ≤ mostBytes ⌝ }
+    ensures { λ r. ⌜ r ≡ checked (eqb (validUpTo (now (value .entry))) (length (now (value .entry)))) (validUpTo (now (value .entry))) (Value.Bytes 0 (length (now (value .entry)))) ⌝ }
+{
+    let stop = utf8::valid_up_to(value);
+    if stop != value.len() {
+        let place = stop as u32;
+        return Read::BreaksAnnotation { place };
+    }
+    Read::Value(stretch(value.len()))
+}
+
 // Reads what is neither a whole number nor of a byte form.
 fn read_other(c: ColumnType, value: &[u8]) -> Read
     requires { ⌜ (lengthRight c (length (now value)) ≡ true) × (isWhole c ≡ false) × (isByteForm c ≡ false) × (eqb (c .kind) UNKNOWN ≡ false) ⌝ }
-    ensures { λ r. ⌜ r ≡ checked (keeps c (now (value .entry))) (valueOf c (now (value .entry))) ⌝ }
+    ensures { λ r. ⌜ r ≡ checked (keeps c (now (value .entry))) (annotationPlace c (now (value .entry))) (valueOf c (now (value .entry))) ⌝ }
 {
     let physical = c.physical;
     match physical {
@@ -101,10 +141,10 @@ fn sign_weight(physical: u32) -> u64
 
 // A truth value: 0 or 1.
 fn read_truth(n: u64) -> Read
-    ensures { λ r. ⌜ r ≡ checked (isTruth n) (Value.Truth (eqb n 1)) ⌝ }
+    ensures { λ r. ⌜ r ≡ checked (isTruth n) 0 (Value.Truth (eqb n 1)) ⌝ }
 {
     if n > 1 {
-        return Read::BreaksAnnotation;
+        return Read::BreaksAnnotation { place: NO_PLACE };
     }
     Read::Value(Value::Truth(n == 1))
 }
@@ -112,10 +152,10 @@ fn read_truth(n: u64) -> Read
 // A whole number, of which `n` are the bits and the first has this weight.
 fn read_whole(c: ColumnType, n: u64, weight: u64) -> Read
     requires { ⌜ (n < 2 * weight) × (weight ≤ 2 ^ 63) ⌝ }
-    ensures { λ r. ⌜ r ≡ checked (wholeKeeps c n (twosComplement weight n)) (wholeValue c n (twosComplement weight n)) ⌝ }
+    ensures { λ r. ⌜ r ≡ checked (wholeKeeps c n (twosComplement weight n)) 0 (wholeValue c n (twosComplement weight n)) ⌝ }
 {
     if !whole_keeps(c, n, weight) {
-        return Read::BreaksAnnotation;
+        return Read::BreaksAnnotation { place: NO_PLACE };
     }
     if is_unsigned(c) {
         return Read::Value(Value::Unsigned(n));

@@ -1,6 +1,6 @@
 // A value that was read, and what reading answers.
 ghost use mathlib.Core.Path.{_≡_};
-ghost use Rattle.column.specs.Outcome.{refusalOf};
+ghost use Rattle.column.specs.Outcome.{refusalOf, placeOf};
 
 // A value. The stretch of a bytes value is counted in the bytes that were read.
 pub enum Value {
@@ -19,8 +19,8 @@ pub enum Read {
     Unlawful,
     // Refusal 15: the value has the wrong length, or more than 65,536 bytes.
     WrongLength,
-    // Refusal 16: the value breaks its annotation.
-    BreaksAnnotation,
+    // Refusal 16: the value breaks its annotation; text does at this byte, and any other value at 0.
+    BreaksAnnotation { place: u32 },
 }
 
 // Document 01's numbers of the refusals.
@@ -40,6 +40,21 @@ pub fn refusal(r: Read) -> u32
         Read::Value(_) => NO_REFUSAL,
         Read::Unlawful => UNLAWFUL,
         Read::WrongLength => WRONG_LENGTH,
-        Read::BreaksAnnotation => BREAKS_ANNOTATION,
+        Read::BreaksAnnotation { place: _ } => BREAKS_ANNOTATION,
+    }
+}
+
+// The place of every refusal but that of text.
+pub(crate) const NO_PLACE: u32 = 0;
+
+// The place of a refusal, and 0 for a value that was read.
+pub fn place(r: Read) -> u32
+    ensures { λ place. ⌜ place ≡ placeOf r ⌝ }
+{
+    match r {
+        Read::Value(_) => NO_PLACE,
+        Read::Unlawful => NO_PLACE,
+        Read::WrongLength => NO_PLACE,
+        Read::BreaksAnnotation { place } => place,
     }
 }

@@ -6,3 +6,4 @@ pub mod FloatLaws
 pub mod KeyLaws
 pub mod OrderLaws
 pub mod DecimalLaws
+pub mod FaultLaws

@@ -13,5 +13,5 @@ at-most-both Greater p q = cc
 at-most-both Unordered p q = cc
 at-most-both Unlawful p q = cc
 at-most-both NoOrder p q = cc
-at-most-both WrongLength p q = cc
-at-most-both BreaksAnnotation p q = cc
+at-most-both (WrongLength value) p q = cc
+at-most-both (BreaksAnnotation value place) p q = cc

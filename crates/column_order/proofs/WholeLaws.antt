@@ -2,22 +2,19 @@
 use mathlib.Core.Path.{_≡_, refl, sym, ap, subst, _∙_}
 use mathlib.Core.Bool.{Bool, true, false, not, cond, _||_}
 use mathlib.Core.Logic.{_↔_}
-use mathlib.Core.List.{List}
 use Prim.Native.Nat.{ℕ}
 use native.Mathlib.Omega.{arith}
 use lib.Dec.{T}
-use lib.ListN.{length}
 use lib.IntN.{ℤ}
 use lib.Signed.{ltZ, _<ℤ_, ltZ-yes, ltZ-no, <ℤ-≤ℤ-trans, clashℤ}
 use Rattle.decimal.specs.declared.order.Order as decimal
-use Rattle.decimal.specs.Precision.{isLength}
-use Rattle.decimal.specs.Number.{number}
-use Rattle.decimal.specs.Order.{order, orderOf}
-use Rattle.decimal.proofs.OrderLaws.{orderOf-order, order-less, order-equal, order-greater}
+use Rattle.decimal.specs.Order.{order}
+use Rattle.decimal.proofs.OrderLaws.{order-less, order-equal, order-greater}
 use Rattle.column_order.specs.Keys.{wholeOrder}
 use Rattle.column_order.specs.declared.answer.Order.{Order}
 use Rattle.column_order.specs.declared.answer.Order.the-variants.{Less, Equal, Greater, WrongLength}
 use Rattle.column_order.specs.Comparison.{turned, atMost}
+use Rattle.column_order.specs.Order.{FIRST}
 
 -- ---- decimals
 
@@ -26,7 +23,7 @@ abbrev pub named : decimal.Order → Order
 named decimal.Order.Less = Less
 named decimal.Order.Equal = Equal
 named decimal.Order.Greater = Greater
-named decimal.Order.WrongLength = WrongLength
+named decimal.Order.WrongLength = WrongLength FIRST
 
 order-named : (x y : ℤ) → named (order x y) ≡ wholeOrder x y
 unfolding wholeOrder
@@ -36,9 +33,6 @@ order-named x y = go (ltZ x y) (ltZ y x)
     go true u = refl
     go false true = refl
     go false false = refl
-
-pub decimal-named : (a b : List ℕ) → isLength (length a) ≡ true → isLength (length b) ≡ true → named (orderOf a b) ≡ wholeOrder (number a) (number b)
-decimal-named a b p q = ap named (orderOf-order a b p q) ∙ order-named (number a) (number b)
 
 -- ---- each answer exactly where the numbers are so
 

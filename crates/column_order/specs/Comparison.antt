@@ -19,7 +19,7 @@ Valid c bs = (x : Value) × (readOf c bs ≡ Read.Value x)
 abbrev pub NotANumber : ColumnType → List ℕ → Type 0
 NotANumber c bs = keyOf c bs ≡ none
 
--- the answer with the values exchanged
+-- the answer with the values exchanged; a refusal, which valid values do not get, stays
 abbrev pub turned : Order → Order
 turned Less = Greater
 turned Equal = Equal
@@ -27,8 +27,8 @@ turned Greater = Less
 turned Unordered = Unordered
 turned Unlawful = Unlawful
 turned NoOrder = NoOrder
-turned WrongLength = WrongLength
-turned BreaksAnnotation = BreaksAnnotation
+turned (WrongLength value) = WrongLength value
+turned (BreaksAnnotation value place) = BreaksAnnotation value place
 
 -- the first value is at most the second
 abbrev pub atMost : Order → Bool
@@ -38,5 +38,5 @@ atMost Greater = false
 atMost Unordered = false
 atMost Unlawful = false
 atMost NoOrder = false
-atMost WrongLength = false
-atMost BreaksAnnotation = false
+atMost (WrongLength value) = false
+atMost (BreaksAnnotation value place) = false

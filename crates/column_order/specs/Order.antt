@@ -18,16 +18,23 @@ use Rattle.column_order.specs.Keys.{keyOf, keyOrder}
 abbrev pub hasOrder : ColumnType → Bool
 hasOrder c = not (eqb (c .physical) INT96) && not (eqb (c .kind) INTERVAL)
 
--- the refusal of a value, or what follows where it is read
-abbrev pub unlessRefused : Read → Order → Order
-unlessRefused (read.Value v) next = next
-unlessRefused read.Unlawful next = Unlawful
-unlessRefused read.WrongLength next = WrongLength
-unlessRefused read.BreaksAnnotation next = BreaksAnnotation
+-- the numbers of the two values: document 02, R-6, "a refusal also says which value is at fault, 1 or 2"
+abbrev pub FIRST : ℕ
+FIRST = 1
+
+abbrev pub SECOND : ℕ
+SECOND = 2
+
+-- the refusal of the value of a number, or what follows where it is read
+abbrev pub unlessRefused : ℕ → Read → Order → Order
+unlessRefused value (read.Value v) next = next
+unlessRefused value read.Unlawful next = Unlawful
+unlessRefused value read.WrongLength next = WrongLength value
+unlessRefused value (read.BreaksAnnotation place) next = BreaksAnnotation value place
 
 -- "Checks: 20, 17, first value, second value"
 unfoldable pub orderOf : ColumnType → List ℕ → List ℕ → Order
 orderOf c a b =
     cond (isLawful c)
-    (cond (hasOrder c) (unlessRefused (readOf c a) (unlessRefused (readOf c b) (keyOrder (keyOf c a) (keyOf c b)))) NoOrder)
+    (cond (hasOrder c) (unlessRefused FIRST (readOf c a) (unlessRefused SECOND (readOf c b) (keyOrder (keyOf c a) (keyOf c b)))) NoOrder)
     Unlawful

@@ -1,6 +1,6 @@
 // What ordering two values answers.
 ghost use mathlib.Core.Path.{_≡_};
-ghost use Rattle.column_order.specs.Outcome.{refusalOf};
+ghost use Rattle.column_order.specs.Outcome.{refusalOf, placeOf, faultOf};
 
 // The first value against the second, or the first refusal that holds.
 pub enum Order {
@@ -13,11 +13,22 @@ pub enum Order {
     Unlawful,
     // Refusal 17: this column has no order.
     NoOrder,
-    // Refusal 15: a value has the wrong length, or more than 65,536 bytes.
-    WrongLength,
-    // Refusal 16: a value breaks its annotation.
-    BreaksAnnotation,
+    // Refusal 15: the value of this number has the wrong length, or more than 65,536 bytes.
+    WrongLength { value: u8 },
+    // Refusal 16: the value of this number breaks its annotation; text does at this byte, and any other value at 0.
+    BreaksAnnotation { value: u8, place: u32 },
 }
+
+// The numbers of the two values.
+pub(crate) const FIRST: u8 = 1;
+
+pub(crate) const SECOND: u8 = 2;
+
+// The number that stands for neither.
+const NEITHER: u8 = 0;
+
+// The place of every refusal but that of text.
+pub(crate) const NO_PLACE: u32 = 0;
 
 // Document 01's numbers of the refusals.
 const NO_REFUSAL: u32 = 0;
@@ -41,7 +52,39 @@ pub fn refusal(o: Order) -> u32
         Order::Unordered => NO_REFUSAL,
         Order::Unlawful => UNLAWFUL,
         Order::NoOrder => NO_ORDER,
-        Order::WrongLength => WRONG_LENGTH,
-        Order::BreaksAnnotation => BREAKS_ANNOTATION,
+        Order::WrongLength { value: _ } => WRONG_LENGTH,
+        Order::BreaksAnnotation { value: _, place: _ } => BREAKS_ANNOTATION,
+    }
+}
+
+// The place of a refusal, and 0 for an order.
+pub fn place(o: Order) -> u32
+    ensures { λ place. ⌜ place ≡ placeOf o ⌝ }
+{
+    match o {
+        Order::Less => NO_PLACE,
+        Order::Equal => NO_PLACE,
+        Order::Greater => NO_PLACE,
+        Order::Unordered => NO_PLACE,
+        Order::Unlawful => NO_PLACE,
+        Order::NoOrder => NO_PLACE,
+        Order::WrongLength { value: _ } => NO_PLACE,
+        Order::BreaksAnnotation { value: _, place } => place,
+    }
+}
+
+// The value at fault: 1 or 2, and 0 for neither and for an order.
+pub fn fault(o: Order) -> u8
+    ensures { λ value. ⌜ value ≡ faultOf o ⌝ }
+{
+    match o {
+        Order::Less => NEITHER,
+        Order::Equal => NEITHER,
+        Order::Greater => NEITHER,
+        Order::Unordered => NEITHER,
+        Order::Unlawful => NEITHER,
+        Order::NoOrder => NEITHER,
+        Order::WrongLength { value } => value,
+        Order::BreaksAnnotation { value, place: _ } => value,
     }
 }

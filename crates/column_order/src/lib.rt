@@ -18,5 +18,7 @@ mod values;
 mod wholes;
 
 pub use answer::Order;
+pub use answer::fault;
+pub use answer::place;
 pub use answer::refusal;
 pub use ordering::order;

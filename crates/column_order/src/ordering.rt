@@ -6,10 +6,12 @@ ghost use Rattle.column.specs.Lengths.{isByteDecimal};
 ghost use Rattle.column.specs.Reading.{readOf};
 ghost use Rattle.column.specs.declared.value.Read as declared;
 ghost use Rattle.column_order.specs.Keys.{keyOf, keyOrder};
-ghost use Rattle.column_order.specs.Order.{hasOrder, unlessRefused, orderOf};
+ghost use Rattle.column_order.specs.Order.{SECOND, hasOrder, unlessRefused, orderOf};
 ghost use Rattle.column_order.specs.Steps.{valuesOrder};
 ghost use Rattle.column_order.specs.Outcome.{outcomeOf, outcome};
+use crate::answer::FIRST;
 use crate::answer::Order;
+use crate::answer::SECOND;
 use crate::decimals::order_decimals;
 use crate::stretches::order_bytes;
 use crate::values::compare_double;
@@ -25,7 +27,7 @@ use column_type::ColumnType;
 // The order of two values in a column of this type.
 pub fn order(c: ColumnType, a: &[u8], b: &[u8]) -> Order
     ensures { λ r. ⌜ r ≡ orderOf c (now (a .entry)) (now (b .entry)) ⌝ }
-    ensures { λ r. ⌜ outcomeOf c (now (a .entry)) (now (b .entry)) r ≡ outcome c (now (a .entry)) (now (b .entry)) ⌝ }
+    ensures { λ r. ⌜ outcomeOf r ≡ outcome c (now (a .entry)) (now (b .entry)) ⌝ }
 {
     if !column_type::is_lawful(c) {
         return Order::Unlawful;
@@ -57,21 +59,27 @@ fn order_others(c: ColumnType, a: &[u8], b: &[u8]) -> Order
     match column::read_lawful(c, a) {
         Read::Value(x) => order_after(c, x, a, b),
         Read::Unlawful => Order::Unlawful,
-        Read::WrongLength => Order::WrongLength,
-        Read::BreaksAnnotation => Order::BreaksAnnotation,
+        Read::WrongLength => Order::WrongLength { value: FIRST },
+        Read::BreaksAnnotation { place } => Order::BreaksAnnotation {
+            value: FIRST,
+            place,
+        },
     }
 }
 
 // The order of a first value that was read against a second.
 fn order_after(c: ColumnType, x: Value, a: &[u8], b: &[u8]) -> Order
     requires { ⌜ (readOf c (now a) ≡ declared.Read.Value x) × (isByteDecimal c ≡ false) ⌝ }
-    ensures { λ r. ⌜ r ≡ unlessRefused (readOf c (now (b .entry))) (keyOrder (keyOf c (now (a .entry))) (keyOf c (now (b .entry)))) ⌝ }
+    ensures { λ r. ⌜ r ≡ unlessRefused SECOND (readOf c (now (b .entry))) (keyOrder (keyOf c (now (a .entry))) (keyOf c (now (b .entry)))) ⌝ }
 {
     match column::read_lawful(c, b) {
         Read::Value(y) => order_read(c, x, a, y, b),
         Read::Unlawful => Order::Unlawful,
-        Read::WrongLength => Order::WrongLength,
-        Read::BreaksAnnotation => Order::BreaksAnnotation,
+        Read::WrongLength => Order::WrongLength { value: SECOND },
+        Read::BreaksAnnotation { place } => Order::BreaksAnnotation {
+            value: SECOND,
+            place,
+        },
     }
 }
 

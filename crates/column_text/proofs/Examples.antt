@@ -32,7 +32,11 @@ stretch-example : valueText (Bytes 0 12) ≡ ascii "bytes 0 12"
 unfolding valueText stretchText decimalText digitCount enoughDigits
 stretch-example = refl
 
--- a TIME of a whole day
-refused-example : readText read.BreaksAnnotation ≡ ascii "refused 16 at 0"
+-- a TIME of a whole day, and text that goes bad at its thirteenth byte
+refused-example : readText (read.BreaksAnnotation 0) ≡ ascii "refused 16 at 0"
 unfolding readText refusalText decimalText digitCount enoughDigits
 refused-example = refl
+
+placed-example : readText (read.BreaksAnnotation 12) ≡ ascii "refused 16 at 12"
+unfolding readText refusalText decimalText digitCount enoughDigits
+placed-example = refl

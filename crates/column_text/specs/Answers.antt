@@ -18,4 +18,4 @@ unfoldable pub readText : Read → List ℕ
 readText (read.Value v) = valueText v
 readText read.Unlawful = refusalText UNLAWFUL 0
 readText read.WrongLength = refusalText WRONG-LENGTH 0
-readText read.BreaksAnnotation = refusalText BREAKS-ANNOTATION 0
+readText (read.BreaksAnnotation place) = refusalText BREAKS-ANNOTATION place

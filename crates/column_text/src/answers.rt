@@ -11,9 +11,6 @@ use crate::values::VALUE_ROOM;
 use crate::values::make_value;
 use column::Read;
 
-// The place of each refusal of a value.
-const PLACE: u64 = 0;
-
 // Room for the line of any answer of reading.
 pub const LINE_ROOM: usize = VALUE_ROOM + 1;
 
@@ -39,6 +36,6 @@ pub fn put_read(out: &mut [u8], at: usize, r: Read) -> usize
             let count = make_value(v, &mut room);
             text::put(out, at, &room[..count])
         }
-        _ => text::put_refusal(out, at, column::refusal(r) as u64, PLACE),
+        _ => text::put_refusal(out, at, column::refusal(r) as u64, column::place(r) as u64),
     }
 }

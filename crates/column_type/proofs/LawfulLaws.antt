@@ -57,7 +57,7 @@ module _ (c : ColumnType) (lawful : isLawful c ≡ true) where
   eleven : ((rule9 (slotOf c) && rule10 (slotOf c) false) ≡ true) × (rule11 (slotOf c) false ≡ true)
   eleven = and-eq-true-iff (rule9 (slotOf c) && rule10 (slotOf c) false) (rule11 (slotOf c) false) .0 (right .1)
 
-  ten : (rule9 (slotOf c) ≡ true) × (rule10 (slotOf c) false ≡ true)
+  pub ten : (rule9 (slotOf c) ≡ true) × (rule10 (slotOf c) false ≡ true)
   ten = and-eq-true-iff (rule9 (slotOf c)) (rule10 (slotOf c) false) .0 (eleven .0)
 
   leaf : isGroup (c .physical) ≡ false

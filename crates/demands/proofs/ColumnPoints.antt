@@ -10,7 +10,7 @@ use Rattle.annotation.specs.Rule10.{rule10}
 use Rattle.annotation.specs.Rule11.{ordered, physicalHolds, decimalHolds, rule11}
 use Rattle.annotation.specs.Signed.{natural}
 use Rattle.logical_type.specs.Spelling.{namedOf, statedOf}
-use Rattle.column.specs.Annotations.{inSignedBits, wholeKeeps, bytesKeep, keeps}
+use Rattle.column.specs.Annotations.{inSignedBits, wholeKeeps, bytesKeep, annotationPlace, keeps}
 use Rattle.parquet.specs.Physical.{INT32, BYTE-ARRAY}
 use Rattle.parquet.specs.Logical.{DECIMAL, INTEGER}
 use Rattle.column.specs.Annotations.{UNSIGNED}
@@ -28,17 +28,27 @@ use Rattle.tree.specs.Rules.{isNought, lengthShape}
 use Rattle.sheet.specs.Sound.{listed, physicalListed}
 use Rattle.column_order.specs.Keys.{numberOf, keyOf, wholeOrder, keyOrder}
 use Rattle.column_order.specs.Order.{orderOf}
-use Rattle.column_order.specs.Outcome.{Relation, less, equal, greater, outcomeOf, outcome}
+use Rattle.column_order.specs.Outcome as ordering
+use Rattle.column_order.specs.Outcome.{less, equal, greater, outcomeOf, outcome}
+use Rattle.utf8.specs.Sequence.{inside, spells, utf8-1, utf8-2, utf8-3, utf8-4, utf8-char}
+use Rattle.utf8.specs.Valid.{matched, leading, validUpTo}
+use Rattle.utf8.specs.Valid as utf8
 use Rattle.demands.specs.Points.{uint8, decimals}
+use Rattle.demands.specs.Requests.{strings}
 
 -- what reading and ordering compute with, opened
 read : ColumnType → List ℕ → Outcome Value
-unfolding reading.outcome readOf valueOf keeps wholeKeeps bytesKeep inSignedBits lengthRight little twosComplement number isLawful fits isLeaf physicalListed listed lengthShape isNought slotOf rule9 rule10 rule11 decimalHolds ordered physicalHolds annotationOf backwardOf statedOf namedOf validParameters unitOf bitWidthOf natural
+unfolding reading.outcome readOf valueOf annotationPlace keeps wholeKeeps bytesKeep inSignedBits lengthRight little twosComplement number isLawful fits isLeaf physicalListed listed lengthShape isNought slotOf rule9 rule10 rule11 decimalHolds ordered physicalHolds annotationOf backwardOf statedOf namedOf validParameters unitOf bitWidthOf natural
 read = reading.outcome
 
-order : ColumnType → List ℕ → List ℕ → Outcome Relation
+order : ColumnType → List ℕ → List ℕ → ordering.Outcome
 unfolding read outcome outcomeOf orderOf keyOrder keyOf wholeOrder numberOf
 order = outcome
+
+-- and what text computes with besides
+text : List ℕ → ℕ
+unfolding read order validUpTo utf8.reading leading matched spells inside utf8-char utf8-1 utf8-2 utf8-3 utf8-4
+text = validUpTo
 
 -- "*INT(8, false): 255 valid, 256: 16"
 pub uint8-255 : reading.outcome uint8 (255 ∷ 0 ∷ 0 ∷ 0 ∷ []) ≡ given (Unsigned 255)
@@ -59,14 +69,27 @@ unfolding read
 three-digits = refl
 
 -- "BYTE_ARRAY decimals of precision 3: *FF and FFFF equal; *80 below 7F; *00FF above 7F"
-pub ff-ffff : outcome (decimals 3) (0xFF ∷ []) (0xFF ∷ 0xFF ∷ []) ≡ given equal
+pub ff-ffff : outcome (decimals 3) (0xFF ∷ []) (0xFF ∷ 0xFF ∷ []) ≡ ordering.given equal
 unfolding order
 ff-ffff = refl
 
-pub minus-below-plus : outcome (decimals 3) (0x80 ∷ []) (0x7F ∷ []) ≡ given less
+pub minus-below-plus : outcome (decimals 3) (0x80 ∷ []) (0x7F ∷ []) ≡ ordering.given less
 unfolding order
 minus-below-plus = refl
 
-pub longer-above : outcome (decimals 3) (0x00 ∷ 0xFF ∷ []) (0x7F ∷ []) ≡ given greater
+pub longer-above : outcome (decimals 3) (0x00 ∷ 0xFF ∷ []) (0x7F ∷ []) ≡ ordering.given greater
 unfolding order
 longer-above = refl
+
+-- document 02, R-6
+pub cut-off : reading.outcome strings (0x6B ∷ 0xC3 ∷ 0xA9 ∷ 0xE2 ∷ 0x82 ∷ []) ≡ refused 16 3
+unfolding text
+cut-off = refl
+
+pub second-bad : outcome strings (0x6B ∷ []) (0x6B ∷ 0xFF ∷ []) ≡ ordering.refused 16 1 2
+unfolding text
+second-bad = refl
+
+pub both-bad : outcome strings (0x6B ∷ 0x6B ∷ 0x80 ∷ []) (0xFF ∷ []) ≡ ordering.refused 16 2 1
+unfolding text
+both-bad = refl

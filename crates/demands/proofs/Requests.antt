@@ -18,7 +18,11 @@ use Rattle.schema.proofs.AcceptedLaws.{accepted-rows}
 use Rattle.schema.proofs.DemandLaws.{no-refusal-rows, size-is, rows-length, refused-unchanged}
 use Rattle.schema.proofs.NodeLevelsLaws.{InRow, root-levels, field-levels}
 use Rattle.schema.proofs.RepeatedFieldLaws as repeated
-use Rattle.demands.specs.Requests.{one, Request2, left, definitionIn, repetitionLevelIn, Request8}
+use Rattle.utf8.proofs.ValidLaws.{validUpTo-stops, stops-unique}
+use Rattle.column.proofs.PlaceLaws.{text-stops, other-place, text-refused}
+use Rattle.column_order.proofs.FaultLaws.{first-exactly, second-exactly, neither-exactly, fault-most}
+use Rattle.demands.specs.Requests.{one, Request2, Request6, left, definitionIn, repetitionLevelIn, Request8}
+use Rattle.demands.proofs.ColumnPoints.{cut-off, second-bad, both-bad}
 use Rattle.demands.proofs.SheetPoints.{repeated-rows, example-rows}
 
 pub request2 : Request2
@@ -30,6 +34,23 @@ request2 =
       refused = λ p list layer s fs h. repeated.no-element list layer s fs (h .group) (h .repeated) p;
       repeated-list = repeated.repeated-list;
       example = repeated-rows;
+    }
+
+pub request6 : Request6
+request6 =
+    record {
+      offset = validUpTo-stops;
+      one-offset = λ s q r. stops-unique;
+      text-place = text-stops;
+      text-refused = text-refused;
+      other-place = other-place;
+      first = first-exactly;
+      second = second-exactly;
+      neither = neither-exactly;
+      no-other = fault-most;
+      cut-off = cut-off;
+      second-bad = second-bad;
+      both-bad = both-bad;
     }
 
 -- R-8 ----------------------------------------------------------------------------------------------------------------------

@@ -61,9 +61,9 @@ points =
     ∷ NoSuchDay MICROS
     ∷ NoSuchDay NANOS
     -- "BYTE_ARRAY decimals of precision 3: *FF and FFFF equal; *80 below 7F; *00FF above 7F"
-    ∷ (ordering.outcome (decimals 3) (0xFF ∷ []) (0xFF ∷ 0xFF ∷ []) ≡ reading.given ordering.equal)
-    ∷ (ordering.outcome (decimals 3) (0x80 ∷ []) (0x7F ∷ []) ≡ reading.given ordering.less)
-    ∷ (ordering.outcome (decimals 3) (0x00 ∷ 0xFF ∷ []) (0x7F ∷ []) ≡ reading.given ordering.greater)
+    ∷ (ordering.outcome (decimals 3) (0xFF ∷ []) (0xFF ∷ 0xFF ∷ []) ≡ ordering.given ordering.equal)
+    ∷ (ordering.outcome (decimals 3) (0x80 ∷ []) (0x7F ∷ []) ≡ ordering.given ordering.less)
+    ∷ (ordering.outcome (decimals 3) (0x00 ∷ 0xFF ∷ []) (0x7F ∷ []) ≡ ordering.given ordering.greater)
     -- "*Precision 2: 63 hex valid, 64 hex 16"
     ∷ (reading.outcome (decimals 2) (0x63 ∷ []) ≡ reading.given (Bytes 0 1))
     ∷ (reading.outcome (decimals 2) (0x64 ∷ []) ≡ reading.refused 16 0)

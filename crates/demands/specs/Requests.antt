@@ -3,11 +3,21 @@ use Prim.Native.Nat.{ℕ, _+_, _*_, _≤_, _<_}
 use mathlib.Core.Path.{_≡_}
 use mathlib.Core.Bool.{true, false}
 use mathlib.Core.List.{List, [], _∷_, _++_}
+use mathlib.Core.Logic.{_⊎_, _↔_}
 use lib.ListN.{length, drop, replicate}
 use Rattle.sheet.specs.Block.{totalOf}
 use Rattle.sheet.specs.Slot.{physical, repetition}
 use Rattle.parquet.specs.Repetition.{REPEATED}
 use Rattle.parquet.specs.Logical as logical
+use Rattle.parquet.specs.Physical.{BYTE-ARRAY}
+use Rattle.utf8.specs.Valid.{validUpTo, Stops}
+use Rattle.column_type.specs.Lawful.{isLawful}
+use Rattle.column_type.specs.declared.types.ColumnType.{ColumnType}
+use Rattle.column.specs.Annotations.{isText}
+use Rattle.column.specs.Outcome as read
+use Rattle.column_order.specs.Order.{hasOrder}
+use Rattle.column_order.specs.Comparison.{Valid}
+use Rattle.column_order.specs.Outcome as order
 use Rattle.tree.specs.Annotated.{kind}
 use Rattle.tree.specs.Tree.{SlotBytes, Fields, node, empty, field}
 use Rattle.tree.specs.Rules.{isGroup, isRequiredOrOptional, isList, namedElement, rule12, KeepsAt}
@@ -56,6 +66,38 @@ pub record Request2 : Type 1 where
   pub repeated-list : (p : Place) (s : SlotBytes) (fs : Fields) → isList p s ≡ true → repetition s ≡ REPEATED → rule12 p s fs ≡ false
   -- a sheet of such a LIST
   pub example : written (outcome repeatedSheet (rowWidth * 4)) repeatedSheet (replicate (rowWidth * 4) 0) ≡ repeatedRows
+
+-- R-6. "Say where the string went bad" --------------------------------------------------------------------------------------
+
+-- STRING, as its row has it
+abbrev pub strings : ColumnType
+strings = record { physical = BYTE-ARRAY; «type_length» = 0; kind = logical.STRING; p1 = 0; p2 = 0 }
+
+-- `read` and `order` answer what these outcomes give: `column::read`, `column_order::order`
+pub record Request6 : Type 1 where
+  -- "The check itself should answer with the offset where whole valid sequences, read from the start, stop": `utf8::valid_up_to` has one such offset for any bytes
+  pub offset : (s : List ℕ) → Stops s (validUpTo s)
+  pub one-offset : (s : List ℕ) (q r : ℕ) → Stops s q → Stops s r → q ≡ r
+  -- "the place of 16 is this offset for STRING, ENUM and JSON", which lies before the end
+  pub text-place : (c : ColumnType) (bs : List ℕ) (place : ℕ) → isText (c .kind) ≡ true → read.outcome c bs ≡ read.refused 16 place → Stops bs place × (place < length bs)
+  -- and text that stops there is refused so
+  pub text-refused : (c : ColumnType) (bs : List ℕ) (place : ℕ) → isLawful c ≡ true → isText (c .kind) ≡ true → length bs ≤ 65536 → Stops bs place → place < length bs → read.outcome c bs ≡ read.refused 16 place
+  -- "and 0 otherwise"
+  pub other-place : (c : ColumnType) (bs : List ℕ) (number place : ℕ) → read.outcome c bs ≡ read.refused number place → ((number ≡ 16) × (isText (c .kind) ≡ true) → ⊥) → place ≡ 0
+  -- "In order, a refusal also says which value is at fault, 1": it is reading's for the first value, with its place
+  pub first : (c : ColumnType) (a b : List ℕ) (number place : ℕ) → (order.outcome c a b ≡ order.refused number place 1) ↔ ((isLawful c ≡ true) × (hasOrder c ≡ true) × (read.outcome c a ≡ read.refused number place))
+  -- "or 2": the first value is read, and it is reading's for the second
+  pub second : (c : ColumnType) (a b : List ℕ) (number place : ℕ) → (order.outcome c a b ≡ order.refused number place 2) ↔ ((isLawful c ≡ true) × (hasOrder c ≡ true) × Valid c a × (read.outcome c b ≡ read.refused number place))
+  -- "and 0 for neither": 20, or 17
+  pub neither : (c : ColumnType) (a b : List ℕ) (number place : ℕ) → (order.outcome c a b ≡ order.refused number place 0) ↔ (((isLawful c ≡ false) × (number ≡ 20) × (place ≡ 0)) ⊎ ((isLawful c ≡ true) × (hasOrder c ≡ false) × (number ≡ 17) × (place ≡ 0)))
+  -- and there is no other number of a value
+  pub no-other : (c : ColumnType) (a b : List ℕ) (number place value : ℕ) → order.outcome c a b ≡ order.refused number place value → value ≤ 2
+  -- `k`, e acute, and the beginning of a letter of three bytes: it goes bad where that begins
+  pub cut-off : read.outcome strings (0x6B ∷ 0xC3 ∷ 0xA9 ∷ 0xE2 ∷ 0x82 ∷ []) ≡ read.refused 16 3
+  -- the first value is good, and the second goes bad at its second byte
+  pub second-bad : order.outcome strings (0x6B ∷ []) (0x6B ∷ 0xFF ∷ []) ≡ order.refused 16 1 2
+  -- both are bad: the first is at fault, at its own byte
+  pub both-bad : order.outcome strings (0x6B ∷ 0x6B ∷ 0x80 ∷ []) (0xFF ∷ []) ≡ order.refused 16 2 1
 
 -- R-8. "Levels in the rows" ------------------------------------------------------------------------------------------------
 

@@ -14,9 +14,9 @@ use Rattle.column.proofs.reading.read.Statement.{statement}
 use Rattle.column.proofs.reading.read.Tie as tie
 
 -- an answer, and what it stands for
-answered : (c : ColumnType) (bs : List ℕ) {r : Read} → r ≡ readOf c bs → (r ≡ readOf c bs) × (outcomeOf c bs r ≡ outcome c bs)
+answered : (c : ColumnType) (bs : List ℕ) {r : Read} → r ≡ readOf c bs → (r ≡ readOf c bs) × (outcomeOf r ≡ outcome c bs)
 unfolding outcome
-answered c bs e = (e, ap (outcomeOf c bs) e)
+answered c bs e = (e, ap outcomeOf e)
 
 unlawful : (c : tie.Then1) → let s = c .before .before .before .args in Read.Unlawful ≡ readOf (s .c) (s .value .now)
 unfolding readOf

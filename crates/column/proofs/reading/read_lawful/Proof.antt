@@ -7,6 +7,7 @@ use borrow.Author.Tests.{eq-eqb, ne-eqb, not-true, not-false}
 use borrow.Author.Needs.{needs}
 use Rattle.column.specs.Lengths.{lengthRight}
 use Rattle.column.specs.Annotations.{keeps}
+use Rattle.column.proofs.ReadingLaws.{unknown-place}
 use Rattle.column.proofs.reading.read_lawful.Statement.{statement}
 use Rattle.column.proofs.reading.read_lawful.Tie as tie
 
@@ -21,7 +22,9 @@ returns c = rw (sym (c .before .length-right .ensures) ∙ not-true _ (c .if1 .t
 
 returns-2 : tie.Need-returns-2
 unfolding keeps
-returns-2 c = rw (is-right (c .before .before), eq-eqb _ _ (c .if2 .taken))
+returns-2 c =
+    let s = c .before .before .before .before .before .args in
+    rw (is-right (c .before .before), eq-eqb _ _ (c .if2 .taken), unknown-place (s .c) (s .value .now) (c .if2 .taken))
 
 read-present-requires : tie.Need-read-present-requires
 read-present-requires c κs = (is-right (c .before .before), ne-eqb _ _ (c .if2 .left))

@@ -7,7 +7,7 @@ use lib.ListN.{length}
 use borrow.Author.Tests.{ne-eqb}
 use borrow.Author.Needs.{needs}
 use Rattle.column.specs.Numbers.{little}
-use Rattle.column.specs.Annotations.{keeps}
+use Rattle.column.specs.Annotations.{annotationPlace, keeps}
 use Rattle.column.specs.Reading.{valueOf}
 use Rattle.column.proofs.LengthLaws.{width-right}
 use Rattle.column.proofs.reading.read_other.Statement.{statement}
@@ -50,7 +50,7 @@ stretch-requires : tie.Need-stretch-requires
 stretch-requires c κs = search needs
 
 returns : tie.Need-returns
-unfolding keeps valueOf
+unfolding keeps valueOf annotationPlace
 returns c =
     let s = c .before .before .before .before in
     rw (s .pre .3, c .before .before .match .keys1, ← c .before .little .ensures .0) (c .read-truth .ensures)

@@ -7,15 +7,11 @@ use Prim.Native.Nat.{ℕ, _*_, _-_, _<_, _≤_, _^_}
 use native.Mathlib.Nat.{pow-le-pow-right}
 use native.Mathlib.Omega.{arith}
 use lib.ListN.{length}
-use borrow.Author.Tests.{not-true, not-false}
 use borrow.Author.Needs.{needs}
 use Rattle.column.specs.Numbers.{signWeight}
 use Rattle.column.specs.Lengths.{isByteForm}
-use Rattle.column.specs.Annotations.{isWhole, bytesKeep, keeps}
-use Rattle.column.specs.Reading.{valueOf, checked}
-use Rattle.column.specs.declared.value.Value.{Value}
-use Rattle.column.specs.declared.value.Read.{Read}
-use Rattle.column.proofs.LengthLaws.{decimal-right}
+use Rattle.column.specs.Annotations.{isWhole}
+use Rattle.column.proofs.LengthLaws.{length-most, decimal-right}
 use Rattle.column.proofs.ReadingLaws.{bytes-read, whole-read, whole-length}
 use Rattle.column.proofs.reading.read_present.Statement.{statement}
 use Rattle.column.proofs.reading.read_present.Tie as tie
@@ -23,16 +19,8 @@ use Rattle.column.proofs.reading.read_present.Tie as tie
 form : (c : tie.Then1) → isByteForm (c .before .before .before .args .c) ≡ true
 form c = sym (c .before .is-byte-form .ensures) ∙ c .if1 .taken
 
--- what is read of a byte form
-read-as : (c : tie.After-bytes-keep) {r : Read} → let s = c .before .before .before .before .args in
-    r ≡ checked (bytesKeep (s .c) (s .value .now)) (Value.Bytes 0 (length (s .value .now)))
-    → r ≡ checked (keeps (s .c) (s .value .now)) (valueOf (s .c) (s .value .now))
-read-as c e =
-    let s = c .before .before .before .before in
-    e ∙ bytes-read (s .args .c) (s .args .value .now) (s .pre .1) (form (c .before))
-
 -- a whole number's length, and the weight of its first bit
-module _ (c : tie.Then3) where
+module _ (c : tie.Then2) where
   abbrev start : tie.Start
   start = c .before .before .before .before .before
 
@@ -40,7 +28,7 @@ module _ (c : tie.Then3) where
   bs = start .args .value .now
 
   whole : isWhole (start .args .c) ≡ true
-  whole = sym (c .before .is-whole .ensures) ∙ c .if3 .taken
+  whole = sym (c .before .is-whole .ensures) ∙ c .if2 .taken
 
   few : length bs ≤ 8
   few = whole-length (start .args .c) (length bs) (start .pre .0) whole .0
@@ -56,19 +44,15 @@ weight c =
 is-byte-form-requires : tie.Need-is-byte-form-requires
 is-byte-form-requires c κs = search needs
 
-bytes-keep-requires : tie.Need-bytes-keep-requires
-bytes-keep-requires c κs = decimal-right _ _ (c .before .before .before .pre .0) (form c)
+read-bytes-requires : tie.Need-read-bytes-requires
+read-bytes-requires c κs =
+    let right = c .before .before .before .pre .0 in
+    (length-most _ _ right, decimal-right _ _ right (form c))
 
 returns : tie.Need-returns
 returns c =
-    read-as (c .before) (rw (sym (c .before .bytes-keep .ensures) ∙ not-true _ (c .if2 .taken)))
-
-stretch-requires : tie.Need-stretch-requires
-stretch-requires c κs = search needs
-
-returns-2 : tie.Need-returns-2
-returns-2 c =
-    read-as (c .before .before) (rw (c .stretch .ensures, sym (c .before .before .bytes-keep .ensures) ∙ not-false _ (c .before .if2 .left)))
+    let s = c .before .before .before .before in
+    c .read-bytes .ensures ∙ bytes-read (s .args .c) (s .args .value .now) (s .pre .1) (form (c .before))
 
 is-whole-requires : tie.Need-is-whole-requires
 is-whole-requires c κs = search needs
@@ -87,8 +71,8 @@ read-whole-requires c κs =
       subst (λ (m : ℕ). m ≤ 2 ^ 63) (sym (weight c)) (pow-le-pow-right {n = 2} (omega arith) {i = 8 * length (bs t) - 1} {j = 63} (let h = few t in omega arith)),
     )
 
-returns-3 : tie.Need-returns-3
-returns-3 c =
+returns-2 : tie.Need-returns-2
+returns-2 c =
     let k = c .before in
     let t = k .before .before in
     let s = start t in
@@ -100,27 +84,25 @@ read-other-requires c κs =
     let first = c .before .before in
     let s = first .before .before .before in (
       s .pre .0,
-      sym (c .before .is-whole .ensures) ∙ c .if3 .left,
+      sym (c .before .is-whole .ensures) ∙ c .if2 .left,
       sym (first .before .is-byte-form .ensures) ∙ first .if1 .left,
       s .pre .1,
     )
 
-returns-4 : tie.Need-returns-4
-returns-4 c = search needs
+returns-3 : tie.Need-returns-3
+returns-3 c = search needs
 
 pub read-present-spec : {M : Type 1} → statement M
 read-present-spec =
     tie.close
     (tie.spec
     is-byte-form-requires
-    bytes-keep-requires
+    read-bytes-requires
     returns
-    stretch-requires
-    returns-2
     is-whole-requires
     little-requires
     sign-weight-requires
     read-whole-requires
-    returns-3
+    returns-2
     read-other-requires
-    returns-4)
+    returns-3)

@@ -1,21 +1,25 @@
 -- `column_order::decimals::order_decimals` meets its contract: a wrong length first, and else what comparing within the precision answers.
 -- Assumes nothing.
-use mathlib.Core.Path.{_≡_, sym, ap, _∙_}
+use mathlib.Core.Path.{_≡_, refl, sym, ap, _∙_}
 use borrow.Author.Needs.{needs}
 use borrow.Author.Tests.{not-true, not-false}
 use Rattle.decimal.specs.declared.within.Compared.{Compared}
+use Rattle.column.specs.Reading.{readOf}
+use Rattle.column_order.specs.Order.{FIRST, SECOND, unlessRefused}
 use Rattle.column_order.specs.Steps.{valuesOrder}
-use Rattle.column_order.proofs.DecimalLaws.{asOrder, wrong-first, wrong-second, both-right}
+use Rattle.column_order.specs.declared.answer.Order.{Order}
+use Rattle.column_order.proofs.DecimalLaws.{asOrder, not-ordered, wrong-first, wrong-second, both-right}
 use Rattle.column_order.proofs.decimals.order_decimals.Statement.{statement}
 use Rattle.column_order.proofs.decimals.order_decimals.Tie as tie
 
 answer : (c : tie.After-compare-within) (o : Compared) → c .compare-within .result ≡ o
-    → let s = c .before .before .before .before .before .before .before .args in asOrder o ≡ valuesOrder (s .c) (s .a .now) (s .b .now)
+    → let s = c .before .before .before .before .before .before .before .args in
+    asOrder (unlessRefused FIRST (readOf (s .c) (s .a .now)) (Order.BreaksAnnotation SECOND 0)) o ≡ valuesOrder (s .c) (s .a .now) (s .b .now)
 answer c o e =
     let second = c .before in
     let first = second .before .before in
     let s = first .before .before .before .before in
-    ap asOrder (sym e ∙ c .compare-within .ensures .0)
+    ap (asOrder (unlessRefused FIRST (readOf (s .args .c) (s .args .a .now)) (Order.BreaksAnnotation SECOND 0))) (sym e ∙ c .compare-within .ensures .0)
     ∙ both-right (s .args .c) (s .pre .0) (s .pre .1) (s .args .a .now) (s .args .b .now)
     (sym (first .before .length-right .ensures) ∙ not-false _ (first .if1 .left)) (sym (second .before .length-right2 .ensures) ∙ not-false _ (second .if2 .left))
 
@@ -30,14 +34,14 @@ returns c =
 length-right-requires-2 : tie.Need-length-right-requires-2
 length-right-requires-2 c κs = search needs
 
-before-wrong-length-requires : tie.Need-before-wrong-length-requires
-before-wrong-length-requires c κs = search needs
+unless-refused-requires : tie.Need-unless-refused-requires
+unless-refused-requires c κs = search needs
 
 returns-2 : tie.Need-returns-2
 returns-2 c =
     let second = c .before in
     let s = second .before .before .before .before .before .before in
-    c .before-wrong-length .ensures
+    c .unless-refused .ensures
     ∙ wrong-second (s .args .c) (s .pre .0) (s .pre .1) (s .args .a .now) (s .args .b .now) (sym (second .before .length-right2 .ensures) ∙ not-true _ (second .if2 .taken))
 
 compare-within-requires : tie.Need-compare-within-requires
@@ -52,11 +56,8 @@ enum-told-2 c = search needs
 enum-told-3 : tie.Need-enum-told-3
 enum-told-3 c = search needs
 
-enum-told-4 : tie.Need-enum-told-4
-enum-told-4 c = search needs
-
-enum-told-5 : tie.Need-enum-told-5
-enum-told-5 c = search needs
+unless-refused-requires-2 : tie.Need-unless-refused-requires-2
+unless-refused-requires-2 c κs = search needs
 
 returns-3 : tie.Need-returns-3
 returns-3 c = answer (c .before .before) Compared.Less (c .enum-told .given .1)
@@ -68,10 +69,9 @@ returns-5 : tie.Need-returns-5
 returns-5 c = answer (c .before .before) Compared.Greater (c .enum-told3 .given .1)
 
 returns-6 : tie.Need-returns-6
-returns-6 c = answer (c .before .before) Compared.Beyond (c .enum-told4 .given .1)
-
-returns-7 : tie.Need-returns-7
-returns-7 c = answer (c .before .before) Compared.WrongLength (c .enum-told5 .given .1)
+returns-6 c =
+    let match = c .before in
+    c .unless-refused2 .ensures ∙ not-ordered _ (match .before .compare-within .result) (match .match .keys4) ∙ answer (match .before) _ refl
 
 pub order-decimals-spec : {M : Type 1} → statement M
 order-decimals-spec =
@@ -80,16 +80,14 @@ order-decimals-spec =
     length-right-requires
     returns
     length-right-requires-2
-    before-wrong-length-requires
+    unless-refused-requires
     returns-2
     compare-within-requires
     enum-told
     enum-told-2
     enum-told-3
-    enum-told-4
-    enum-told-5
+    unless-refused-requires-2
     returns-3
     returns-4
     returns-5
-    returns-6
-    returns-7)
+    returns-6)

@@ -16,9 +16,9 @@ use Rattle.column_order.proofs.ordering.order.Statement.{statement}
 use Rattle.column_order.proofs.ordering.order.Tie as tie
 
 -- an answer, and what it stands for
-answered : (c : ColumnType) (a b : List ℕ) {o : Order} → o ≡ orderOf c a b → (o ≡ orderOf c a b) × (outcomeOf c a b o ≡ outcome c a b)
+answered : (c : ColumnType) (a b : List ℕ) {o : Order} → o ≡ orderOf c a b → (o ≡ orderOf c a b) × (outcomeOf o ≡ outcome c a b)
 unfolding outcome
-answered c a b e = (e, ap (outcomeOf c a b) e)
+answered c a b e = (e, ap outcomeOf e)
 
 is-lawful : (c : tie.Else1) → isLawful (c .before .before .before .before .args .c) ≡ true
 is-lawful c = sym (c .before .is-lawful .ensures) ∙ not-false _ (c .if1 .left)

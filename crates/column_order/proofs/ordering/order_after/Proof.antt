@@ -30,8 +30,8 @@ enum-told c = search needs
 enum-told-2 : tie.Need-enum-told-2
 enum-told-2 c = search needs
 
-enum-told-3 : tie.Need-enum-told-3
-enum-told-3 c = search needs
+enum-known-place : tie.Need-enum-known-place
+enum-known-place c = search needs
 
 returns : tie.Need-returns
 returns c =
@@ -45,7 +45,7 @@ returns-3 : tie.Need-returns-3
 returns-3 c = rw (sym (read (c .before .before)) ∙ c .enum-told2 .given .1)
 
 returns-4 : tie.Need-returns-4
-returns-4 c = rw (sym (read (c .before .before)) ∙ c .enum-told3 .given .1)
+returns-4 c = rw (sym (read (c .before .before .before)) ∙ c .before .place .given .1)
 
 pub order-after-spec : {M : Type 1} → statement M
 order-after-spec =
@@ -56,7 +56,7 @@ order-after-spec =
     order-read-requires
     enum-told
     enum-told-2
-    enum-told-3
+    enum-known-place
     returns
     returns-2
     returns-3

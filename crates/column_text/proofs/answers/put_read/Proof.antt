@@ -1,8 +1,9 @@
 -- `column_text::answers::put_read` meets its contract.
-use Prim.Native.Nat.{ℕ}
-use mathlib.Core.Path.{sym, ap, _∙_}
+use mathlib.Core.Path.{sym, ap, ap₂, subst, _∙_}
 use native.Mathlib.Omega.{arith}
 use lib.ListN.{length}
+use mir.Syntax.{w64}
+use mir.Val.{Fits}
 use Rattle.text.specs.Refusals.{refusalText}
 use Rattle.text.proofs.PlacingLaws.{put-as}
 use Rattle.column_text.specs.Answers.{readText}
@@ -21,10 +22,12 @@ returns c =
 
 returns-2 : tie.Need-returns-2
 returns-2 c =
-    let case = c .before .before .before .before .before .match .keys2 in
-    let number = ap (λ (n : ℕ). refusalText n 0) (c .before .before .before .refusal .ensures) in
-    let put = put-as _ _ (number ∙ read-refused _ case) (c .before .before .put-refusal .ensures) in
-    (put .0, (put .1, refused-most _ case))
+    let place = c .before .before .before .place in
+    let number = c .before .before .before .before .refusal in
+    let case = c .before .before .before .before .before .before .match .keys2 in
+    let text = ap₂ refusalText (number .ensures) (place .ensures) in
+    let put = put-as _ _ (text ∙ read-refused _ case) (c .before .before .put-refusal .ensures) in
+    (put .0, (put .1, refused-most _ (subst (Fits w64) (place .ensures) (record { fits = omega (arith, place .ok) })) case))
 
 pub put-read-spec : {M : Type 1} → statement M
 put-read-spec =
@@ -39,8 +42,8 @@ put-read-spec =
     (λ c. search needs)
     (λ c κs. tt)
     (λ c. search needs)
+    (λ c κs. tt)
+    (λ c. search needs)
     returns
     (λ c. search needs)
     returns-2)
-
--- x

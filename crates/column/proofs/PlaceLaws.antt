@@ -1,0 +1,140 @@
+-- The places of refusals: where text goes bad, and 0 for everything else. Assumes nothing.
+use mathlib.Core.Path.{_≡_, refl, sym, subst, _∙_}
+use mathlib.Core.Bool.{Bool, true, false, cond}
+use mathlib.Core.List.{List}
+use Prim.Native.Nat.{ℕ, _≤_, _<_}
+use native.Mathlib.Omega.{arith}
+use lib.Dec.{leb, eqb}
+use lib.ListN.{length}
+use borrow.Author.Tests.{le-leb, eqb-true, eqb-false, ne-eqb}
+use Rattle.utf8.specs.Valid.{validUpTo, Stops}
+use Rattle.utf8.proofs.ValidLaws.{validUpTo-stops, stops-unique}
+use Rattle.parquet.specs.Physical.{BYTE-ARRAY}
+use Rattle.parquet.specs.Logical.{STRING, ENUM, JSON}
+use Rattle.column_type.specs.Lawful.{isLawful}
+use Rattle.column_type.specs.declared.types.ColumnType.{ColumnType}
+use Rattle.column_type.proofs.TextLaws.{string-bytes, enum-bytes, json-bytes}
+use Rattle.column.specs.Lengths.{mostBytes, isByteForm, lengthRight}
+use Rattle.column.specs.Annotations.{isText, bytesKeep, annotationPlace, keeps}
+use Rattle.column.specs.Reading.{valueOf, checked, readOf}
+use Rattle.column.specs.Outcome.{Outcome, refused, placeOf, outcomeOf, outcome}
+use Rattle.column.specs.declared.value.Read.the-variants as read
+use Rattle.column.specs.declared.value.Value.{Value}
+use Rattle.column.proofs.LengthLaws.{length-most}
+
+-- ---- how great a place is
+
+place-within : (c : ColumnType) (bs : List ℕ) → annotationPlace c bs ≤ length bs
+unfolding annotationPlace
+place-within c bs = go (isByteForm c) (isText (c .kind))
+  where
+    go : (f t : Bool) → cond f (cond t (validUpTo bs) 0) 0 ≤ length bs
+    go false t = omega arith
+    go true false = omega arith
+    go true true = validUpTo-stops bs .within
+
+-- no place lies past the longest value
+pub place-most : (c : ColumnType) (bs : List ℕ) → placeOf (readOf c bs) ≤ mostBytes
+unfolding readOf
+place-most c bs = go (isLawful c) (lengthRight c (length bs)) refl (keeps c bs)
+  where
+    go : (l r : Bool) → lengthRight c (length bs) ≡ r → (k : Bool) → placeOf (cond l (cond r (checked k (annotationPlace c bs) (valueOf c bs)) read.WrongLength) read.Unlawful) ≤ mostBytes
+    go false r e k = omega arith
+    go true false e k = omega arith
+    go true true e true = omega arith
+    go true true e false = omega (arith, place-within c bs, length-most c (length bs) e)
+
+-- ---- what a refusal says
+
+-- 16 and its place; every other refusal is at 0
+pub record Refuses (c : ColumnType) (bs : List ℕ) (number place : ℕ) : Type 0 where
+  pub lawful : number ≡ 16 → isLawful c ≡ true
+  pub broken : number ≡ 16 → keeps c bs ≡ false
+  pub placed : number ≡ 16 → place ≡ annotationPlace c bs
+  pub elsewhere : (number ≡ 16 → ⊥) → place ≡ 0
+
+pub refuses : (c : ColumnType) (bs : List ℕ) (number place : ℕ) → outcome c bs ≡ refused number place → Refuses c bs number place
+unfolding outcome readOf
+refuses c bs number place = go (isLawful c) refl (lengthRight c (length bs)) (keeps c bs) refl
+  where
+    other : (n : ℕ) → (n ≡ 16 → ⊥) → _≡_ {A = Outcome Value} (refused n 0) (refused number place) → Refuses c bs number place
+    other n h e =
+        let m : n ≡ number = cc in
+        let p : 0 ≡ place = cc in
+        record { lawful = λ k. absurd (h (m ∙ k)); broken = λ k. absurd (h (m ∙ k)); placed = λ k. absurd (h (m ∙ k)); elsewhere = λ k. sym p }
+
+    go : (l : Bool) → isLawful c ≡ l → (r k : Bool) → keeps c bs ≡ k
+        → outcomeOf (cond l (cond r (checked k (annotationPlace c bs) (valueOf c bs)) read.WrongLength) read.Unlawful) ≡ refused number place → Refuses c bs number place
+    go false p r k q e = other 20 (λ h. omega (arith, h)) e
+    go true p false k q e = other 15 (λ h. omega (arith, h)) e
+    go true p true true q e = absurd (let z : _≡_ {A = ℕ} 0 1 = cc in omega arith)
+    go true p true false q e =
+        let m : 16 ≡ number = cc in
+        let at : annotationPlace c bs ≡ place = cc in
+        record { lawful = λ h. p; broken = λ h. q; placed = λ h. sym at; elsewhere = λ h. absurd (h (sym m)) }
+
+-- ---- text
+
+-- the kinds of text one by one
+text-cases : {A : Type 0} (kind : ℕ) → isText kind ≡ true → (kind ≡ STRING → A) → (kind ≡ ENUM → A) → (kind ≡ JSON → A) → A
+text-cases {A} kind e f g h = first (eqb kind STRING) refl (eqb kind ENUM) refl
+  where
+    first : (s : Bool) → eqb kind STRING ≡ s → (t : Bool) → eqb kind ENUM ≡ t → A
+    first true p t q = f (eqb-true kind STRING p)
+    first false p true q = g (eqb-true kind ENUM q)
+    first false p false q = h (eqb-true kind JSON (rw (p, q) at e))
+
+-- text is BYTE_ARRAY in every lawful column
+text-form : (c : ColumnType) → isLawful c ≡ true → isText (c .kind) ≡ true → c .physical ≡ BYTE-ARRAY
+text-form c l e = text-cases (c .kind) e (string-bytes c l) (enum-bytes c l) (json-bytes c l)
+
+module _ (c : ColumnType) (bs : List ℕ) (lawful : isLawful c ≡ true) (text : isText (c .kind) ≡ true) where
+  text-place : annotationPlace c bs ≡ validUpTo bs
+  unfolding annotationPlace
+  text-place = rw (text-form c lawful text, text)
+
+  text-keeps : keeps c bs ≡ eqb (validUpTo bs) (length bs)
+  unfolding keeps bytesKeep
+  text-keeps = text-cases (c .kind) text (λ k. rw (text-form c lawful text, k)) (λ k. rw (text-form c lawful text, k)) (λ k. rw (text-form c lawful text, k))
+
+  -- text has any length up to the most
+  text-right : length bs ≤ mostBytes → lengthRight c (length bs) ≡ true
+  unfolding lengthRight
+  text-right most =
+      let few = le-leb (length bs) mostBytes most in
+      text-cases (c .kind) text (λ k. rw (few, text-form c lawful text, k)) (λ k. rw (few, text-form c lawful text, k)) (λ k. rw (few, text-form c lawful text, k))
+
+-- the place of a text's 16: whole sequences stop there, short of the end
+pub text-stops : (c : ColumnType) (bs : List ℕ) (place : ℕ) → isText (c .kind) ≡ true → outcome c bs ≡ refused 16 place → Stops bs place × (place < length bs)
+text-stops c bs place text e =
+    let r = refuses c bs 16 place e in
+    let lawful = r .lawful refl in
+    let at : place ≡ validUpTo bs = r .placed refl ∙ text-place c bs lawful text in
+    let short = eqb-false (validUpTo bs) (length bs) (sym (text-keeps c bs lawful text) ∙ r .broken refl) in
+    let stops = subst (Stops bs) (sym at) (validUpTo-stops bs) in
+    (stops, omega (arith, stops .within, short, at))
+
+-- and 0 is the place of every other 16, and of every other refusal
+pub other-place : (c : ColumnType) (bs : List ℕ) (number place : ℕ) → outcome c bs ≡ refused number place → ((number ≡ 16) × (isText (c .kind) ≡ true) → ⊥) → place ≡ 0
+unfolding annotationPlace
+other-place c bs number place e h = by-number (eqb number 16) refl
+  where
+    r : Refuses c bs number place
+    r = refuses c bs number place e
+
+    no-text : (f t : Bool) → (t ≡ true → ⊥) → cond f (cond t (validUpTo bs) 0) 0 ≡ 0
+    no-text false t k = refl
+    no-text true true k = absurd (k refl)
+    no-text true false k = refl
+
+    by-number : (b : Bool) → eqb number 16 ≡ b → place ≡ 0
+    by-number true p = let n = eqb-true number 16 p in r .placed n ∙ no-text (isByteForm c) (isText (c .kind)) (λ k. h (n, k))
+    by-number false p = r .elsewhere (eqb-false number 16 p)
+
+-- text of a lawful column that stops short of its end is refused there
+pub text-refused : (c : ColumnType) (bs : List ℕ) (place : ℕ) → isLawful c ≡ true → isText (c .kind) ≡ true → length bs ≤ mostBytes → Stops bs place → place < length bs → outcome c bs ≡ refused 16 place
+unfolding outcome readOf
+text-refused c bs place lawful text most stops short =
+    let at : validUpTo bs ≡ place = stops-unique (validUpTo-stops bs) stops in
+    let broken : keeps c bs ≡ false = text-keeps c bs lawful text ∙ ne-eqb (validUpTo bs) (length bs) (λ e. omega (arith, e, at, short)) in
+    rw (lawful, text-right c bs lawful text most, broken, text-place c bs lawful text, at)
