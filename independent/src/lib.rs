@@ -28,7 +28,7 @@ pub mod value;
 
 pub use column::ColumnType;
 pub use order::{order, Order};
-pub use refusal::Refusal;
+pub use refusal::{OrderRefusal, Refusal};
 pub use rewrite::rewrite;
 pub use rows::{resolve, ROW_WIDTH};
 pub use timestamp::{decode, encode, Fields};

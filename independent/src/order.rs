@@ -1,4 +1,4 @@
-//! The order of two values of a column: refusal 17.
+//! The order of two values of a column: refusal 17, and which value is at fault in the others.
 
 use std::cmp::Ordering;
 
@@ -6,7 +6,7 @@ use crate::annotation::Annotation;
 use crate::codes::physical;
 use crate::column::{Column, ColumnType};
 use crate::decimal;
-use crate::refusal::{self, Refusal};
+use crate::refusal::{self, OrderRefusal, Refusal};
 use crate::value::{read_in, Value};
 
 /// How the first of two values stands to the second.
@@ -33,12 +33,14 @@ impl From<Ordering> for Order {
 }
 
 /// Orders two values of a column: refusal 20, then 17, then those of the first value, then those of the second.
-pub fn order(column: ColumnType, a: &[u8], b: &[u8]) -> Result<Order, Refusal> {
-    let column = Column::of(column)?;
+pub fn order(column: ColumnType, a: &[u8], b: &[u8]) -> Result<Order, OrderRefusal> {
+    let column = Column::of(column).map_err(OrderRefusal::of_neither)?;
     if column.physical == physical::INT96 || column.annotation == Annotation::Interval {
-        return Err(Refusal::whole(refusal::NO_ORDER));
+        return Err(OrderRefusal::of_neither(Refusal::whole(refusal::NO_ORDER)));
     }
-    let ordering = match (read_in(&column, a)?, read_in(&column, b)?) {
+    let first = read_in(&column, a).map_err(OrderRefusal::of_first)?;
+    let second = read_in(&column, b).map_err(OrderRefusal::of_second)?;
+    let ordering = match (first, second) {
         (Value::Truth(a), Value::Truth(b)) => Some(a.cmp(&b)),
         (Value::Signed(a), Value::Signed(b)) => Some(a.cmp(&b)),
         (Value::Unsigned(a), Value::Unsigned(b)) => Some(a.cmp(&b)),

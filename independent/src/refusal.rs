@@ -1,4 +1,4 @@
-//! The numbered refusals of document 01.
+//! The numbered refusals of document 01, with the places and values that document 02's R-6 adds.
 
 use std::fmt;
 
@@ -7,14 +7,14 @@ use std::fmt;
 pub struct Refusal {
     /// The number in document 01's table.
     pub number: u32,
-    /// The block, the node, or 0, as the table says.
+    /// The block, the node, the byte of a text, or 0, as the table says.
     pub place: u32,
 }
 
 impl Refusal {
-    /// The refusal of a number at a block or node.
+    /// The refusal of a number at a block, a node or a byte.
     pub fn at(number: u32, place: usize) -> Self {
-        // Places are below 897, so nothing is lost.
+        // Places are below 65,536, so nothing is lost.
         Refusal { number, place: place as u32 }
     }
 
@@ -31,6 +31,43 @@ impl fmt::Display for Refusal {
 }
 
 impl std::error::Error for Refusal {}
+
+/// The refusal of an order.
+#[derive(Clone, Copy, Debug, PartialEq, Eq)]
+pub struct OrderRefusal {
+    /// Its number and place.
+    pub refusal: Refusal,
+    /// The value at fault: 1 or 2, or 0 for neither.
+    pub value: u32,
+}
+
+impl OrderRefusal {
+    /// A refusal that is neither value's.
+    pub fn of_neither(refusal: Refusal) -> Self {
+        OrderRefusal { refusal, value: 0 }
+    }
+
+    /// A refusal of the first value.
+    pub fn of_first(refusal: Refusal) -> Self {
+        OrderRefusal { refusal, value: 1 }
+    }
+
+    /// A refusal of the second value.
+    pub fn of_second(refusal: Refusal) -> Self {
+        OrderRefusal { refusal, value: 2 }
+    }
+}
+
+impl fmt::Display for OrderRefusal {
+    fn fmt(&self, f: &mut fmt::Formatter<'_>) -> fmt::Result {
+        match self.value {
+            0 => self.refusal.fmt(f),
+            value => write!(f, "{} in value {value}", self.refusal),
+        }
+    }
+}
+
+impl std::error::Error for OrderRefusal {}
 
 /// Sheet length 0, not a multiple of 512, or over 65,536.
 pub const SHEET_LENGTH: u32 = 1;

@@ -69,12 +69,14 @@ pub fn read_in(column: &Column, value: &[u8]) -> Result<Value, Refusal> {
             let double = f64::from_le_bytes(array(value));
             Ok(Value::Double(if double.is_nan() { f64::from_bits(QUIET_NAN) } else { double }))
         }
-        _ if keeps_bytes(column, value) => Ok(Value::Bytes { start: 0, length: value.len() }),
-        _ => Err(broken()),
+        _ => match breaks_at(column, value) {
+            Some(place) => Err(Refusal::at(refusal::VALUE, place)),
+            None => Ok(Value::Bytes { start: 0, length: value.len() }),
+        },
     }
 }
 
-/// The refusal of a value that breaks its annotation.
+/// The refusal of a value that breaks its annotation and is no text.
 fn broken() -> Refusal {
     Refusal::whole(refusal::VALUE)
 }
@@ -119,11 +121,15 @@ fn whole(column: &Column, signed: i64, unsigned: u64) -> Result<Value, Refusal> 
     }
 }
 
-/// Whether bytes keep their annotation.
-fn keeps_bytes(column: &Column, value: &[u8]) -> bool {
+/// The place at which bytes break their annotation, if they do: that of a text is where whole sequences stop short of its end.
+fn breaks_at(column: &Column, value: &[u8]) -> Option<usize> {
     match column.annotation {
-        Annotation::Logical(Logical::Decimal) => decimal::fits_precision(value, column.precision) == Some(true),
-        Annotation::Logical(Logical::String | Logical::Enum | Logical::Json) => utf8::valid_up_to(value) == value.len(),
-        _ => true,
+        Annotation::Logical(Logical::Decimal) => {
+            (decimal::fits_precision(value, column.precision) != Some(true)).then_some(0)
+        }
+        Annotation::Logical(Logical::String | Logical::Enum | Logical::Json) => {
+            Some(utf8::valid_up_to(value)).filter(|&stop| stop < value.len())
+        }
+        _ => None,
     }
 }

@@ -1,7 +1,7 @@
 //! The order of refusals, their places, and that a refused call leaves what it was lent.
 
 use independent::sheet::{assemble, renew_checks, slot_start, Slot, BLOCK};
-use independent::{encode, order, read, resolve, rewrite, ColumnType, Fields, Refusal, ROW_WIDTH};
+use independent::{encode, order, read, resolve, rewrite, ColumnType, Fields, OrderRefusal, Refusal, ROW_WIDTH};
 
 fn refused(number: u32, place: u32) -> Refusal {
     Refusal { number, place }
@@ -137,9 +137,35 @@ fn a_value_by_20_15_16_and_an_order_by_20_17_and_its_values() {
     assert_eq!(read(column(6, 0, 0, 0, 0), &[0; 65_537]), Err(refused(15, 0)));
     assert!(read(column(6, 0, 0, 0, 0), &[0; 65_536]).is_ok());
     assert_eq!(read(column(7, 65_537, 0, 0, 0), &[0; 65_537]), Err(refused(15, 0)));
-    assert_eq!(order(column(3, 1, 0, 0, 0), b"", b""), Err(refused(20, 0)));
-    assert_eq!(order(column(3, 0, 0, 0, 0), b"", b""), Err(refused(17, 0)));
+    let order_refused = |number, place, value| Err(OrderRefusal { refusal: refused(number, place), value });
+    assert_eq!(order(column(3, 1, 0, 0, 0), b"", b""), order_refused(20, 0, 0));
+    assert_eq!(order(column(3, 0, 0, 0, 0), b"", b""), order_refused(17, 0, 0));
     let text = column(6, 0, 1, 0, 0);
-    assert_eq!(order(text, b"\xFF", &[0; 65_537]), Err(refused(16, 0)));
-    assert_eq!(order(text, &[0; 65_537], b"\xFF"), Err(refused(15, 0)));
+    assert_eq!(order(text, b"\xFF", &[0; 65_537]), order_refused(16, 0, 1));
+    assert_eq!(order(text, &[0; 65_537], b"\xFF"), order_refused(15, 0, 1));
+    assert_eq!(order(text, b"", &[0; 65_537]), order_refused(15, 0, 2));
+}
+
+#[test]
+fn text_is_refused_at_its_byte_and_all_else_at_none() {
+    let column = |physical, kind, p1| ColumnType { physical, type_length: 0, kind, p1, p2: 0 };
+    for kind in [1, 4, 12] {
+        let text = column(6, kind, 0);
+        // A sequence that is cut off is refused where it begins.
+        for (bytes, place) in
+            [(&b"\x80"[..], 0), (b"ab\xFF", 2), (b"ab\xFFcd", 2), (b"a\xE2\x82", 1), (b"\xC3\xA9\xC3", 2)]
+        {
+            assert_eq!(read(text, bytes), Err(refused(16, place)), "{bytes:02X?}");
+            let of_value = |value| Err(OrderRefusal { refusal: refused(16, place), value });
+            assert_eq!(order(text, bytes, b"a"), of_value(1));
+            assert_eq!(order(text, b"a", bytes), of_value(2));
+            // Both: the first is at fault, at its own byte.
+            assert_eq!(order(text, bytes, b"abc\xFF"), of_value(1));
+        }
+    }
+    assert_eq!(read(column(6, 5, 2), b"\x64"), Err(refused(16, 0)));
+    assert_eq!(read(column(6, 11, 0), b"ab\xFF"), Err(refused(16, 0)));
+    assert_eq!(read(column(0, 0, 0), b"\xFF"), Err(refused(16, 0)));
+    let second = Err(OrderRefusal { refusal: refused(16, 0), value: 2 });
+    assert_eq!(order(column(6, 5, 2), b"\x63", b"\x00\x64"), second);
 }

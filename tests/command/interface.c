@@ -21,6 +21,12 @@ static uint64_t refused(uint64_t number)
     return number << 32;
 }
 
+/* The whole answer of an order's refusal, so that bits 48 to 63 are seen to be 0. */
+static uint64_t refused_in(uint64_t value, uint64_t number, uint64_t place)
+{
+    return value << 40 | number << 32 | place;
+}
+
 enum { SHEET = 512, NODES = 4, ROWS = NODES * GRIFFELJOL_ROW_WIDTH };
 
 static void check_helpers(void)
@@ -29,6 +35,8 @@ static void check_helpers(void)
     CHECK(griffeljol_refusal(answer) == GRIFFELJOL_REFUSAL_LIST);
     CHECK(griffeljol_place(answer) == 0xFFFFFFFF);
     CHECK(griffeljol_value(answer) == 0xFFFFFFFF);
+    CHECK(griffeljol_fault(answer) == 0xEF);
+    CHECK(griffeljol_fault(refused(20)) == 0);
     CHECK(griffeljol_refusal(0xFFFFFFFF) == GRIFFELJOL_REFUSAL_NONE);
 }
 
@@ -96,7 +104,7 @@ static int reads(uint32_t physical, uint32_t kind, uint32_t p1, uint32_t p2, con
 
 static void check_read(void)
 {
-    static const uint8_t longest[GRIFFELJOL_MAX_VALUE + 1] = {0};
+    static uint8_t longest[GRIFFELJOL_MAX_VALUE + 1] = {0};
     const uint8_t one[1] = {1}, two[1] = {2};
     const uint8_t ones[8] = {255, 255, 255, 255, 255, 255, 255, 255};
     const uint8_t float_nan[4] = {1, 0, 0x80, 0xFF}, minus_zero[4] = {0, 0, 0, 0x80};
@@ -123,6 +131,9 @@ static void check_read(void)
     CHECK(griffeljol_read(GRIFFELJOL_PHYSICAL_BOOLEAN, 0, 0, 0, 0, one, 1, NULL, 0) == refused(14));
     CHECK(griffeljol_read(GRIFFELJOL_PHYSICAL_BOOLEAN, 0, 0, 0, 0, one, 1, out, 1) == refused(14));
     CHECK(griffeljol_read(GRIFFELJOL_PHYSICAL_BOOLEAN, 0, 0, 0, 0, two, 1, out, 2) == refused(16));
+    longest[GRIFFELJOL_MAX_VALUE - 1] = 0x80;
+    CHECK(griffeljol_read(GRIFFELJOL_PHYSICAL_BYTE_ARRAY, 0, GRIFFELJOL_KIND_STRING, 0, 0, longest, GRIFFELJOL_MAX_VALUE,
+                          out, 2) == refused_in(0, 16, GRIFFELJOL_MAX_VALUE - 1));
     CHECK(out[0] == 7 && out[1] == 7);
 }
 
@@ -139,11 +150,12 @@ static void check_order(void)
     CHECK(griffeljol_order(GRIFFELJOL_PHYSICAL_FLOAT, 0, 0, 0, 0, nan, 4, nan, 4) == GRIFFELJOL_ORDER_UNORDERED);
     CHECK(griffeljol_order(bytes, 1, 0, 0, 0, NULL, 0, NULL, 0) == refused(20));
     CHECK(griffeljol_order(GRIFFELJOL_PHYSICAL_INT96, 0, 0, 0, 0, NULL, 0, NULL, 0) == refused(17));
-    CHECK(griffeljol_order(GRIFFELJOL_PHYSICAL_INT32, 0, 0, 0, 0, NULL, 0, zero, 4) == refused(15));
-    CHECK(griffeljol_order(bytes, 0, GRIFFELJOL_KIND_STRING, 0, 0, text, 3, text, 2) == refused(16));
-    CHECK(griffeljol_order(bytes, 0, GRIFFELJOL_KIND_STRING, 0, 0, text, 2, text, 3) == refused(16));
+    CHECK(griffeljol_order(GRIFFELJOL_PHYSICAL_INT32, 0, 0, 0, 0, NULL, 0, zero, 4) == refused_in(1, 15, 0));
+    CHECK(griffeljol_order(bytes, 0, GRIFFELJOL_KIND_STRING, 0, 0, text, 3, text, 2) == refused_in(1, 16, 2));
+    CHECK(griffeljol_order(bytes, 0, GRIFFELJOL_KIND_STRING, 0, 0, text, 2, text, 3) == refused_in(2, 16, 2));
+    CHECK(griffeljol_order(bytes, 0, GRIFFELJOL_KIND_STRING, 0, 0, text + 1, 2, text, 3) == refused_in(1, 16, 1));
     /* The first value's 16 comes before the second's 15. */
-    CHECK(griffeljol_order(bytes, 0, GRIFFELJOL_KIND_DECIMAL, 1, 0, text, 1, NULL, 0) == refused(16));
+    CHECK(griffeljol_order(bytes, 0, GRIFFELJOL_KIND_DECIMAL, 1, 0, text, 1, NULL, 0) == refused_in(1, 16, 0));
 }
 
 static void check_timestamps(void)

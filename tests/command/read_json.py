@@ -44,5 +44,7 @@ assert (decoded["year"], decoded["fraction"], decoded["count"]) == (1677, 145224
 
 refusal = parsed("rows", "/dev/null", status=1)
 assert (refusal["refused"], refusal["at"], refusal["place"]) == (1, 0, None)
+refusal = parsed("value", "6", "0", "4", "0", "0", "--hex", "6162ff", status=1)
+assert (refusal["refused"], refusal["at"]) == (16, 2)
 refusal = parsed("timestamp", "decode", "9", "0", status=1)
 assert (refusal["refused"], refusal["at"]) == (20, 0)

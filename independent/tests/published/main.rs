@@ -4,7 +4,8 @@ mod tables;
 
 use independent::sheet::{assemble, Sheet, Slot, BLOCK};
 use independent::{
-    decimal, decode, encode, order, read, resolve, rewrite, utf8, ColumnType, Fields, Refusal, Value, ROW_WIDTH,
+    decimal, decode, encode, order, read, resolve, rewrite, utf8, ColumnType, Fields, OrderRefusal, Refusal, Value,
+    ROW_WIDTH,
 };
 use tables::*;
 
@@ -72,7 +73,8 @@ fn values() {
 fn orders() {
     for (given, a, b, expected) in ORDERS {
         let found = order(column(given), a, b).map(|order| order as u32);
-        assert_eq!(found, expected.map_err(refused), "{given:?} {a:02X?} {b:02X?}");
+        let expected = expected.map_err(|number| OrderRefusal::of_neither(refused(number)));
+        assert_eq!(found, expected, "{given:?} {a:02X?} {b:02X?}");
     }
 }
 

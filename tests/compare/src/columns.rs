@@ -92,6 +92,11 @@ fn decimal_column(random: &mut Random, physical: u8) -> Column {
     [physical.into(), type_length as u32, logical::DECIMAL.into(), precision as u32, scale as u32]
 }
 
+/// Whether a column's values are text.
+pub fn is_text([physical, _, kind, ..]: Column) -> bool {
+    physical == BYTE_ARRAY.into() && [logical::STRING, logical::ENUM, logical::JSON].map(u32::from).contains(&kind)
+}
+
 /// A value for a column: of a right length most of the time, and near what its annotation allows.
 pub fn value(random: &mut Random, column: Column) -> Vec<u8> {
     let [physical, type_length, kind, p1, _] = column;
@@ -110,7 +115,7 @@ pub fn value(random: &mut Random, column: Column) -> Vec<u8> {
             let length = random.pick(&[1, 2, 3, 8, 16, 17, 32, 255, 256]);
             decimal(random, p1, length)
         }
-        BYTE_ARRAY if matches!(kind, logical::STRING | logical::ENUM | logical::JSON) => text(random),
+        BYTE_ARRAY if is_text(column) => text(random),
         _ => {
             let length = random.below(24);
             random_bytes(random, length)
@@ -166,9 +171,10 @@ fn float(random: &mut Random, exponent_bits: u32, fraction_bits: u32) -> u64 {
     (sign << exponent_bits | exponent) << fraction_bits | fraction
 }
 
-/// A text of valid sequences, or with a byte of it changed, or cut.
+/// A text of valid sequences, or with a byte of it changed, or cut; behind plain letters at times, which put a bad byte further on.
 fn text(random: &mut Random) -> Vec<u8> {
-    let mut text = String::new();
+    let letters = if random.percent(1) { random.below(MAX_VALUE) } else { random.below(40) };
+    let mut text = if random.percent(25) { "a".repeat(letters) } else { String::new() };
     for _ in 0..random.below(8) {
         let scalar = match random.below(6) {
             0..2 => random.below(0x80),

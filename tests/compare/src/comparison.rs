@@ -7,7 +7,7 @@ use independent::ROW_WIDTH;
 
 use crate::columns::Column;
 use crate::lent::Lent;
-use crate::side::{refusal_of, shown, value_of, Side};
+use crate::side::{fault_of, refusal_of, refused, shown, value_of, Side};
 
 /// Two sides, the buffers lent to them, and what was counted.
 pub struct Comparison<'a> {
@@ -36,6 +36,8 @@ pub struct Tally {
     pub cases: [u64; 6],
     /// Values ordered, by answer.
     pub orders: [u64; 4],
+    /// Orders refused, by the value at fault.
+    pub faults: [u64; 3],
 }
 
 /// Where the sides differ, or a promise is broken by both.
@@ -163,14 +165,14 @@ impl<'a> Comparison<'a> {
         Ok(left)
     }
 
-    /// Orders two values, both ways.
+    /// Orders two values, both ways, and holds each refusal to what reading answers.
     pub fn order(&mut self, column: Column, a: &[u8], b: &[u8]) -> Result<u64, Difference> {
         let answer = self.order_once(column, a, b)?;
         let turned = self.order_once(column, b, a)?;
         let expected = match (refusal_of(answer), value_of(answer)) {
             (0, value @ (0 | 2)) => u64::from(2 - value),
             (0, value) => u64::from(value),
-            // Which value is at fault may differ.
+            // Which value is at fault may differ; that it is, reading tells.
             _ => turned,
         };
         if turned != expected {
@@ -189,6 +191,13 @@ impl<'a> Comparison<'a> {
         self.count(left);
         if refusal_of(left) == 0 {
             self.tally.orders[value_of(left) as usize % 4] += 1;
+        } else {
+            self.tally.faults[fault_of(left) as usize % 3] += 1;
+        }
+        let read = |value: &[u8]| self.left.read(column, value, &mut [0; 2]);
+        if !agrees(left, [a, b].map(read)) {
+            let what = format!("{}, but the values are read as {:?}", shown(left), [a, b].map(read).map(shown));
+            return Err(Difference { entry: "order", input: input(), what });
         }
         Ok(left)
     }
@@ -232,6 +241,21 @@ impl<'a> Comparison<'a> {
     }
 }
 
+/// Whether an order is answered by what reading answers for its two values: the refusal of the first that is refused, with its number and
+/// place. A refusal of neither value is 17, or 20, which reading gives too.
+fn agrees(order: u64, [first, second]: [u64; 2]) -> bool {
+    let is_read = |answer| refusal_of(answer) == 0;
+    let is_refusal_of = |answer| !is_read(answer) && refused(refusal_of(order), value_of(order)) == answer;
+    match (refusal_of(order), fault_of(order)) {
+        (0, 0) => is_read(first) && is_read(second),
+        (17, 0) => true,
+        (20, 0) => is_refusal_of(first) && is_refusal_of(second),
+        (15 | 16, 1) => is_refusal_of(first),
+        (15 | 16, 2) => is_read(first) && is_refusal_of(second),
+        _ => false,
+    }
+}
+
 /// Calls a side on copies of inputs, with known bytes around them, and looks whether they are as they were.
 fn on_copies<const N: usize>(inputs: [&[u8]; N], call: impl FnOnce([&[u8]; N]) -> u64) -> Result<u64, Difference> {
     const AROUND: [u8; 16] = [0x5A; 16];
@@ -263,6 +287,7 @@ impl Tally {
             ("role", self.roles.iter().copied().enumerate().collect()),
             ("case of a value", self.cases.iter().copied().enumerate().collect()),
             ("order", self.orders.iter().copied().enumerate().collect()),
+            ("value at fault", self.faults.iter().copied().enumerate().collect()),
         ];
         let mut missing = Vec::new();
         for (what, counts) in all {
@@ -285,7 +310,9 @@ impl fmt::Display for Tally {
         write!(f, "\ncases of values")?;
         self.cases.iter().enumerate().try_for_each(|(n, count)| write!(f, " {n}:{count}"))?;
         write!(f, "\norders")?;
-        self.orders.iter().enumerate().try_for_each(|(n, count)| write!(f, " {n}:{count}"))
+        self.orders.iter().enumerate().try_for_each(|(n, count)| write!(f, " {n}:{count}"))?;
+        write!(f, "; values at fault")?;
+        self.faults.iter().enumerate().try_for_each(|(n, count)| write!(f, " {n}:{count}"))
     }
 }
 

@@ -3,7 +3,7 @@
 use independent::ROW_WIDTH;
 
 use crate::sheets::assemble;
-use crate::side::{refused, Side};
+use crate::side::{order_refused, refused, Side};
 
 #[path = "../../../independent/tests/published/tables.rs"]
 mod tables;
@@ -37,8 +37,14 @@ pub fn run(side: &dyn Side) -> Result<usize, String> {
     for (text, stop) in RFC_3629.into_iter().chain(UNICODE) {
         let mut found = [9; 2];
         let answer = side.read([6, 0, 1, 0, 0], text, &mut found);
-        let right =
-            if stop == text.len() { answer == 5 && found == [0, text.len() as u64] } else { answer == refused(16, 0) };
+        let right = if stop == text.len() {
+            answer == 5 && found == [0, text.len() as u64]
+        } else {
+            let in_order = |a, b| side.order([6, 0, 1, 0, 0], a, b);
+            let refused_as = |value| order_refused(value, 16, stop as u32);
+            answer == refused(16, stop as u32)
+                && [in_order(text, b"a"), in_order(b"a", text), in_order(text, text)] == [1, 2, 1].map(refused_as)
+        };
         hold(format!("text {text:02X?}"), right)?;
     }
     for (column, value, expected) in READS {

@@ -2,17 +2,18 @@
 
 use std::iter;
 
+use independent::refusal;
 use independent::sheet::{self, MAX_NODES};
 use independent::tree::MAX_DEPTH;
 use independent::ROW_WIDTH;
 
 use crate::changes::{change, change_nodes};
-use crate::columns::{column, second_value, value};
+use crate::columns::{column, is_text, second_value, value};
 use crate::comparison::{broken, Comparison, Difference};
 use crate::instants::{count, fields, unit};
 use crate::random::Random;
 use crate::sheets::{assemble, random_bytes, store_unreduced, total_of};
-use crate::side::refusal_of;
+use crate::side::{refusal_of, shown, value_of};
 use crate::trees::{deep_tree, tree};
 
 /// Runs one round.
@@ -144,12 +145,18 @@ fn both(comparison: &mut Comparison, random: &mut Random, sheet: &[u8]) -> Resul
     Ok(())
 }
 
-/// A value read, and two ordered.
+/// A value read, and two ordered. Text is refused where Rust's own check of UTF-8 stops.
 fn values(comparison: &mut Comparison, random: &mut Random) -> Result<(), Difference> {
     let column = column(random);
     let first = value(random, column);
     let lent = if random.percent(5) { random.below(2) } else { random.pick(&[2, 2, 3, 9]) };
-    comparison.read(column, &first, lent)?;
+    let answer = comparison.read(column, &first, lent)?;
+    if is_text(column) && refusal_of(answer) == refusal::VALUE {
+        let stop = std::str::from_utf8(&first).map_or_else(|fault| fault.valid_up_to(), str::len);
+        if value_of(answer) as usize != stop {
+            return Err(broken("read", format!("{}, but Rust's check stops at {stop}", shown(answer)), &first));
+        }
+    }
     let second = second_value(random, column, &first);
     comparison.order(column, &first, &second)?;
     Ok(())

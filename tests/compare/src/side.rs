@@ -3,7 +3,7 @@
 use independent::Refusal;
 
 /// The entries of the C interface. An answer has a refusal's number in bits 32 to 39, 0 for a result, and its place or the
-/// result's value in bits 0 to 31.
+/// result's value in bits 0 to 31. The refusal of an order has in bits 40 to 47 the value at fault.
 pub trait Side {
     /// T.
     fn resolve(&self, sheet: &[u8], rows: &mut [u32]) -> u64;
@@ -21,7 +21,12 @@ pub trait Side {
 
 /// The number of an answer's refusal, 0 for a result.
 pub fn refusal_of(answer: u64) -> u32 {
-    (answer >> 32) as u32
+    (answer >> 32) as u32 & 0xFF
+}
+
+/// The value at fault in the refusal of an order: 1 or 2, and 0 for neither; what stands above it is kept, and is 0.
+pub fn fault_of(answer: u64) -> u32 {
+    (answer >> 40) as u32
 }
 
 /// The value of an answer that is a result.
@@ -32,14 +37,22 @@ pub fn value_of(answer: u64) -> u32 {
 /// An answer as a person reads it.
 pub fn shown(answer: u64) -> String {
     match refusal_of(answer) {
-        0 => format!("{}", value_of(answer)),
-        number => format!("refused {number} at {}", value_of(answer)),
+        0 => format!("{}", answer),
+        number => match fault_of(answer) {
+            0 => format!("refused {number} at {}", value_of(answer)),
+            value => format!("refused {number} at {} in value {value}", value_of(answer)),
+        },
     }
 }
 
 /// The answer of a refusal.
 pub fn refused(number: u32, place: u32) -> u64 {
     u64::from(number) << 32 | u64::from(place)
+}
+
+/// The answer of an order's refusal, with the value at fault.
+pub fn order_refused(value: u32, number: u32, place: u32) -> u64 {
+    u64::from(value) << 40 | refused(number, place)
 }
 
 /// The answer of a result or a refusal.
@@ -84,7 +97,12 @@ macro_rules! side {
 
             fn order(&self, [physical, type_length, kind, p1, p2]: [u32; 5], a: &[u8], b: &[u8]) -> u64 {
                 let column = $library::ColumnType { physical, type_length, kind, p1, p2 };
-                $crate::side!(@answer $library::order(column, a, b).map(|order| order as u32))
+                match $library::order(column, a, b) {
+                    Ok(order) => order as u64,
+                    Err($library::OrderRefusal { refusal, value }) => {
+                        $crate::side::order_refused(value, refusal.number, refusal.place)
+                    }
+                }
             }
 
             fn decode(&self, unit: u32, count: i64, fields: &mut [i64]) -> u64 {

@@ -56,6 +56,7 @@ pub fn input() -> Vec<u8> {
     for column in [plain(8), int96(STRING.into()), int96(INTERVAL.into()), int96(UNKNOWN.into())] {
         vectors.add(column, &Bytes::all(vec![0]), Some(&Bytes::all(vec![])));
     }
+    bad_texts(&mut vectors);
     let mut bytes = vectors.count.to_le_bytes().to_vec();
     bytes.extend(vectors.bytes);
     bytes
@@ -287,6 +288,67 @@ const TEXTS: [&[u8]; 10] = [
     b"\xC0\x80",
     b"ab\xFF",
 ];
+
+/// What no text may have: sequences cut off behind each of their octets, overlong forms, surrogates, what lies above U+10FFFF, tails
+/// without a first octet, and octets that are no tails where one is due.
+const BAD: [&[u8]; 29] = [
+    b"\xC3",
+    b"\xE2",
+    b"\xE2\x82",
+    b"\xF0",
+    b"\xF0\x9F",
+    b"\xF0\x9F\x98",
+    b"\xC0\x80",
+    b"\xC1\xBF",
+    b"\xE0\x80\x80",
+    b"\xE0\x9F\xBF",
+    b"\xF0\x80\x80\x80",
+    b"\xF0\x8F\xBF\xBF",
+    b"\xED\xA0\x80",
+    b"\xED\xAF\xBF",
+    b"\xED\xB0\x80",
+    b"\xED\xBF\xBF",
+    b"\xF4\x90\x80\x80",
+    b"\xF5\x80\x80\x80",
+    b"\xF8\x88\x80\x80\x80",
+    b"\xFE",
+    b"\xFF",
+    b"\x80",
+    b"\xBF",
+    b"\xC3\x28",
+    b"\xE2\x28\xA1",
+    b"\xE2\x82\x28",
+    b"\xF0\x28\x8C\xBC",
+    b"\xF0\x90\x28\xBC",
+    b"\xF0\x90\x8C\x28",
+];
+
+/// Texts that go bad first, last, in the middle and behind letters of two, three and four octets, and some way on: read, ordered against a
+/// good one, which answers both ways round lay on the first value and on the second, and against one another.
+fn bad_texts(vectors: &mut Vectors) {
+    let text_of = |parts: [&[u8]; 3]| Bytes::all(parts.concat());
+    let first = |bad| text_of([b"", bad, b"ab"]);
+    let middle = |bad| text_of([b"ab", bad, b"cd"]);
+    let last = |bad| text_of([b"abc", bad, b""]);
+    let behind_letters = |bad| text_of(["é€😀".as_bytes(), bad, b""]);
+    let far_on = |bad| text_of([&[b'a'; 300], bad, b"a"]);
+    let good = Bytes::all(b"abc".to_vec());
+    for kind in [STRING, ENUM, JSON] {
+        let column = ColumnType { kind: kind.into(), ..plain(BYTE_ARRAY) };
+        for (at, bad) in BAD.into_iter().enumerate() {
+            for text in [first(bad), middle(bad), last(bad), behind_letters(bad)] {
+                vectors.add(column, &text, None);
+                vectors.add(column, &text, Some(&good));
+            }
+            vectors.add(column, &middle(bad), Some(&last(BAD[(at + 1) % BAD.len()])));
+        }
+        vectors.add(column, &far_on(b"\xFF"), None);
+        vectors.add(column, &far_on(b"\xFF"), Some(&good));
+        // A wrong length of one beside bad text in the other.
+        let too_long = Bytes::filled(MAX_VALUE + 1, b'a');
+        vectors.add(column, &middle(b"\xFF"), Some(&too_long));
+    }
+}
 
 /// Values of a column at the edges of its length and of its annotation.
 fn edges(column: ColumnType) -> Vec<Bytes> {
