@@ -5,8 +5,9 @@
  *
  * Answers
  *   Each function answers one uint64_t. Bits 32 to 39 are the number of a refusal, 1 to 20, or 0 for a result. Bits 0 to 31
- *   are the place of the refusal, or for a result the value that the function names. Bits 40 to 63 are 0 and kept for later:
- *   take an answer apart by griffeljol_refusal, griffeljol_place and griffeljol_value, and never compare it whole.
+ *   are the place of the refusal, or for a result the value that the function names. Bits 40 to 47 are the value at fault in a
+ *   refusal of griffeljol_order, and 0 in every other answer. Bits 48 to 63 are 0 and kept for later: take an answer apart by
+ *   griffeljol_refusal, griffeljol_place, griffeljol_value and griffeljol_fault, and never compare it whole.
  *
  * Memory
  *   An array is a pointer and a length, which counts elements and not bytes. The pointer is aligned for its type; that many
@@ -150,7 +151,8 @@ extern "C" {
 #define GRIFFELJOL_REFUSAL_MAP 13            /* MAP structure: the MAP */
 #define GRIFFELJOL_REFUSAL_OUTPUT 14         /* output too short, or its start lies beyond its end: 0 */
 #define GRIFFELJOL_REFUSAL_VALUE_LENGTH 15   /* value of wrong length, or over 65,536 bytes: 0 */
-#define GRIFFELJOL_REFUSAL_VALUE 16          /* value breaks its annotation: 0 */
+#define GRIFFELJOL_REFUSAL_VALUE 16          /* value breaks its annotation: the byte where UTF-8 stops in a STRING, ENUM or
+                                                JSON, else 0 */
 #define GRIFFELJOL_REFUSAL_NO_ORDER 17       /* this column has no order: 0 */
 #define GRIFFELJOL_REFUSAL_NO_DATE 18        /* fields form no date or time: 0 */
 #define GRIFFELJOL_REFUSAL_NO_COUNT 19       /* fields not representable in a signed 64-bit count: 0 */
@@ -163,7 +165,7 @@ static inline uint32_t griffeljol_refusal(uint64_t answer)
     return (uint32_t)(answer >> 32) & 0xFF;
 }
 
-/* The place of a refusal: a block, a node, T or 0, as the list of refusals says. */
+/* The place of a refusal: a block, a node, T, a byte or 0, as the list of refusals says. */
 static inline uint32_t griffeljol_place(uint64_t answer)
 {
     return (uint32_t)(answer & 0xFFFFFFFF);
@@ -173,6 +175,12 @@ static inline uint32_t griffeljol_place(uint64_t answer)
 static inline uint32_t griffeljol_value(uint64_t answer)
 {
     return (uint32_t)(answer & 0xFFFFFFFF);
+}
+
+/* The value at fault in a refusal of griffeljol_order: 1 for a, 2 for b, and 0 for neither. */
+static inline uint32_t griffeljol_fault(uint64_t answer)
+{
+    return (uint32_t)(answer >> 40) & 0xFF;
 }
 
 /* Judges a sheet and resolves it into rows.
@@ -205,7 +213,9 @@ uint64_t griffeljol_rewrite(const uint8_t *sheet, size_t sheet_len, uint8_t *out
  *   GRIFFELJOL_CASE_DOUBLE     the bits of the DOUBLE, a NaN as 7FF8000000000000 hexadecimal, and 0
  *   GRIFFELJOL_CASE_BYTES      where the stretch of bytes starts in value, and its length
  * and the numbers behind them stay.
- * Refusals: 20, then 15, then 16, then 14 where out_len is below GRIFFELJOL_READ_WIDTH. out stays as it was. */
+ * Refusals: 20, then 15, then 16, then 14 where out_len is below GRIFFELJOL_READ_WIDTH. out stays as it was. The place of 16 is, for
+ * a STRING, ENUM or JSON, the index in value where whole sequences of UTF-8, read from the start, stop: what stands before it is
+ * valid, and a sequence that is cut off or wrong begins there. It is 0 for every other value. */
 uint64_t griffeljol_read(uint32_t physical, uint32_t type_length, uint32_t kind, uint32_t p1, uint32_t p2,
                          const uint8_t *value, size_t value_len, uint64_t *out, size_t out_len);
 
@@ -213,7 +223,8 @@ uint64_t griffeljol_read(uint32_t physical, uint32_t type_length, uint32_t kind,
  *   physical, type_length, kind, p1, p2   the column type, five numbers as a row has them
  *   a, b    the bytes of the two values; they may be the same
  * Result: how a stands to b, one of GRIFFELJOL_ORDER_LESS, _EQUAL, _GREATER and _UNORDERED. Nothing is written.
- * Refusals: 20, then 17, then 15 or 16 for a, then 15 or 16 for b. */
+ * Refusals: 20, then 17, then 15 or 16 for a, then 15 or 16 for b. griffeljol_fault tells whose it is: 0 for 20 and 17, 1 for a, 2 for
+ * b. That of a or b is the one that griffeljol_read gives for the value, with its place. */
 uint64_t griffeljol_order(uint32_t physical, uint32_t type_length, uint32_t kind, uint32_t p1, uint32_t p2,
                           const uint8_t *a, size_t a_len, const uint8_t *b, size_t b_len);
 

@@ -6,7 +6,7 @@ use independent::codes::{logical, physical};
 
 use crate::byte_loop::{is_utf8_by_match, is_utf8_by_sequence, is_utf8_by_table};
 use crate::case::{Case, Contender, Goal, INDEPENDENT, LIBRARY};
-use crate::linked::{self, answer, ColumnType};
+use crate::linked::{self, answer, answer_of, ColumnType};
 use crate::random::Random;
 
 /// Bytes of a text, the most that a value has.
@@ -94,12 +94,13 @@ fn column([physical, type_length, kind, p1, p2]: ColumnType) -> independent::Col
     independent::ColumnType { physical, type_length, kind, p1, p2 }
 }
 
-/// Every contender says the same of a text.
+/// Every contender says the same of a text, and those that tell a place the same place.
 fn agree(text: &[u8], valid: bool) {
-    let expected = if valid { answer(0, BYTES) } else { answer(BREAKS_ANNOTATION, 0) };
+    let stop = std::str::from_utf8(text).map_err(|fault| fault.valid_up_to() as u32);
+    assert_eq!(stop.is_ok(), valid);
+    let expected = stop.map_or_else(|stop| answer(BREAKS_ANNOTATION, stop), |_| answer(0, BYTES));
     assert_eq!(linked::read(STRING, text, &mut [0; 2]), expected);
-    assert_eq!(independent::read(column(STRING), text).is_ok(), valid);
-    assert_eq!(std::str::from_utf8(text).is_ok(), valid);
+    assert_eq!(answer_of(independent::read(column(STRING), text).map(|_| BYTES)), expected);
     assert_eq!(is_utf8_by_sequence(text), valid);
     assert_eq!(is_utf8_by_match(text), valid);
     assert_eq!(is_utf8_by_table(text), valid);

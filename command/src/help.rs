@@ -62,7 +62,8 @@ griffeljol value PHYSICAL LENGTH KIND P1 P2 (FILE | --hex HEX) [--json]
 
 Reads one value of the column type of these five numbers, which a leaf's row has. The value's bytes are those of FILE,
 of standard input for -, or of HEX, pairs of hexadecimal digits. Prints true or false, a whole number, 'float' or
-'double' and its decimal, or for INT96 and all byte forms 'bytes', where they start and how many they are.
+'double' and its decimal, or for INT96 and all byte forms 'bytes', where they start and how many they are. A STRING,
+ENUM or JSON that is no UTF-8 is refused with 16 at the byte where its whole sequences, read from the start, stop.
 
   --json   prints an object with the case and the value, for floats also the bits. A refusal is printed as an object,
            besides its words on standard error

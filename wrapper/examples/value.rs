@@ -1,9 +1,11 @@
 //! Reads single values of columns and orders them: `cargo run --example value`.
 
-use griffeljol::codes::{kind, physical};
-use griffeljol::{order, read, ColumnType, Order, Refusal, Value};
+use std::error::Error;
 
-fn main() -> Result<(), Refusal> {
+use griffeljol::codes::{kind, physical};
+use griffeljol::{order, read, ColumnType, Order, Value};
+
+fn main() -> Result<(), Box<dyn Error>> {
     // INT(8, false) on INT32, little-endian: 255 is valid, 256 is not.
     let uint8 = ColumnType { physical: physical::INT32, type_length: 0, kind: kind::INTEGER, p1: 8, p2: 0 };
     assert_eq!(read(uint8, &[0xFF, 0, 0, 0])?, Value::Unsigned(255));
@@ -16,5 +18,11 @@ fn main() -> Result<(), Refusal> {
     let decimal = ColumnType { physical: physical::BYTE_ARRAY, type_length: 0, kind: kind::DECIMAL, p1: 3, p2: 2 };
     assert_eq!(order(decimal, &[0x80], &[0x7F])?, Order::Less);
     println!("80 and 7F as decimals: {:?}", order(decimal, &[0x80], &[0x7F])?);
+
+    // STRING: where the UTF-8 of the second value goes bad.
+    let string = ColumnType { physical: physical::BYTE_ARRAY, type_length: 0, kind: kind::STRING, p1: 0, p2: 0 };
+    if let Err(refused) = order(string, b"issuer", b"iss\xFFuer") {
+        println!("a bad second text: {refused}");
+    }
     Ok(())
 }

@@ -24,7 +24,7 @@ mod sheet;
 mod timestamp;
 mod value;
 
-pub use refusal::Refusal;
+pub use refusal::{OrderRefusal, Refusal};
 pub use sheet::{resolve, rewrite, rows, Row, MAX_NODES, MAX_SHEET, ROW_WIDTH};
 pub use timestamp::{decode, encode, Fields};
 pub use value::{order, read, ColumnType, Order, Value, MAX_VALUE};

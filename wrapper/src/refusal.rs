@@ -56,7 +56,7 @@ impl Refusal {
             13 => ("MAP structure", Some("the MAP")),
             14 => ("output too short, or its start lies beyond its end", None),
             15 => ("value of wrong length, or over 65,536 bytes", None),
-            16 => ("value breaks its annotation", None),
+            16 => ("value breaks its annotation", Some("the byte where UTF-8 stops in a STRING, ENUM or JSON, else 0")),
             17 => ("this column has no order", None),
             18 => ("fields form no date or time", None),
             19 => ("fields not representable in a signed 64-bit count", None),
@@ -64,6 +64,26 @@ impl Refusal {
             _ => ("a refusal that document 01 does not list", None),
         }
     }
+}
+
+/// The refusal of an order, and the value at fault.
+///
+/// ```
+/// use griffeljol::codes::{kind, physical};
+/// use griffeljol::{order, read, ColumnType};
+///
+/// // STRING: the second value goes bad at its byte 2.
+/// let column = ColumnType { physical: physical::BYTE_ARRAY, type_length: 0, kind: kind::STRING, p1: 0, p2: 0 };
+/// let refused = order(column, b"key", b"ke\xFF").unwrap_err();
+/// assert_eq!(refused.to_string(), "refused 16 at 2 in value 2");
+/// assert_eq!(Err(refused.refusal), read(column, b"ke\xFF"));
+/// ```
+#[derive(Clone, Copy, Debug, PartialEq, Eq, Hash)]
+pub struct OrderRefusal {
+    /// What is refused: where a value is at fault, what [`crate::read`] refuses it with.
+    pub refusal: Refusal,
+    /// The value at fault: 1 or 2, and 0 for neither.
+    pub value: u8,
 }
 
 /// Takes an answer of the boundary apart: bits 32 to 39 are a refusal's number, 0 for a result; bits 0 to 31 its place, or the
@@ -76,6 +96,11 @@ pub(crate) fn result(answer: u64) -> Result<u32, Refusal> {
     }
 }
 
+/// Takes the answer of an order apart: as every answer, and bits 40 to 47 are the value at fault.
+pub(crate) fn order_result(answer: u64) -> Result<u32, OrderRefusal> {
+    result(answer).map_err(|refusal| OrderRefusal { refusal, value: (answer >> 40) as u8 })
+}
+
 impl fmt::Display for Refusal {
     fn fmt(&self, f: &mut fmt::Formatter<'_>) -> fmt::Result {
         write!(f, "refused {} at {}", self.number, self.place)
@@ -83,3 +108,14 @@ impl fmt::Display for Refusal {
 }
 
 impl Error for Refusal {}
+
+impl fmt::Display for OrderRefusal {
+    fn fmt(&self, f: &mut fmt::Formatter<'_>) -> fmt::Result {
+        match self.value {
+            0 => self.refusal.fmt(f),
+            value => write!(f, "{} in value {value}", self.refusal),
+        }
+    }
+}
+
+impl Error for OrderRefusal {}

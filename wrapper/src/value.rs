@@ -1,7 +1,7 @@
 //! Single values of columns, and their order.
 
-use crate::refusal::result;
-use crate::{boundary, codes, Refusal};
+use crate::refusal::{order_result, result};
+use crate::{boundary, codes, OrderRefusal, Refusal};
 
 /// The most bytes of a value.
 pub const MAX_VALUE: usize = 65_536;
@@ -51,7 +51,8 @@ pub enum Value {
     },
 }
 
-/// Reads one value of a column: refusal 20, then 15, then 16.
+/// Reads one value of a column: refusal 20, then 15, then 16. The place of 16 is, for a STRING, ENUM or JSON, the index where whole
+/// sequences of UTF-8, read from the start, stop, and 0 for every other value.
 ///
 /// ```
 /// use griffeljol::codes::{kind, physical};
@@ -90,7 +91,8 @@ pub enum Order {
     Unordered,
 }
 
-/// Orders two values of a column: refusal 20, then 17, then those of the first value, then those of the second.
+/// Orders two values of a column: refusal 20, then 17, then those of the first value, then those of the second. The refusal says which
+/// value is at fault, and is what [`read`] gives for it.
 ///
 /// ```
 /// use griffeljol::codes::{kind, physical};
@@ -101,8 +103,8 @@ pub enum Order {
 /// assert_eq!(order(column, &[0x80], &[0x7F]), Ok(Order::Less));
 /// assert_eq!(order(column, &[0xFF], &[0xFF, 0xFF]), Ok(Order::Equal));
 /// ```
-pub fn order(column: ColumnType, a: &[u8], b: &[u8]) -> Result<Order, Refusal> {
-    let order = result(boundary::order(column.numbers(), a, b))?;
+pub fn order(column: ColumnType, a: &[u8], b: &[u8]) -> Result<Order, OrderRefusal> {
+    let order = order_result(boundary::order(column.numbers(), a, b))?;
     Ok(match order {
         codes::order::LESS => Order::Less,
         codes::order::EQUAL => Order::Equal,

@@ -4,7 +4,7 @@ use std::fs;
 
 use griffeljol::codes::{kind, physical, unit};
 use griffeljol::{decode, encode, order, read, resolve, rewrite, rows};
-use griffeljol::{ColumnType, Fields, Order, Refusal, Row, Value, ROW_WIDTH};
+use griffeljol::{ColumnType, Fields, Order, OrderRefusal, Refusal, Row, Value, ROW_WIDTH};
 
 fn sample() -> Vec<u8> {
     fs::read("../crates/schema_rows/stdin").expect("the sample sheet")
@@ -91,6 +91,19 @@ fn each_case_of_a_value() {
 }
 
 #[test]
+fn text_is_refused_at_its_byte() {
+    for kind in [kind::STRING, kind::ENUM, kind::JSON] {
+        let text = column(physical::BYTE_ARRAY, kind);
+        assert_eq!(read(text, b"key \xE2\x82"), Err(Refusal { number: 16, place: 4 }));
+        let mut long = [b'a'; 65_536];
+        long[65_535] = 0x80;
+        assert_eq!(read(text, &long), Err(Refusal { number: 16, place: 65_535 }));
+    }
+    let decimal = ColumnType { p1: 2, ..column(physical::BYTE_ARRAY, kind::DECIMAL) };
+    assert_eq!(read(decimal, &[0, 0x64]), refused(16));
+}
+
+#[test]
 fn each_answer_of_an_order() {
     let double = column(physical::DOUBLE, 0);
     let ordered = |a: f64, b: f64| order(double, &a.to_le_bytes(), &b.to_le_bytes());
@@ -98,9 +111,19 @@ fn each_answer_of_an_order() {
     assert_eq!(ordered(-0.0, 0.0), Ok(Order::Equal));
     assert_eq!(ordered(f64::INFINITY, 1.0), Ok(Order::Greater));
     assert_eq!(ordered(f64::NAN, 1.0), Ok(Order::Unordered));
-    assert_eq!(order(column(physical::INT96, 0), &[], &[]), refused(17));
-    assert_eq!(order(double, &[], &[0; 8]), refused(15));
-    assert_eq!(order(double, &[0; 8], &[]), refused(15));
+    let refused = |number, place, value| Err(OrderRefusal { refusal: Refusal { number, place }, value });
+    assert_eq!(order(column(physical::GROUP, 0), &[], &[]), refused(20, 0, 0));
+    assert_eq!(order(column(physical::INT96, 0), &[], &[]), refused(17, 0, 0));
+    assert_eq!(order(double, &[], &[0; 8]), refused(15, 0, 1));
+    assert_eq!(order(double, &[0; 8], &[]), refused(15, 0, 2));
+    let text = column(physical::BYTE_ARRAY, kind::STRING);
+    assert_eq!(order(text, b"a\xFF", b"ab"), refused(16, 1, 1));
+    assert_eq!(order(text, b"ab", b"a\xFF"), refused(16, 1, 2));
+    assert_eq!(order(text, b"ab\xFF", b"a\xFF"), refused(16, 2, 1));
+    let decimal = ColumnType { p1: 2, ..column(physical::BYTE_ARRAY, kind::DECIMAL) };
+    assert_eq!(order(decimal, &[0x63], &[0x64]), refused(16, 0, 2));
+    assert_eq!(order(decimal, &[0x64], &[]), refused(16, 0, 1));
+    assert_eq!(order(decimal, &[0x63], &[]), refused(15, 0, 2));
 }
 
 #[test]

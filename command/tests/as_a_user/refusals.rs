@@ -91,7 +91,16 @@ fn each_refusal_of_a_sheet_has_its_words() {
 fn each_refusal_of_a_value_or_a_timestamp_has_its_words() {
     let cases = [
         ("value 1 0 0 0 0 --hex 00", "refused 15 at 0", "value of wrong length, or over 65,536 bytes"),
-        ("value 0 0 0 0 0 --hex 02", "refused 16 at 0", "value breaks its annotation"),
+        (
+            "value 0 0 0 0 0 --hex 02",
+            "refused 16 at 0",
+            "value breaks its annotation; place 0 is the byte where UTF-8 stops in a STRING, ENUM or JSON, else 0",
+        ),
+        (
+            "value 6 0 1 0 0 --hex 6B6579E282",
+            "refused 16 at 3",
+            "value breaks its annotation; place 3 is the byte where UTF-8 stops in a STRING, ENUM or JSON, else 0",
+        ),
         ("timestamp encode millis 1900-02-29 00:00:00", "refused 18 at 0", "fields form no date or time"),
         (
             "timestamp encode nanos 1677-09-21 00:12:43.145224191",
