@@ -89,7 +89,6 @@ fault-packs : (value number place : ℕ) → 0 < number → number < 2 ^ 8 → p
 fault-packs value number place p h k l = record { refuses = p; number-in = omega arith; place-in = omega arith; fault-in = omega arith; below = omega arith }
 
 order-packs : (o : Order) → column_order.placeOf o ≤ mostBytes → column_order.faultOf o ≤ 2 → PacksOrder (column_order.outcomeOf o)
-unfolding column_order.outcomeOf
 order-packs order.Less h k = packs 0 0 (omega arith) (omega arith)
 order-packs order.Equal h k = packs 0 1 (omega arith) (omega arith)
 order-packs order.Greater h k = packs 0 2 (omega arith) (omega arith)

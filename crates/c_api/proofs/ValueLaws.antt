@@ -17,11 +17,9 @@ use Rattle.column_type.specs.declared.types.ColumnType.{ColumnType}
 use Rattle.column.specs.Outcome as column
 use Rattle.column.specs.Reading.{readOf}
 use Rattle.column.specs.declared.value.Read.{Read}
-use Rattle.column.specs.declared.value.Read.the-variants as read
 use Rattle.column.specs.declared.value.Value.{Value}
 use Rattle.column.specs.declared.value.Value.the-variants as value
 use Rattle.column.proofs.FloatLaws.{differs-nan}
-use Rattle.column.proofs.value.Read as Read′
 use Rattle.column_order.specs.Outcome as column_order
 use Rattle.column_order.specs.Order.{orderOf}
 use Rattle.column_order.specs.declared.answer.Order.{Order}
@@ -29,7 +27,7 @@ use Rattle.column_order.specs.declared.answer.Order.the-variants as order
 use Rattle.column_order.proofs.answer.Order as Order′
 use Rattle.column_order.proofs.FaultLaws.{order-small}
 use Rattle.laws.proofs.SignedLaws.{negative-is, nonnegative-is}
-use Rattle.c_api.specs.Answers.{packed, packedFault, refused, within}
+use Rattle.c_api.specs.Answers.{packed, packedFault, RESULT, within}
 use Rattle.c_api.specs.Values.{caseOf, twosComplement64, quietNan, floatBits, numbersOf, readEffect, reading, orderAnswer, ordering}
 
 -- ---- bits
@@ -85,13 +83,6 @@ pub reading-of : (c : ColumnType) (bs : List ℕ) (lent : ℕ) {r : Read} → r 
 unfolding reading column.outcome
 reading-of c bs lent e = ap (λ (x : Read). within lent (readEffect (column.outcomeOf x))) (sym e)
 
--- the effect of a refusal, by its number and place
-pub read-refused : (r : Read) → OneOf (1 ∷ 2 ∷ 3 ∷ []) (tagOf Read′.the-type r) → readEffect (column.outcomeOf r) ≡ refused (column.refusalOf r) (column.placeOf r)
-read-refused (read.Value v) h = ⊎-elim (λ e. absurd (omega arith)) (⊎-elim (λ e. absurd (omega arith)) (λ e. absurd (omega arith))) h
-read-refused read.Unlawful h = refl
-read-refused read.WrongLength h = refl
-read-refused (read.BreaksAnnotation place) h = refl
-
 -- what ordering answers, of what `column_order` answers
 pub ordering-of : (c : ColumnType) (a b : List ℕ) {o : Order} → o ≡ orderOf c a b → ordering c a b ≡ orderAnswer (column_order.outcomeOf o)
 unfolding ordering column_order.outcome
@@ -113,24 +104,17 @@ order-number (order.WrongLength value) = omega arith
 order-number (order.BreaksAnnotation value place) = omega arith
 
 -- the answer of a refusal
-pub order-refused : (o : Order) → (column_order.refusalOf o ≡ 0 → ⊥) → packedFault (column_order.faultOf o) (column_order.refusalOf o) (column_order.placeOf o) ≡ orderAnswer (column_order.outcomeOf o)
-unfolding column_order.outcomeOf
-order-refused order.Less h = absurd (h refl)
-order-refused order.Equal h = absurd (h refl)
-order-refused order.Greater h = absurd (h refl)
-order-refused order.Unordered h = absurd (h refl)
-order-refused order.Unlawful h = refl
-order-refused order.NoOrder h = refl
-order-refused (order.WrongLength value) h = refl
-order-refused (order.BreaksAnnotation value place) h = refl
+pub order-refused : (o : column_order.Outcome) → (column_order.refusalIn o ≡ RESULT → ⊥) → packedFault (column_order.faultIn o) (column_order.refusalIn o) (column_order.placeIn o) ≡ orderAnswer o
+order-refused (column_order.refused number place value) h = refl
+order-refused (column_order.given r) h = absurd (h refl)
 
+-- such an answer comes behind the first three
 above : (tag : ℕ) → tag < 3 → OneOf (3 ∷ 4 ∷ 5 ∷ 6 ∷ 7 ∷ []) tag → ⊥
 above tag h =
     ⊎-elim (λ e. omega (arith, h, e)) (⊎-elim (λ e. omega (arith, h, e)) (⊎-elim (λ e. omega (arith, h, e)) (⊎-elim (λ e. omega (arith, h, e)) (λ e. omega (arith, h, e)))))
 
 -- what is neither less, equal nor greater is unordered, unless it is refused
-pub unordered-left : (o : Order) → OneOf (3 ∷ 4 ∷ 5 ∷ 6 ∷ 7 ∷ []) (tagOf Order′.the-type o) → column_order.refusalOf o ≡ 0 → packed 0 3 ≡ orderAnswer (column_order.outcomeOf o)
-unfolding column_order.outcomeOf
+pub unordered-left : (o : Order) → OneOf (3 ∷ 4 ∷ 5 ∷ 6 ∷ 7 ∷ []) (tagOf Order′.the-type o) → column_order.refusalOf o ≡ RESULT → packed RESULT 3 ≡ orderAnswer (column_order.outcomeOf o)
 unordered-left order.Less h e = absurd (above 0 (omega arith) h)
 unordered-left order.Equal h e = absurd (above 1 (omega arith) h)
 unordered-left order.Greater h e = absurd (above 2 (omega arith) h)

@@ -1,25 +1,30 @@
 -- The places of refusals: where text goes bad, and 0 for everything else. Assumes nothing.
 use mathlib.Core.Path.{_≡_, refl, sym, subst, _∙_}
 use mathlib.Core.Bool.{Bool, true, false, cond}
-use mathlib.Core.List.{List}
+use mathlib.Core.List.{List, [], _∷_}
+use mathlib.Core.Logic.{⊎-elim}
 use Prim.Native.Nat.{ℕ, _≤_, _<_}
 use native.Mathlib.Omega.{arith}
 use lib.Dec.{leb, eqb}
 use lib.ListN.{length}
+use types.Run.{OneOf}
+use denote.Enum.Declared.{tagOf}
 use borrow.Author.Tests.{le-leb, eqb-true, eqb-false, ne-eqb}
 use Rattle.utf8.specs.Valid.{validUpTo, Stops}
 use Rattle.utf8.proofs.ValidLaws.{validUpTo-stops, stops-unique}
 use Rattle.parquet.specs.Physical.{BYTE-ARRAY}
-use Rattle.parquet.specs.Logical.{STRING, ENUM, JSON}
+use Rattle.parquet.specs.Logical.{STRING, ENUM, DECIMAL, UNKNOWN, JSON}
 use Rattle.column_type.specs.Lawful.{isLawful}
 use Rattle.column_type.specs.declared.types.ColumnType.{ColumnType}
 use Rattle.column_type.proofs.TextLaws.{string-bytes, enum-bytes, json-bytes}
 use Rattle.column.specs.Lengths.{mostBytes, isByteForm, lengthRight}
 use Rattle.column.specs.Annotations.{isText, bytesKeep, annotationPlace, keeps}
 use Rattle.column.specs.Reading.{valueOf, checked, readOf}
-use Rattle.column.specs.Outcome.{Outcome, refused, placeOf, outcomeOf, outcome}
+use Rattle.column.specs.Outcome.{Outcome, refused, refusalOf, placeOf, outcomeOf, outcome}
+use Rattle.column.specs.declared.value.Read.{Read}
 use Rattle.column.specs.declared.value.Read.the-variants as read
 use Rattle.column.specs.declared.value.Value.{Value}
+use Rattle.column.proofs.value.Read as Read′
 use Rattle.column.proofs.LengthLaws.{length-most}
 
 -- ---- how great a place is
@@ -47,13 +52,13 @@ place-most c bs = go (isLawful c) (lengthRight c (length bs)) refl (keeps c bs)
 -- ---- what a refusal says
 
 -- 16 and its place; every other refusal is at 0
-pub record Refuses (c : ColumnType) (bs : List ℕ) (number place : ℕ) : Type 0 where
-  pub lawful : number ≡ 16 → isLawful c ≡ true
-  pub broken : number ≡ 16 → keeps c bs ≡ false
-  pub placed : number ≡ 16 → place ≡ annotationPlace c bs
-  pub elsewhere : (number ≡ 16 → ⊥) → place ≡ 0
+record Refuses (c : ColumnType) (bs : List ℕ) (number place : ℕ) : Type 0 where
+  lawful : number ≡ 16 → isLawful c ≡ true
+  broken : number ≡ 16 → keeps c bs ≡ false
+  placed : number ≡ 16 → place ≡ annotationPlace c bs
+  elsewhere : (number ≡ 16 → ⊥) → place ≡ 0
 
-pub refuses : (c : ColumnType) (bs : List ℕ) (number place : ℕ) → outcome c bs ≡ refused number place → Refuses c bs number place
+refuses : (c : ColumnType) (bs : List ℕ) (number place : ℕ) → outcome c bs ≡ refused number place → Refuses c bs number place
 unfolding outcome readOf
 refuses c bs number place = go (isLawful c) refl (lengthRight c (length bs)) (keeps c bs) refl
   where
@@ -73,6 +78,13 @@ refuses c bs number place = go (isLawful c) refl (lengthRight c (length bs)) (ke
         let at : annotationPlace c bs ≡ place = cc in
         record { lawful = λ h. p; broken = λ h. q; placed = λ h. sym at; elsewhere = λ h. absurd (h (sym m)) }
 
+-- an answer that is no value stands for its number and its place
+pub refused-outcome : (r : Read) → OneOf (1 ∷ 2 ∷ 3 ∷ []) (tagOf Read′.the-type r) → outcomeOf r ≡ refused (refusalOf r) (placeOf r)
+refused-outcome (read.Value v) h = ⊎-elim (λ e. absurd (omega arith)) (⊎-elim (λ e. absurd (omega arith)) (λ e. absurd (omega arith))) h
+refused-outcome read.Unlawful h = refl
+refused-outcome read.WrongLength h = refl
+refused-outcome (read.BreaksAnnotation place) h = refl
+
 -- ---- text
 
 -- the kinds of text one by one
@@ -88,6 +100,10 @@ text-cases {A} kind e f g h = first (eqb kind STRING) refl (eqb kind ENUM) refl
 text-form : (c : ColumnType) → isLawful c ≡ true → isText (c .kind) ≡ true → c .physical ≡ BYTE-ARRAY
 text-form c l e = text-cases (c .kind) e (string-bytes c l) (enum-bytes c l) (json-bytes c l)
 
+-- and neither a DECIMAL nor UNKNOWN
+text-kind : (kind : ℕ) → isText kind ≡ true → (eqb kind DECIMAL ≡ false) × (eqb kind UNKNOWN ≡ false)
+text-kind kind e = text-cases kind e (λ k. rw k (refl, refl)) (λ k. rw k (refl, refl)) (λ k. rw k (refl, refl))
+
 module _ (c : ColumnType) (bs : List ℕ) (lawful : isLawful c ≡ true) (text : isText (c .kind) ≡ true) where
   text-place : annotationPlace c bs ≡ validUpTo bs
   unfolding annotationPlace
@@ -95,14 +111,12 @@ module _ (c : ColumnType) (bs : List ℕ) (lawful : isLawful c ≡ true) (text :
 
   text-keeps : keeps c bs ≡ eqb (validUpTo bs) (length bs)
   unfolding keeps bytesKeep
-  text-keeps = text-cases (c .kind) text (λ k. rw (text-form c lawful text, k)) (λ k. rw (text-form c lawful text, k)) (λ k. rw (text-form c lawful text, k))
+  text-keeps = rw (text-form c lawful text, text-kind (c .kind) text .1, text-kind (c .kind) text .0, text)
 
   -- text has any length up to the most
   text-right : length bs ≤ mostBytes → lengthRight c (length bs) ≡ true
   unfolding lengthRight
-  text-right most =
-      let few = le-leb (length bs) mostBytes most in
-      text-cases (c .kind) text (λ k. rw (few, text-form c lawful text, k)) (λ k. rw (few, text-form c lawful text, k)) (λ k. rw (few, text-form c lawful text, k))
+  text-right most = rw (le-leb (length bs) mostBytes most, text-form c lawful text, text-kind (c .kind) text .0)
 
 -- the place of a text's 16: whole sequences stop there, short of the end
 pub text-stops : (c : ColumnType) (bs : List ℕ) (place : ℕ) → isText (c .kind) ≡ true → outcome c bs ≡ refused 16 place → Stops bs place × (place < length bs)

@@ -12,6 +12,15 @@ pub data Outcome (A : Type 0) : Type 0 where
   refused : ℕ → ℕ → Outcome A
   given : A → Outcome A
 
+-- its number and its place, and 0 where nothing is refused
+abbrev pub refusalIn : {A : Type 0} → Outcome A → ℕ
+refusalIn (refused number place) = number
+refusalIn (given a) = 0
+
+abbrev pub placeIn : {A : Type 0} → Outcome A → ℕ
+placeIn (refused number place) = place
+placeIn (given a) = 0
+
 -- the number of each refusal
 abbrev pub UNLAWFUL : ℕ
 UNLAWFUL = 20
@@ -22,36 +31,19 @@ WRONG-LENGTH = 15
 abbrev pub BREAKS-ANNOTATION : ℕ
 BREAKS-ANNOTATION = 16
 
--- the number of a refusal, and 0 for a value that was read
-abbrev pub refusalOf : Read → ℕ
-refusalOf (read.Value v) = 0
-refusalOf read.Unlawful = UNLAWFUL
-refusalOf read.WrongLength = WRONG-LENGTH
-refusalOf (read.BreaksAnnotation place) = BREAKS-ANNOTATION
-
--- its place, and 0 for a value that was read
-abbrev pub placeOf : Read → ℕ
-placeOf (read.Value v) = 0
-placeOf read.Unlawful = 0
-placeOf read.WrongLength = 0
-placeOf (read.BreaksAnnotation place) = place
-
--- each refusal with its place
-abbrev pub unlawful : {A : Type 0} → Outcome A
-unlawful = refused UNLAWFUL 0
-
-abbrev pub wrongLength : {A : Type 0} → Outcome A
-wrongLength = refused WRONG-LENGTH 0
-
-abbrev pub breaksAnnotation : {A : Type 0} → ℕ → Outcome A
-breaksAnnotation place = refused BREAKS-ANNOTATION place
-
 -- what each answer of reading stands for
 abbrev pub outcomeOf : Read → Outcome Value
 outcomeOf (read.Value v) = given v
-outcomeOf read.Unlawful = unlawful
-outcomeOf read.WrongLength = wrongLength
-outcomeOf (read.BreaksAnnotation place) = breaksAnnotation place
+outcomeOf read.Unlawful = refused UNLAWFUL 0
+outcomeOf read.WrongLength = refused WRONG-LENGTH 0
+outcomeOf (read.BreaksAnnotation place) = refused BREAKS-ANNOTATION place
+
+-- the number and the place of an answer
+abbrev pub refusalOf : Read → ℕ
+refusalOf r = refusalIn (outcomeOf r)
+
+abbrev pub placeOf : Read → ℕ
+placeOf r = placeIn (outcomeOf r)
 
 -- the outcome of reading any bytes in any column
 unfoldable pub outcome : ColumnType → List ℕ → Outcome Value

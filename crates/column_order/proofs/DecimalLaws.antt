@@ -34,8 +34,7 @@ use Rattle.column.specs.declared.value.Value.{Value}
 use Rattle.column.proofs.LengthLaws.{decimal-right}
 use Rattle.column.proofs.ReadingLaws.{read-lawful, bytes-read}
 use Rattle.column_order.specs.Keys.{whole, keyOf, wholeOrder, keyOrder}
-use Rattle.column_order.specs.Order.{FIRST, SECOND, unlessRefused}
-use Rattle.column_order.specs.Steps.{valuesOrder}
+use Rattle.column_order.specs.Order.{FIRST, SECOND, unlessRefused, valuesOrder}
 use Rattle.column_order.specs.declared.answer.Order.{Order}
 use Rattle.column_order.specs.declared.answer.Order.the-variants.{Less, Equal, Greater, WrongLength, BreaksAnnotation}
 use Rattle.column_order.proofs.KeyLaws.{byte-number}

@@ -1,6 +1,6 @@
 -- At most both ways is equal.
 use mathlib.Core.Path.{_≡_, refl}
-use mathlib.Core.Bool.{Bool, true, false}
+use mathlib.Core.Bool.{true}
 use Rattle.column_order.specs.Comparison.{turned, atMost}
 use Rattle.column_order.specs.declared.answer.Order.{Order}
 use Rattle.column_order.specs.declared.answer.Order.the-variants.{Less, Equal, Greater, Unordered, Unlawful, NoOrder, WrongLength, BreaksAnnotation}

@@ -4,4 +4,3 @@ pub mod Values
 pub mod Order
 pub mod Comparison
 pub mod Outcome
-pub mod Steps

@@ -32,9 +32,10 @@ unlessRefused value read.Unlawful next = Unlawful
 unlessRefused value read.WrongLength next = WrongLength value
 unlessRefused value (read.BreaksAnnotation place) next = BreaksAnnotation value place
 
+-- two values of a column that has an order: the refusal of the first, that of the second, or the order of their keys
+abbrev pub valuesOrder : ColumnType → List ℕ → List ℕ → Order
+valuesOrder c a b = unlessRefused FIRST (readOf c a) (unlessRefused SECOND (readOf c b) (keyOrder (keyOf c a) (keyOf c b)))
+
 -- "Checks: 20, 17, first value, second value"
 unfoldable pub orderOf : ColumnType → List ℕ → List ℕ → Order
-orderOf c a b =
-    cond (isLawful c)
-    (cond (hasOrder c) (unlessRefused FIRST (readOf c a) (unlessRefused SECOND (readOf c b) (keyOrder (keyOf c a) (keyOf c b)))) NoOrder)
-    Unlawful
+orderOf c a b = cond (isLawful c) (cond (hasOrder c) (valuesOrder c a b) NoOrder) Unlawful

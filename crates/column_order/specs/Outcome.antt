@@ -16,6 +16,19 @@ pub data Outcome : Type 0 where
   refused : ℕ → ℕ → ℕ → Outcome
   given : Relation → Outcome
 
+-- its number, its place and the value at fault, and 0 where nothing is refused
+abbrev pub refusalIn : Outcome → ℕ
+refusalIn (refused number place value) = number
+refusalIn (given r) = 0
+
+abbrev pub placeIn : Outcome → ℕ
+placeIn (refused number place value) = place
+placeIn (given r) = 0
+
+abbrev pub faultIn : Outcome → ℕ
+faultIn (refused number place value) = value
+faultIn (given r) = 0
+
 -- "this column has no order"
 abbrev pub NO-ORDER : ℕ
 NO-ORDER = 17
@@ -24,41 +37,8 @@ NO-ORDER = 17
 abbrev pub NEITHER : ℕ
 NEITHER = 0
 
--- the number of a refusal, and 0 for an order
-abbrev pub refusalOf : Order → ℕ
-refusalOf order.Less = 0
-refusalOf order.Equal = 0
-refusalOf order.Greater = 0
-refusalOf order.Unordered = 0
-refusalOf order.Unlawful = UNLAWFUL
-refusalOf order.NoOrder = NO-ORDER
-refusalOf (order.WrongLength value) = WRONG-LENGTH
-refusalOf (order.BreaksAnnotation value place) = BREAKS-ANNOTATION
-
--- its place, and 0 for an order
-abbrev pub placeOf : Order → ℕ
-placeOf order.Less = 0
-placeOf order.Equal = 0
-placeOf order.Greater = 0
-placeOf order.Unordered = 0
-placeOf order.Unlawful = 0
-placeOf order.NoOrder = 0
-placeOf (order.WrongLength value) = 0
-placeOf (order.BreaksAnnotation value place) = place
-
--- the value at fault, and 0 for neither and for an order
-abbrev pub faultOf : Order → ℕ
-faultOf order.Less = NEITHER
-faultOf order.Equal = NEITHER
-faultOf order.Greater = NEITHER
-faultOf order.Unordered = NEITHER
-faultOf order.Unlawful = NEITHER
-faultOf order.NoOrder = NEITHER
-faultOf (order.WrongLength value) = value
-faultOf (order.BreaksAnnotation value place) = value
-
 -- what each answer of ordering stands for
-unfoldable pub outcomeOf : Order → Outcome
+abbrev pub outcomeOf : Order → Outcome
 outcomeOf order.Less = given less
 outcomeOf order.Equal = given equal
 outcomeOf order.Greater = given greater
@@ -67,6 +47,16 @@ outcomeOf order.Unlawful = refused UNLAWFUL 0 NEITHER
 outcomeOf order.NoOrder = refused NO-ORDER 0 NEITHER
 outcomeOf (order.WrongLength value) = refused WRONG-LENGTH 0 value
 outcomeOf (order.BreaksAnnotation value place) = refused BREAKS-ANNOTATION place value
+
+-- the number, the place and the value at fault of an answer
+abbrev pub refusalOf : Order → ℕ
+refusalOf o = refusalIn (outcomeOf o)
+
+abbrev pub placeOf : Order → ℕ
+placeOf o = placeIn (outcomeOf o)
+
+abbrev pub faultOf : Order → ℕ
+faultOf o = faultIn (outcomeOf o)
 
 -- the outcome of ordering any two values in any column
 unfoldable pub outcome : ColumnType → List ℕ → List ℕ → Outcome

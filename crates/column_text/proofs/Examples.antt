@@ -1,17 +1,17 @@
 -- Texts of values and answers, computed.
 -- Assumes nothing.
-use mathlib.Core.Bool.{true, false}
+use mathlib.Core.Bool.{true}
 use mathlib.Core.Path.{_≡_, refl}
-use lib.Ieee.{nan, inf, binary32, binary64}
+use lib.Ieee.{nan, inf}
 use lib.Ieee as Ieee
-use lib.IntN.{pos, negsuc}
+use lib.IntN.{negsuc}
 use Rattle.text.specs.Characters.{ascii}
 use Rattle.text.specs.Numbers.{enoughDigits, digitCount, decimalText, signedText, hexText}
 use Rattle.text.specs.Refusals.{refusalText}
-use Rattle.column.specs.declared.value.Value.the-variants.{Truth, Signed, Float, Double, Bytes}
+use Rattle.column.specs.declared.value.Value.the-variants.{Signed, Float, Double, Bytes}
 use Rattle.column.specs.declared.value.Read.the-variants as read
 use Rattle.column_text.specs.Values.{floatText, stretchText, valueText}
-use Rattle.column_text.specs.Answers.{readText}
+use Rattle.column_text.specs.Answers.{outcomeText, readText}
 
 -- a number below 0
 signed-example : valueText (Signed (negsuc 6)) ≡ ascii "-7"
@@ -34,9 +34,9 @@ stretch-example = refl
 
 -- a TIME of a whole day, and text that goes bad at its thirteenth byte
 refused-example : readText (read.BreaksAnnotation 0) ≡ ascii "refused 16 at 0"
-unfolding readText refusalText decimalText digitCount enoughDigits
+unfolding outcomeText refusalText decimalText digitCount enoughDigits
 refused-example = refl
 
 placed-example : readText (read.BreaksAnnotation 12) ≡ ascii "refused 16 at 12"
-unfolding readText refusalText decimalText digitCount enoughDigits
+unfolding outcomeText refusalText decimalText digitCount enoughDigits
 placed-example = refl

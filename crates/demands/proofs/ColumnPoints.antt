@@ -11,9 +11,6 @@ use Rattle.annotation.specs.Rule11.{ordered, physicalHolds, decimalHolds, rule1
 use Rattle.annotation.specs.Signed.{natural}
 use Rattle.logical_type.specs.Spelling.{namedOf, statedOf}
 use Rattle.column.specs.Annotations.{inSignedBits, wholeKeeps, bytesKeep, annotationPlace, keeps}
-use Rattle.parquet.specs.Physical.{INT32, BYTE-ARRAY}
-use Rattle.parquet.specs.Logical.{DECIMAL, INTEGER}
-use Rattle.column.specs.Annotations.{UNSIGNED}
 use Rattle.column.specs.Lengths.{lengthRight}
 use Rattle.column.specs.Numbers.{little, twosComplement}
 use Rattle.column.specs.Outcome.{Outcome, refused, given}
@@ -29,7 +26,7 @@ use Rattle.sheet.specs.Sound.{listed, physicalListed}
 use Rattle.column_order.specs.Keys.{numberOf, keyOf, wholeOrder, keyOrder}
 use Rattle.column_order.specs.Order.{orderOf}
 use Rattle.column_order.specs.Outcome as ordering
-use Rattle.column_order.specs.Outcome.{less, equal, greater, outcomeOf, outcome}
+use Rattle.column_order.specs.Outcome.{less, equal, greater, outcome}
 use Rattle.utf8.specs.Sequence.{inside, spells, utf8-1, utf8-2, utf8-3, utf8-4, utf8-char}
 use Rattle.utf8.specs.Valid.{matched, leading, validUpTo}
 use Rattle.utf8.specs.Valid as utf8
@@ -42,7 +39,7 @@ unfolding reading.outcome readOf valueOf annotationPlace keeps wholeKeeps bytesK
 read = reading.outcome
 
 order : ColumnType → List ℕ → List ℕ → ordering.Outcome
-unfolding read outcome outcomeOf orderOf keyOrder keyOf wholeOrder numberOf
+unfolding read outcome orderOf keyOrder keyOf wholeOrder numberOf
 order = outcome
 
 -- and what text computes with besides

@@ -326,7 +326,7 @@ pub const ALL: &[Wrong] = &[
         "a bad text refused at 0",
         "value.rs",
         "Err(Refusal::at(refusal::VALUE, place))",
-        "Err(Refusal { place: 0 * place as u32, ..broken() })",
+        "Err(Refusal { place: 0, ..Refusal::at(refusal::VALUE, place) })",
     ),
     wrong(
         "a bad text refused one late",

@@ -2,6 +2,7 @@
 use mathlib.Core.Path.{sym, _∙_}
 use native.Mathlib.Omega.{arith}
 use borrow.Author.Needs.{needs}
+use Rattle.column_order.specs.Outcome.{outcomeOf}
 use Rattle.c_api.proofs.ValueLaws.{ordering-of, fault-fits, order-number, order-refused}
 use Rattle.c_api.proofs.values.griffeljol_order.Statement.{statement}
 use Rattle.c_api.proofs.values.griffeljol_order.Tie as tie
@@ -27,7 +28,7 @@ returns-2 c =
     let order = number .before .order in
     c .packed-fault .ensures
     ∙ rw (value .fault .ensures, number .refusal .ensures, place .place .ensures)
-    (order-refused (order .result) (λ e. value .before .if1 .left (number .refusal .ensures ∙ e)))
+    (order-refused (outcomeOf (order .result)) (λ e. value .before .if1 .left (number .refusal .ensures ∙ e)))
     ∙ sym (ordering-of _ _ _ (order .ensures .0))
 
 pub griffeljol-order-spec : {M : Type 1} → statement M

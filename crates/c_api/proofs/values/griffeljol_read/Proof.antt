@@ -3,8 +3,12 @@ use Prim.Native.Nat.{ℕ}
 use mathlib.Core.Path.{sym, ap, ap₂, _∙_}
 use lib.ListN.{length}
 use borrow.Author.Needs.{needs}
+use Rattle.column.specs.Outcome.{Outcome}
+use Rattle.column.specs.declared.value.Value.{Value}
+use Rattle.column.proofs.PlaceLaws.{refused-outcome}
 use Rattle.c_api.specs.Answers.{packed, Effect, within, answer, left}
-use Rattle.c_api.proofs.ValueLaws.{reading-of, read-refused}
+use Rattle.c_api.specs.Values.{readEffect}
+use Rattle.c_api.proofs.ValueLaws.{reading-of}
 use Rattle.c_api.proofs.values.griffeljol_read.Statement.{statement}
 use Rattle.c_api.proofs.values.griffeljol_read.Tie as tie
 
@@ -21,7 +25,7 @@ returns-2 c =
     let match = c .before .before .before in
     let at-read = match .before in
     let out = at-read .before .before .before .args .out .now in
-    let e = reading-of _ _ _ (at-read .read .ensures .0) ∙ ap (within (length out)) (read-refused (at-read .read .result) (match .match .keys2)) in
+    let e = reading-of _ _ _ (at-read .read .ensures .0) ∙ ap (λ (o : Outcome Value). within (length out) (readEffect o)) (refused-outcome (at-read .read .result) (match .match .keys2)) in
     (c .packed .ensures ∙ ap₂ packed (c .before .before .refusal .ensures) (c .before .place .ensures) ∙ ap answer (sym e), ap (λ (f : Effect ℕ). left f out) (sym e))
 
 pub griffeljol-read-spec : {M : Type 1} → statement M

@@ -1,20 +1,16 @@
 -- `c_api::values::relation` meets its contract, case by case.
 use borrow.Author.Needs.{needs}
-use Rattle.column_order.specs.Outcome.{outcomeOf}
 use Rattle.c_api.proofs.ValueLaws.{unordered-left}
 use Rattle.c_api.proofs.values.relation.Statement.{statement}
 use Rattle.c_api.proofs.values.relation.Tie as tie
 
 returns : tie.Need-returns
-unfolding outcomeOf
 returns c e = rw (c .enum-told .given .1)
 
 returns-2 : tie.Need-returns-2
-unfolding outcomeOf
 returns-2 c e = rw (c .enum-told2 .given .1)
 
 returns-3 : tie.Need-returns-3
-unfolding outcomeOf
 returns-3 c e = rw (c .enum-told3 .given .1)
 
 returns-4 : tie.Need-returns-4

@@ -5,8 +5,7 @@ use borrow.Author.Needs.{needs}
 use borrow.Author.Tests.{not-true, not-false}
 use Rattle.decimal.specs.declared.within.Compared.{Compared}
 use Rattle.column.specs.Reading.{readOf}
-use Rattle.column_order.specs.Order.{FIRST, SECOND, unlessRefused}
-use Rattle.column_order.specs.Steps.{valuesOrder}
+use Rattle.column_order.specs.Order.{FIRST, SECOND, unlessRefused, valuesOrder}
 use Rattle.column_order.specs.declared.answer.Order.{Order}
 use Rattle.column_order.proofs.DecimalLaws.{asOrder, not-ordered, wrong-first, wrong-second, both-right}
 use Rattle.column_order.proofs.decimals.order_decimals.Statement.{statement}

@@ -8,8 +8,7 @@ use borrow.Author.Needs.{needs}
 use borrow.Author.Tests.{not-true, not-false}
 use Rattle.column_type.specs.declared.types.ColumnType.{ColumnType}
 use Rattle.column_type.specs.Lawful.{isLawful}
-use Rattle.column_order.specs.Order.{orderOf}
-use Rattle.column_order.specs.Steps.{valuesOrder}
+use Rattle.column_order.specs.Order.{valuesOrder, orderOf}
 use Rattle.column_order.specs.Outcome.{outcomeOf, outcome}
 use Rattle.column_order.specs.declared.answer.Order.{Order}
 use Rattle.column_order.proofs.ordering.order.Statement.{statement}

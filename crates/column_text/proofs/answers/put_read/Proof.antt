@@ -6,14 +6,14 @@ use mir.Syntax.{w64}
 use mir.Val.{Fits}
 use Rattle.text.specs.Refusals.{refusalText}
 use Rattle.text.proofs.PlacingLaws.{put-as}
-use Rattle.column_text.specs.Answers.{readText}
+use Rattle.column_text.specs.Answers.{outcomeText, readText}
 use Rattle.column_text.proofs.AnswerLaws.{read-refused, refused-most}
 use borrow.Author.Needs.{needs}
 use Rattle.column_text.proofs.answers.put_read.Statement.{statement}
 use Rattle.column_text.proofs.answers.put_read.Tie as tie
 
 returns : tie.Need-returns
-unfolding readText
+unfolding outcomeText
 returns c =
     let made = c .before .before .before .before .before .make-value .ensures in
     let text = made .1 .0 ∙ ap readText (sym (c .before .before .before .before .before .before .before .before .r .given .1)) in
@@ -24,10 +24,11 @@ returns-2 : tie.Need-returns-2
 returns-2 c =
     let place = c .before .before .before .place in
     let number = c .before .before .before .before .refusal in
-    let case = c .before .before .before .before .before .before .match .keys2 in
+    let r = c .before .before .before .before .before .before .before .before .args .r in
     let text = ap₂ refusalText (number .ensures) (place .ensures) in
-    let put = put-as _ _ (text ∙ read-refused _ case) (c .before .before .put-refusal .ensures) in
-    (put .0, (put .1, refused-most _ (subst (Fits w64) (place .ensures) (record { fits = omega (arith, place .ok) })) case))
+    let read = read-refused r (c .before .before .before .before .before .before .match .keys2) in
+    let put = put-as _ _ (text ∙ sym read) (c .before .before .put-refusal .ensures) in
+    (put .0, (put .1, omega (arith, ap length read, refused-most r (subst (Fits w64) (place .ensures) (record { fits = omega (arith, place .ok) })))))
 
 pub put-read-spec : {M : Type 1} → statement M
 put-read-spec =
