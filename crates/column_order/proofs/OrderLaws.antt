@@ -1,7 +1,7 @@
 -- What document 01's order promises: without a NaN it is total, transitive and, up to equal, antisymmetric; exchanged values are answered the
 -- other way round; and decimals compare as their numbers. Assumes nothing.
 use mathlib.Core.Path.{_≡_, refl, sym, ap, ap₂, _∙_}
-use mathlib.Core.Bool.{Bool, true, false, cond, _||_, _&&_}
+use mathlib.Core.Bool.{Bool, true, false, cond, _||_}
 use mathlib.Core.List.{List}
 use mathlib.Core.Logic.{_↔_, _⊎_, inl, inr, ⊎-elim}
 use Prim.Native.Nat.{ℕ}
@@ -12,19 +12,16 @@ use lib.Signed.{_<ℤ_}
 use borrow.Author.Tests.{eqb-true}
 use Rattle.annotation.specs.Meaning.{annotationOf}
 use Rattle.logical_type.specs.Parameters.{validParameters}
-use Rattle.annotation.specs.Rule9.{rule9}
 use Rattle.annotation.specs.Rule10.{decimalOn, rule10}
-use Rattle.annotation.specs.Rule11.{rule11}
 use Rattle.logical_type.specs.Spelling.{namedOf, statedOf}
-use Rattle.tree.specs.Rules.{lengthShape}
 use Rattle.column_type.specs.declared.types.ColumnType.{ColumnType}
-use Rattle.column_type.specs.Lawful.{slotOf, fits, isLeaf, annotationRight, isLawful}
+use Rattle.column_type.specs.Lawful.{slotOf, isLawful}
+use Rattle.column_type.proofs.LawfulLaws.{ten}
 use Rattle.parquet.specs.Physical.{BOOLEAN, INT32, INT64, FLOAT, DOUBLE, BYTE-ARRAY, FIXED-LEN-BYTE-ARRAY}
 use Rattle.parquet.specs.Logical.{DECIMAL}
 use Rattle.column.specs.Numbers.{little}
 use Rattle.column.specs.Lengths.{isByteDecimal}
 use Rattle.column.specs.Annotations.{isWhole, isUnsigned}
-use Rattle.laws.proofs.BoolLaws.{and-left, and-right}
 use Rattle.column.proofs.ReadingLaws.{reads}
 use Rattle.column_order.specs.Keys.{Key, whole, bytes, none, numberOf, floatKey, keyOf, wholeOrder, keyOrder}
 use Rattle.column_order.specs.Order.{hasOrder, orderOf}
@@ -167,10 +164,8 @@ or-cases false b e = inr e
 
 -- rule 10 of a lawful DECIMAL
 lawful-on : (c : ColumnType) → isLawful c ≡ true → c .kind ≡ DECIMAL → decimalOn (c .physical) ≡ true
-unfolding isLawful slotOf rule10 annotationOf statedOf namedOf validParameters
-lawful-on c l k =
-    let slot = and-right (fits c && isLeaf (c .physical) && lengthShape (c .physical) (pos (c .«type_length»))) (annotationRight (slotOf c)) l in
-    rw k at (and-right (rule9 (slotOf c)) (rule10 (slotOf c) false) (and-left (rule9 (slotOf c) && rule10 (slotOf c) false) (rule11 (slotOf c) false) slot))
+unfolding slotOf rule10 annotationOf statedOf namedOf validParameters
+lawful-on c l k = rw k at (ten c l .1)
 
 pub takes-decimal : (c : ColumnType) → isLawful c ≡ true → c .kind ≡ DECIMAL → TakesDecimal c
 takes-decimal c l k =

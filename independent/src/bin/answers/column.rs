@@ -323,8 +323,8 @@ const BAD: [&[u8]; 29] = [
     b"\xF0\x90\x8C\x28",
 ];
 
-/// Texts that go bad first, last, in the middle and behind letters of two, three and four octets, and some way on: read, ordered against a
-/// good one, which answers both ways round lay on the first value and on the second, and against one another.
+/// Texts that go bad first, in the middle, last, behind letters of two, three and four octets, and far on: read; ordered against a good one,
+/// where either value is at fault, one way round and the other; and ordered against one another.
 fn bad_texts(vectors: &mut Vectors) {
     let text_of = |parts: [&[u8]; 3]| Bytes::all(parts.concat());
     let first = |bad| text_of([b"", bad, b"ab"]);
