@@ -14,7 +14,7 @@ use lib.Seq.{take-at, take-add, take-length, drop-cons, drop-drop, drop-append-s
 use Rattle.utf8.specs.Sequence.{Range, Rule, inside, spells, derives, sequence, utf8-char, utf8-1, utf8-2, utf8-3, utf8-4}
 use Rattle.utf8.specs.Text.{Text, none, next}
 use Rattle.utf8.specs.Valid.{matched, leading, reading, validUpTo, Stops}
-use Rattle.utf8.specs.Steps.{PassesAscii}
+use Rattle.utf8.specs.Steps.{Passes}
 use Rattle.laws.proofs.BoolLaws.{T-true, T-or-left, T-or-right, T-or-cases}
 use Rattle.utf8.proofs.SequenceLaws.{inside-true, inside-below, inside-above, spells-length, Above, Below, Ordered, utf8-char-ordered, derives-above, derives-nil}
 
@@ -164,14 +164,25 @@ validUpTo-next s =
 pub validUpTo-drop : (s : List ℕ) (i n : ℕ) → n ≡ leading (drop i s) → validUpTo (drop i s) ≡ n + validUpTo (drop (i + n) s)
 validUpTo-drop s i n e = validUpTo-next (drop i s) ∙ rw (← e, drop-drop)
 
--- reading goes on after octets of UTF8-1 as it does from there
-pub passes-none : (s : List ℕ) (i : ℕ) → i ≤ length s → PassesAscii s i i
+-- reading passes no octets, a sequence, and one stretch after the other
+pub passes-none : (s : List ℕ) (i : ℕ) → i ≤ length s → Passes s i i
 passes-none s i h = record { onward = omega arith; within = h; reads = refl }
 
-pub passes-one : (s : List ℕ) (from i j : ℕ) → j ≡ i + 1 → i < length s → getD s i 0 ≤ 0x7F → PassesAscii s from i → PassesAscii s from j
-passes-one s from i j e h low p =
-    let more : validUpTo (drop i s) ≡ 1 + validUpTo (drop j s) = rw e (validUpTo-drop s i 1 (sym (leading-ascii s i h low))) in
-    record { onward = omega (arith, p .onward); within = omega arith; reads = omega (arith, p .reads) }
+pub passes-sequence : (s : List ℕ) (from i n : ℕ) → n ≡ leading (drop i s) → i ≤ length s → Passes s from i → Passes s from (i + n)
+passes-sequence s from i n e h p =
+    record {
+      onward = omega (arith, p .onward);
+      within = omega (arith, leading-within (drop i s), length-drop i s);
+      reads = omega (arith, p .reads, validUpTo-drop s i n e);
+    }
+
+-- an octet of UTF8-1 is one
+pub passes-one : (s : List ℕ) (from i j : ℕ) → j ≡ i + 1 → i < length s → getD s i 0 ≤ 0x7F → Passes s from i → Passes s from j
+passes-one s from i j e h low p = rw e (passes-sequence s from i 1 (sym (leading-ascii s i h low)) (omega arith) p)
+
+pub passes-on : {s : List ℕ} {from at r : ℕ} → Passes s from at → Passes s at r → Passes s from r
+passes-on p q =
+    record { onward = omega (arith, p .onward, q .onward); within = q .within; reads = p .reads ∙ q .reads }
 
 -- reading goes on after a text as it does from there
 pub validUpTo-append : {s : List ℕ} → Text s → (t : List ℕ) → validUpTo (s ++ t) ≡ length s + validUpTo t

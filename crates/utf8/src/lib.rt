@@ -6,7 +6,9 @@ ghost use mathlib.Core.Path.{_≡_};
 ghost use lib.ListN.{length, take, drop, getD, replicate};
 ghost use Rattle.utf8.specs.Sequence.{_to_, tail, inside, spells};
 ghost use Rattle.utf8.specs.Valid.{leading, validUpTo, Stops};
-ghost use Rattle.utf8.specs.Steps.{PassesAscii};
+ghost use Rattle.utf8.specs.Steps.{Passes, NoLetter};
+
+mod ascii;
 
 // Where whole sequences, read from the start of `text`, stop: at its length where all of it is UTF-8, and otherwise at the first byte
 // that no whole sequence has.
@@ -16,31 +18,32 @@ pub fn valid_up_to(text: &[u8]) -> usize
 {
     let mut at = 0;
     while at < text.len() {
-        let first = text[at];
-        if first > UTF8_1_LAST {
-            let octets = sequence_at(text, at);
-            if octets == 0 {
-                return at;
-            }
-            at += octets;
-        } else {
-            at = ascii_after(text, at + 1);
+        let from = ascii::ascii_after(text, at);
+        let to = letters_after(text, from);
+        if to == from {
+            return to;
         }
+        at = to;
     }
     at
 }
 
-// Where octets of UTF8-1, looked at two in a turn from `from` on, end: all before it are such octets.
-fn ascii_after(text: &[u8], from: usize) -> usize
+// Where sequences of several octets in a row, of which the first would begin at `from`, end.
+fn letters_after(text: &[u8], from: usize) -> usize
     requires { ⌜ from ≤ length (now text) ⌝ }
-    ensures { λ r. ⌜ PassesAscii (now (text .entry)) from r ⌝ }
+    ensures { λ r. ⌜ Passes (now (text .entry)) from r ⌝ }
+    ensures { λ r. ⌜ NoLetter (now (text .entry)) r ⌝ }
 {
     let mut at = from;
-    while text.len() - at >= 2 {
-        if (text[at] > UTF8_1_LAST) | (text[at + 1] > UTF8_1_LAST) {
+    while at < text.len() {
+        if text[at] <= UTF8_1_LAST {
             return at;
         }
-        at += 2;
+        let octets = sequence_at(text, at);
+        if octets == 0 {
+            return at;
+        }
+        at += octets;
     }
     at
 }
@@ -59,6 +62,9 @@ fn sequence_at(text: &[u8], at: usize) -> usize
     }
     let rest = rest_after(first);
     let tails = rest.tails;
+    if tails == 1 {
+        return triple_at(text, at, rest.low, rest.high);
+    }
     if text.len() - at < tails + 2 {
         return 0;
     }
@@ -86,6 +92,23 @@ fn pair_at(text: &[u8], at: usize) -> usize
         return 0;
     }
     2
+}
+
+// Three where after the octet at `at` come one from `low` to `high` and one of UTF8-tail, and 0 where not.
+fn triple_at(text: &[u8], at: usize, low: u8, high: u8) -> usize
+    requires { ⌜ at < length (now text) ⌝ }
+    ensures { λ r. ⌜ r ≡ cond (spells (low to high ∷ replicate 1 tail) (take 2 (drop (at + 1) (now (text .entry))))) 3 0 ⌝ }
+{
+    if text.len() - at < 3 {
+        return 0;
+    }
+    if !within(text[at + 1], low, high) {
+        return 0;
+    }
+    if !within(text[at + 2], TAIL_LOW, TAIL_HIGH) {
+        return 0;
+    }
+    3
 }
 
 // Whether `count` octets of UTF8-tail stand at `at`.

@@ -1,6 +1,6 @@
 -- `utf8::sequence_at` meets its contract: its first octet says what may follow, and each test decides one part of that.
 -- Assumes nothing.
-use Prim.Native.Nat.{suc, _+_, _<_}
+use Prim.Native.Nat.{ℕ, suc, _+_, _<_}
 use mathlib.Core.Bool.{Bool, cond, _&&_, and-false}
 use mathlib.Core.List.{_∷_}
 use mathlib.Core.Path.{_≡_, sym, ap, _∙_}
@@ -31,14 +31,14 @@ first-read c =
 
 -- the test of the second octet decides together with the octets after that
 second-read : (c : tie.After-within)
-    → let a = c .before .before .before .before .before .before .before .before .args in
-    let rest = c .before .before .before .rest-after .result in
+    → let a = c .before .before .before .before .before .before .before .before .before .args in
+    let rest = c .before .before .before .before .rest-after .result in
     leading (drop (a .at) (now (a .text)))
     ≡ cond (c .within .result && spells (replicate (rest .tails) tail) (take (rest .tails) (drop (a .at + 2) (now (a .text))))) (rest .tails + 2) 0
 second-read c =
-    let a = c .before .before .before .before .before .before .before .before .args in
-    let rest = c .before .before .before .rest-after .result in
-    first-read (c .before .before .before)
+    let a = c .before .before .before .before .before .before .before .before .before .args in
+    let rest = c .before .before .before .before .rest-after .result in
+    first-read (c .before .before .before .before)
     ∙ ap (λ (t : Bool). cond t (rest .tails + 2) 0)
     (spells-at (rest .low to rest .high) (replicate (rest .tails) tail) (rest .tails) (a .at + 1) (a .at + 2) (now (a .text)) (c .within .result)
     (omega arith)
@@ -60,18 +60,30 @@ returns-2 c = c .pair-at .ensures
 rest-after-requires : tie.Need-rest-after-requires
 rest-after-requires c κs = search needs
 
-sub-if3 : tie.Need-sub-if3
-sub-if3 c = search needs
+triple-at-requires : tie.Need-triple-at-requires
+triple-at-requires c κs = search needs
 
-add-if3 : tie.Need-add-if3
-add-if3 c = search needs
-
+-- one octet of UTF8-tail comes after the second
 returns-3 : tie.Need-returns-3
 returns-3 c =
-    let a = c .before .before .before .before .before .before .args in
-    let rest = c .before .rest-after .result in
+    let a = c .before .before .before .before .before .before .before .args in
+    let rest = c .before .before .rest-after .result in
+    let after = drop (a .at + 1) (now (a .text)) in
+    let one = ap (λ (n : ℕ). cond (spells (rest .low to rest .high ∷ replicate n tail) (take (suc n) after)) (n + 2) 0) (c .before .if3 .taken) in
+    c .triple-at .ensures ∙ sym (first-read (c .before .before) ∙ one)
+
+sub-if4 : tie.Need-sub-if4
+sub-if4 c = search needs
+
+add-if4 : tie.Need-add-if4
+add-if4 c = search needs
+
+returns-4 : tie.Need-returns-4
+returns-4 c =
+    let a = c .before .before .before .before .before .before .before .args in
+    let rest = c .before .before .rest-after .result in
     sym
-    (first-read (c .before)
+    (first-read (c .before .before)
     ∙ ap (λ (t : Bool). cond t (rest .tails + 2) 0)
     (spells-cut (rest .low to rest .high) (rest .tails) (drop (a .at + 1) (now (a .text))) (simp length-drop (omega arith))))
 
@@ -84,8 +96,8 @@ shared-slice-read-within c = search needs
 within-requires : tie.Need-within-requires
 within-requires c κs = search needs
 
-returns-4 : tie.Need-returns-4
-returns-4 c = sym (second-read (c .before) ∙ rw (not-true (c .before .within .result) (c .if4 .taken)))
+returns-5 : tie.Need-returns-5
+returns-5 c = sym (second-read (c .before) ∙ rw (not-true (c .before .within .result) (c .if5 .taken)))
 
 add-tails-at : tie.Need-add-tails-at
 add-tails-at c = search needs
@@ -93,18 +105,18 @@ add-tails-at c = search needs
 tails-at-requires : tie.Need-tails-at-requires
 tails-at-requires c κs = search needs
 
-returns-5 : tie.Need-returns-5
-returns-5 c =
+returns-6 : tie.Need-returns-6
+returns-6 c =
     sym (second-read (c .before .before .before)
-    ∙ rw (← (c .before .tails-at .ensures), not-true (c .before .tails-at .result) (c .if5 .taken), and-false))
+    ∙ rw (← (c .before .tails-at .ensures), not-true (c .before .tails-at .result) (c .if6 .taken), and-false))
 
 add-result : tie.Need-add-result
 add-result c = search needs
 
-returns-6 : tie.Need-returns-6
-returns-6 c =
+returns-7 : tie.Need-returns-7
+returns-7 c =
     sym (second-read (c .before .before .before)
-    ∙ rw (← (c .before .tails-at .ensures), not-false (c .before .before .before .within .result) (c .before .before .if4 .left), not-false (c .before .tails-at .result) (c .if5 .left)))
+    ∙ rw (← (c .before .tails-at .ensures), not-false (c .before .before .before .within .result) (c .before .before .if5 .left), not-false (c .before .tails-at .result) (c .if6 .left)))
 
 pub sequence-at-spec : {M : Type 1} → statement M
 sequence-at-spec =
@@ -115,15 +127,17 @@ sequence-at-spec =
     pair-at-requires
     returns-2
     rest-after-requires
-    sub-if3
-    add-if3
+    triple-at-requires
     returns-3
+    sub-if4
+    add-if4
+    returns-4
     add-within
     shared-slice-read-within
     within-requires
-    returns-4
+    returns-5
     add-tails-at
     tails-at-requires
-    returns-5
+    returns-6
     add-result
-    returns-6)
+    returns-7)

@@ -1,88 +1,65 @@
--- `utf8::valid_up_to` meets its contract. The loop's invariant: reading from the start stops as far on as reading from `at` does.
--- The measure is what is left of the length.
+-- `utf8::valid_up_to` meets its contract. The loop's invariant: reading passes what stands before `at`. The measure is what is left of the length.
 -- Assumes nothing.
-use Prim.Native.Nat.{ℕ, _+_, _-_, _≤_}
+use Prim.Native.Nat.{ℕ, _-_, _<_}
 use mathlib.Core.List.{List}
-use mathlib.Core.Path.{_≡_, refl, sym, _∙_}
-use native.Mathlib.Nat.{zero-add}
+use mathlib.Core.Logic.{⊎-elim}
+use mathlib.Core.Path.{_≡_}
+use native.Mathlib.Nat.{eq-or-lt-of-le}
 use native.Mathlib.Omega.{arith}
 use borrow.Author.Needs.{needs}
 use denote.Ref.{now}
 use lib.ListN.{length, drop, length-drop}
-use Rattle.utf8.specs.Valid.{validUpTo, Stops}
-use Rattle.utf8.proofs.ValidLaws.{leading-within, validUpTo-none, validUpTo-drop, validUpTo-stops, passes-none, passes-one}
+use Rattle.utf8.specs.Valid.{leading, validUpTo, Stops}
+use Rattle.utf8.specs.Steps.{Passes}
+use Rattle.utf8.proofs.ValidLaws.{validUpTo-none, validUpTo-stops, passes-none, passes-on}
 use Rattle.utf8.proofs.valid_up_to.Statement.{statement}
 use Rattle.utf8.proofs.valid_up_to.Tie as tie
 
 abbrev Inv-loop : tie.InvT-loop
-Inv-loop text at₀ at = (at ≤ length text) × (validUpTo text ≡ at + validUpTo (drop at text))
+Inv-loop text at₀ at = Passes text 0 at
 
 abbrev μ-loop : tie.MeasureT-loop
 μ-loop text at₀ at = length text - at
 
 loop-holds : tie.Need-loop-holds Inv-loop μ-loop
-loop-holds c = (omega arith, sym (zero-add _))
-
-shared-slice-read-first : tie.Need-shared-slice-read-first Inv-loop μ-loop
-shared-slice-read-first c = search needs
-
-sequence-at-requires : tie.Need-sequence-at-requires Inv-loop μ-loop
-sequence-at-requires c κs = search needs
-
--- the sequence at `at` ends within the text
-fits : (c : tie.After-sequence-at Inv-loop μ-loop) → let l = c .before .before .before .before in l .loop .at + c .sequence-at .result ≤ length (now (l .before .before .args .text))
-fits c =
-    let l = c .before .before .before .before in
-    let s = now (l .before .before .args .text) in
-    let at = l .loop .at in
-    omega (arith, leading-within (drop at s), length-drop at s)
-
-answer : (s : List ℕ) (r : ℕ) → r ≡ validUpTo s → (r ≡ validUpTo s) × Stops s r
-answer s r e = (e, rw e (validUpTo-stops s))
-
-returns : tie.Need-returns Inv-loop μ-loop
-returns c =
-    let l = c .before .before .before .before .before in
-    let s = now (l .before .before .args .text) in
-    let at = l .loop .at in
-    answer s at (omega (arith, validUpTo-none (drop at s) (sym (c .before .sequence-at .ensures) ∙ c .if2 .taken)))
-
-add-at : tie.Need-add-at Inv-loop μ-loop
-add-at c = omega (arith, fits (c .before))
-
-loop-less : tie.Need-loop-less Inv-loop μ-loop
-loop-less c = omega (arith, fits (c .before))
-
-loop-again : tie.Need-loop-again Inv-loop μ-loop
-loop-again c =
-    let l = c .before .before .before .before .before in
-    let s = now (l .before .before .args .text) in
-    let at = l .loop .at in
-    (fits (c .before), omega (arith, validUpTo-drop s at (c .before .sequence-at .result) (c .before .sequence-at .ensures)))
-
-add-ascii-after : tie.Need-add-ascii-after Inv-loop μ-loop
-add-ascii-after c = search needs
+loop-holds c = passes-none _ 0 (omega arith)
 
 ascii-after-requires : tie.Need-ascii-after-requires Inv-loop μ-loop
 ascii-after-requires c κs = search needs
 
-loop-less-2 : tie.Need-loop-less-2 Inv-loop μ-loop
-loop-less-2 c = omega (arith, c .ascii-after .ensures .onward, c .ascii-after .ensures .within)
+letters-after-requires : tie.Need-letters-after-requires Inv-loop μ-loop
+letters-after-requires c κs = search needs
 
--- the octet at `at` is of UTF8-1, and so are those up to where reading goes on
-loop-again-2 : tie.Need-loop-again-2 Inv-loop μ-loop
-loop-again-2 c =
-    let l = c .before .before .before .before in
-    let s = now (l .before .before .args .text) in
-    let at = l .loop .at in
-    let one = passes-one s at at (at + 1) refl (omega arith) (c .before .if1 .left) (passes-none s at (omega arith)) in
-    (c .ascii-after .ensures .within, omega (arith, one .reads, c .ascii-after .ensures .reads))
+-- no sequence begins where reading has come to
+answer : (s : List ℕ) (r : ℕ) → Passes s 0 r → (r < length s → leading (drop r s) ≡ 0) → (r ≡ validUpTo s) × Stops s r
+answer s r p none =
+    let stuck : validUpTo (drop r s) ≡ 0 =
+    ⊎-elim (λ h. omega (arith, validUpTo-stops (drop r s) .within, length-drop r s)) (λ h. validUpTo-none (drop r s) (none h)) (eq-or-lt-of-le (p .within))
+    in
+    let e : r ≡ validUpTo s = omega (arith, p .reads, stuck) in
+    (e, rw e (validUpTo-stops s))
+
+-- `at` is passed, and so are ASCII and the letters after it
+passed : (c : tie.After-letters-after Inv-loop μ-loop) → Passes (now (c .before .before .before .before .before .args .text)) 0 (c .letters-after .result)
+passed c = passes-on (c .before .before .before .loop .inv) (passes-on (c .before .ascii-after .ensures .0) (c .letters-after .ensures .0))
+
+returns : tie.Need-returns Inv-loop μ-loop
+returns c =
+    let ascii = c .before .before .ascii-after .ensures in
+    let letters = c .before .letters-after .ensures in
+    answer _ _ (passed (c .before)) (λ inside. letters .1 inside (rw (c .if1 .taken) (ascii .1 (omega arith))))
+
+loop-less : tie.Need-loop-less Inv-loop μ-loop
+loop-less c =
+    let ascii = c .before .before .ascii-after .ensures .0 in
+    let letters = c .before .letters-after .ensures .0 in
+    omega (arith, ascii .onward, letters .onward, letters .within)
+
+loop-again : tie.Need-loop-again Inv-loop μ-loop
+loop-again c = passed (c .before)
 
 returns-2 : tie.Need-returns-2 Inv-loop μ-loop
-returns-2 c =
-    let s = now (c .before .before .before .args .text) in
-    let at = c .before .loop .at in
-    answer s at (omega (arith, validUpTo-stops (drop at s) .within, length-drop at s))
+returns-2 c = answer _ _ (c .before .loop .inv) (λ inside. absurd (omega arith))
 
 pub valid-up-to-spec : {M : Type 1} → statement M
 valid-up-to-spec =
@@ -91,14 +68,9 @@ valid-up-to-spec =
     Inv-loop
     μ-loop
     loop-holds
-    shared-slice-read-first
-    sequence-at-requires
+    ascii-after-requires
+    letters-after-requires
     returns
-    add-at
     loop-less
     loop-again
-    add-ascii-after
-    ascii-after-requires
-    loop-less-2
-    loop-again-2
     returns-2)
