@@ -404,6 +404,30 @@ pub const ALL: &[Wrong] = &[
     ),
     wrong("overlong UTF-8", "utf8.rs", "[0xC2..=0xDF,", "[0xC0..=0xDF,"),
     wrong("UTF-8 beyond 10FFFF", "utf8.rs", "[0xF4, 0x80..=0x8F,", "[0xF4, 0x80..=0xBF,"),
+    wrong(
+        "eight bytes of text taken whatever the first is",
+        "utf8.rs",
+        "while let Some(length) = sequence_length(&text[at..])",
+        "while let Some(length) = text[at..].first_chunk::<8>().filter(|eight| eight[1..].is_ascii()).map(|_| 8).or_else(|| sequence_length(&text[at..]))",
+    ),
+    wrong(
+        "eight bytes of text taken whatever the last is",
+        "utf8.rs",
+        "while let Some(length) = sequence_length(&text[at..])",
+        "while let Some(length) = text[at..].first_chunk::<8>().filter(|eight| eight[..7].is_ascii()).map(|_| 8).or_else(|| sequence_length(&text[at..]))",
+    ),
+    wrong(
+        "the rest behind eight bytes of text taken unseen",
+        "utf8.rs",
+        "while let Some(length) = sequence_length(&text[at..])",
+        "while let Some(length) = (text[..at].len() >= 8 && (1..8).contains(&text[at..].len())).then(|| text[at..].len()).or_else(|| sequence_length(&text[at..]))",
+    ),
+    wrong(
+        "text refused at the first of eight bytes",
+        "utf8.rs",
+        "        at += length;\n    }\n    at\n",
+        "        at += length;\n    }\n    if text[..at].is_ascii() && at < text.len() { at / 8 * 8 } else { at }\n",
+    ),
     wrong("decimal bytes compared unsigned", "order.rs", "decimal::compare(a, b)", "Some(a.cmp(b))"),
     wrong("INT96 ordered", "order.rs", "column.physical == physical::INT96 || column", "column"),
     wrong(

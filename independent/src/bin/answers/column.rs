@@ -11,7 +11,7 @@ use independent::value::MAX_VALUE;
 use independent::{order, read, ColumnType, Order, Value};
 
 use crate::bytes::{put, put_size, Reader};
-use crate::wide;
+use crate::{plain_text, wide};
 
 const PHYSICAL: [&str; 8] = ["BOOLEAN", "INT32", "INT64", "INT96", "FLOAT", "DOUBLE", "BYTE_ARRAY", "FIXED"];
 const KINDS: [(u8, &str); 13] = [
@@ -57,6 +57,7 @@ pub fn input() -> Vec<u8> {
         vectors.add(column, &Bytes::all(vec![0]), Some(&Bytes::all(vec![])));
     }
     bad_texts(&mut vectors);
+    plain_texts(&mut vectors);
     let mut bytes = vectors.count.to_le_bytes().to_vec();
     bytes.extend(vectors.bytes);
     bytes
@@ -347,6 +348,17 @@ fn bad_texts(vectors: &mut Vectors) {
         // A wrong length of one beside bad text in the other.
         let too_long = Bytes::filled(MAX_VALUE + 1, b'a');
         vectors.add(column, &middle(b"\xFF"), Some(&too_long));
+    }
+}
+
+/// Plain texts of each length, and a bad byte at each place of one: read.
+fn plain_texts(vectors: &mut Vectors) {
+    let column = ColumnType { kind: STRING.into(), ..plain(BYTE_ARRAY) };
+    for length in 0..=plain_text::LONGEST {
+        vectors.add(column, &Bytes::all(plain_text::plain(length)), None);
+    }
+    for place in 0..plain_text::PLACES {
+        vectors.add(column, &Bytes::all(plain_text::with(plain_text::LONGEST, place, &[0x80])), None);
     }
 }
 

@@ -10,6 +10,7 @@ mod bytes;
 mod column;
 mod decimal_vectors;
 mod nodes;
+mod plain_text;
 mod random;
 mod random_trees;
 mod schema;

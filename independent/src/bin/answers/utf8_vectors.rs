@@ -6,6 +6,7 @@ use std::fmt::Write;
 use independent::utf8::valid_up_to;
 
 use crate::bytes::Reader;
+use crate::plain_text::{plain, with, LONGEST, PLACES};
 
 /// The examples of RFC 3629, sections 7 and 10, and the ends of each length of a sequence.
 const EXAMPLES: [&[u8]; 19] = [
@@ -43,6 +44,9 @@ const UNICODE: [&[u8]; 9] = [
     b"\xF4\x91\x92\x93\xFF\x41\x80\xBF\x42",
     b"\xE1\x80\xE2\xF0\x91\x92\xF1\xBF\x41",
 ];
+
+/// Octets of a text that is taken by eight, by 32 and by 64, and has some left over.
+const LONG: usize = 109;
 
 const TAIL: (u8, u8) = (0x80, 0xBF);
 /// The alternatives of the RFC's grammar, for bounds to be tried on both sides.
@@ -100,6 +104,29 @@ fn texts() -> Vec<Vec<u8>> {
     texts.push(long.clone());
     long.extend([0xED, 0xA0]);
     texts.push(long);
+    texts.extend(in_plain_text());
+    texts
+}
+
+/// Plain texts of each length, each with a bad octet at each place; octets and letters of each kind at each place; two bad octets, of which
+/// the first counts; the least and the greatest octet below 128; and longer texts, which are taken by more than eight octets.
+fn in_plain_text() -> Vec<Vec<u8>> {
+    let mut texts = Vec::new();
+    for length in 0..=LONGEST {
+        texts.push(plain(length));
+        texts.extend((0..length.min(PLACES)).map(|place| with(length, place, &[0x80])));
+    }
+    for place in 0..PLACES {
+        for octets in [&[0xFF][..], &[0xC2], "é".as_bytes(), "漢".as_bytes(), "𝄞".as_bytes()] {
+            texts.push(with(LONGEST, place, octets));
+        }
+        let mut two = with(LONGEST, place, &[0xBF]);
+        two[LONGEST - 1] = 0x80;
+        texts.push(two);
+    }
+    texts.extend([0x00, 0x7F].map(|octet| vec![octet; LONGEST]));
+    texts.push(plain(LONG));
+    texts.extend((PLACES..LONG).map(|place| with(LONG, place, &[0x80])));
     texts
 }
 
