@@ -30,6 +30,8 @@ pub enum Goal {
     Sheet { shape: &'static str, nodes: usize },
     /// The time of each of some contenders.
     TimeOf(&'static [&'static str]),
+    /// The same, and an eighth of the time of one more.
+    EighthOf(&'static str, &'static [&'static str]),
     /// A decimal of 16 bytes.
     Decimal,
     /// The same cost at every precision of a physical type.

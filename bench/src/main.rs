@@ -9,6 +9,7 @@ mod integers;
 mod linked;
 mod measured;
 mod native;
+mod pair_loop;
 mod random;
 mod shapes;
 mod sheet_cases;

@@ -29,6 +29,10 @@ pub fn print(measured: &[Measured]) {
         match one.case.goal {
             Goal::Sheet { nodes: MOST_NODES, .. } => lines.extend(sheet(one)),
             Goal::TimeOf(names) => lines.extend(names.iter().filter_map(|name| time_of(one, name))),
+            Goal::EighthOf(name, names) => {
+                lines.extend(eighth_of(one, name));
+                lines.extend(names.iter().filter_map(|name| time_of(one, name)));
+            }
             Goal::Decimal => lines.push(decimal(one)),
             Goal::Sheet { .. } | Goal::Precision(_) | Goal::None => {}
         }
@@ -62,6 +66,12 @@ fn time_of(one: &Measured, name: &str) -> Option<Line> {
     let times = one.library().times.over(&one.of(name)?.times);
     let to_reach = format!("the time of {name}, or less");
     Some(line(one, &to_reach, format!("{times:.2} times"), times <= TOLERANCE))
+}
+
+fn eighth_of(one: &Measured, name: &str) -> Option<Line> {
+    let times = one.library().times.over(&one.of(name)?.times);
+    let to_reach = format!("an eighth of the time of {name}, or less");
+    Some(line(one, &to_reach, format!("{times:.3} times"), times <= TOLERANCE / 8.0))
 }
 
 fn decimal(one: &Measured) -> Line {

@@ -7,6 +7,7 @@ use independent::codes::{logical, physical};
 use crate::byte_loop::{is_utf8_by_match, is_utf8_by_sequence, is_utf8_by_table};
 use crate::case::{Case, Contender, Goal, INDEPENDENT, LIBRARY};
 use crate::linked::{self, answer, answer_of, ColumnType};
+use crate::pair_loop;
 use crate::random::Random;
 
 /// Bytes of a text, the most that a value has.
@@ -22,20 +23,26 @@ const BY_SEQUENCE: &str = "byte loop, by sequence";
 const BY_MATCH: &str = "byte loop, state by match";
 const BY_TABLE: &str = "byte loop, state by table";
 const FROM_UTF8: &str = "str::from_utf8";
+/// The name of the library's own way before it took ASCII eight bytes at a time. Its time is to be reached too, and in ASCII an eighth
+/// of it.
+const BY_PAIRS: &str = "two bytes in a turn, as before";
+const IN_ASCII: Goal = Goal::EighthOf(BY_PAIRS, &[BY_SEQUENCE, BY_MATCH, BY_TABLE]);
+const IN_LETTERS: Goal = Goal::TimeOf(&[BY_SEQUENCE, BY_MATCH, BY_TABLE, BY_PAIRS]);
 
 pub fn cases() -> Vec<Case<'static>> {
     let mut random = Random::new(5);
     let texts = [
-        ("ASCII", text(|_| random.between(0x20, 0x7F) as u32)),
-        ("letters of two bytes", text(|_| random.between(0x400, 0x460) as u32)),
-        ("letters of three bytes", text(|_| random.between(0x4E00, 0x9FA6) as u32)),
+        ("ASCII", IN_ASCII, text(|_| random.between(0x20, 0x7F) as u32)),
+        ("letters of two bytes", IN_LETTERS, text(|_| random.between(0x400, 0x460) as u32)),
+        ("letters of three bytes", IN_LETTERS, text(|_| random.between(0x4E00, 0x9FA6) as u32)),
         (
             "ASCII, one letter of two bytes in each 16",
+            IN_LETTERS,
             text(|at| if at % 16 == 0 { 0xE9 } else { random.between(0x61, 0x7B) as u32 }),
         ),
-        ("letters of one to four bytes, mixed", text(|_| mixed(&mut random))),
+        ("letters of one to four bytes, mixed", IN_LETTERS, text(|_| mixed(&mut random))),
     ];
-    texts.into_iter().map(|(words, text)| case(words, text)).collect()
+    texts.into_iter().map(|(words, goal, text)| case(words, goal, text)).collect()
 }
 
 /// A text of such letters, by where each starts, that ends with ASCII where no other letter fits.
@@ -54,7 +61,7 @@ fn mixed(random: &mut Random) -> u32 {
     random.between(from, to) as u32
 }
 
-fn case(words: &str, text: Vec<u8>) -> Case<'static> {
+fn case(words: &str, goal: Goal, text: Vec<u8>) -> Case<'static> {
     agree(&text, true);
     for at in [0, 1000, LENGTH / 2 + 1, LENGTH - 1] {
         let mut changed = text.clone();
@@ -71,16 +78,10 @@ fn case(words: &str, text: Vec<u8>) -> Case<'static> {
         contender(BY_SEQUENCE, &text, is_utf8_by_sequence),
         contender(BY_MATCH, &text, is_utf8_by_match),
         contender(BY_TABLE, &text, is_utf8_by_table),
+        contender(BY_PAIRS, &text, pair_loop::valid_up_to),
     ];
     let input = format!("STRING of 65,536 bytes: {words}");
-    Case {
-        entry: "read",
-        input,
-        item: "byte",
-        items: LENGTH,
-        goal: Goal::TimeOf(&[BY_SEQUENCE, BY_MATCH, BY_TABLE]),
-        contenders,
-    }
+    Case { entry: "read", input, item: "byte", items: LENGTH, goal, contenders }
 }
 
 fn contender<R>(name: &'static str, text: &[u8], work: impl Fn(&[u8]) -> R + 'static) -> Contender<'static> {
@@ -104,4 +105,5 @@ fn agree(text: &[u8], valid: bool) {
     assert_eq!(is_utf8_by_sequence(text), valid);
     assert_eq!(is_utf8_by_match(text), valid);
     assert_eq!(is_utf8_by_table(text), valid);
+    assert_eq!(pair_loop::valid_up_to(text), stop.map_or_else(|stop| stop as usize, |text| text.len()));
 }
