@@ -48,15 +48,12 @@ fn letters_after(text: &[u8], from: usize) -> usize
     at
 }
 
-// How many octets the sequence that starts at `at` has; 0 where none starts there. No octet is looked at twice.
+// How many octets the sequence has that starts at `at` with an octet above UTF8-1; 0 where none starts there. No octet is looked at twice.
 fn sequence_at(text: &[u8], at: usize) -> usize
-    requires { ⌜ at < length (now text) ⌝ }
+    requires { do ⌜ (at < length (now text)) × ((← ⟦UTF8_1_LAST⟧) < getD (now text) at 0) ⌝ }
     ensures { λ r. ⌜ r ≡ leading (drop at (now (text .entry))) ⌝ }
 {
     let first = text[at];
-    if first <= UTF8_1_LAST {
-        return 1;
-    }
     if first <= UTF8_2_LAST {
         return pair_at(text, at);
     }

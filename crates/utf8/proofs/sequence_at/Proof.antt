@@ -14,29 +14,28 @@ use lib.Seq.{drop-cons}
 use Rattle.utf8.specs.Sequence.{_to_, tail, spells}
 use Rattle.utf8.specs.Valid.{leading}
 use Rattle.utf8.proofs.SequenceLaws.{spells-at, spells-cut}
-use Rattle.utf8.proofs.ValidLaws.{leading-ascii}
 use Rattle.utf8.proofs.sequence_at.Statement.{statement}
 use Rattle.utf8.proofs.sequence_at.Tie as tie
 
 -- a sequence starts where the octets after the first are those that may follow it
 first-read : (c : tie.After-rest-after)
-    → let a = c .before .before .before .before .before .args in
+    → let a = c .before .before .before .before .args in
     let rest = c .rest-after .result in
     leading (drop (a .at) (now (a .text)))
     ≡ cond (spells (rest .low to rest .high ∷ replicate (rest .tails) tail) (take (suc (rest .tails)) (drop (a .at + 1) (now (a .text))))) (rest .tails + 2) 0
 first-read c =
-    let a = c .before .before .before .before .before .args in
+    let a = c .before .before .before .before .args in
     let h : a .at < length (now (a .text)) = omega arith in
     rw add-one (ap leading (drop-cons (now (a .text)) (a .at) 0 h) ∙ c .rest-after .ensures .1 (drop (suc (a .at)) (now (a .text))))
 
 -- the test of the second octet decides together with the octets after that
 second-read : (c : tie.After-within)
-    → let a = c .before .before .before .before .before .before .before .before .before .args in
+    → let a = c .before .before .before .before .before .before .before .before .args in
     let rest = c .before .before .before .before .rest-after .result in
     leading (drop (a .at) (now (a .text)))
     ≡ cond (c .within .result && spells (replicate (rest .tails) tail) (take (rest .tails) (drop (a .at + 2) (now (a .text))))) (rest .tails + 2) 0
 second-read c =
-    let a = c .before .before .before .before .before .before .before .before .before .args in
+    let a = c .before .before .before .before .before .before .before .before .args in
     let rest = c .before .before .before .before .rest-after .result in
     first-read (c .before .before .before .before)
     ∙ ap (λ (t : Bool). cond t (rest .tails + 2) 0)
@@ -48,14 +47,11 @@ second-read c =
 shared-slice-read-first : tie.Need-shared-slice-read-first
 shared-slice-read-first c = search needs
 
-returns : tie.Need-returns
-returns c = let a = c .before .before .before .args in sym (leading-ascii (now (a .text)) (a .at) (omega arith) (omega arith))
-
 pair-at-requires : tie.Need-pair-at-requires
 pair-at-requires c κs = search needs
 
-returns-2 : tie.Need-returns-2
-returns-2 c = c .pair-at .ensures
+returns : tie.Need-returns
+returns c = c .pair-at .ensures
 
 rest-after-requires : tie.Need-rest-after-requires
 rest-after-requires c κs = search needs
@@ -64,23 +60,23 @@ triple-at-requires : tie.Need-triple-at-requires
 triple-at-requires c κs = search needs
 
 -- one octet of UTF8-tail comes after the second
-returns-3 : tie.Need-returns-3
-returns-3 c =
-    let a = c .before .before .before .before .before .before .before .args in
+returns-2 : tie.Need-returns-2
+returns-2 c =
+    let a = c .before .before .before .before .before .before .args in
     let rest = c .before .before .rest-after .result in
     let after = drop (a .at + 1) (now (a .text)) in
-    let one = ap (λ (n : ℕ). cond (spells (rest .low to rest .high ∷ replicate n tail) (take (suc n) after)) (n + 2) 0) (c .before .if3 .taken) in
+    let one = ap (λ (n : ℕ). cond (spells (rest .low to rest .high ∷ replicate n tail) (take (suc n) after)) (n + 2) 0) (c .before .if2 .taken) in
     c .triple-at .ensures ∙ sym (first-read (c .before .before) ∙ one)
 
-sub-if4 : tie.Need-sub-if4
-sub-if4 c = search needs
+sub-if3 : tie.Need-sub-if3
+sub-if3 c = search needs
 
-add-if4 : tie.Need-add-if4
-add-if4 c = search needs
+add-if3 : tie.Need-add-if3
+add-if3 c = search needs
 
-returns-4 : tie.Need-returns-4
-returns-4 c =
-    let a = c .before .before .before .before .before .before .before .args in
+returns-3 : tie.Need-returns-3
+returns-3 c =
+    let a = c .before .before .before .before .before .before .args in
     let rest = c .before .before .rest-after .result in
     sym
     (first-read (c .before .before)
@@ -96,8 +92,8 @@ shared-slice-read-within c = search needs
 within-requires : tie.Need-within-requires
 within-requires c κs = search needs
 
-returns-5 : tie.Need-returns-5
-returns-5 c = sym (second-read (c .before) ∙ rw (not-true (c .before .within .result) (c .if5 .taken)))
+returns-4 : tie.Need-returns-4
+returns-4 c = sym (second-read (c .before) ∙ rw (not-true (c .before .within .result) (c .if4 .taken)))
 
 add-tails-at : tie.Need-add-tails-at
 add-tails-at c = search needs
@@ -105,39 +101,38 @@ add-tails-at c = search needs
 tails-at-requires : tie.Need-tails-at-requires
 tails-at-requires c κs = search needs
 
-returns-6 : tie.Need-returns-6
-returns-6 c =
+returns-5 : tie.Need-returns-5
+returns-5 c =
     sym (second-read (c .before .before .before)
-    ∙ rw (← (c .before .tails-at .ensures), not-true (c .before .tails-at .result) (c .if6 .taken), and-false))
+    ∙ rw (← (c .before .tails-at .ensures), not-true (c .before .tails-at .result) (c .if5 .taken), and-false))
 
 add-result : tie.Need-add-result
 add-result c = search needs
 
-returns-7 : tie.Need-returns-7
-returns-7 c =
+returns-6 : tie.Need-returns-6
+returns-6 c =
     sym (second-read (c .before .before .before)
-    ∙ rw (← (c .before .tails-at .ensures), not-false (c .before .before .before .within .result) (c .before .before .if5 .left), not-false (c .before .tails-at .result) (c .if6 .left)))
+    ∙ rw (← (c .before .tails-at .ensures), not-false (c .before .before .before .within .result) (c .before .before .if4 .left), not-false (c .before .tails-at .result) (c .if5 .left)))
 
 pub sequence-at-spec : {M : Type 1} → statement M
 sequence-at-spec =
     tie.close
     (tie.spec
     shared-slice-read-first
-    returns
     pair-at-requires
-    returns-2
+    returns
     rest-after-requires
     triple-at-requires
+    returns-2
+    sub-if3
+    add-if3
     returns-3
-    sub-if4
-    add-if4
-    returns-4
     add-within
     shared-slice-read-within
     within-requires
-    returns-5
+    returns-4
     add-tails-at
     tails-at-requires
-    returns-6
+    returns-5
     add-result
-    returns-7)
+    returns-6)
