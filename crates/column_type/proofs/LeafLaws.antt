@@ -25,9 +25,10 @@ use Rattle.schema.specs.Demand.{IsTreeOf, Sound}
 use Rattle.tree.specs.declared.place.Place.{Place}
 use Rattle.tree.specs.declared.place.Place.the-variants.{Root}
 use Rattle.schema.specs.declared.roles.Parent.{Parent}
-use Rattle.schema.specs.declared.roles.Parent.the-variants as parent
 use Rattle.schema.proofs.AcceptedLaws.{accepted-sound, accepted-rows}
-use Rattle.schema.proofs.NodeRowLaws.{BeginsWith, row-at}
+use Rattle.schema.specs.Roles.{ascent}
+use Rattle.schema.proofs.RewrittenTreeLaws.{rewrittenTree}
+use Rattle.schema.proofs.NodeRowLaws.{NodeRow, node-row}
 use Rattle.schema.proofs.DemandLaws.{size-is}
 use Rattle.column_type.specs.Lawful.{isLeaf, isLawful}
 use Rattle.column_type.specs.Leaf.{columnOf, columnAt, IsLeafOf, HasLeaf}
@@ -89,11 +90,10 @@ module _ (c : ColumnType) (sheet lent : List ℕ) (k : ℕ) (h : IsLeafOf c shee
   below-size = omega (arith, size-is sheet (tree .0) (tree .1), h .below)
 
   -- its row stands at 11k
-  begins : BeginsWith (slotAt sheet k) (drop (rowWidth * k) (written (outcome sheet (length lent)) sheet lent))
-  unfolding rows
+  begins : NodeRow (slotAt sheet k) (getD (listing (rewrittenTree Root (tree .0))) k []) (ascent (tree .0) k) (drop (rowWidth * k) (written (outcome sheet (length lent)) sheet lent))
   begins =
       rw (tree .2, ← slot-listed)
-      (row-at (tree .0) Root parent.Other 0 0 [] [] (drop (rowWidth * totalOf sheet) lent) (tree .1 .keeps) refl k below-size)
+      (node-row (tree .0) (tree .1 .keeps) (drop (rowWidth * totalOf sheet) lent) k below-size)
 
   column-is : c ≡ columnWith (annotated (slotAt sheet k)) (kind (underMap (begins .place)) (slotAt sheet k))
   unfolding columnAt

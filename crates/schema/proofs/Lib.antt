@@ -11,10 +11,13 @@ pub mod RewrittenSlotLaws
 pub mod RewritingSteps
 pub mod RewrittenTreeLaws
 pub mod RewrittenRowsLaws
+pub mod AscentLaws
 pub mod RewrittenLaws
 pub mod RewriteLaws
 pub mod RewriteDemandLaws
 pub mod AcceptedLaws
 pub mod NodeRowLaws
+pub mod RoleLaws
+pub mod WrittenBackLaws
 pub mod RowKindLaws
 pub mod NodeLevelsLaws

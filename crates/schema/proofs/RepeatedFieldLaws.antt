@@ -26,10 +26,10 @@ unfolding rule13 mapKept
 repeated-map p s fs m r = rw (m, r)
 
 -- so a repeated node that keeps the rules is neither
-no-list : (p : Place) (s : SlotBytes) (fs : Fields) → KeepsAt p s fs → repetition s ≡ REPEATED → isList p s ≡ false
+pub no-list : (p : Place) (s : SlotBytes) (fs : Fields) → KeepsAt p s fs → repetition s ≡ REPEATED → isList p s ≡ false
 no-list p s fs h r = by-test (isList p s) (λ l. absurd (true≢false (sym (h .lists) ∙ repeated-list p s fs l r))) (λ l. l)
 
-no-map : (p : Place) (s : SlotBytes) (fs : Fields) → KeepsAt p s fs → repetition s ≡ REPEATED → isMap p s ≡ false
+pub no-map : (p : Place) (s : SlotBytes) (fs : Fields) → KeepsAt p s fs → repetition s ≡ REPEATED → isMap p s ≡ false
 no-map p s fs h r = by-test (isMap p s) (λ m. absurd (true≢false (sym (h .maps) ∙ repeated-map p s fs m r))) (λ m. m)
 
 module _ (list layer s : SlotBytes) (fs : Fields) (g : isGroup (physical layer) ≡ true) (l : repetition layer ≡ REPEATED) where

@@ -62,7 +62,7 @@ module _ (b : List ℕ) (lawful : judgement b ≡ Verdict.Lawful) where
   unfolding slots
   every-long = each-slotsFrom LongSlot (totalOf b) b 0 (λ j l h. omega (arith, slotAt-length b j))
 
-  long : Long t
+  pub long : Long t
   long = long-listing t (subst (Each LongSlot) (sym (tree .lists)) every-long)
 
   count-is : length rs ≡ totalOf b
@@ -75,11 +75,11 @@ module _ (b : List ℕ) (lawful : judgement b ≡ Verdict.Lawful) where
       reaches-true b j (omega (arith, openOf-total b (opened .0) (opened .1), openOf-most b (opened .0) (opened .1)))
       (slotStart-within b j (omega (arith, openOf-total b (opened .0) (opened .1), openOf-within b (opened .0) (opened .1))))
 
-  total-is : totalOf (rewritten b) ≡ totalOf b
+  pub total-is : totalOf (rewritten b) ≡ totalOf b
   total-is = totalOf-same (rewritten b) b (rewritten-headers b)
 
   -- the slots of the rewritten sheet are those of the rewritten tree
-  slots-are : slots (rewritten b) ≡ listing (rewrittenTree Root t)
+  pub slots-are : slots (rewritten b) ≡ listing (rewrittenTree Root t)
   unfolding slots rewritten
   slots-are =
       ap (slotsFrom (rewritten b) 0) (total-is ∙ sym count-is)

@@ -5,10 +5,17 @@ use mathlib.Core.List.{List}
 use lib.ListN.{length}
 use Rattle.sheet.specs.Block.{totalOf}
 use Rattle.sheet.specs.Opening.{BlocksSound, SlotsSound}
-use Rattle.sheet.specs.Slot.{physical, repetition, childCount, typeLength, scale, precision, name, slots}
+use Rattle.parquet.specs.Converted as converted
+use Rattle.parquet.specs.Logical as logical
+use Rattle.logical_type.specs.Parameters.{UNUSED}
+use Rattle.logical_type.specs.Spelling.{statedOf}
+use Rattle.logical_type.specs.Forward.{imageOf}
+use Rattle.annotation.specs.Kinds.{PLAIN-LEAF, PLAIN-GROUP}
+use Rattle.annotation.specs.declared.resolution.Kind.{Kind}
+use Rattle.sheet.specs.Slot.{physical, repetition, converted as convertedOf, logical as logicalOf, parameterA, parameterB, childCount, typeLength, scale, precision, name, slots}
 use Rattle.tree.specs.Tree.{SlotBytes, Tree, AtMostDeep, Claims, listing, mostDepth}
 use Rattle.tree.specs.Rules.{Keeps}
-use Rattle.schema.specs.Rows.{rowWidth}
+use Rattle.schema.specs.Rows.{rowWidth, numberIn}
 use Rattle.tree.specs.declared.place.Place.the-variants.{Root}
 use Rattle.schema.specs.declared.resolving.Resolved.{Resolved}
 use Rattle.schema.specs.declared.rewriting.Rewritten.{Rewritten}
@@ -51,3 +58,34 @@ pub record Copied (copy s : SlotBytes) : Type 0 where
   pub scale-is : scale copy ≡ scale s
   pub precision-is : precision copy ≡ precision s
   pub name-is : name copy ≡ name s
+
+-- the kind, p1 and p2 in the row of node k
+abbrev pub kindIn : List ℕ → ℕ → Kind
+kindIn numbers k = record { kind = numberIn numbers k 3; p1 = numberIn numbers k 4; p2 = numberIn numbers k 5 }
+
+-- a slot with such a converted type alone, or with none: no logical type and no parameters
+pub record ConvertedAlone (code : ℕ) (s : SlotBytes) : Type 0 where
+  pub converted-is : convertedOf s ≡ code
+  pub logical-is : logicalOf s ≡ logical.NONE
+  pub a-is : parameterA s ≡ UNUSED
+  pub b-is : parameterB s ≡ UNUSED
+
+abbrev pub Bare : SlotBytes → Type 0
+Bare s = ConvertedAlone converted.NONE s
+
+-- a slot with a logical type, "its parameters and its forward image": those of the kind in its node's row, in which a DECIMAL has precision and scale
+pub record WithLogical (k : Kind) (s : SlotBytes) : Type 0 where
+  pub logical-is : logicalOf s ≡ k .kind
+  pub a-is : (k .kind ≡ logical.DECIMAL → ⊥) → parameterA s ≡ k .p1
+  pub b-is : (k .kind ≡ logical.DECIMAL → ⊥) → parameterB s ≡ k .p2
+  pub decimal-a : k .kind ≡ logical.DECIMAL → parameterA s ≡ UNUSED
+  pub decimal-b : k .kind ≡ logical.DECIMAL → parameterB s ≡ UNUSED
+  pub image-is : convertedOf s ≡ imageOf (statedOf (logicalOf s) (parameterA s) (parameterB s))
+
+-- what a rewritten slot has, by the kind in its node's row: "every resolved logical annotation with its parameters and its forward image; INTERVAL keeps
+-- converted alone", and a node without annotation has none
+pub record WrittenBack (k : Kind) (s : SlotBytes) : Type 0 where
+  pub plain-leaf : k .kind ≡ PLAIN-LEAF → Bare s
+  pub plain-group : k .kind ≡ PLAIN-GROUP → Bare s
+  pub interval : k .kind ≡ converted.INTERVAL → ConvertedAlone converted.INTERVAL s
+  pub any-other : (k .kind ≡ PLAIN-LEAF → ⊥) → (k .kind ≡ PLAIN-GROUP → ⊥) → (k .kind ≡ converted.INTERVAL → ⊥) → WithLogical k s

@@ -4,4 +4,5 @@ pub mod Rows
 pub mod Outcome
 pub mod Rewriting
 pub mod Demand
+pub mod Roles
 pub mod Steps
