@@ -6,3 +6,4 @@ pub mod DecimalLaws
 pub mod LengthLaws
 pub mod ReadingLaws
 pub mod PlaceLaws
+pub mod PromiseLaws

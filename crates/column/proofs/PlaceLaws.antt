@@ -16,7 +16,7 @@ use Rattle.parquet.specs.Physical.{BYTE-ARRAY}
 use Rattle.parquet.specs.Logical.{STRING, ENUM, DECIMAL, UNKNOWN, JSON}
 use Rattle.column_type.specs.Lawful.{isLawful}
 use Rattle.column_type.specs.declared.types.ColumnType.{ColumnType}
-use Rattle.column_type.proofs.TextLaws.{string-bytes, enum-bytes, json-bytes}
+use Rattle.column_type.proofs.PlacementLaws.{string-bytes, enum-bytes, json-bytes}
 use Rattle.column.specs.Lengths.{mostBytes, isByteForm, lengthRight}
 use Rattle.column.specs.Annotations.{isText, bytesKeep, annotationPlace, keeps}
 use Rattle.column.specs.Reading.{valueOf, checked, readOf}
@@ -97,7 +97,7 @@ text-cases {A} kind e f g h = first (eqb kind STRING) refl (eqb kind ENUM) refl
     first false p false q = h (eqb-true kind JSON (rw (p, q) at e))
 
 -- text is BYTE_ARRAY in every lawful column
-text-form : (c : ColumnType) → isLawful c ≡ true → isText (c .kind) ≡ true → c .physical ≡ BYTE-ARRAY
+pub text-form : (c : ColumnType) → isLawful c ≡ true → isText (c .kind) ≡ true → c .physical ≡ BYTE-ARRAY
 text-form c l e = text-cases (c .kind) e (string-bytes c l) (enum-bytes c l) (json-bytes c l)
 
 -- and neither a DECIMAL nor UNKNOWN
@@ -105,11 +105,11 @@ text-kind : (kind : ℕ) → isText kind ≡ true → (eqb kind DECIMAL ≡ fals
 text-kind kind e = text-cases kind e (λ k. rw k (refl, refl)) (λ k. rw k (refl, refl)) (λ k. rw k (refl, refl))
 
 module _ (c : ColumnType) (bs : List ℕ) (lawful : isLawful c ≡ true) (text : isText (c .kind) ≡ true) where
-  text-place : annotationPlace c bs ≡ validUpTo bs
+  pub text-place : annotationPlace c bs ≡ validUpTo bs
   unfolding annotationPlace
   text-place = rw (text-form c lawful text, text)
 
-  text-keeps : keeps c bs ≡ eqb (validUpTo bs) (length bs)
+  pub text-keeps : keeps c bs ≡ eqb (validUpTo bs) (length bs)
   unfolding keeps bytesKeep
   text-keeps = rw (text-form c lawful text, text-kind (c .kind) text .1, text-kind (c .kind) text .0, text)
 

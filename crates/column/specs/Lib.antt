@@ -4,3 +4,4 @@ pub mod Lengths
 pub mod Annotations
 pub mod Reading
 pub mod Outcome
+pub mod Promises

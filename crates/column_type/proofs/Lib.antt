@@ -10,4 +10,4 @@ pub mod SpeltLaws
 pub mod LawfulLaws
 pub mod Points
 pub mod DecimalLaws
-pub mod TextLaws
+pub mod PlacementLaws
