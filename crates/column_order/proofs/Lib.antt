@@ -5,5 +5,6 @@ pub mod ByteLaws
 pub mod FloatLaws
 pub mod KeyLaws
 pub mod OrderLaws
+pub mod PromiseLaws
 pub mod DecimalLaws
 pub mod FaultLaws

@@ -4,3 +4,4 @@ pub mod Values
 pub mod Order
 pub mod Comparison
 pub mod Outcome
+pub mod Promises
