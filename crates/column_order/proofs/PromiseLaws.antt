@@ -177,12 +177,12 @@ module _ (c : ColumnType) (ordered : hasOrder c ≡ true) (a b : List ℕ) (p : 
     unfolding keyOrder
     format-unordered = (
       λ e. by-test (ltb (ones f * hid f) (little a % top f)) (λ t. inl (ltb-true (ones f * hid f) (little a % top f) t))
-      (λ t. by-test (ltb (ones f * hid f) (little b % top f)) (λ u. inr (ltb-true (ones f * hid f) (little b % top f) u))
-      (λ u. absurd
-      (ordered-numbers (bitsBelow (top f) (little a)) (bitsBelow (top f) (little b))
-      (sym (ap₂ keyOrder (number-key a (λ h. ltb-no (ones f * hid f) (little a % top f) t h)) (number-key b (λ h. ltb-no (ones f * hid f) (little b % top f) u h)))
-      ∙ sym (order-keys c ordered a b p q)
-      ∙ e)))),
+          (λ t. by-test (ltb (ones f * hid f) (little b % top f)) (λ u. inr (ltb-true (ones f * hid f) (little b % top f) u))
+          (λ u. absurd
+          (ordered-numbers (bitsBelow (top f) (little a)) (bitsBelow (top f) (little b))
+          (sym (ap₂ keyOrder (number-key a (λ h. ltb-no (ones f * hid f) (little a % top f) t h)) (number-key b (λ h. ltb-no (ones f * hid f) (little b % top f) u h)))
+          ∙ sym (order-keys c ordered a b p q)
+          ∙ e)))),
       nan-either,
     )
       where

@@ -11,6 +11,13 @@ use Rattle.column_order.proofs.FloatLaws.{floatOrder-bits}
 use Rattle.decimal.proofs.FitLaws.{fitOf-exactly}
 use Rattle.utf8.proofs.ValidLaws.{validUpTo-length}
 use Rattle.timestamp.proofs.CountLaws.{decodes-one, encoding-decoded, decoding-encoded}
+use lib.ListN.{length}
+use Rattle.timestamp.specs.Units.{unitOf}
+use Rattle.c_api.specs.Values.{reading}
+use Rattle.c_api.specs.Timestamps.{encoding}
+use Rattle.c_api.proofs.PromiseLaws.{promised}
+use Rattle.demands.proofs.RefusalLaws as sheets
+use Rattle.demands.proofs.ValueRefusalLaws as values
 use Rattle.demands.specs.Demand1.{Demand1}
 use Rattle.demands.specs.Demand2.{Demand2}
 use Rattle.demands.specs.Demand3.{Demand3}
@@ -18,11 +25,32 @@ use Rattle.demands.specs.Demand3.{Demand3}
 pub demand1 : Demand1
 demand1 =
     record {
-      refused-resolving = demand.refused-resolving;
-      refused-rewriting = rewriting.refused-rewriting;
-      rows-unchanged = demand.refused-unchanged;
-      output-unchanged = rewrite-kept;
-      decoding-one = decodes-one;
+      chosen =
+          record {
+            opening = sheets.opening-first;
+            judging = sheets.judging-first;
+            resolving = sheets.resolving-first;
+            rewriting = sheets.rewriting-first;
+            slot-resolving = sheets.slot-first;
+            slot-rewriting = sheets.slot-rewriting-first;
+            reading = values.reading-first;
+            ordering = values.ordering-first;
+            decoding = values.decoding-first;
+            decoding-one = λ unit count o o′. decodes-one (unitOf unit) count o o′;
+            encoding = values.encoding-first;
+            c-reading = values.c-reading-first;
+            c-decoding = values.c-decoding-first;
+            c-encoding = values.c-encoding-first;
+          };
+      unchanged =
+          record {
+            rows = demand.refused-unchanged;
+            output = rewrite-kept;
+            c-value = λ c bs lent. values.refused-left (reading c bs (length lent)) lent;
+            c-count = λ unit numbers lent. values.refused-left (encoding unit numbers (length lent)) lent;
+            c-fields = values.fields-left;
+            c-interface = promised;
+          };
     }
 
 pub demand2 : Demand2

@@ -1,5 +1,7 @@
 -- The proofs of what `specs/` states, each a citation or a computation.
 pub mod Entries
+pub mod RefusalLaws
+pub mod ValueRefusalLaws
 pub mod Demands
 pub mod TimePoints
 pub mod ColumnPoints

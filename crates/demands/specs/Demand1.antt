@@ -1,40 +1,89 @@
--- Demand 1. "Any bytes may be offered to any public entry. Each call ends with the result or one numbered refusal, chosen in the order document 01
--- states. A refusal changes no lent buffer."
+-- Demand 1. "Any bytes may be offered to any public entry, with no condition on the caller. Each call ends with the result or one numbered refusal, chosen in the
+-- order document 01 states. A refusal changes no lent buffer."
 --
--- What an entry answers is a function of what it is given, for any bytes, any numbers and any lent memory; that the code gives just that is the entry's
--- contract, which `proofs/Entries` cites for each. These are the functions:
---
---     tree::judge          judgement        refusals 1 to 13 of a sheet, in their order (`tree/specs/Judgement`)
---     schema::resolve      outcome          the same, then 14; `written` is what the lent numbers hold at the end (`schema/specs/Outcome`)
---     schema::rewrite      rewriteOutcome   the same for the rewritten sheet, with `rewriteWritten` (`schema/specs/Rewriting`)
---     column::read         outcome          20, 15, 16 of a value (`column/specs/Outcome`)
---     column_order::order  outcome          20, 17, then each value's (`column_order/specs/Outcome`)
---     timestamp::decode    Decodes          20 of a unit (`timestamp/specs/Outcomes`); a relation that one outcome meets
---     timestamp::encode    encoding         20, 18, 19 (`timestamp/specs/Outcomes`)
-use Prim.Native.Nat.{ℕ}
+-- "Any bytes may be offered to any public entry, with no condition on the caller": no public function has a `requires`, and `proofs/Entries` cites each entry's
+-- contract for any arguments. The contract gives the answer, and what lent memory holds at the end, as the outcome that is named here; `Ends` says what
+-- each outcome ends with.
+use Prim.Native.Nat.{ℕ, _≤_, _<_}
 use mathlib.Core.Path.{_≡_}
-use mathlib.Core.Option.{Option}
-use mathlib.Core.List.{List}
+use mathlib.Core.Bool.{Bool}
+use mathlib.Core.List.{List, [], _∷_}
 use lib.IntN.{ℤ}
 use lib.ListN.{length}
+use Rattle.sheet.specs.Block.{totalOf}
+use Rattle.sheet.specs.Opening as opened
+use Rattle.annotation.specs.Kinds.{kindOf}
+use Rattle.annotation.specs.Rewriting.{writtenOf}
+use Rattle.annotation.specs.Rewriting as annotation_rewriting
+use Rattle.annotation.specs.Outcome as annotation
+use Rattle.annotation.specs.declared.slot.Annotated.{Annotated}
 use Rattle.tree.specs.Judgement.{judgement}
 use Rattle.tree.specs.declared.refusal.Refusal.{Refusal}
-use Rattle.tree.specs.declared.refusal.Verdict.{Verdict}
-use Rattle.schema.specs.Outcome.{outcome, written}
+use Rattle.schema.specs.Outcome as schema
+use Rattle.schema.specs.Outcome.{written}
 use Rattle.schema.specs.Rewriting.{rewriteOutcome, rewriteWritten}
 use Rattle.schema.specs.declared.resolving.Resolved.{Resolved}
 use Rattle.schema.specs.declared.rewriting.Rewritten.{Rewritten}
-use Rattle.timestamp.specs.Units.{TimeUnit}
+use Rattle.column_type.specs.declared.types.ColumnType.{ColumnType}
+use Rattle.column.specs.Outcome as column
+use Rattle.column.specs.Reading.{valueOf}
+use Rattle.column_order.specs.Outcome as column_order
+use Rattle.column_order.specs.Outcome.{Relation}
+use Rattle.timestamp.specs.Units.{TimeUnit, unitOf}
+use Rattle.timestamp.specs.Count.{countOf}
+use Rattle.timestamp.specs.Outcomes as timestamp
 use Rattle.timestamp.specs.Outcomes.{Outcome, Decodes}
 use Rattle.timestamp.specs.declared.fields.Fields.{Fields}
+use Rattle.c_api.specs.Answers.{Effect, refused, within, left}
+use Rattle.c_api.specs.Values as c_values
+use Rattle.c_api.specs.Values.{caseOf, numbersOf}
+use Rattle.c_api.specs.Timestamps.{fieldNumbers, fieldsOf, decodeEffect, Decoding}
+use Rattle.c_api.specs.Timestamps as c_timestamps
+use Rattle.c_api.specs.Promises.{Promises}
+use Rattle.demands.specs.Refusals.{first, openingGrounds, judgingGrounds, resolvingGrounds, rewritingGrounds, slotGrounds, readingGrounds, orderingGrounds, unknownUnit, ticks, encodingGrounds, cReadingGrounds, cDecodingGrounds, cEncodingGrounds}
+use Rattle.demands.specs.Ends.{openingEnd, judgingEnd, resolvingEnd, rewritingEnd, slotEnd, readingEnd, orderingEnd, timestampEnd, cEnd}
+
+-- "Each call ends with the result or one numbered refusal, chosen in the order document 01 states"
+pub record Chosen : Type 1 where
+  -- `sheet::open`, and `sheet_reader::open`, which keeps what it answers
+  pub opening : (sheet : List ℕ) → openingEnd (opened.outcome sheet) ≡ first (openingGrounds sheet) (totalOf sheet)
+  -- `tree::judge`
+  pub judging : (sheet : List ℕ) → judgingEnd (judgement sheet) (totalOf sheet) ≡ first (judgingGrounds sheet) (totalOf sheet)
+  -- `schema::resolve`, and in C, which answers the same outcome as one number
+  pub resolving : (sheet : List ℕ) (lent : ℕ) → resolvingEnd (schema.outcome sheet lent) ≡ first (resolvingGrounds sheet lent) (totalOf sheet)
+  -- `schema::rewrite`, and in C
+  pub rewriting : (sheet : List ℕ) (lent start : ℕ) → rewritingEnd (rewriteOutcome sheet lent start) ≡ first (rewritingGrounds sheet lent start) (length sheet)
+  -- `annotation::resolve` and `annotation::rewrite`, of a slot that is node k's
+  pub slot-resolving : (k : ℕ) (n : Annotated) (under : Bool) → slotEnd k (annotation.outcome n under) ≡ first (slotGrounds k n under) (kindOf n under)
+  pub slot-rewriting : (k : ℕ) (n : Annotated) (under : Bool) → slotEnd k (annotation_rewriting.outcome n under) ≡ first (slotGrounds k n under) (writtenOf n under)
+  -- `column::read`
+  pub reading : (c : ColumnType) (bs : List ℕ) → readingEnd (column.outcome c bs) ≡ first (readingGrounds c bs) (valueOf c bs)
+  -- `column_order::order`, and in C: there is a relation, and it is answered where nothing is refused
+  pub ordering : (c : ColumnType) (a b : List ℕ) → (r : Relation) × (orderingEnd (column_order.outcome c a b) ≡ first (orderingGrounds c a b) r)
+  -- `timestamp::decode`, whose outcome is stated by a relation that one outcome meets
+  pub decoding : (unit : ℕ) (count : ℤ) (o : Outcome Fields) → Decodes (unitOf unit) count o → (f : Fields) × (timestampEnd o ≡ first (unknownUnit unit ∷ []) f)
+  pub decoding-one : (unit : ℕ) (count : ℤ) (o o′ : Outcome Fields) → Decodes (unitOf unit) count o → Decodes (unitOf unit) count o′ → o ≡ o′
+  -- `timestamp::encode`
+  pub encoding : (unit : ℕ) (f : Fields) → timestampEnd (timestamp.encoding (unitOf unit) f) ≡ first (encodingGrounds unit f) (countOf (ticks unit) f)
+  -- `griffeljol_read`, `griffeljol_decode` and `griffeljol_encode`
+  pub c-reading : (c : ColumnType) (bs : List ℕ) (lent : ℕ) → cEnd (c_values.reading c bs lent) ≡ first (cReadingGrounds c bs lent) (caseOf (valueOf c bs), numbersOf (valueOf c bs))
+  pub c-decoding : (unit : ℕ) (count : ℤ) (lent : ℕ) (o : Outcome Fields) → Decodes (unitOf unit) count o → (f : Fields) × (cEnd (within lent (decodeEffect o)) ≡ first (cDecodingGrounds unit lent) (7, fieldNumbers f))
+  pub c-encoding : (unit : ℕ) (numbers : List ℤ) (lent : ℕ) → cEnd (c_timestamps.encoding unit numbers lent) ≡ first (cEncodingGrounds unit numbers lent) (1, countOf (ticks unit) (fieldsOf numbers) ∷ [])
+
+-- "A refusal changes no lent buffer"
+pub record Unchanged : Type 1 where
+  -- the rows of `schema::resolve`, and in C
+  pub rows : (sheet lent : List ℕ) (r : Refusal) → schema.outcome sheet (length lent) ≡ Resolved.Refused r → written (schema.outcome sheet (length lent)) sheet lent ≡ lent
+  -- the output of `schema::rewrite`, and in C
+  pub output : (sheet lent : List ℕ) (start : ℕ) (r : Refusal) → rewriteOutcome sheet (length lent) start ≡ Rewritten.Refused r → rewriteWritten (rewriteOutcome sheet (length lent) start) sheet lent start ≡ lent
+  -- the outputs of `griffeljol_read` and `griffeljol_encode`
+  pub c-value : (c : ColumnType) (bs lent : List ℕ) (number place : ℕ) → c_values.reading c bs (length lent) ≡ refused number place → left (c_values.reading c bs (length lent)) lent ≡ lent
+  pub c-count : (unit : ℕ) (numbers lent : List ℤ) (number place : ℕ) → c_timestamps.encoding unit numbers (length lent) ≡ refused number place → left (c_timestamps.encoding unit numbers (length lent)) lent ≡ lent
+  -- the output of `griffeljol_decode`, whatever meets its contract
+  pub c-fields : (unit : ℕ) (count : ℤ) (lent held : List ℤ) (answered : ℕ) (o : Outcome Fields) (number place : ℕ) → Decoding unit count lent answered held → Decodes (unitOf unit) count o → within (length lent) (decodeEffect o) ≡ refused number place → held ≡ lent
+  -- every C answer tells whether it is a refusal, and which
+  pub c-interface : Promises
 
 pub record Demand1 : Type 1 where
-  -- "one numbered refusal": resolving and rewriting give the refusal that judging gives, whatever is lent
-  pub refused-resolving : (sheet : List ℕ) (lent : ℕ) (r : Refusal) → judgement sheet ≡ Verdict.Refused r → outcome sheet lent ≡ Resolved.Refused r
-  pub refused-rewriting : (sheet : List ℕ) (lent start : ℕ) (r : Refusal) → judgement sheet ≡ Verdict.Refused r → rewriteOutcome sheet lent start ≡ Rewritten.Refused r
-  -- "A refusal changes no lent buffer": the rows
-  pub rows-unchanged : (sheet lent : List ℕ) (r : Refusal) → outcome sheet (length lent) ≡ Resolved.Refused r → written (outcome sheet (length lent)) sheet lent ≡ lent
-  -- and the output of rewriting
-  pub output-unchanged : (sheet lent : List ℕ) (start : ℕ) (r : Refusal) → rewriteOutcome sheet (length lent) start ≡ Rewritten.Refused r → rewriteWritten (rewriteOutcome sheet (length lent) start) sheet lent start ≡ lent
-  -- the one answer that is stated by a relation is one
-  pub decoding-one : (u : Option TimeUnit) (count : ℤ) (o o′ : Outcome Fields) → Decodes u count o → Decodes u count o′ → o ≡ o′
+  pub chosen : Chosen
+  pub unchanged : Unchanged

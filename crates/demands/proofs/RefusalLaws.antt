@@ -1,0 +1,313 @@
+-- What a call for a sheet or a slot ends with is the first of the paper's refusals that holds, or its result.
+use Prim.Native.Nat.{ℕ, zero, suc, _+_, _*_, _≤_, _<_, _^_}
+use mathlib.Core.Path.{_≡_, refl, sym, ap, _∙_}
+use mathlib.Core.Bool.{Bool, true, false, cond, not, _&&_}
+use mathlib.Core.List.{List, [], _∷_, _++_, append-nil, append-assoc, map}
+use native.Mathlib.Nat.{add-zero, zero-add, add-suc, suc-add}
+use native.Mathlib.Omega.{arith}
+use borrow.Author.Tests.{eqb-true, eqb-false, lt-ltb, le-ltb, ltb-true, ltb-false, leb-true, leb-false, le-leb, lt-leb}
+use lib.Dec.{eqb, leb, ltb}
+use lib.ListN.{length}
+use Rattle.sheet.specs.Block.{slotsInBlock, blockCount, totalOf}
+use Rattle.sheet.specs.First.{firstWrongFrom, firstWrong}
+use Rattle.sheet.specs.Header.{lengthRight, headerRight}
+use Rattle.sheet.specs.Check.{checkRight}
+use Rattle.sheet.specs.Sound.{slotRight}
+use Rattle.sheet.specs.Slot.{slots}
+use Rattle.sheet.specs.Opening as opened
+use Rattle.sheet.specs.declared.opening.Opened.{Opened}
+use Rattle.sheet.specs.declared.opening.Opened.the-variants.{Nodes, BadLength, BadCheck, BadHeader, BadSlot}
+use Rattle.tree.specs.Annotated.{rule9, rule10, rule11}
+use Rattle.tree.specs.Tree.{SlotBytes, Tree, Fields, node, empty, field, size, depths, mostDepth}
+use Rattle.tree.specs.Rules.{underMap, placeBelow, rule8, rule12, rule13}
+use Rattle.tree.specs.Faults.{broken, faults, runFaults}
+use Rattle.tree.specs.OpenPlaces.{openPlaces, isNoPlace}
+use Rattle.tree.specs.Reading.{treeOf}
+use Rattle.tree.specs.Judgement as tree
+use Rattle.tree.specs.Judgement.{orElse, leftOver, missing, firstFault, deepness, tooDeep, unlawful, treeRefusal, judgedAs, judgement}
+use Rattle.tree.specs.declared.place.Place.{Place}
+use Rattle.tree.specs.declared.place.Place.the-variants.{Root}
+use Rattle.tree.specs.declared.refusal.Verdict.{Verdict}
+use Rattle.tree.proofs.FaultLaws.{firstFault-append}
+use Rattle.tree.proofs.JudgingLaws.{length-faults}
+use Rattle.laws.proofs.BoolLaws.{by-test}
+use Rattle.annotation.specs.Outcome as annotation
+use Rattle.annotation.specs.Kinds.{kindOf}
+use Rattle.annotation.specs.Rewriting as slot_rewriting
+use Rattle.annotation.specs.Rewriting.{writtenOf}
+use Rattle.annotation.specs.Rule9 as nine
+use Rattle.annotation.specs.Rule10 as ten
+use Rattle.annotation.specs.Rule11 as eleven
+use Rattle.annotation.specs.declared.slot.Annotated.{Annotated}
+use Rattle.schema.specs.Outcome as schema
+use Rattle.schema.specs.Outcome.{shortOutput}
+use Rattle.schema.specs.Rewriting.{rewriteAnswer, rewriteOutcome}
+use Rattle.schema.specs.declared.rewriting.Rewritten.{Rewritten}
+use Rattle.demands.specs.Refusals.{End, result, refusal, Ground, ground, first, none, eachFrom, each, openingGrounds, leftOverGrounds, missingGround, deepGrounds, nodeGrounds, ruleGrounds, runGrounds, treeGrounds, judgingGrounds, resolvingGrounds, rewritingGrounds, slotGrounds}
+use Rattle.demands.specs.Ends.{openingEnd, judgingEnd, resolvingEnd, rewritingEnd, slotEnd}
+
+-- lists of refusals ----------------------------------------------------------------------------------------------------------------
+
+-- the refusal of a call, or what another ends with
+abbrev pub andThen : {A B : Type 0} → End A → End B → End B
+andThen (result a) e = e
+andThen (refusal number place) e = refusal number place
+
+pub first-append : {A : Type 0} (gs hs : List Ground) (a : A) → first (gs ++ hs) a ≡ andThen (first gs a) (first hs a)
+unfolding first
+first-append [] hs a = refl
+first-append (g ∷ gs) hs a = by-test (g .holds) (λ e. rw e) (λ e. rw e (first-append gs hs a))
+
+-- what holds at no place, and what holds first at one
+module _ (number : ℕ) (right holds : ℕ → Bool) (opposite : (k : ℕ) → holds k ≡ not (right k)) where
+  first-each : {A : Type 0} (n k : ℕ) (a : A) → first (eachFrom number holds k n) a ≡ cond (ltb (firstWrongFrom right k n) (k + n)) (refusal number (firstWrongFrom right k n)) (result a)
+  unfolding first eachFrom firstWrongFrom
+  first-each zero k a = rw (add-zero, le-ltb k k (omega arith))
+  first-each (suc n) k a =
+      by-test (right k)
+      (λ e. rw (opposite k, e, add-suc, ← suc-add) (first-each n (suc k) a))
+      (λ e. rw (opposite k, e, lt-ltb k (k + suc n) (omega arith)))
+
+  none-each : (n k : ℕ) → none (eachFrom number holds k n) ≡ not (ltb (firstWrongFrom right k n) (k + n))
+  unfolding none eachFrom firstWrongFrom
+  none-each zero k = rw (add-zero, le-ltb k k (omega arith))
+  none-each (suc n) k =
+      by-test (right k)
+      (λ e. rw (opposite k, e, add-suc, ← suc-add) (none-each n (suc k)))
+      (λ e. rw (opposite k, e, lt-ltb k (k + suc n) (omega arith)))
+
+not-not : (b : Bool) → b ≡ not (not b)
+not-not true = refl
+not-not false = refl
+
+none-all : (number n : ℕ) (right holds : ℕ → Bool) → ((k : ℕ) → holds k ≡ not (right k)) → none (each number holds n) ≡ not (ltb (firstWrong right n) n)
+unfolding firstWrong
+none-all number n right holds opposite = none-each number right holds opposite n 0 ∙ ap (λ (m : ℕ). not (ltb (firstWrongFrom right 0 n) m)) (zero-add n)
+
+-- opening --------------------------------------------------------------------------------------------------------------------------
+
+-- what opening accepts are the sheet's slots
+abbrev Accepts : List ℕ → opened.Outcome → Type 0
+Accepts sheet (opened.accepted t ss) = ss ≡ slots sheet
+Accepts sheet (opened.refused number place) = Unit {0}
+
+accepted-slots : (sheet : List ℕ) → Accepts sheet (opened.outcome sheet)
+unfolding opened.outcome opened.outcomeOf
+accepted-slots sheet = by-answer (opened.openOf sheet)
+  where
+    by-answer : (o : Opened) → Accepts sheet (opened.outcomeOf sheet o)
+    by-answer (Nodes t) = refl
+    by-answer BadLength = tt
+    by-answer (BadCheck block) = tt
+    by-answer (BadHeader block) = tt
+    by-answer (BadSlot k) = tt
+
+-- one refusal at each place, and others behind it
+each-then : {A : Type 0} (number n : ℕ) (right holds : ℕ → Bool) → ((k : ℕ) → holds k ≡ not (right k)) → (gs : List Ground) (a : A) → first (each number holds n ++ gs) a ≡ cond (ltb (firstWrong right n) n) (refusal number (firstWrong right n)) (first gs a)
+unfolding firstWrong
+each-then {A} number n right holds opposite gs a =
+    first-append (each number holds n) gs a
+    ∙ ap (λ (e : End A). andThen e (first gs a)) (first-each number right holds opposite n 0 a ∙ ap (λ (m : ℕ). cond (ltb (firstWrongFrom right 0 n) m) (refusal number (firstWrongFrom right 0 n)) (result a)) (zero-add n))
+    ∙ either (ltb (firstWrongFrom right 0 n) n)
+  where
+    either : (b : Bool) → andThen (cond b (refusal number (firstWrongFrom right 0 n)) (result a)) (first gs a) ≡ cond b (refusal number (firstWrongFrom right 0 n)) (first gs a)
+    either true = refl
+    either false = refl
+
+opened-first : (sheet : List ℕ) (number n : ℕ) (right : ℕ → Bool) (answer : ℕ → Opened) (next : Opened) (gs : List Ground) → ((k : ℕ) → openingEnd (opened.outcomeOf sheet (answer k)) ≡ refusal number k) → openingEnd (opened.outcomeOf sheet next) ≡ first gs (totalOf sheet) → openingEnd (opened.outcomeOf sheet (opened.atFirst right n answer next)) ≡ first (each number (λ k. not (right k)) n ++ gs) (totalOf sheet)
+unfolding opened.atFirst
+opened-first sheet number n right answer next gs says rest = either (ltb (firstWrong right n) n) ∙ sym (each-then number n right (λ k. not (right k)) (λ k. refl) gs (totalOf sheet))
+  where
+    either : (b : Bool) → openingEnd (opened.outcomeOf sheet (cond b (answer (firstWrong right n)) next)) ≡ cond b (refusal number (firstWrong right n)) (first gs (totalOf sheet))
+    either true = says (firstWrong right n)
+    either false = rest
+
+-- 1 to 4
+pub opening-first : (sheet : List ℕ) → openingEnd (opened.outcome sheet) ≡ first (openingGrounds sheet) (totalOf sheet)
+unfolding opened.outcome opened.openOf opened.outcomeOf first
+opening-first sheet = by-length (lengthRight (length sheet))
+  where
+    checks : List Ground
+    checks = each 2 (λ b. not (checkRight sheet b)) (blockCount sheet)
+
+    headers : List Ground
+    headers = each 3 (λ b. not (headerRight sheet b)) (blockCount sheet)
+
+    unsound : List Ground
+    unsound = each 4 (λ k. not (slotRight sheet k)) (slotsInBlock * blockCount sheet)
+
+    slots-opened : Opened
+    slots-opened = opened.atFirst (slotRight sheet) (slotsInBlock * blockCount sheet) BadSlot (Nodes (totalOf sheet))
+
+    headers-opened : Opened
+    headers-opened = opened.atFirst (headerRight sheet) (blockCount sheet) BadHeader slots-opened
+
+    behind : openingEnd (opened.outcomeOf sheet (opened.atFirst (checkRight sheet) (blockCount sheet) BadCheck headers-opened)) ≡ first ((checks ++ headers) ++ unsound) (totalOf sheet)
+    behind =
+        opened-first sheet 2 (blockCount sheet) (checkRight sheet) BadCheck headers-opened (headers ++ unsound) (λ k. refl)
+        (opened-first sheet 3 (blockCount sheet) (headerRight sheet) BadHeader slots-opened unsound (λ k. refl)
+        (opened-first sheet 4 (slotsInBlock * blockCount sheet) (slotRight sheet) BadSlot (Nodes (totalOf sheet)) [] (λ k. refl) refl
+        ∙ ap (λ (gs : List Ground). first gs (totalOf sheet)) (append-nil unsound)))
+        ∙ ap (λ (gs : List Ground). first gs (totalOf sheet)) (sym (append-assoc checks headers unsound))
+
+    by-length : (b : Bool) → openingEnd (opened.outcomeOf sheet (cond b (opened.atFirst (checkRight sheet) (blockCount sheet) BadCheck headers-opened) BadLength)) ≡ cond (not b) (refusal 1 0) (first ((checks ++ headers) ++ unsound) (totalOf sheet))
+    by-length true = behind
+    by-length false = refl
+
+-- the tree -------------------------------------------------------------------------------------------------------------------------
+
+end-orElse : (v w : Verdict) (a : ℕ) → judgingEnd (orElse v w) a ≡ andThen (judgingEnd v a) (judgingEnd w a)
+unfolding orElse
+end-orElse Verdict.Lawful w a = refl
+end-orElse (Verdict.Refused r) w a = refl
+
+-- two parts one behind the other
+end-both : (v w : Verdict) (gs hs : List Ground) (a : ℕ) → judgingEnd v a ≡ first gs a → judgingEnd w a ≡ first hs a → judgingEnd (orElse v w) a ≡ first (gs ++ hs) a
+end-both v w gs hs a e f = end-orElse v w a ∙ rw (e, f) (sym (first-append gs hs a))
+
+-- 7
+deep-first : (ds : List ℕ) (k a : ℕ) → judgingEnd (firstFault k (map deepness ds)) a ≡ first (deepGrounds k ds) a
+unfolding firstFault deepness first deepGrounds
+deep-first [] k a = refl
+deep-first (d ∷ ds) k a =
+    by-test (leb d mostDepth) (λ e. rw (e, le-ltb 32 d (leb-true d mostDepth e)) (deep-first ds (suc k) a))
+    (λ e. rw (e, lt-ltb 32 d (leb-false d mostDepth e)))
+
+-- 8 to 13
+node-first : (k : ℕ) (p : Place) (s : SlotBytes) (fs : Fields) (ns : List ℕ) (gs : List Ground) (a : ℕ) → judgingEnd (firstFault (suc k) ns) a ≡ first gs a → judgingEnd (firstFault k (broken p s fs ∷ ns)) a ≡ first (nodeGrounds k p s fs ++ gs) a
+unfolding firstFault broken first
+node-first k p s fs ns gs a rest =
+    by-test (rule8 p s fs)
+    (λ e. by-test (rule9 s)
+    (λ f. by-test (rule10 (underMap p) s)
+    (λ g. by-test (rule11 (underMap p) s)
+    (λ h. by-test (rule12 p s fs)
+    (λ i. by-test (rule13 p s fs) (λ j. rw (e, f, g, h, i, j) rest) (λ j. rw (e, f, g, h, i, j)))
+    (λ i. rw (e, f, g, h, i)))
+    (λ h. rw (e, f, g, h)))
+    (λ g. rw (e, f, g)))
+    (λ f. rw (e, f)))
+    (λ e. rw e)
+
+mutual
+  unfolding faults ruleGrounds firstFault first
+
+  rules-first : (t : Tree) (p : Place) (k a : ℕ) → judgingEnd (firstFault k (faults p t)) a ≡ first (ruleGrounds k p t) a
+  rules-first (node s fs) p k a =
+      node-first k p s fs (runFaults (placeBelow p s) fs) (runGrounds (suc k) (placeBelow p s) fs) a (run-first fs (placeBelow p s) (suc k) a)
+
+  run-first : (fs : Fields) (p : Place) (k a : ℕ) → judgingEnd (firstFault k (runFaults p fs)) a ≡ first (runGrounds k p fs) a
+  run-first empty p k a = refl
+  run-first (field t fs) p k a =
+      ap (λ (v : Verdict). judgingEnd v a) (firstFault-append k (faults p t) (runFaults p fs) ∙ ap (λ (n : ℕ). orElse (firstFault k (faults p t)) (firstFault (k + n) (runFaults p fs))) (length-faults t p))
+      ∙ end-both (firstFault k (faults p t)) (firstFault (k + size t) (runFaults p fs)) (ruleGrounds k p t) (runGrounds (k + size t) p fs) a (rules-first t p k a) (run-first fs p (k + size t) a)
+
+-- 5 and 6, and what follows
+places-first : (ss : List SlotBytes) (rest : Verdict) (gs : List Ground) (a : ℕ) → judgingEnd rest a ≡ first gs a → judgingEnd (orElse (leftOver ss) (orElse (missing ss) rest)) a ≡ first (missingGround ss ∷ (leftOverGrounds ss ++ gs)) a
+unfolding leftOver missing first orElse
+places-first ss rest gs a e =
+    either (ltb (firstWrong right n) n) (isNoPlace (openPlaces ss n))
+    ∙ sym (rw (none-left, each-then 6 n right (λ k. isNoPlace (openPlaces ss k)) opposite gs a))
+  where
+    n : ℕ
+    n = length ss
+
+    right : ℕ → Bool
+    right k = not (isNoPlace (openPlaces ss k))
+
+    opposite : (k : ℕ) → isNoPlace (openPlaces ss k) ≡ not (right k)
+    opposite k = not-not (isNoPlace (openPlaces ss k))
+
+    none-left : none (leftOverGrounds ss) ≡ not (ltb (firstWrong right n) n)
+    none-left = none-all 6 n right (λ k. isNoPlace (openPlaces ss k)) opposite
+
+    either : (some full : Bool) → judgingEnd (orElse (cond some (Verdict.Refused (tree.refusal 6 (firstWrong right n))) Verdict.Lawful) (orElse (cond full Verdict.Lawful (Verdict.Refused (tree.refusal 5 n))) rest)) a ≡ cond (not some && not full) (refusal 5 n) (cond some (refusal 6 (firstWrong right n)) (first gs a))
+    either true full = refl
+    either false true = e
+    either false false = refl
+
+-- 5 to 13
+pub tree-first : (ss : List SlotBytes) (a : ℕ) → judgingEnd (treeRefusal ss) a ≡ first (treeGrounds ss) a
+unfolding treeRefusal tooDeep unlawful
+tree-first ss a =
+    places-first ss (orElse (tooDeep (treeOf ss)) (unlawful (treeOf ss))) (deepGrounds 0 (depths 0 (treeOf ss)) ++ ruleGrounds 0 Root (treeOf ss)) a
+    (end-both (tooDeep (treeOf ss)) (unlawful (treeOf ss)) (deepGrounds 0 (depths 0 (treeOf ss))) (ruleGrounds 0 Root (treeOf ss)) a (deep-first (depths 0 (treeOf ss)) 0 a) (rules-first (treeOf ss) Root 0 a))
+    ∙ ap (λ (gs : List Ground). first (missingGround ss ∷ gs) a) (sym (append-assoc (leftOverGrounds ss) (deepGrounds 0 (depths 0 (treeOf ss))) (ruleGrounds 0 Root (treeOf ss))))
+
+-- 1 to 13
+pub judging-first : (sheet : List ℕ) → judgingEnd (judgement sheet) (totalOf sheet) ≡ first (judgingGrounds sheet) (totalOf sheet)
+unfolding judgement judgedAs
+judging-first sheet =
+    behind (opened.outcome sheet) (accepted-slots sheet)
+    ∙ ap (λ (e : End ℕ). andThen e (first (treeGrounds (slots sheet)) (totalOf sheet))) (opening-first sheet)
+    ∙ sym (first-append (openingGrounds sheet) (treeGrounds (slots sheet)) (totalOf sheet))
+  where
+    behind : (o : opened.Outcome) → Accepts sheet o → judgingEnd (judgedAs o) (totalOf sheet) ≡ andThen (openingEnd o) (first (treeGrounds (slots sheet)) (totalOf sheet))
+    behind (opened.accepted t ss) e = ap (λ (us : List SlotBytes). judgingEnd (treeRefusal us) (totalOf sheet)) e ∙ tree-first (slots sheet) (totalOf sheet)
+    behind (opened.refused number place) e = refl
+
+-- 14 behind them ---------------------------------------------------------------------------------------------------------------------
+
+pub resolving-first : (sheet : List ℕ) (lent : ℕ) → resolvingEnd (schema.outcome sheet lent) ≡ first (resolvingGrounds sheet lent) (totalOf sheet)
+unfolding schema.outcome schema.answer first
+resolving-first sheet lent =
+    behind (judgement sheet)
+    ∙ ap (λ (e : End ℕ). andThen e (first (ground 14 0 (ltb lent (11 * totalOf sheet)) ∷ []) (totalOf sheet))) (judging-first sheet)
+    ∙ sym (first-append (judgingGrounds sheet) (ground 14 0 (ltb lent (11 * totalOf sheet)) ∷ []) (totalOf sheet))
+  where
+    behind : (v : Verdict) → resolvingEnd (schema.answer v (totalOf sheet) lent) ≡ andThen (judgingEnd v (totalOf sheet)) (first (ground 14 0 (ltb lent (11 * totalOf sheet)) ∷ []) (totalOf sheet))
+    behind (Verdict.Refused r) = refl
+    behind Verdict.Lawful = by-test (ltb lent (11 * totalOf sheet)) (λ e. rw e) (λ e. rw e)
+
+pub rewriting-first : (sheet : List ℕ) (lent start : ℕ) → rewritingEnd (rewriteOutcome sheet lent start) ≡ first (rewritingGrounds sheet lent start) (length sheet)
+unfolding rewriteOutcome rewriteAnswer first
+rewriting-first sheet lent start =
+    behind (judgement sheet)
+    ∙ ap (λ (e : End ℕ). andThen e short) (sized (judgement sheet) (judgingGrounds sheet) (judging-first sheet))
+    ∙ sym (first-append (judgingGrounds sheet) grounds (length sheet))
+  where
+    grounds : List Ground
+    grounds = ground 14 0 (ltb lent (start + length sheet)) ∷ ground 14 0 (ltb lent start) ∷ []
+
+    short : End ℕ
+    short = first grounds (length sheet)
+
+    -- a sheet that fits starts within the output
+    fits-or-not : rewritingEnd (cond (leb (start + length sheet) lent) (Rewritten.Bytes (length sheet)) (Rewritten.Refused shortOutput)) ≡ short
+    fits-or-not =
+        by-test (leb (start + length sheet) lent)
+        (λ e. let l = leb-true (start + length sheet) lent e in rw (e, le-ltb lent (start + length sheet) l, le-ltb lent start (omega (arith, l))))
+        (λ e. rw (e, lt-ltb lent (start + length sheet) (leb-false (start + length sheet) lent e)))
+
+    behind : (v : Verdict) → rewritingEnd (rewriteAnswer v (leb (start + length sheet) lent) (length sheet)) ≡ andThen (judgingEnd v (length sheet)) short
+    behind (Verdict.Refused r) = refl
+    behind Verdict.Lawful = fits-or-not
+
+    -- what is refused does not go by the result
+    other-result : (gs : List Ground) (m n : ℕ) (v : Verdict) → judgingEnd v m ≡ first gs m → judgingEnd v n ≡ first gs n
+    other-result [] m n Verdict.Lawful e = refl
+    other-result [] m n (Verdict.Refused r) e = absurd (let z : _≡_ {A = ℕ} 0 1 = cc in omega arith)
+    other-result (g ∷ gs) m n v e = by-test (g .holds) (λ h. held v h (rw h at e)) (λ h. rw h (other-result gs m n v (rw h at e)))
+      where
+        held : (v : Verdict) → g .holds ≡ true → judgingEnd v m ≡ refusal (g .number) (g .place) → judgingEnd v n ≡ cond (g .holds) (refusal (g .number) (g .place)) (first gs n)
+        held Verdict.Lawful h f = absurd (let z : _≡_ {A = ℕ} 0 1 = cc in omega arith)
+        held (Verdict.Refused r) h f = rw h f
+
+    sized : (v : Verdict) (gs : List Ground) → judgingEnd v (totalOf sheet) ≡ first gs (totalOf sheet) → judgingEnd v (length sheet) ≡ first gs (length sheet)
+    sized v gs e = other-result gs (totalOf sheet) (length sheet) v e
+
+-- slots --------------------------------------------------------------------------------------------------------------------------------
+
+pub slot-first : (k : ℕ) (n : Annotated) (under : Bool) → slotEnd k (annotation.outcome n under) ≡ first (slotGrounds k n under) (kindOf n under)
+unfolding annotation.outcome annotation.resolutionOf first
+slot-first k n under =
+    by-test (nine.rule9 n)
+    (λ e. by-test (ten.rule10 n under) (λ f. by-test (eleven.rule11 n under) (λ g. rw (e, f, g)) (λ g. rw (e, f, g))) (λ f. rw (e, f)))
+    (λ e. rw e)
+
+pub slot-rewriting-first : (k : ℕ) (n : Annotated) (under : Bool) → slotEnd k (slot_rewriting.outcome n under) ≡ first (slotGrounds k n under) (writtenOf n under)
+unfolding slot_rewriting.outcome slot_rewriting.rewritingOf annotation.resolutionOf first
+slot-rewriting-first k n under =
+    by-test (nine.rule9 n)
+    (λ e. by-test (ten.rule10 n under) (λ f. by-test (eleven.rule11 n under) (λ g. rw (e, f, g)) (λ g. rw (e, f, g))) (λ f. rw (e, f)))
+    (λ e. rw e)

@@ -1,0 +1,187 @@
+-- "One numbered refusal, chosen in the order document 01 states": each refusal's own condition with its place, the paper's order as a list, and what a call
+-- ends with: the first of the list that holds, or the result where none does. No condition here speaks of another, but for the one "otherwise" of the paper.
+use Prim.Native.Nat.{ℕ, zero, suc, _+_, _*_, _^_}
+use mathlib.Core.Bool.{Bool, true, cond, not, _&&_}
+use mathlib.Core.List.{List, [], _∷_, _++_}
+use lib.Dec.{leb, ltb}
+use lib.IntN.{ℤ}
+use lib.ListN.{length}
+use Rattle.sheet.specs.Block.{slotsInBlock, blockCount, totalOf}
+use Rattle.sheet.specs.Header.{lengthRight, headerRight}
+use Rattle.sheet.specs.Check.{checkRight}
+use Rattle.sheet.specs.Sound.{slotRight}
+use Rattle.sheet.specs.Slot.{slots}
+use Rattle.annotation.specs.Rule9 as nine
+use Rattle.annotation.specs.Rule10 as ten
+use Rattle.annotation.specs.Rule11 as eleven
+use Rattle.annotation.specs.declared.slot.Annotated.{Annotated}
+use Rattle.tree.specs.Annotated.{rule9, rule10, rule11}
+use Rattle.tree.specs.Tree.{SlotBytes, Tree, Fields, node, empty, field, size, depths}
+use Rattle.tree.specs.OpenPlaces.{openPlaces, isNoPlace}
+use Rattle.tree.specs.Reading.{treeOf}
+use Rattle.tree.specs.Rules.{underMap, placeBelow, rule8, rule12, rule13}
+use Rattle.tree.specs.declared.place.Place.{Place}
+use Rattle.tree.specs.declared.place.Place.the-variants.{Root}
+use Rattle.column_type.specs.Lawful.{isLawful}
+use Rattle.column_type.specs.declared.types.ColumnType.{ColumnType}
+use Rattle.column.specs.Lengths as value
+use Rattle.column.specs.Annotations.{annotationPlace, keeps}
+use Rattle.column_order.specs.Order.{hasOrder}
+use Rattle.timestamp.specs.Count.{isDateTime, countOf}
+use Rattle.timestamp.specs.Outcomes.{isSigned64}
+use Rattle.timestamp.specs.declared.fields.Fields.{Fields as DateTime}
+use Rattle.c_api.specs.Timestamps.{areFields, fieldsOf}
+
+-- what a call ends with: "the result or one numbered refusal", which has a place
+pub data End (A : Type 0) : Type 0 where
+  result : A → End A
+  refusal : ℕ → ℕ → End A
+
+-- a refusal's number and place, and whether its own condition holds
+pub record Ground : Type 0 where
+  pub number : ℕ
+  pub place : ℕ
+  pub holds : Bool
+
+abbrev pub ground : ℕ → ℕ → Bool → Ground
+ground number place holds = record { number = number; place = place; holds = holds }
+
+-- the first of some refusals that holds, and the result where none does
+unfoldable pub first : {A : Type 0} → List Ground → A → End A
+first [] a = result a
+first (g ∷ gs) a = cond (g .holds) (refusal (g .number) (g .place)) (first gs a)
+
+-- none of them holds
+unfoldable pub none : List Ground → Bool
+none [] = true
+none (g ∷ gs) = not (g .holds) && none gs
+
+-- one refusal at each of n places from k on, the first place first: "first such block", "first such node"
+unfoldable pub eachFrom : ℕ → (ℕ → Bool) → ℕ → ℕ → List Ground
+eachFrom number holds k zero = []
+eachFrom number holds k (suc n) = ground number k (holds k) ∷ eachFrom number holds (suc k) n
+
+abbrev pub each : ℕ → (ℕ → Bool) → ℕ → List Ground
+each number holds n = eachFrom number holds 0 n
+
+-- a sheet ------------------------------------------------------------------------------------------------------------------------
+
+-- "1 to 7 are judged over the whole sheet, in that order": 1 to 4
+abbrev pub openingGrounds : List ℕ → List Ground
+openingGrounds sheet =
+    (ground 1 0 (not (lengthRight (length sheet))) ∷ [])
+    ++ each 2 (λ block. not (checkRight sheet block)) (blockCount sheet)
+    ++ each 3 (λ block. not (headerRight sheet block)) (blockCount sheet)
+    ++ each 4 (λ k. not (slotRight sheet k)) (slotsInBlock * blockCount sheet)
+
+-- "Refusal 6: zero open places at some k below T, place the least such k"
+abbrev pub leftOverGrounds : List SlotBytes → List Ground
+leftOverGrounds ss = each 6 (λ k. isNoPlace (openPlaces ss k)) (length ss)
+
+-- "Refusal 5: otherwise, open places left after T", at T
+abbrev pub missingGround : List SlotBytes → Ground
+missingGround ss = ground 5 (length ss) (none (leftOverGrounds ss) && not (isNoPlace (openPlaces ss (length ss))))
+
+-- "a node deeper than 32", of nodes with such depths, the first of them at k
+unfoldable pub deepGrounds : ℕ → List ℕ → List Ground
+deepGrounds k [] = []
+deepGrounds k (d ∷ ds) = ground 7 k (ltb 32 d) ∷ deepGrounds (suc k) ds
+
+-- "8 to 13 .., at one node in number order": node k
+abbrev pub nodeGrounds : ℕ → Place → SlotBytes → Fields → List Ground
+nodeGrounds k p s fs =
+    ground 8 k (not (rule8 p s fs))
+    ∷ ground 9 k (not (rule9 s))
+    ∷ ground 10 k (not (rule10 (underMap p) s))
+    ∷ ground 11 k (not (rule11 (underMap p) s))
+    ∷ ground 12 k (not (rule12 p s fs))
+    ∷ ground 13 k (not (rule13 p s fs))
+    ∷ []
+
+-- "node by node", a tree's root being node k
+unfoldable mutual
+  pub ruleGrounds : ℕ → Place → Tree → List Ground
+  ruleGrounds k p (node s fs) = nodeGrounds k p s fs ++ runGrounds (suc k) (placeBelow p s) fs
+
+  pub runGrounds : ℕ → Place → Fields → List Ground
+  runGrounds k p empty = []
+  runGrounds k p (field t fs) = ruleGrounds k p t ++ runGrounds (k + size t) p fs
+
+-- 5 to 13 of a sheet's slots
+abbrev pub treeGrounds : List SlotBytes → List Ground
+treeGrounds ss =
+    (missingGround ss ∷ [])
+    ++ leftOverGrounds ss
+    ++ deepGrounds 0 (depths 0 (treeOf ss))
+    ++ ruleGrounds 0 Root (treeOf ss)
+
+-- 1 to 13 of any bytes
+abbrev pub judgingGrounds : List ℕ → List Ground
+judgingGrounds sheet = openingGrounds sheet ++ treeGrounds (slots sheet)
+
+-- "14 last": "output too short", for eleven numbers a node
+abbrev pub resolvingGrounds : List ℕ → ℕ → List Ground
+resolvingGrounds sheet lent = judgingGrounds sheet ++ (ground 14 0 (ltb lent (11 * totalOf sheet)) ∷ [])
+
+-- "output too short, or its start lies beyond its end", for the sheet's bytes
+abbrev pub rewritingGrounds : List ℕ → ℕ → ℕ → List Ground
+rewritingGrounds sheet lent start =
+    judgingGrounds sheet ++ (ground 14 0 (ltb lent (start + length sheet)) ∷ ground 14 0 (ltb lent start) ∷ [])
+
+-- 9 to 11 of the numbers of a slot, which is node k's
+abbrev pub slotGrounds : ℕ → Annotated → Bool → List Ground
+slotGrounds k n under =
+    ground 9 k (not (nine.rule9 n)) ∷ ground 10 k (not (ten.rule10 n under)) ∷ ground 11 k (not (eleven.rule11 n under)) ∷ []
+
+-- a value ------------------------------------------------------------------------------------------------------------------------
+
+-- "no accepted sheet has a leaf of this column type"
+abbrev pub unlawful : ColumnType → Ground
+unlawful c = ground 20 0 (not (isLawful c))
+
+-- "value of wrong length, or over 65,536 bytes", "value breaks its annotation"
+abbrev pub valueGrounds : ColumnType → List ℕ → List Ground
+valueGrounds c bs = ground 15 0 (not (value.lengthRight c (length bs))) ∷ ground 16 (annotationPlace c bs) (not (keeps c bs)) ∷ []
+
+-- "One value is checked for 20, then 15, then 16"
+abbrev pub readingGrounds : ColumnType → List ℕ → List Ground
+readingGrounds c bs = unlawful c ∷ valueGrounds c bs
+
+-- "Checks: 20, 17, first value, second value"
+abbrev pub orderingGrounds : ColumnType → List ℕ → List ℕ → List Ground
+orderingGrounds c a b = unlawful c ∷ ground 17 0 (not (hasOrder c)) ∷ (valueGrounds c a ++ valueGrounds c b)
+
+-- a timestamp --------------------------------------------------------------------------------------------------------------------
+
+-- "a time unit is not 1 to 3"
+abbrev pub unknownUnit : ℕ → Ground
+unknownUnit unit = ground 20 0 (not (leb 1 unit && leb unit 3))
+
+-- the ticks in a second of units 1, 2 and 3: a thousand, a million, a thousand million
+abbrev pub ticks : ℕ → ℕ
+ticks unit = 1000 ^ unit
+
+-- "fields form no date or time", "fields not representable in a signed 64-bit count"
+abbrev pub fieldGrounds : ℕ → DateTime → List Ground
+fieldGrounds unit f = ground 18 0 (not (isDateTime (ticks unit) f)) ∷ ground 19 0 (not (isSigned64 (countOf (ticks unit) f))) ∷ []
+
+-- "Both check the unit first (20); encoding then 18, then 19"
+abbrev pub encodingGrounds : ℕ → DateTime → List Ground
+encodingGrounds unit f = unknownUnit unit ∷ fieldGrounds unit f
+
+-- the C interface ------------------------------------------------------------------------------------------------------------------
+
+-- 14 comes last, for so many numbers
+abbrev pub shortFor : ℕ → ℕ → Ground
+shortFor numbers lent = ground 14 0 (ltb lent numbers)
+
+-- two numbers for a value, seven for fields, one for a count; numbers that can be no fields form no date or time
+abbrev pub cReadingGrounds : ColumnType → List ℕ → ℕ → List Ground
+cReadingGrounds c bs lent = readingGrounds c bs ++ (shortFor 2 lent ∷ [])
+
+abbrev pub cDecodingGrounds : ℕ → ℕ → List Ground
+cDecodingGrounds unit lent = unknownUnit unit ∷ shortFor 7 lent ∷ []
+
+abbrev pub cEncodingGrounds : ℕ → List ℤ → ℕ → List Ground
+cEncodingGrounds unit numbers lent =
+    unknownUnit unit ∷ ground 18 0 (not (areFields numbers)) ∷ (fieldGrounds unit (fieldsOf numbers) ++ (shortFor 1 lent ∷ []))
