@@ -23,6 +23,8 @@ use Rattle.utf8.specs.Valid.{validUpTo}
 use Rattle.utf8.proofs.ValidLaws.{validUpTo-length}
 use Rattle.column_type.specs.Lawful.{isLawful}
 use Rattle.column_type.specs.declared.types.ColumnType.{ColumnType}
+use Rattle.column_type.specs.Leaf.{HasLeaf}
+use Rattle.column_type.proofs.LawfulLaws.{unlawful-exactly}
 use Rattle.column_type.proofs.PlacementLaws.{integer-whole, time-whole, time-unit}
 use Rattle.column.specs.Numbers.{little, signed}
 use Rattle.column.specs.Lengths.{mostBytes, widthOf, isWidth, isByteForm, isByteDecimal, lengthRight}
@@ -30,6 +32,7 @@ use Rattle.column.specs.Annotations.{isWhole, isUnsigned, inBits, inSign
 use Rattle.column.specs.Reading.{valueOf, checked, readOf}
 use Rattle.column.specs.Outcome.{Outcome, refused, given, outcomeOf, outcome}
 use Rattle.column.specs.Promises.{Whole, ByteForm, RightLength, Held, InWidth, InDay}
+use Rattle.column.specs.declared.value.Read.the-variants as read
 use Rattle.column.specs.declared.value.Value.{Value}
 use Rattle.column.specs.declared.value.Value.the-variants.{Truth, Signed, Unsigned, Float, Double, Bytes}
 use Rattle.column.proofs.LengthLaws.{length-most, width-right, decimal-right}
@@ -85,6 +88,19 @@ module _ (c : ColumnType) (n : ℕ) (r : RightLength c n) where
   right-tested =
       both-and (leb n mostBytes && isWidth (widthOf c) n) (not (isByteDecimal c) || isLength n)
       (both-and (leb n mostBytes) (isWidth (widthOf c) n) (le-leb n mostBytes (r .most)) width-tested) decimal-tested
+
+-- "20": no accepted sheet has a leaf of this column type
+pub refused-unlawful : (c : ColumnType) (bs : List ℕ) → (outcome c bs ≡ refused 20 0) ↔ (HasLeaf c → ⊥)
+unfolding outcome readOf
+refused-unlawful c bs = (
+  λ e. unlawful-exactly c .0 (by-test (isLawful c) (λ l. absurd (other (lengthRight c (length bs)) (keeps c bs) (rw l at e))) (λ l. l)),
+  λ h. rw (unlawful-exactly c .1 h),
+)
+  where
+    other : (r k : Bool) → outcomeOf (cond r (checked k (annotationPlace c bs) (valueOf c bs)) read.WrongLength) ≡ refused 20 0 → ⊥
+    other false k e = let z : _≡_ {A = ℕ} 15 20 = cc in omega arith
+    other true true e = let z : _≡_ {A = ℕ} 0 1 = cc in omega arith
+    other true false e = let z : _≡_ {A = ℕ} 16 20 = cc in omega arith
 
 -- "15": a value of a lawful column, exactly where its length is not right
 pub wrong-length : (c : ColumnType) (bs : List ℕ) → isLawful c ≡ true → (outcome c bs ≡ refused 15 0) ↔ (RightLength c (length bs) → ⊥)

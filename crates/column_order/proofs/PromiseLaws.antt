@@ -33,7 +33,7 @@ use Rattle.column_order.specs.declared.answer.Order.{Order}
 use Rattle.column_order.specs.declared.answer.Order.the-variants.{Less, Equal, Greater, Unordered, Unlawful, NoOrder, WrongLength, BreaksAnnotation}
 use Rattle.column_order.proofs.WholeLaws.{whole-less, whole-equal, whole-greater}
 use Rattle.column_order.proofs.ByteLaws.{byte-refl, byte-turned}
-use Rattle.column_order.proofs.OrderLaws.{order-keys}
+use Rattle.column_order.proofs.OrderLaws.{order-keys, decimal-less, decimal-equal, decimal-greater}
 use Rattle.column_order.proofs.FaultLaws.{OfNeither, neither-exactly}
 
 -- bytes ------------------------------------------------------------------------------------------------------------------------
@@ -217,12 +217,12 @@ module _ (c : ColumnType) (ordered : hasOrder c ≡ true) (a b : List ℕ) (p : 
 
 -- "INTERVAL and INT96 have none" ---------------------------------------------------------------------------------------------------
 
-no-order-tested : (c : ColumnType) → hasOrder c ≡ false → (c .physical ≡ INT96) ⊎ (c .kind ≡ INTERVAL)
+pub no-order-tested : (c : ColumnType) → hasOrder c ≡ false → (c .physical ≡ INT96) ⊎ (c .kind ≡ INTERVAL)
 no-order-tested c e =
     by-test (eqb (c .physical) INT96) (λ i. inl (eqb-true (c .physical) INT96 i))
     (λ i. by-test (eqb (c .kind) INTERVAL) (λ k. inr (eqb-true (c .kind) INTERVAL k)) (λ k. absurd (false≢true (sym (rw (i, k) at e)))))
 
-tested-no-order : (c : ColumnType) → (c .physical ≡ INT96) ⊎ (c .kind ≡ INTERVAL) → hasOrder c ≡ false
+pub tested-no-order : (c : ColumnType) → (c .physical ≡ INT96) ⊎ (c .kind ≡ INTERVAL) → hasOrder c ≡ false
 tested-no-order c (inl e) = rw e
 tested-no-order c (inr e) = by-test (eqb (c .physical) INT96) (λ i. rw i) (λ i. rw (i, e))
 
@@ -235,3 +235,8 @@ no-order-exactly c a b = (
     by-cases : OfNeither c a b 17 0 → (isLawful c ≡ true) × ((c .physical ≡ INT96) ⊎ (c .kind ≡ INTERVAL))
     by-cases (inl h) = absurd (omega (arith, h .1))
     by-cases (inr h) = (h .0, no-order-tested c (h .1))
+
+-- decimals over all four physical types ----------------------------------------------------------------------------------------------
+
+pub decimals-order : (c : ColumnType) (a b : List ℕ) → Valid c a → Valid c b → c .kind ≡ DECIMAL → AsNumbers c a b (numberOf c a) (numberOf c b)
+decimals-order c a b p q k = record { less = decimal-less c a b p q k; equal = decimal-equal c a b p q k; greater = decimal-greater c a b p q k }

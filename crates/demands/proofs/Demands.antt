@@ -5,13 +5,32 @@ use Rattle.schema.proofs.DemandLaws as demand
 use Rattle.schema.proofs.RewriteLaws.{rewrite-kept}
 use Rattle.schema.proofs.RowKindLaws.{rows-kinds}
 use Rattle.schema.proofs.RewriteDemandLaws as rewriting
+use Rattle.schema.proofs.RoleLaws.{roles-exactly}
+use Rattle.schema.proofs.WrittenBackLaws.{written-back, key-value-bare}
+use Rattle.column.proofs.PromiseLaws as value
+use Rattle.column_order.proofs.PromiseLaws as ordered
 use Rattle.column_type.proofs.LawfulLaws.{lawful-exactly, unlawful-exactly}
 use Rattle.column_order.proofs.OrderLaws as order
 use Rattle.column_order.proofs.FloatLaws.{floatOrder-bits}
-use Rattle.decimal.proofs.FitLaws.{fitOf-exactly}
-use Rattle.utf8.proofs.ValidLaws.{validUpTo-length}
 use Rattle.timestamp.proofs.CountLaws.{decodes-one, encoding-decoded, decoding-encoded}
-use lib.ListN.{length}
+use mathlib.Core.Path.{_≡_, refl, subst}
+use mathlib.Core.Bool.{true, false}
+use mathlib.Core.List.{List, []}
+use mathlib.Core.Option.{some}
+use lib.IntN.{ℤ}
+use lib.ListN.{length, getD}
+use Rattle.parquet.specs.Converted as converted
+use Rattle.logical_type.specs.Backward.{backwardOf}
+use Rattle.logical_type.specs.declared.types.LogicalType.{LogicalType}
+use Rattle.logical_type.specs.declared.types.Annotation.{Annotation}
+use Rattle.tree.specs.Tree.{SlotBytes}
+use Rattle.schema.specs.Rows.{rows}
+use Rattle.schema.specs.Roles.{ascent, isUnderMap}
+use Rattle.schema.specs.Demand.{kindIn, ResolvesTo}
+use Rattle.schema.proofs.ResolvesLaws.{node-resolves}
+use Rattle.timestamp.specs.Units.{TimeUnit}
+use Rattle.timestamp.specs.Outcomes.{Outcome, given, Decodes}
+use Rattle.timestamp.specs.declared.fields.Fields.{Fields}
 use Rattle.timestamp.specs.Units.{unitOf}
 use Rattle.c_api.specs.Values.{reading}
 use Rattle.c_api.specs.Timestamps.{encoding}
@@ -21,6 +40,20 @@ use Rattle.demands.proofs.ValueRefusalLaws as values
 use Rattle.demands.specs.Demand1.{Demand1}
 use Rattle.demands.specs.Demand2.{Demand2}
 use Rattle.demands.specs.Demand3.{Demand3}
+use Rattle.sheet_reader.specs.Reading.{openedOn}
+use Rattle.sheet_reader.proofs.ReaderLaws.{steps-handouts, steps-all, movedBy-sheet, movedBy-opened}
+use Rattle.demands.specs.Reader.{Reader}
+
+-- MAP_KEY_VALUE alone, as the table has it
+map-key-value : (backwardOf converted.MAP-KEY-VALUE true ≡ Annotation.Plain) × (backwardOf converted.MAP-KEY-VALUE false ≡ Annotation.Logical LogicalType.Map)
+unfolding backwardOf
+map-key-value = (refl, refl)
+
+-- one set of fields for a count
+decodes-fields : (unit : TimeUnit) (count : ℤ) (f g : Fields) → Decodes (some unit) count (given f) → Decodes (some unit) count (given g) → f ≡ g
+decodes-fields unit count f g p q =
+    let same : _≡_ {A = Outcome Fields} (given f) (given g) = decodes-one (some unit) count (given f) (given g) p q in
+    cc
 
 pub demand1 : Demand1
 demand1 =
@@ -56,7 +89,15 @@ demand1 =
 pub demand2 : Demand2
 demand2 =
     record {
-      resolving = record { backward-forward = backward-forward; forward-backward = forward-backward; never-map-key-value = forward-not-map-key-value; rows-kinds = rows-kinds };
+      resolving =
+          record {
+            backward-forward = backward-forward;
+            forward-backward = forward-backward;
+            never-map-key-value = forward-not-map-key-value;
+            map-key-value = map-key-value;
+            resolves = λ sheet t h k l. subst (λ (ss : List SlotBytes). ResolvesTo (isUnderMap (ascent t k)) (getD ss k []) (kindIn (rows t) k)) (h .lists) (node-resolves t (h .keeps) k l);
+            rows-kinds = rows-kinds;
+          };
       rewriting =
           record {
             accepts = rewriting.rewriting-accepts;
@@ -64,25 +105,63 @@ demand2 =
             same-outcome = rewriting.rewritten-outcome;
             same-rows = rewriting.rewritten-rows;
             again = rewriting.rewritten-rewritten;
+            written-back = written-back;
+            key-value-layer = key-value-bare;
             copied = rewriting.rewritten-copied;
             stretch = rewriting.stretch-is;
             before = rewriting.stretch-before;
             after = rewriting.stretch-after;
           };
-      values = record { lawful-exactly = lawful-exactly; unlawful-exactly = unlawful-exactly; text-exactly = validUpTo-length; fits-exactly = fitOf-exactly };
+      values =
+          record {
+            lawful-exactly = lawful-exactly;
+            unlawful-exactly = unlawful-exactly;
+            refused-unlawful = value.refused-unlawful;
+            wrong-length = value.wrong-length;
+            boolean = value.truth-held;
+            unsigned = value.unsigned-held;
+            signed = value.signed-held;
+            time = value.time-held;
+            decimal = value.decimal-whole-held;
+            decimal-bytes = value.decimal-bytes-held;
+            text = value.text-held;
+            unknown = value.unknown-refused;
+            any-whole = value.any-whole;
+            any-float = value.any-float;
+            any-double = value.any-double;
+            any-int96 = value.any-int96;
+            any-bytes = value.any-bytes;
+          };
       ordering =
           record {
-            decimal-less = order.decimal-less;
-            decimal-equal = order.decimal-equal;
-            decimal-greater = order.decimal-greater;
+            no-order = ordered.no-order-exactly;
+            has-order = λ c. (ordered.no-order-tested c, ordered.tested-no-order c);
+            signed = ordered.signed-order;
+            unsigned = ordered.unsigned-order;
+            boolean = ordered.truth-order;
+            decimal-bytes = ordered.decimal-bytes-order;
+            decimals = ordered.decimals-order;
+            bytes = ordered.bytes-order;
+            float = ordered.float-order;
+            double = ordered.double-order;
+            float-unordered = ordered.float-unordered;
+            double-unordered = ordered.double-unordered;
             order-turned = order.order-turned;
             order-trans = order.order-trans;
             order-antisym = order.order-antisym;
             order-total = order.order-total;
-            order-nan = order.order-nan;
             float-bits = floatOrder-bits;
           };
-      timestamps = record { decoded-encodes = encoding-decoded; encoded-decodes = decoding-encoded };
+      timestamps = record { decodes = decodes-some; decodes-one = decodes-fields; decoded-encodes = encoding-decoded; encoded-decodes = decoding-encoded };
+    }
+
+pub reader : Reader
+reader =
+    record {
+      handed-out = steps-handouts;
+      all-handed-out = steps-all;
+      held = λ sheet n. movedBy-sheet n (openedOn sheet);
+      found = λ sheet n. movedBy-opened n (openedOn sheet);
     }
 
 pub demand3 : Demand3
@@ -92,6 +171,19 @@ demand3 =
       one-tree = demand.one-tree;
       rows-are = demand.rows-are;
       rows-length = demand.rows-length;
+      roles =
+          λ sheet t h k l.
+          let exactly = roles-exactly t (h .keeps) k l in
+          record {
+            field = exactly 0;
+            list-layer = exactly 1;
+            element = exactly 2;
+            element-layer = exactly 3;
+            key-value-layer = exactly 4;
+            key = exactly 5;
+            value = exactly 6;
+            bare-repeated = exactly 7;
+          };
       sound-exactly = demand.sound-exactly;
       six-five-or-tree = six-five-or-tree;
       tree-neither = tree-neither;

@@ -1,15 +1,17 @@
--- Demand 2. "Annotations, old and new, resolve and are written back by Parquet's rules; values, order and timestamps follow them; decimals of one column
--- compare as the numbers their bytes stand for."
+-- Demand 2. "Annotations, old and new, resolve and are written back by the Parquet logical type rules. Value checks, column order and timestamps, decoded and
+-- encoded, follow those rules too. Two valid decimals of one column compare as the signed numbers their bytes stand for, and are equal exactly when those
+-- numbers are."
 use Prim.Native.Nat.{ℕ, _+_, _<_, _≤_, _^_}
 use mathlib.Core.Path.{_≡_}
 use mathlib.Core.Bool.{Bool, true, false, _||_}
-use mathlib.Core.Logic.{_↔_}
+use mathlib.Core.Logic.{_⊎_, _↔_}
 use mathlib.Core.Option.{Option, some}
-use mathlib.Core.List.{List}
-use lib.Ieee.{Format, ofBits}
-use lib.IntN.{ℤ, natAbs}
-use lib.ListN.{length, take, drop}
-use lib.Signed.{_<ℤ_}
+use mathlib.Core.List.{List, []}
+use lib.Dec.{eqb}
+use lib.Ieee.{Format, binary32, binary64, ofBits}
+use lib.IntN.{ℤ, pos, natAbs}
+use lib.ListN.{length, getD, take, drop}
+use Rattle.parquet.specs.Physical.{BOOLEAN, INT96, FLOAT, DOUBLE}
 use Rattle.parquet.specs.Converted as converted
 use Rattle.parquet.specs.Logical as logical
 use Rattle.logical_type.specs.Forward.{forwardOf, imageOf}
@@ -17,28 +19,34 @@ use Rattle.logical_type.specs.Backward.{backwardOf}
 use Rattle.logical_type.specs.declared.types.LogicalType.{LogicalType}
 use Rattle.logical_type.specs.declared.types.Annotation.{Annotation}
 use Rattle.logical_type.proofs.ConversionLaws.{adjusted}
-use Rattle.sheet.specs.Slot.{slotAt}
+use Rattle.sheet.specs.Slot.{slotAt, slots}
 use Rattle.tree.specs.Tree.{Tree, size}
 use Rattle.tree.specs.Rules.{judgedKinds}
 use Rattle.tree.specs.Judgement.{judgement}
 use Rattle.tree.specs.declared.place.Place.the-variants.{Root}
 use Rattle.tree.specs.declared.refusal.Verdict.{Verdict}
-use Rattle.schema.specs.Rows.{rows, kindsIn}
+use Rattle.schema.specs.Rows.{rows, kindsIn, numberIn, KEY-VALUE-LAYER}
 use Rattle.schema.specs.Outcome.{outcome, written}
 use Rattle.schema.specs.Rewriting.{rewritten, rewriteOutcome, rewriteWritten}
-use Rattle.schema.specs.Demand.{EnoughOutput, Accepted, EnoughRoom, AcceptedRewriting, Copied}
+use Rattle.schema.specs.Demand.{IsTreeOf, Sound, EnoughOutput, Accepted, EnoughRoom, AcceptedRewriting, Copied, kindIn, ResolvesTo, Bare, WrittenBack}
+use Rattle.schema.specs.Roles.{ascent, isUnderMap}
 use Rattle.column_type.specs.Lawful.{isLawful}
 use Rattle.column_type.specs.Leaf.{HasLeaf}
 use Rattle.column_type.specs.declared.types.ColumnType.{ColumnType}
+use Rattle.column.specs.Numbers.{little}
+use Rattle.column.specs.Numbers as number
+use Rattle.column.specs.Annotations.{isText}
+use Rattle.column.specs.Outcome as read
+use Rattle.column.specs.Promises.{Whole, ByteForm, RightLength, Held, InWidth, InDay}
+use Rattle.column.specs.declared.value.Value.the-variants.{Truth, Signed, Unsigned, Float, Double, Bytes}
 use Rattle.column_order.specs.Keys.{numberOf, floatKey, keyOrder}
 use Rattle.column_order.specs.Values.{floatOrder}
 use Rattle.column_order.specs.Order.{hasOrder, orderOf}
+use Rattle.column_order.specs.Outcome as order
+use Rattle.column_order.specs.Promises.{AsNumbers, AsBytes, bitsBelow, FLOAT-SIGN, FLOAT-INFINITY, DOUBLE-SIGN, DOUBLE-INFINITY, IsNan}
 use Rattle.column_order.specs.Comparison.{Valid, NotANumber, turned, atMost}
-use Rattle.column_order.specs.declared.answer.Order.the-variants.{Less, Equal, Greater, Unordered}
-use Rattle.decimal.specs.Precision.{isLength}
+use Rattle.column_order.specs.declared.answer.Order.the-variants.{Equal, Unordered}
 use Rattle.decimal.specs.Number.{number}
-use Rattle.decimal.specs.Fit.{fitOf}
-use Rattle.decimal.specs.declared.fit.Fit.the-variants.{Within}
 use Rattle.utf8.specs.Text.{Text}
 use Rattle.utf8.specs.Valid.{validUpTo}
 use Rattle.timestamp.specs.Units.{TimeUnit}
@@ -53,6 +61,10 @@ pub record Resolving : Type 1 where
   pub forward-backward : (code : ℕ) (underMap : Bool) → code < converted.INTERVAL → (code ≡ converted.MAP-KEY-VALUE → ⊥) → imageOf (backwardOf code underMap) ≡ code
   -- "MAP_KEY_VALUE is never a forward image"
   pub never-map-key-value : (l : LogicalType) → forwardOf l ≡ converted.MAP-KEY-VALUE → ⊥
+  -- MAP_KEY_VALUE "alone on a child of a resolved MAP .. counts as no annotation; alone elsewhere it means MAP"
+  pub map-key-value : (backwardOf converted.MAP-KEY-VALUE true ≡ Annotation.Plain) × (backwardOf converted.MAP-KEY-VALUE false ≡ Annotation.Logical LogicalType.Map)
+  -- what the slot of each node of a sheet's tree says, as its row has it: the logical type that stands, or what the converted type means alone
+  pub resolves : (sheet : List ℕ) (t : Tree) → IsTreeOf sheet t → (k : ℕ) → k < size t → ResolvesTo (isUnderMap (ascent t k)) (getD (slots sheet) k []) (kindIn (rows t) k)
   -- the kind in a node's row is the kind that the rules took the node for
   pub rows-kinds : (t : Tree) → kindsIn (rows t) (size t) ≡ judgedKinds Root t
 
@@ -66,6 +78,11 @@ pub record Rewriting : Type 1 where
   pub same-rows : (sheet : List ℕ) → judgement sheet ≡ Verdict.Lawful → (lent : List ℕ) → written (outcome (rewritten sheet) (length lent)) (rewritten sheet) lent ≡ written (outcome sheet (length lent)) sheet lent
   -- "and rewriting it again changes no byte"
   pub again : (sheet : List ℕ) → judgement sheet ≡ Verdict.Lawful → rewritten (rewritten sheet) ≡ rewritten sheet
+  -- "every resolved logical annotation with its parameters and its forward image; INTERVAL keeps converted alone", of each node of the tree of a sound sheet,
+  -- by the kind in its row
+  pub written-back : (sheet : List ℕ) (t : Tree) → Sound sheet → IsTreeOf sheet t → (k : ℕ) → k < size t → WrittenBack (kindIn (rows t) k) (slotAt (rewritten sheet) k)
+  -- "a key_value layer has none"
+  pub key-value-layer : (sheet : List ℕ) (t : Tree) → Sound sheet → IsTreeOf sheet t → (k : ℕ) → k < size t → numberIn (rows t) k 8 ≡ KEY-VALUE-LAYER → Bare (slotAt (rewritten sheet) k)
   -- "All else but the checks is copied"
   pub copied : (sheet : List ℕ) (k : ℕ) → Copied (slotAt (rewritten sheet) k) (slotAt sheet k)
   -- "It is written into a stretch of the lent output that may begin anywhere"
@@ -74,34 +91,71 @@ pub record Rewriting : Type 1 where
   pub before : (sheet lent : List ℕ) (start : ℕ) → judgement sheet ≡ Verdict.Lawful → EnoughRoom sheet (length lent) start → take start (rewriteWritten (rewriteOutcome sheet (length lent) start) sheet lent start) ≡ take start lent
   pub after : (sheet lent : List ℕ) (start : ℕ) → judgement sheet ≡ Verdict.Lawful → EnoughRoom sheet (length lent) start → drop (start + length sheet) (rewriteWritten (rewriteOutcome sheet (length lent) start) sheet lent start) ≡ drop (start + length sheet) lent
 
--- "values .. follow them"
+-- "Value checks .. follow those rules too": each sentence of "Single values", of what `column::read` gives (`read.outcome`) in a lawful column
 pub record Values : Type 1 where
   -- 20: "no accepted sheet has a leaf of this column type", and given for no other
   pub lawful-exactly : (c : ColumnType) → (isLawful c ≡ true) ↔ HasLeaf c
   pub unlawful-exactly : (c : ColumnType) → (isLawful c ≡ false) ↔ (HasLeaf c → ⊥)
-  -- "STRING, ENUM, JSON: UTF-8 (RFC 3629)": the check stops at the end exactly of a run of the grammar's sequences
-  pub text-exactly : (s : List ℕ) → (validUpTo s ≡ length s) ↔ Text s
-  -- "DECIMAL: |unscaled| < 10^precision", of byte forms of any length
-  pub fits-exactly : (bs : List ℕ) (precision : ℕ) → isLength (length bs) ≡ true → (fitOf bs precision ≡ Within) ↔ (natAbs (number bs) < 10 ^ precision)
+  pub refused-unlawful : (c : ColumnType) (bs : List ℕ) → (read.outcome c bs ≡ read.refused 20 0) ↔ (HasLeaf c → ⊥)
+  -- 15: "value of wrong length, or over 65,536 bytes"
+  pub wrong-length : (c : ColumnType) (bs : List ℕ) → isLawful c ≡ true → (read.outcome c bs ≡ read.refused 15 0) ↔ (RightLength c (length bs) → ⊥)
+  -- "BOOLEAN one byte, 0 or 1 (else 16)"
+  pub boolean : (c : ColumnType) (bs : List ℕ) → isLawful c ≡ true → RightLength c (length bs) → c .physical ≡ BOOLEAN → (c .kind ≡ logical.UNKNOWN → ⊥) → Held c bs (little bs ≤ 1) (Truth (eqb (little bs) 1)) 0
+  -- "INT(n, false) reads its bytes unsigned; INT stays within its width": n is p1, and p2 is 0
+  pub unsigned : (c : ColumnType) (bs : List ℕ) → isLawful c ≡ true → RightLength c (length bs) → c .kind ≡ logical.INTEGER → c .p2 ≡ 0 → Held c bs (little bs < 2 ^ c .p1) (Unsigned (little bs)) 0
+  pub signed : (c : ColumnType) (bs : List ℕ) → isLawful c ≡ true → RightLength c (length bs) → c .kind ≡ logical.INTEGER → c .p2 ≡ 1 → Held c bs (InWidth (c .p1) (number.signed bs)) (Signed (number.signed bs)) 0
+  -- "TIME: 0 to one day less one tick"
+  pub time : (c : ColumnType) (bs : List ℕ) → isLawful c ≡ true → RightLength c (length bs) → c .kind ≡ logical.TIME → Held c bs (InDay (c .p1) (number.signed bs)) (Signed (number.signed bs)) 0
+  -- "DECIMAL: |unscaled| < 10^precision; byte forms are big-endian two's complement"
+  pub decimal : (c : ColumnType) (bs : List ℕ) → isLawful c ≡ true → RightLength c (length bs) → c .kind ≡ logical.DECIMAL → Whole c → Held c bs (natAbs (number.signed bs) < 10 ^ c .p1) (Signed (number.signed bs)) 0
+  pub decimal-bytes : (c : ColumnType) (bs : List ℕ) → isLawful c ≡ true → RightLength c (length bs) → c .kind ≡ logical.DECIMAL → ByteForm c → Held c bs (natAbs (number bs) < 10 ^ c .p1) (Bytes 0 (length bs)) 0
+  -- "STRING, ENUM, JSON: UTF-8 (RFC 3629)": a run of the grammar's sequences; its 16 stands where they stop (document 02, R-6)
+  pub text : (c : ColumnType) (bs : List ℕ) → isLawful c ≡ true → RightLength c (length bs) → isText (c .kind) ≡ true → Held c bs (Text bs) (Bytes 0 (length bs)) (validUpTo bs)
+  -- "UNKNOWN: no value, so 16"
+  pub unknown : (c : ColumnType) (bs : List ℕ) → isLawful c ≡ true → RightLength c (length bs) → c .kind ≡ logical.UNKNOWN → read.outcome c bs ≡ read.refused 16 0
+  -- "Others: any"; "a whole number, a FLOAT, a DOUBLE or, for INT96 and all byte forms, a stretch of bytes (start and length)"
+  pub any-whole : (c : ColumnType) (bs : List ℕ) → isLawful c ≡ true → RightLength c (length bs) → Whole c → (c .kind ≡ logical.UNKNOWN → ⊥) → (c .kind ≡ logical.INTEGER → ⊥) → (c .kind ≡ logical.TIME → ⊥) → (c .kind ≡ logical.DECIMAL → ⊥) → read.outcome c bs ≡ read.given (Signed (number.signed bs))
+  pub any-float : (c : ColumnType) (bs : List ℕ) → isLawful c ≡ true → RightLength c (length bs) → c .physical ≡ FLOAT → (c .kind ≡ logical.UNKNOWN → ⊥) → read.outcome c bs ≡ read.given (Float (ofBits binary32 (little bs)))
+  pub any-double : (c : ColumnType) (bs : List ℕ) → isLawful c ≡ true → RightLength c (length bs) → c .physical ≡ DOUBLE → (c .kind ≡ logical.UNKNOWN → ⊥) → read.outcome c bs ≡ read.given (Double (ofBits binary64 (little bs)))
+  pub any-int96 : (c : ColumnType) (bs : List ℕ) → isLawful c ≡ true → RightLength c (length bs) → c .physical ≡ INT96 → (c .kind ≡ logical.UNKNOWN → ⊥) → read.outcome c bs ≡ read.given (Bytes 0 (length bs))
+  pub any-bytes : (c : ColumnType) (bs : List ℕ) → isLawful c ≡ true → RightLength c (length bs) → ByteForm c → (c .kind ≡ logical.UNKNOWN → ⊥) → (c .kind ≡ logical.DECIMAL → ⊥) → isText (c .kind) ≡ false → read.outcome c bs ≡ read.given (Bytes 0 (length bs))
 
--- ".. order .."
+-- ".. column order ..": of two valid values of a column that has an order
 pub record Ordering : Type 1 where
-  -- "decimals of one column compare as the numbers their bytes stand for", whatever their physical type and lengths
-  pub decimal-less : (c : ColumnType) (a b : List ℕ) → Valid c a → Valid c b → c .kind ≡ logical.DECIMAL → (orderOf c a b ≡ Less) ↔ (numberOf c a <ℤ numberOf c b)
-  pub decimal-equal : (c : ColumnType) (a b : List ℕ) → Valid c a → Valid c b → c .kind ≡ logical.DECIMAL → (orderOf c a b ≡ Equal) ↔ (numberOf c a ≡ numberOf c b)
-  pub decimal-greater : (c : ColumnType) (a b : List ℕ) → Valid c a → Valid c b → c .kind ≡ logical.DECIMAL → (orderOf c a b ≡ Greater) ↔ (numberOf c b <ℤ numberOf c a)
+  -- "INTERVAL and INT96 have none": 17 for these and for no others
+  pub no-order : (c : ColumnType) (a b : List ℕ) → (order.outcome c a b ≡ order.refused 17 0 0) ↔ ((isLawful c ≡ true) × ((c .physical ≡ INT96) ⊎ (c .kind ≡ converted.INTERVAL)))
+  pub has-order : (c : ColumnType) → (hasOrder c ≡ false) ↔ ((c .physical ≡ INT96) ⊎ (c .kind ≡ converted.INTERVAL))
+  -- "signed for numbers, dates, times, decimals", of whole numbers but INT(n, false)
+  pub signed : (c : ColumnType) → hasOrder c ≡ true → (a b : List ℕ) → Valid c a → Valid c b → Whole c → ((c .kind ≡ logical.INTEGER) × (c .p2 ≡ 0) → ⊥) → AsNumbers c a b (number.signed a) (number.signed b)
+  -- "unsigned for INT(n, false) and BOOLEAN"
+  pub unsigned : (c : ColumnType) → hasOrder c ≡ true → (a b : List ℕ) → Valid c a → Valid c b → Whole c → c .kind ≡ logical.INTEGER → c .p2 ≡ 0 → AsNumbers c a b (pos (little a)) (pos (little b))
+  pub boolean : (c : ColumnType) → hasOrder c ≡ true → (a b : List ℕ) → Valid c a → Valid c b → c .physical ≡ BOOLEAN → AsNumbers c a b (pos (little a)) (pos (little b))
+  -- "Two valid decimals of one column compare as the signed numbers their bytes stand for, and are equal exactly when those numbers are": in byte forms,
+  -- whatever their lengths; as whole numbers they are signed, above
+  pub decimal-bytes : (c : ColumnType) → hasOrder c ≡ true → (a b : List ℕ) → Valid c a → Valid c b → ByteForm c → c .kind ≡ logical.DECIMAL → AsNumbers c a b (number a) (number b)
+  -- and so over all four physical types at once
+  pub decimals : (c : ColumnType) (a b : List ℕ) → Valid c a → Valid c b → c .kind ≡ logical.DECIMAL → AsNumbers c a b (numberOf c a) (numberOf c b)
+  -- "unsigned byte-wise for other bytes, a proper prefix being less"
+  pub bytes : (c : ColumnType) → hasOrder c ≡ true → (a b : List ℕ) → Valid c a → Valid c b → ByteForm c → (c .kind ≡ logical.DECIMAL → ⊥) → AsBytes c a b
+  -- "FLOAT, DOUBLE numeric, stated over their bits": zeros are equal, since both stand for 0
+  pub float : (c : ColumnType) → hasOrder c ≡ true → (a b : List ℕ) → Valid c a → Valid c b → c .physical ≡ FLOAT → (IsNan FLOAT-SIGN FLOAT-INFINITY (little a) → ⊥) → (IsNan FLOAT-SIGN FLOAT-INFINITY (little b) → ⊥) → AsNumbers c a b (bitsBelow FLOAT-SIGN (little a)) (bitsBelow FLOAT-SIGN (little b))
+  pub double : (c : ColumnType) → hasOrder c ≡ true → (a b : List ℕ) → Valid c a → Valid c b → c .physical ≡ DOUBLE → (IsNan DOUBLE-SIGN DOUBLE-INFINITY (little a) → ⊥) → (IsNan DOUBLE-SIGN DOUBLE-INFINITY (little b) → ⊥) → AsNumbers c a b (bitsBelow DOUBLE-SIGN (little a)) (bitsBelow DOUBLE-SIGN (little b))
+  -- "NaN is answered as unordered", and nothing else is
+  pub float-unordered : (c : ColumnType) → hasOrder c ≡ true → (a b : List ℕ) → Valid c a → Valid c b → c .physical ≡ FLOAT → (orderOf c a b ≡ Unordered) ↔ (IsNan FLOAT-SIGN FLOAT-INFINITY (little a) ⊎ IsNan FLOAT-SIGN FLOAT-INFINITY (little b))
+  pub double-unordered : (c : ColumnType) → hasOrder c ≡ true → (a b : List ℕ) → Valid c a → Valid c b → c .physical ≡ DOUBLE → (orderOf c a b ≡ Unordered) ↔ (IsNan DOUBLE-SIGN DOUBLE-INFINITY (little a) ⊎ IsNan DOUBLE-SIGN DOUBLE-INFINITY (little b))
   -- the order of every column that has one: the other way round for values exchanged, transitive, antisymmetric up to equal, total but for NaNs
   pub order-turned : (c : ColumnType) → hasOrder c ≡ true → (a b : List ℕ) → Valid c a → Valid c b → orderOf c b a ≡ turned (orderOf c a b)
   pub order-trans : (c : ColumnType) → hasOrder c ≡ true → (a b d : List ℕ) → Valid c a → Valid c b → Valid c d → atMost (orderOf c a b) ≡ true → atMost (orderOf c b d) ≡ true → atMost (orderOf c a d) ≡ true
   pub order-antisym : (c : ColumnType) → hasOrder c ≡ true → (a b : List ℕ) → Valid c a → Valid c b → atMost (orderOf c a b) ≡ true → atMost (orderOf c b a) ≡ true → orderOf c a b ≡ Equal
   pub order-total : (c : ColumnType) → hasOrder c ≡ true → (a b : List ℕ) → Valid c a → Valid c b → (NotANumber c a → ⊥) → (NotANumber c b → ⊥) → (atMost (orderOf c a b) || atMost (orderOf c b a)) ≡ true
-  -- "NaN is answered as unordered"
-  pub order-nan : (c : ColumnType) → hasOrder c ≡ true → (a b : List ℕ) → Valid c a → Valid c b → NotANumber c a → (orderOf c a b ≡ Unordered) × (orderOf c b a ≡ Unordered)
-  -- "FLOAT, DOUBLE numeric, stated over their bits"
+  -- floats compare by `<`, `>` and `==` as their bits do
   pub float-bits : (f : Format) (a b : ℕ) → floatOrder (ofBits f a) (ofBits f b) ≡ keyOrder (floatKey f a) (floatKey f b)
 
--- ".. and timestamps"
+-- ".. and timestamps, decoded and encoded"
 pub record Timestamps : Type 1 where
+  -- "Every count decodes", and to one set of fields
+  pub decodes : (unit : TimeUnit) (count : ℤ) → (f : Fields) × Decodes (some unit) count (given f)
+  pub decodes-one : (unit : TimeUnit) (count : ℤ) (f g : Fields) → Decodes (some unit) count (given f) → Decodes (some unit) count (given g) → f ≡ g
   -- every count's fields encode to it
   pub decoded-encodes : (unit : TimeUnit) (count : ℤ) (o : Outcome Fields) → isSigned64 count ≡ true → Decodes (some unit) count o → (f : Fields) × (o ≡ given f) × (encoding (some unit) f ≡ given count)
   -- "each encodable field set decodes back"

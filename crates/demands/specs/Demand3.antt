@@ -1,5 +1,7 @@
--- Demand 3. "A sheet is accepted exactly when some tree, at most 32 deep, keeps every rule, claims its children rightly and lists the sheet's nodes; any two
--- such trees are equal; the rows written are that tree's."
+-- Demand 3. "Whatever bytes are offered as a sheet, given sound blocks, sound node slots and enough output, the sheet is accepted exactly when some tree, at most
+-- 32 deep, keeps every listed rule, gives each node as many children as its slot claims, and has the sheet's nodes as its listing, parent first and children
+-- in order. The rules speak of trees and never of a reader. Any two such trees are equal. The rows written are that tree's rows, one for each node in listing
+-- order, equal in every number."
 --
 -- A tree is a root with its run (`tree/specs/Tree`), and the rules are judged on it alone (`tree/specs/Rules`); `IsTreeOf` puts the demand's four parts together
 -- (`schema/specs/Demand`). None of them names a reader.
@@ -11,22 +13,37 @@ use lib.ListN.{length, drop}
 use Rattle.sheet.specs.Block.{totalOf}
 use Rattle.sheet.specs.Opening.{openOf}
 use Rattle.sheet.specs.declared.opening.Opened.the-variants.{Nodes}
-use Rattle.tree.specs.Tree.{SlotBytes, Tree, Claims, listing}
+use Rattle.tree.specs.Tree.{SlotBytes, Tree, Claims, listing, size}
 use Rattle.tree.specs.Judgement.{refusal, orElse, leftOver, missing, tooDeep, unlawful, treeRefusal}
 use Rattle.tree.specs.declared.refusal.Verdict.{Verdict}
-use Rattle.schema.specs.Rows.{rows, rowWidth}
+use Rattle.schema.specs.Rows.{rows, rowWidth, numberIn}
+use Rattle.schema.specs.Roles.{Ascent, ascent, IsField, IsListLayer, IsElement, IsElementLayer, IsKeyValueLayer, IsKey, IsValue, IsBareRepeated}
 use Rattle.schema.specs.Outcome.{outcome, written}
 use Rattle.schema.specs.Demand.{IsTreeOf, Sound, EnoughOutput, Accepted}
 
+-- the role of node k, whose way up is a, exactly where the sentence of its number holds
+pub record RoleIn (number : ℕ) (a : Ascent) : Type 0 where
+  -- "0 field, 1 list layer, 2 element (a rule 1 leaf too), 3 group layer that is the element, 4 key_value layer, 5 key, 6 value, 7 bare repeated"
+  pub field : (number ≡ 0) ↔ IsField a
+  pub list-layer : (number ≡ 1) ↔ IsListLayer a
+  pub element : (number ≡ 2) ↔ IsElement a
+  pub element-layer : (number ≡ 3) ↔ IsElementLayer a
+  pub key-value-layer : (number ≡ 4) ↔ IsKeyValueLayer a
+  pub key : (number ≡ 5) ↔ IsKey a
+  pub value : (number ≡ 6) ↔ IsValue a
+  pub bare-repeated : (number ≡ 7) ↔ IsBareRepeated a
+
 pub record Demand3 : Type 1 where
-  -- "A sheet is accepted exactly when some tree .. lists the sheet's nodes", its blocks and slots sound and its output enough
+  -- "given sound blocks, sound node slots and enough output, the sheet is accepted exactly when some tree .."
   pub accepted-exactly : (sheet : List ℕ) (lent : ℕ) → Sound sheet → EnoughOutput sheet lent → Accepted (outcome sheet lent) ↔ ((t : Tree) × IsTreeOf sheet t)
-  -- "any two such trees are equal"
+  -- "Any two such trees are equal"
   pub one-tree : (sheet : List ℕ) (t u : Tree) → IsTreeOf sheet t → IsTreeOf sheet u → t ≡ u
-  -- "the rows written are that tree's", and numbers beyond them stay
+  -- "The rows written are that tree's rows, .. equal in every number", and numbers beyond them stay
   pub rows-are : (sheet lent : List ℕ) (t : Tree) → Sound sheet → EnoughOutput sheet (length lent) → IsTreeOf sheet t → written (outcome sheet (length lent)) sheet lent ≡ rows t ++ drop (rowWidth * totalOf sheet) lent
-  -- they are eleven numbers for each node
+  -- "one for each node in listing order": eleven numbers each
   pub rows-length : (sheet : List ℕ) (t : Tree) → IsTreeOf sheet t → length (rows t) ≡ rowWidth * totalOf sheet
+  -- the roles in terms of the tree
+  pub roles : (sheet : List ℕ) (t : Tree) → IsTreeOf sheet t → (k : ℕ) → k < size t → RoleIn (numberIn (rows t) k 8) (ascent t k)
   -- "blocks are sound where refusals 1 to 3 don't hold, node slots where 4 doesn't": together, exactly where opening refuses nothing
   pub sound-exactly : (sheet : List ℕ) → Sound sheet ↔ (openOf sheet ≡ Nodes (totalOf sheet))
   -- of refusal 6, refusal 5 and a tree that claims rightly and lists the slots, one holds, with the refusal's place

@@ -4,6 +4,7 @@ pub mod Ends
 pub mod Demand1
 pub mod Demand2
 pub mod Demand3
+pub mod Reader
 pub mod Sheets
 pub mod Points
 pub mod Requests

@@ -19,5 +19,6 @@ pub mod AcceptedLaws
 pub mod NodeRowLaws
 pub mod RoleLaws
 pub mod WrittenBackLaws
+pub mod ResolvesLaws
 pub mod RowKindLaws
 pub mod NodeLevelsLaws

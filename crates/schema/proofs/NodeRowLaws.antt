@@ -1,7 +1,7 @@
 -- The row of each node of a tree that keeps the rules: where it stands, that its node keeps them, what stands above the node, and how it is rewritten.
 use Prim.Native.Nat.{ℕ, zero, suc, _+_, _*_, _-_, _<_}
 use mathlib.Core.Path.{_≡_, refl, sym, ap, ap₂, _∙_, subst}
-use mathlib.Core.List.{List, [], _∷_, _++_, append-assoc}
+use mathlib.Core.List.{List, [], _∷_, _++_, append-nil, append-assoc}
 use native.Mathlib.Decide.{decLt}
 use native.Mathlib.Omega.{arith}
 use lib.ListN.{length, getD, drop, length-append, List·getD-append}
@@ -9,9 +9,11 @@ use lib.Seq.{drop-append-add, getD-append-add}
 use Rattle.parquet.specs.Repetition.{REPEATED}
 use Rattle.parquet.specs.Logical as logical
 use Rattle.sheet.specs.Slot.{repetition}
+use Rattle.tree.specs.Annotated.{kind}
 use Rattle.tree.specs.Tree.{SlotBytes, Tree, Fields, node, empty, field, listing, listings, size}
 use Rattle.tree.specs.Rules.{underMap, placeBelow, KeepsAt, Keeps, KeepsAll}
-use Rattle.schema.specs.Rows.{isMapParent, row, parentOf, afterFirst, rowsFrom, runRowsFrom, rows, rowWidth}
+use Rattle.schema.specs.Rows.{isMapParent, row, parentOf, afterFirst, rowsFrom, runRowsFrom, rows, rowWidth, numberIn}
+use Rattle.schema.specs.Demand.{kindIn}
 use Rattle.schema.specs.Roles.{slotOf, Standing, Ascent, ascents, runAscents, ascent, HasKind}
 use Rattle.tree.specs.declared.place.Place.{Place}
 use Rattle.tree.specs.declared.place.Place.the-variants.{Root}
@@ -139,3 +141,10 @@ pub node-row : (t : Tree) → Keeps Root t → (rest : List ℕ) (k : ℕ) → k
 unfolding rows ascent HasKind
 node-row t h rest k l =
     row-at t Root Parent.Other 0 0 [] [] rest 0 [] h refl (under-root []) (λ x. absurd x) (λ x. absurd x) k l
+
+-- the kind in the row of node k
+pub row-kind : (t : Tree) (h : Keeps Root t) (k : ℕ) (l : k < size t) → kindIn (rows t) k ≡ kind (isMapParent (node-row t h [] k l .«parent»)) (getD (listing t) k [])
+unfolding numberIn row
+row-kind t h k l =
+    ap (λ (numbers : List ℕ). kindIn numbers k) (sym (append-nil (rows t)))
+    ∙ ap (λ (numbers : List ℕ). record { kind = getD numbers 3 0; p1 = getD numbers 4 0; p2 = getD numbers 5 0 }) (node-row t h [] k l .begins)

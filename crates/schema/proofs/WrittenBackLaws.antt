@@ -2,7 +2,7 @@
 use Prim.Native.Nat.{ℕ, _*_, _<_, _≤_}
 use mathlib.Core.Path.{_≡_, refl, sym, ap, _∙_, subst}
 use mathlib.Core.Bool.{Bool, true, false, true≢false, cond}
-use mathlib.Core.List.{List, [], _++_, append-nil}
+use mathlib.Core.List.{List, [], _++_}
 use native.Mathlib.Omega.{arith}
 use borrow.Author.Tests.{ne-eqb, eqb-true, eqb-false}
 use lib.Dec.{eqb}
@@ -35,7 +35,7 @@ use Rattle.tree.specs.Judgement.{judgement}
 use Rattle.tree.specs.declared.place.Place.the-variants.{Root}
 use Rattle.tree.specs.declared.refusal.Verdict.{Verdict}
 use Rattle.tree.proofs.TreeOfLaws.{treeOf-listing}
-use Rattle.schema.specs.Rows.{isMapParent, KEY-VALUE-LAYER, row, rows, rowWidth, numberIn}
+use Rattle.schema.specs.Rows.{KEY-VALUE-LAYER, rows, rowWidth, numberIn}
 use Rattle.schema.specs.Rewriting.{rewritten}
 use Rattle.schema.specs.Roles.{ascent, IsKeyValueLayer}
 use Rattle.schema.specs.Demand.{IsTreeOf, Sound, kindIn, ConvertedAlone, Bare, WithLogical, WrittenBack}
@@ -44,7 +44,7 @@ use Rattle.schema.proofs.RepeatedFieldLaws.{no-list, no-map}
 use Rattle.schema.proofs.RewrittenSlotLaws.{rewrittenSlot, Holds, kept-written, holds-rewritten}
 use Rattle.schema.proofs.RewrittenTreeLaws.{rewrittenTree, resolves}
 use Rattle.schema.proofs.RewriteDemandLaws.{slots-are, total-is}
-use Rattle.schema.proofs.NodeRowLaws.{NodeRow, node-row}
+use Rattle.schema.proofs.NodeRowLaws.{NodeRow, node-row, row-kind}
 use Rattle.schema.proofs.RoleLaws.{roles-exactly}
 
 -- one node -------------------------------------------------------------------------------------------------------------------
@@ -196,11 +196,8 @@ module _ (b : List ℕ) (t : Tree) (sound : Sound b) (tree : IsTreeOf b t) (k : 
 
   -- the kind in its row is the one that the rules took it for
   kind-is : kindIn (rows t) k ≡ kind under s
-  unfolding numberIn row
-  kind-is =
-      ap (λ (l : List ℕ). kindIn l k) (sym (append-nil (rows t)))
-      ∙ ap (λ (l : List ℕ). record { kind = getD l 3 0; p1 = getD l 4 0; p2 = getD l 5 0 }) (own .begins)
-      ∙ ap (λ (u : Bool). kind u s) (sym (own .alike))
+  unfolding own
+  kind-is = row-kind t (tree .keeps) k below ∙ ap (λ (u : Bool). kind u s) (sym (own .alike))
 
   pub written-back : WrittenBack (kindIn (rows t) k) (slotAt (rewritten b) k)
   unfolding kind kindOf

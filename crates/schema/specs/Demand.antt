@@ -1,15 +1,21 @@
 -- What demand 3 speaks of, and what rewriting promises beside it.
 use Prim.Native.Nat.{ℕ, _+_, _*_, _≤_}
 use mathlib.Core.Path.{_≡_}
+use mathlib.Core.Bool.{Bool}
 use mathlib.Core.List.{List}
+use lib.IntN.{pos}
 use lib.ListN.{length}
 use Rattle.sheet.specs.Block.{totalOf}
 use Rattle.sheet.specs.Opening.{BlocksSound, SlotsSound}
+use Rattle.parquet.specs.Physical.{GROUP}
 use Rattle.parquet.specs.Converted as converted
 use Rattle.parquet.specs.Logical as logical
 use Rattle.logical_type.specs.Parameters.{UNUSED}
-use Rattle.logical_type.specs.Spelling.{statedOf}
+use Rattle.logical_type.specs.Spelling.{codeOf, aOf, bOf, statedOf}
 use Rattle.logical_type.specs.Forward.{imageOf}
+use Rattle.logical_type.specs.Backward.{backwardOf}
+use Rattle.logical_type.specs.declared.types.LogicalType.{LogicalType}
+use Rattle.logical_type.specs.declared.types.Annotation.{Annotation}
 use Rattle.annotation.specs.Kinds.{PLAIN-LEAF, PLAIN-GROUP}
 use Rattle.annotation.specs.declared.resolution.Kind.{Kind}
 use Rattle.sheet.specs.Slot.{physical, repetition, converted as convertedOf, logical as logicalOf, parameterA, parameterB, childCount, typeLength, scale, precision, name, slots}
@@ -62,6 +68,25 @@ pub record Copied (copy s : SlotBytes) : Type 0 where
 -- the kind, p1 and p2 in the row of node k
 abbrev pub kindIn : List ℕ → ℕ → Kind
 kindIn numbers k = record { kind = numberIn numbers k 3; p1 = numberIn numbers k 4; p2 = numberIn numbers k 5 }
+
+-- what the annotations of a slot resolve to, its parent a resolved MAP or not, in the kind of its node's row
+pub record ResolvesTo (under : Bool) (s : SlotBytes) (k : Kind) : Type 0 where
+  -- a logical type that stands is the kind, and a and b are p1 and p2
+  pub logical-kind : (logicalOf s ≡ logical.NONE → ⊥) → k .kind ≡ logicalOf s
+  pub logical-p1 : (logicalOf s ≡ logical.NONE → ⊥) → (logicalOf s ≡ logical.DECIMAL → ⊥) → k .p1 ≡ parameterA s
+  pub logical-p2 : (logicalOf s ≡ logical.NONE → ⊥) → (logicalOf s ≡ logical.DECIMAL → ⊥) → k .p2 ≡ parameterB s
+  -- "converted alone means the same logical type", as it is read backward
+  pub converted-kind : logicalOf s ≡ logical.NONE → (l : LogicalType) → backwardOf (convertedOf s) under ≡ Annotation.Logical l → k .kind ≡ codeOf l
+  pub converted-p1 : logicalOf s ≡ logical.NONE → (l : LogicalType) → backwardOf (convertedOf s) under ≡ Annotation.Logical l → (codeOf l ≡ logical.DECIMAL → ⊥) → k .p1 ≡ aOf l
+  pub converted-p2 : logicalOf s ≡ logical.NONE → (l : LogicalType) → backwardOf (convertedOf s) under ≡ Annotation.Logical l → (codeOf l ≡ logical.DECIMAL → ⊥) → k .p2 ≡ bOf l
+  -- "INTERVAL exists only as converted"
+  pub interval-kind : logicalOf s ≡ logical.NONE → backwardOf (convertedOf s) under ≡ Annotation.Interval → k .kind ≡ converted.INTERVAL
+  -- no annotation: "0 plain leaf", "30 plain group"
+  pub plain-leaf : logicalOf s ≡ logical.NONE → backwardOf (convertedOf s) under ≡ Annotation.Plain → (physical s ≡ GROUP → ⊥) → k .kind ≡ PLAIN-LEAF
+  pub plain-group : logicalOf s ≡ logical.NONE → backwardOf (convertedOf s) under ≡ Annotation.Plain → physical s ≡ GROUP → k .kind ≡ PLAIN-GROUP
+  -- "p1, p2: precision and scale" of a DECIMAL
+  pub decimal-p1 : k .kind ≡ logical.DECIMAL → pos (k .p1) ≡ precision s
+  pub decimal-p2 : k .kind ≡ logical.DECIMAL → pos (k .p2) ≡ scale s
 
 -- a slot with such a converted type alone, or with none: no logical type and no parameters
 pub record ConvertedAlone (code : ℕ) (s : SlotBytes) : Type 0 where

@@ -50,6 +50,11 @@ unfoldable pub isResolvedMap : Ascent → Bool
 isResolvedMap [] = false
 isResolvedMap (n ∷ above) = eqb (kind (isResolvedMap above) (slotOf (n .tree)) .kind) logical.MAP
 
+-- a node's parent is one
+abbrev pub isUnderMap : Ascent → Bool
+isUnderMap [] = false
+isUnderMap (n ∷ above) = isResolvedMap above
+
 -- the resolved kind of a node is this one; above the root there is no node
 unfoldable pub HasKind : ℕ → Ascent → Type 0
 HasKind code [] = ⊥

@@ -111,3 +111,14 @@ unfolding outcomeOf handouts
 steps-all sheet t e =
     kept sheet t (Nodes t) e
     ∙ take-at (map slotHanded (slots (now sheet))) (replicate t ended) t (length-map (slots (now sheet)) slotHanded ∙ openOf-slots-length (now sheet) t e)
+
+-- a reader keeps the sheet that it was opened on, and what opening found
+pub movedBy-sheet : (n : ℕ) (reader : Reader) → movedBy n reader .sheet ≡ reader .sheet
+unfolding movedBy
+movedBy-sheet zero reader = refl
+movedBy-sheet (suc n) reader = movedBy-sheet n (movedOn reader)
+
+pub movedBy-opened : (n : ℕ) (reader : Reader) → movedBy n reader .opened ≡ reader .opened
+unfolding movedBy
+movedBy-opened zero reader = refl
+movedBy-opened (suc n) reader = movedBy-opened n (movedOn reader)
