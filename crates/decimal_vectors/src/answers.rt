@@ -4,7 +4,7 @@ use decimal::Order;
 use libc::STDOUT_FILENO;
 
 // W within, B beyond, L wrong length.
-pub fn print_fit(number: &[u8], precision: u32) {
+pub(crate) fn print_fit(number: &[u8], precision: u32) {
     let letter = match decimal::fits_precision(number, precision) {
         Fit::Within => b'W',
         Fit::Beyond => b'B',
@@ -14,7 +14,7 @@ pub fn print_fit(number: &[u8], precision: u32) {
 }
 
 // < less, = equal, > greater, L wrong length.
-pub fn print_order(a: &[u8], b: &[u8]) {
+pub(crate) fn print_order(a: &[u8], b: &[u8]) {
     let letter = match decimal::compare(a, b) {
         Order::Less => b'<',
         Order::Equal => b'=',
@@ -24,11 +24,11 @@ pub fn print_order(a: &[u8], b: &[u8]) {
     print_letter(letter);
 }
 
-pub fn print_letter(letter: u8) {
+pub(crate) fn print_letter(letter: u8) {
     let text = [letter];
     io::write_all(STDOUT_FILENO, &text);
 }
 
-pub fn print_number(n: u32) {
+pub(crate) fn print_number(n: u32) {
     io::print_decimal(STDOUT_FILENO, n as u64);
 }

@@ -11,7 +11,7 @@ const MOST_BEFORE: usize = 255;
 
 const GREATEST_U32: u32 = 4294967295;
 
-pub fn print(numbers: &mut [u8])
+pub(crate) fn print(numbers: &mut [u8])
     requires { ⌜ 5120 ≤ length (now numbers) ⌝ }
 {
     let mut n = 1;

@@ -8,7 +8,7 @@ const GREATEST_U32: u32 = 4294967295;
 // The greatest precision that a sheet can hold.
 const GREATEST_PRECISION: u32 = 2147483647;
 
-pub fn print() {
+pub(crate) fn print() {
     print_orders();
     print_fits();
     print_precisions();

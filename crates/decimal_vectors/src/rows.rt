@@ -3,7 +3,7 @@ ghost use Prim.Native.Nat.{_≤_, _<_};
 ghost use lib.ListN.{length};
 
 // How many rows there are: five numbers, and their complements.
-pub const COUNT: usize = 10;
+pub(crate) const COUNT: usize = 10;
 // The bytes of a row: a number of 256 bytes with 255 of its sign in front has room.
 const WIDTH: usize = 512;
 // The bytes of the five numbers' rows.
@@ -12,7 +12,7 @@ const HALF: usize = 2560;
 // Writes the rows of a length: with p its greatest precision, 10^p - 2, 10^p - 1, 10^p, 10^p + 1 and the greatest number, and then
 // their complements, of which -10^p + 1 is the first and the least number the last. 10^p - 2 is p digits of nine, but for the last,
 // which is 8; and the greatest number is 8n - 1 digits of one in base two.
-pub fn write(rows: &mut [u8], n: u32, precision: u32)
+pub(crate) fn write(rows: &mut [u8], n: u32, precision: u32)
     requires { ⌜ (5120 ≤ length (now rows)) × ((1 ≤ n) × (n ≤ 256)) ⌝ }
 {
     write_digits(rows, 0, 10, precision, 8);
@@ -24,7 +24,7 @@ pub fn write(rows: &mut [u8], n: u32, precision: u32)
 }
 
 // The number of a row in n bytes, with `before` bytes of its sign in front.
-pub fn number(rows: &[u8], row: usize, n: usize, before: usize) -> &[u8]
+pub(crate) fn number(rows: &[u8], row: usize, n: usize, before: usize) -> &[u8]
     requires { ⌜ (5120 ≤ length (now rows)) × ((row < 10) × ((n ≤ 256) × (before ≤ 255))) ⌝ }
 {
     let end = row * WIDTH + WIDTH;
