@@ -11,7 +11,7 @@ use Rattle.text.specs.Placing.{positionAfter, placedText}
 use Rattle.schema.specs.Rows.{rowWidth}
 use Rattle.text.proofs.PlacingLaws.{past-within, past-beyond}
 use Rattle.schema_text.specs.Rows.{rowsText, rowsTextOf}
-use Rattle.schema_text.specs.Making.{made, madeIn}
+use Rattle.schema_text.specs.Making.{made, outcomeOf, outcome, madeIn}
 use Rattle.schema_text.specs.declared.rows.Made.{Made}
 
 -- a text that fits
@@ -22,6 +22,11 @@ made-fits text room h = rw (le-leb (0 + length text) room (omega arith))
 made-short : (text : List ℕ) (room : ℕ) → room < length text → made (some text) room ≡ Made.NoRoom
 unfolding made
 made-short text room h = rw (lt-leb (0 + length text) room (omega arith))
+
+-- an answer with what it stands for
+pub with-outcome : (may : Option (List ℕ)) (room : ℕ) (r : Made) → r ≡ made may room → outcomeOf r ≡ outcome may room
+unfolding outcome
+with-outcome may room r e = ap outcomeOf e
 
 -- no text
 pub made-none : (may : Option (List ℕ)) (lent : List ℕ) → may ≡ none → (Made.TooFewNumbers ≡ made may (length lent)) × (lent ≡ madeIn may lent)

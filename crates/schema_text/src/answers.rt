@@ -5,7 +5,7 @@ ghost use mathlib.Core.Option.{some};
 ghost use Prim.Native.Nat.{ℕ, _≤_};
 ghost use lib.ListN.{length};
 ghost use Rattle.schema_text.specs.Rows.{refusalLine, answerText};
-ghost use Rattle.schema_text.specs.Making.{made, madeIn, mostRefusalBytes, mostBytes};
+ghost use Rattle.schema_text.specs.Making.{made, outcomeOf, outcome, madeIn, mostRefusalBytes, mostBytes};
 use crate::rows::Made;
 use crate::rows::rows_text;
 use schema::Refusal;
@@ -18,6 +18,7 @@ const REFUSAL_ROOM: usize = 64;
 // nothing is written.
 pub fn answer_text(resolved: Resolved, rows: &[u32], out: &mut [u8]) -> Made
     ensures { λ r. ⌜ r ≡ made (answerText resolved (now (rows .entry))) (length (now (out .entry))) ⌝ }
+    ensures { λ r. ⌜ outcomeOf r ≡ outcome (answerText resolved (now (rows .entry))) (length (now (out .entry))) ⌝ }
     ensures { λ _. ⌜ now (out .exit) ≡ madeIn (answerText resolved (now (rows .entry))) (now (out .entry)) ⌝ }
     ensures { λ _. ⌜ ((text : List ℕ) → answerText resolved (now (rows .entry)) ≡ some text → length text ≤ mostBytes resolved) ⌝ }
 {

@@ -8,13 +8,13 @@ ghost use Rattle.io.specs.Counts.{Counts};
 ghost use Rattle.text.specs.Placing.{positionAfter, placedText};
 ghost use Rattle.schema.specs.Rows.{rowWidth};
 ghost use Rattle.schema_text.specs.Rows.{cut, linesOf, headerText, rowsTextOf};
-ghost use Rattle.schema_text.specs.Making.{made, madeIn, mostRowsBytes};
+ghost use Rattle.schema_text.specs.Making.{made, outcomeOf, outcome, madeIn, mostRowsBytes};
 use schema::ROW_WIDTH;
 
 // Room for the line with the number of rows, which has at most 20 digits.
 const HEADER_ROOM: usize = 32;
 
-// What making a text answers.
+// What making a text answers; where it is not made, refusal 14 at 0.
 pub enum Made {
     // How many bytes of the lent buffer it takes, from the first on.
     Bytes(usize),
@@ -27,6 +27,7 @@ pub enum Made {
 // Makes the text of so many rows, whose numbers are lent. Where these are too few or the buffer is too short, nothing is written.
 pub fn rows_text(rows: &[u32], total: usize, out: &mut [u8]) -> Made
     ensures { λ r. ⌜ r ≡ made (rowsTextOf total (now (rows .entry))) (length (now (out .entry))) ⌝ }
+    ensures { λ r. ⌜ outcomeOf r ≡ outcome (rowsTextOf total (now (rows .entry))) (length (now (out .entry))) ⌝ }
     ensures { λ _. ⌜ now (out .exit) ≡ madeIn (rowsTextOf total (now (rows .entry))) (now (out .entry)) ⌝ }
     ensures { λ _. ⌜ ((text : List ℕ) → rowsTextOf total (now (rows .entry)) ≡ some text → length text ≤ mostRowsBytes total) ⌝ }
 {

@@ -8,6 +8,7 @@ use Rattle.schema.specs.declared.resolving.Resolved.{Resolved}
 use Rattle.schema_text.specs.Making.{made, madeIn}
 use Rattle.schema_text.specs.Rows.{answerText}
 use Rattle.schema_text.proofs.GreatestLaws.{answer-rows-most, answer-refusal-most}
+use Rattle.schema_text.proofs.MakingLaws.{with-outcome}
 use borrow.Author.Needs.{needs}
 use Rattle.schema_text.proofs.answers.answer_text.Statement.{statement}
 use Rattle.schema_text.proofs.answers.answer_text.Tie as tie
@@ -32,7 +33,8 @@ unfolding answerText
 returns c =
     let start = c .before .before .before .before .before .before .before .before .before in
     let text = ap (λ (o : Resolved). answerText o (start .args .rows .now)) (sym (c .before .before .before .before .before .resolved .given .1)) in
-    (c .before .before .rows-text .ensures .0 ∙ ap (λ (t : Option (List ℕ)). made t (length (start .args .out .now))) text, (c .before .before .rows-text .ensures .1 .0 ∙ ap (λ (t : Option (List ℕ)). madeIn t (start .args .out .now)) text, answer-rows-most _ _ _ (c .before .before .before .before .before .resolved .given .1) (c .before .before .rows-text .ensures .1 .1)))
+    let told = c .before .before .rows-text .ensures .0 ∙ ap (λ (t : Option (List ℕ)). made t (length (start .args .out .now))) text in
+    (told, (with-outcome _ _ _ told, (c .before .before .rows-text .ensures .1 .1 .0 ∙ ap (λ (t : Option (List ℕ)). madeIn t (start .args .out .now)) text, answer-rows-most _ _ _ (c .before .before .before .before .before .resolved .given .1) (c .before .before .rows-text .ensures .1 .1 .1))))
 
 same-length-2 : tie.Need-same-length-2
 same-length-2 c = search needs
@@ -42,7 +44,8 @@ unfolding answerText
 returns-2 c =
     let start = c .before .before .before .before .before .before .before .before .before in
     let text = ap (λ (o : Resolved). answerText o (start .args .rows .now)) (sym (c .before .before .before .before .before .resolved2 .given .1)) in
-    (c .before .before .refusal-text .ensures .0 ∙ ap (λ (t : Option (List ℕ)). made t (length (start .args .out .now))) text, (c .before .before .refusal-text .ensures .1 .0 ∙ ap (λ (t : Option (List ℕ)). madeIn t (start .args .out .now)) text, answer-refusal-most _ _ _ (c .before .before .before .before .before .resolved2 .given .1) (c .before .before .refusal-text .ensures .1 .1)))
+    let told = c .before .before .refusal-text .ensures .0 ∙ ap (λ (t : Option (List ℕ)). made t (length (start .args .out .now))) text in
+    (told, (with-outcome _ _ _ told, (c .before .before .refusal-text .ensures .1 .0 ∙ ap (λ (t : Option (List ℕ)). madeIn t (start .args .out .now)) text, answer-refusal-most _ _ _ (c .before .before .before .before .before .resolved2 .given .1) (c .before .before .refusal-text .ensures .1 .1))))
 
 pub answer-text-spec : {M : Type 1} → statement M
 answer-text-spec =

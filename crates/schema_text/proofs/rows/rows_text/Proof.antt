@@ -10,7 +10,7 @@ use Rattle.text.proofs.PlacingLaws.{past-within, past-beyond, placed-short, aft
 use Rattle.schema_text.specs.Making.{mostRowsBytes}
 use Rattle.schema_text.specs.Rows.{cut, linesOf, headerText, rowsText, rowsTextOf}
 use Rattle.schema_text.proofs.GreatestLaws.{rows-most}
-use Rattle.schema_text.proofs.MakingLaws.{made-within, made-beyond, rows-few, rows-enough, made-none}
+use Rattle.schema_text.proofs.MakingLaws.{with-outcome, made-within, made-beyond, rows-few, rows-enough, made-none}
 use borrow.Author.Needs.{needs}
 use Rattle.schema_text.proofs.rows.rows_text.Statement.{statement}
 use Rattle.schema_text.proofs.rows.rows_text.Tie as tie
@@ -35,7 +35,7 @@ most c text e = rows-most _ _ _ (λ i. omega (arith, c .shared-slice-known .give
 returns : tie.Need-returns
 returns c =
     let made = made-none _ _ (rows-few _ _ (c .if1 .taken)) in
-    (made .0, (made .1, most (c .before .before)))
+    (made .0, (with-outcome _ _ _ (made .0), (made .1, most (c .before .before))))
 
 make-header-requires : tie.Need-make-header-requires
 make-header-requires c κs = search needs
@@ -55,7 +55,7 @@ returns-2 c =
     let enough = rows-enough (start .args .total) (start .args .rows .now) (omega arith) in
     let after = reached (c .before) in
     let made = made-beyond _ _ _ _ _ enough after (sym (placed-short _ _ _ (past-beyond _ _ _ _ after (c .if2 .taken)))) (c .if2 .taken) in
-    (made .0, (made .1, most (c .before .before .before .before .before .before .before .before .before)))
+    (made .0, (with-outcome _ _ _ (made .0), (made .1, most (c .before .before .before .before .before .before .before .before .before))))
 
 array-share-prefix-header : tie.Need-array-share-prefix-header
 array-share-prefix-header c = search needs
@@ -92,7 +92,7 @@ returns-3 c =
     let count : at .before .before .before .before .make-header .result ≡ c .before .before .before .before .before .before .put .result = omega (arith, header (at .before .before .before .before), first .end) in
     let all = holds-more first (linesOf (cut total ns)) (omega arith) (refl, c .before .before .write-rows .ensures ∙ ap (λ (k : ℕ). placedText (c .before .before .before .before .before .before .put .last .0) k (linesOf (cut total ns))) count) in
     let made = made-within _ _ _ _ _ (rows-enough total ns (omega (arith, at .before .before .before .before .before .before .if1 .left))) (reached at) (holds-placed all) within in
-    (made .0, (made .1, most (c .before .before .before .before .before .before .before .before .before .before .before .before .before .before .before .before .before .before)))
+    (made .0, (with-outcome _ _ _ (made .0), (made .1, most (c .before .before .before .before .before .before .before .before .before .before .before .before .before .before .before .before .before .before))))
 
 pub rows-text-spec : {M : Type 1} → statement M
 rows-text-spec =

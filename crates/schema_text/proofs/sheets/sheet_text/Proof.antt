@@ -22,8 +22,8 @@ steps c =
       left = resolve .ensures .1;
       kept = resolve .kept .1 .0;
       told = c .answer-text .ensures .0;
-      filled = c .answer-text .ensures .1 .0;
-      most = c .answer-text .ensures .1 .1;
+      filled = c .answer-text .ensures .1 .1 .0;
+      most = c .answer-text .ensures .1 .1 .1;
     }
 
 -- a text that is made is no other answer
