@@ -1,7 +1,7 @@
 """Sheets that are refused, each with the line that document 01's table gives, and sheets that are accepted.
 
-Refusals 1 to 4 are those of opening, which every program makes; 5 to 13 are of the tree, which `sheet_slots` does not judge. 14 cannot occur: the
-programs hold output for the greatest sheet.
+Refusals 1 to 4 are those of opening, which every program makes; 5 to 13 are of the tree, which `sheet_slots` does not judge. 14 cannot
+occur: the programs hold output for the greatest sheet.
 """
 from sheets import *
 
@@ -17,11 +17,11 @@ def chain(length, bottom):
     return group(chain(length - 1, bottom)) if length else bottom
 
 
-# A root whose name makes its block's bytes sum up to 65,521, so that its check is 0.
+# A root with a name for which the check is 0.
 CHECK_ZERO = sheet(root(name=b"check zero aagsa"))
 
 
-LENGTH = [
+LENGTH = [  # 1
     ("no bytes", b"", "refused 1 at 0"),
     ("one byte", b"\0", "refused 1 at 0"),
     ("511 bytes", EXAMPLE[:511], "refused 1 at 0"),
@@ -32,7 +32,7 @@ LENGTH = [
     ("513 bytes and a bad check", put(EXAMPLE, 30, 1) + b"\0", "refused 1 at 0"),
 ]
 
-BLOCK_CHECK = [
+BLOCK_CHECK = [  # 2
     ("a header's byte changed in block 0", put(WIDE, 3, 2), "refused 2 at 0"),
     ("a check's low byte changed in block 1", put(WIDE, in_block(1, 510), WIDE[in_block(1, 510)] ^ 1), "refused 2 at 1"),
     ("a check's high byte changed in block 2", put(WIDE, in_block(2, 511), WIDE[in_block(2, 511)] ^ 128), "refused 2 at 2"),
@@ -42,7 +42,7 @@ BLOCK_CHECK = [
     ("byte 509 alone is 255, and no check", bytes(509) + b"\xff\0\0", "refused 2 at 0"),
 ]
 
-BLOCK_HEADER = [
+BLOCK_HEADER = [  # 3
     ("all zero but byte 509, with its check 64,529", bytes(509) + b"\xff" + (64529).to_bytes(2, "little"), "refused 3 at 0"),
     ("T is 0", change(EXAMPLE, 4, 0, 0), "refused 3 at 0"),
     ("T is 897 in 128 blocks", change(GREATEST, 4, 897 & 255, 897 >> 8), "refused 3 at 0"),
@@ -58,7 +58,7 @@ BLOCK_HEADER = [
     ("two blocks exchanged", WIDE[:512] + WIDE[1024:] + WIDE[512:1024], "refused 3 at 1"),
 ]
 
-SLOT_CODES = [
+SLOT_CODES = [  # 4
     ("physical 8 at the root", change(WIDE, in_slot(0, 0), 8), "refused 4 at 0"),
     ("physical 254 in block 1", change(WIDE, in_slot(9, 0), 254), "refused 4 at 9"),
     ("repetition 3", change(WIDE, in_slot(7, 1), 3), "refused 4 at 7"),
@@ -70,34 +70,34 @@ SLOT_CODES = [
     ("byte 21 not zero", change(WIDE, in_slot(8, 21), 1), "refused 4 at 8"),
     ("byte 23 not zero", change(WIDE, in_slot(8, 23), 1), "refused 4 at 8"),
     ("a byte past the name not zero", change(WIDE, in_slot(15, 25), 1), "refused 4 at 15"),
-    ("the last byte past the name not zero", change(WIDE, in_slot(895 % 17, 71), 1), "refused 4 at 11"),
+    ("the last byte past the name not zero", change(WIDE, in_slot(11, 71), 1), "refused 4 at 11"),
     ("the first unused slot not zero", change(WIDE, in_slot(17, 0), 1), "refused 4 at 17"),
     ("the last unused slot not zero", change(WIDE, in_slot(20, 71), 1), "refused 4 at 20"),
     ("the last node of the greatest sheet", change(GREATEST, in_slot(895, 2), 100), "refused 4 at 895"),
 ]
 
-MISSING_NODES = [
+MISSING_NODES = [  # 5
     ("a root alone that claims a child", sheet(root(claims=1)), "refused 5 at 1"),
     ("a root that claims one child too many", sheet(root(*[leaf()] * 16, claims=17)), "refused 5 at 17"),
     ("a last leaf that claims a child", sheet(root(leaf(), leaf(claims=1))), "refused 5 at 3"),
     ("the greatest child count, in the greatest sheet", sheet(root(*[leaf()] * 895, claims=65535)), "refused 5 at 896"),
 ]
 
-NODES_LEFT_OVER = [
+NODES_LEFT_OVER = [  # 6
     ("a root without children, and a leaf", sheet(root() + leaf()), "refused 6 at 1"),
     ("a root with 2 children of 16", sheet(root(*[leaf()] * 16, claims=2)), "refused 6 at 3"),
     ("a tree that ends in block 1", sheet(root(*[leaf()] * 9) + group(leaf()) + leaf()), "refused 6 at 10"),
     ("the last node alone", sheet(root(*[leaf()] * 895, claims=894)), "refused 6 at 895"),
 ]
 
-TOO_DEEP = [
+TOO_DEEP = [  # 7
     ("a leaf at depth 33", sheet(root(chain(32, leaf()))), "refused 7 at 33"),
     ("a group at depth 33, and more below", sheet(root(chain(40, leaf()))), "refused 7 at 33"),
     ("depth 33 behind two leaves", sheet(root(leaf(), leaf(), chain(32, leaf()))), "refused 7 at 35"),
     ("depth 32 twice, then 33", sheet(root(chain(31, leaf()), chain(31, leaf()), chain(32, leaf()))), "refused 7 at 97"),
 ]
 
-SHAPE = [
+SHAPE = [  # 8
     ("the root is a leaf", sheet(leaf(repetition=NO_REPETITION)), "refused 8 at 0"),
     ("the root has a repetition", sheet(root(leaf(), repetition=REQUIRED)), "refused 8 at 0"),
     ("the root has a converted type", sheet(root(leaf(), converted=C_LIST)), "refused 8 at 0"),
@@ -113,17 +113,18 @@ SHAPE = [
     ("a precision without DECIMAL", behind(leaf(), leaf(precision=-1)), "refused 8 at 11"),
 ]
 
-DISAGREEMENT = [
+DISAGREEMENT = [  # 9
     ("UTF8 beside JSON", behind(leaf(BYTE_ARRAY, converted=UTF8, logical=JSON)), "refused 9 at 10"),
     ("TIME_MILLIS beside TIME(NANOS)", behind(leaf(INT64, converted=TIME_MILLIS, logical=TIME, a=NANOS)), "refused 9 at 10"),
     ("INT_8 beside INT(16, true)", behind(leaf(converted=INT_8, logical=INTEGER, a=16, b=1)), "refused 9 at 10"),
     ("UINT_8 beside INT(8, true)", behind(leaf(), leaf(converted=UINT_8, logical=INTEGER, a=8, b=1)), "refused 9 at 11"),
     ("UTF8 beside STRING with a parameter", behind(leaf(BYTE_ARRAY, converted=UTF8, logical=STRING, a=1)), "refused 9 at 10"),
     ("MAP_KEY_VALUE beside MAP", behind(map_of(layer(leaf()), converted=MAP_KEY_VALUE)), "refused 9 at 10"),
-    ("UTF8 beside UUID, in the last node of the greatest sheet", sheet(root(*[leaf()] * 894, leaf(FIXED, type_length=16, converted=UTF8, logical=UUID))), "refused 9 at 895"),
+    ("UTF8 beside UUID, in the last of 896 nodes", sheet(root(*[leaf()] * 894, leaf(FIXED, type_length=16, converted=UTF8, logical=UUID))),
+     "refused 9 at 895"),
 ]
 
-MISPLACED = [
+MISPLACED = [  # 10
     ("a parameter at the root", sheet(root(leaf(), a=1)), "refused 10 at 0"),
     ("a parameter without a logical type", behind(leaf(b=1)), "refused 10 at 10"),
     ("STRING on INT32", behind(leaf(logical=STRING)), "refused 10 at 10"),
@@ -141,7 +142,7 @@ MISPLACED = [
     ("DECIMAL on FLOAT", behind(leaf(FLOAT, logical=DECIMAL, precision=2)), "refused 10 at 10"),
 ]
 
-DIGITS = [
+DIGITS = [  # 11
     ("precision 10 on INT32", behind(leaf(converted=C_DECIMAL, precision=10)), "refused 11 at 10"),
     ("precision 19 on INT64", behind(leaf(INT64, logical=DECIMAL, precision=19)), "refused 11 at 10"),
     ("precision 3 on FIXED 1", behind(leaf(FIXED, type_length=1, logical=DECIMAL, precision=3)), "refused 11 at 10"),
@@ -151,7 +152,7 @@ DIGITS = [
     ("scale -1", behind(leaf(), leaf(BYTE_ARRAY, logical=DECIMAL, precision=5, scale=-1)), "refused 11 at 11"),
 ]
 
-LIST_STRUCTURE = [
+LIST_STRUCTURE = [  # 12
     ("a repeated LIST", behind(list_of(layer(leaf()), repetition=REPEATED)), "refused 12 at 10"),
     ("a LIST of two children", behind(list_of(layer(leaf()), layer(leaf()))), "refused 12 at 10"),
     ("a LIST whose child is not repeated", behind(list_of(group(leaf()))), "refused 12 at 10"),
@@ -160,7 +161,7 @@ LIST_STRUCTURE = [
     ("a LIST in an optional group", behind(group(list_of(leaf()), repetition=OPTIONAL)), "refused 12 at 11"),
 ]
 
-MAP_STRUCTURE = [
+MAP_STRUCTURE = [  # 13
     ("a repeated MAP", behind(map_of(layer(leaf()), repetition=REPEATED)), "refused 13 at 10"),
     ("a MAP of two children", behind(map_of(layer(leaf()), layer(leaf()))), "refused 13 at 10"),
     ("a MAP whose layer is a leaf", behind(map_of(leaf(repetition=REPEATED))), "refused 13 at 10"),
@@ -173,7 +174,8 @@ MAP_STRUCTURE = [
 
 # Where two refusals hold: 1 to 7 in their order over the whole sheet, then 8 to 13 node by node, at one node in number order.
 WHICH_COMES_FIRST = [
-    ("2 in block 2 before 3 in block 1 and 4 in block 0", put(change(change(WIDE, in_slot(0, 0), 8), in_block(1, 3), 2), in_block(2, 9), 1), "refused 2 at 2"),
+    ("2 in block 2 before 3 in block 1 and 4 in block 0",
+     put(change(change(WIDE, in_slot(0, 0), 8), in_block(1, 3), 2), in_block(2, 9), 1), "refused 2 at 2"),
     ("3 in block 2 before 4 in block 0", change(change(WIDE, in_slot(0, 0), 8), in_block(2, 3), 2), "refused 3 at 2"),
     ("4 in an unused slot before 5", change(sheet(root(*[leaf()] * 8, claims=9)), in_slot(12, 0), 1), "refused 4 at 12"),
     ("4 at the last node before 6", change(sheet(root(*[leaf()] * 8, claims=2)), in_slot(8, 1), 3), "refused 4 at 8"),
@@ -192,10 +194,10 @@ WHICH_COMES_FIRST = [
     ("10 before 13 at one node", behind(map_of(layer(leaf()), repetition=REPEATED, a=1)), "refused 10 at 10"),
 ]
 
-REFUSED = (LENGTH + BLOCK_CHECK + BLOCK_HEADER + SLOT_CODES + MISSING_NODES + NODES_LEFT_OVER + TOO_DEEP + SHAPE + DISAGREEMENT + MISPLACED + DIGITS
-           + LIST_STRUCTURE + MAP_STRUCTURE + WHICH_COMES_FIRST)
+REFUSED = (LENGTH + BLOCK_CHECK + BLOCK_HEADER + SLOT_CODES + MISSING_NODES + NODES_LEFT_OVER + TOO_DEEP
+           + SHAPE + DISAGREEMENT + MISPLACED + DIGITS + LIST_STRUCTURE + MAP_STRUCTURE + WHICH_COMES_FIRST)
 
-# A slot's annotation before and after rewriting, as (physical and length, converted, logical, a, b) with the DECIMAL's digits.
+# A column, its annotation, and its annotation once rewritten.
 FIXED_12, FIXED_16 = dict(physical=FIXED, type_length=12), dict(physical=FIXED, type_length=16)
 ON_INT32, ON_INT64, ON_BYTES = dict(physical=INT32), dict(physical=INT64), dict(physical=BYTE_ARRAY)
 REWRITTEN_AS = [

@@ -18,7 +18,8 @@ INTEGER, UNKNOWN, JSON, BSON, UUID = range(10, 15)
 MILLIS, MICROS, NANOS = 1, 2, 3
 
 
-def slot(physical, repetition, converted=NO_CONVERTED, logical=NO_LOGICAL, a=0, b=0, children=0, type_length=0, scale=0, precision=0, name=b"v", name_length=None):
+def slot(physical, repetition, converted=NO_CONVERTED, logical=NO_LOGICAL, a=0, b=0, children=0, type_length=0, scale=0, precision=0,
+         name=b"v", name_length=None):
     """The 72 bytes of a slot; its name length is its name's unless another is given."""
     length = len(name) if name_length is None else name_length
     numbers = physical, repetition, converted, logical, a, b, children, type_length, scale, precision, length

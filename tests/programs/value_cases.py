@@ -52,12 +52,11 @@ READ = [
     ("BSON of any bytes", text(BSON), b"\xff", "bytes 0 1"),
     ("UUID", (FIXED, 16, UUID, 0, 0), bytes(16), "bytes 0 16"),
     ("INTERVAL", (FIXED, 12, INTERVAL_KIND, 0, 0), bytes(12), "bytes 0 12"),
-    ("FIXED 70000 is lawful, and none of its values is short enough", (FIXED, 70000, 0, 0, 0), b"\0", "refused 15 at 0"),
     ("DECIMAL of precision 2: 63 hex", (BYTE_ARRAY, 0, DECIMAL, 2, 0), b"\x63", "bytes 0 1"),
     ("DECIMAL of 256 bytes", (BYTE_ARRAY, 0, DECIMAL, 2, 0), bytes(256), "bytes 0 256"),
 ]
 
-NO_COLUMN = [
+NO_COLUMN = [  # 20
     ("physical 8", (8, 0, 0, 0, 0), b"", "refused 20 at 0"),
     ("a group", (GROUP, 0, 30, 0, 0), b"", "refused 20 at 0"),
     ("each number the greatest", (2**32 - 1,) * 5, b"", "refused 20 at 0"),
@@ -71,7 +70,7 @@ NO_COLUMN = [
     ("precision 3 on FIXED 1", (FIXED, 1, DECIMAL, 3, 0), b"\0", "refused 20 at 0"),
 ]
 
-WRONG_LENGTH = [
+WRONG_LENGTH = [  # 15
     ("BOOLEAN of no bytes", PLAIN_BOOLEAN, b"", "refused 15 at 0"),
     ("BOOLEAN of two bytes", PLAIN_BOOLEAN, b"\1\0", "refused 15 at 0"),
     ("INT32 of three bytes", PLAIN_INT32, bytes(3), "refused 15 at 0"),
@@ -81,10 +80,11 @@ WRONG_LENGTH = [
     ("DECIMAL of no bytes", (BYTE_ARRAY, 0, DECIMAL, 2, 0), b"", "refused 15 at 0"),
     ("DECIMAL of 257 bytes", (BYTE_ARRAY, 0, DECIMAL, 2, 0), bytes(257), "refused 15 at 0"),
     ("65,537 bytes", PLAIN_BYTES, bytes(MOST_BYTES + 1), "refused 15 at 0"),
+    ("65,537 bytes, as a FIXED of that length has", (FIXED, MOST_BYTES + 1, 0, 0, 0), bytes(MOST_BYTES + 1), "refused 15 at 0"),
     ("65,537 bytes of STRING", text(STRING), b"a" * (MOST_BYTES + 1), "refused 15 at 0"),
 ]
 
-BREAKS_ANNOTATION = [
+BREAKS_ANNOTATION = [  # 16
     ("BOOLEAN 2", PLAIN_BOOLEAN, b"\2", "refused 16 at 0"),
     ("INT(8, false) of 256", integer(8, 0), little(256), "refused 16 at 0"),
     ("INT(8, true) of 128", integer(8, 1), little(128), "refused 16 at 0"),
