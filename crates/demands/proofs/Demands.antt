@@ -71,6 +71,9 @@ demand1 =
             decoding = values.decoding-first;
             decoding-one = λ unit count o o′. decodes-one (unitOf unit) count o o′;
             encoding = values.encoding-first;
+            rows-text = sheets.rows-text-first;
+            answer-rows = sheets.answer-rows-first;
+            answer-refusal = sheets.answer-refusal-first;
             c-reading = values.c-reading-first;
             c-decoding = values.c-decoding-first;
             c-encoding = values.c-encoding-first;
@@ -79,6 +82,7 @@ demand1 =
           record {
             rows = demand.refused-unchanged;
             output = rewrite-kept;
+            text-buffer = sheets.text-left;
             c-value = λ c bs lent. values.refused-left (reading c bs (length lent)) lent;
             c-count = λ unit numbers lent. values.refused-left (encoding unit numbers (length lent)) lent;
             c-fields = values.fields-left;

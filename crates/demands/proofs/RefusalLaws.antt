@@ -43,8 +43,14 @@ use Rattle.schema.specs.Outcome as schema
 use Rattle.schema.specs.Outcome.{shortOutput}
 use Rattle.schema.specs.Rewriting.{rewriteAnswer, rewriteOutcome}
 use Rattle.schema.specs.declared.rewriting.Rewritten.{Rewritten}
-use Rattle.demands.specs.Refusals.{End, result, refusal, Ground, ground, first, none, eachFrom, each, openingGrounds, leftOverGrounds, missingGround, deepGrounds, nodeGrounds, ruleGrounds, runGrounds, treeGrounds, judgingGrounds, resolvingGrounds, rewritingGrounds, slotGrounds}
-use Rattle.demands.specs.Ends.{openingEnd, judgingEnd, resolvingEnd, rewritingEnd, slotEnd}
+use mathlib.Core.Option.{Option, none, some}
+use Rattle.text.specs.Placing.{placedText}
+use Rattle.schema.specs.declared.resolving.Resolved.{Resolved}
+use Rattle.schema_text.specs.Rows.{rowsText, rowsTextOf, refusalLine, answerText}
+use Rattle.schema_text.specs.Making as text
+use Rattle.tree.specs.declared.refusal.Refusal.{Refusal}
+use Rattle.demands.specs.Refusals.{End, result, refusal, Ground, ground, first, none as noneHolds, eachFrom, each, openingGrounds, leftOverGrounds, missingGround, deepGrounds, nodeGrounds, ruleGrounds, runGrounds, treeGrounds, judgingGrounds, resolvingGrounds, rewritingGrounds, slotGrounds, rowsTextGrounds, shortFor}
+use Rattle.demands.specs.Ends.{openingEnd, judgingEnd, resolvingEnd, rewritingEnd, slotEnd, textEnd}
 
 -- lists of refusals ----------------------------------------------------------------------------------------------------------------
 
@@ -68,8 +74,8 @@ module _ (number : ℕ) (right holds : ℕ → Bool) (opposite : (k : ℕ) → h
       (λ e. rw (opposite k, e, add-suc, ← suc-add) (first-each n (suc k) a))
       (λ e. rw (opposite k, e, lt-ltb k (k + suc n) (omega arith)))
 
-  none-each : (n k : ℕ) → none (eachFrom number holds k n) ≡ not (ltb (firstWrongFrom right k n) (k + n))
-  unfolding none eachFrom firstWrongFrom
+  none-each : (n k : ℕ) → noneHolds (eachFrom number holds k n) ≡ not (ltb (firstWrongFrom right k n) (k + n))
+  unfolding noneHolds eachFrom firstWrongFrom
   none-each zero k = rw (add-zero, le-ltb k k (omega arith))
   none-each (suc n) k =
       by-test (right k)
@@ -80,7 +86,7 @@ not-not : (b : Bool) → b ≡ not (not b)
 not-not true = refl
 not-not false = refl
 
-none-all : (number n : ℕ) (right holds : ℕ → Bool) → ((k : ℕ) → holds k ≡ not (right k)) → none (each number holds n) ≡ not (ltb (firstWrong right n) n)
+none-all : (number n : ℕ) (right holds : ℕ → Bool) → ((k : ℕ) → holds k ≡ not (right k)) → noneHolds (each number holds n) ≡ not (ltb (firstWrong right n) n)
 unfolding firstWrong
 none-all number n right holds opposite = none-each number right holds opposite n 0 ∙ ap (λ (m : ℕ). not (ltb (firstWrongFrom right 0 n) m)) (zero-add n)
 
@@ -218,7 +224,7 @@ places-first ss rest gs a e =
     opposite : (k : ℕ) → isNoPlace (openPlaces ss k) ≡ not (right k)
     opposite k = not-not (isNoPlace (openPlaces ss k))
 
-    none-left : none (leftOverGrounds ss) ≡ not (ltb (firstWrong right n) n)
+    none-left : noneHolds (leftOverGrounds ss) ≡ not (ltb (firstWrong right n) n)
     none-left = none-all 6 n right (λ k. isNoPlace (openPlaces ss k)) opposite
 
     either : (some full : Bool) → judgingEnd (orElse (cond some (Verdict.Refused (tree.refusal 6 (firstWrong right n))) Verdict.Lawful) (orElse (cond full Verdict.Lawful (Verdict.Refused (tree.refusal 5 n))) rest)) a ≡ cond (not some && not full) (refusal 5 n) (cond some (refusal 6 (firstWrong right n)) (first gs a))
@@ -311,3 +317,33 @@ slot-rewriting-first k n under =
     by-test (nine.rule9 n)
     (λ e. by-test (ten.rule10 n under) (λ f. by-test (eleven.rule11 n under) (λ g. rw (e, f, g)) (λ g. rw (e, f, g))) (λ f. rw (e, f)))
     (λ e. rw e)
+
+-- texts ------------------------------------------------------------------------------------------------------------------------------
+
+-- a text that is there fits or not
+fits-first : (bytes : List ℕ) (room : ℕ) → textEnd (text.outcome (some bytes) room) ≡ first (shortFor (length bytes) room ∷ []) (length bytes)
+unfolding text.outcome text.made first
+fits-first bytes room =
+    by-test (leb (0 + length bytes) room)
+    (λ e. rw (e, le-ltb room (length bytes) (omega (arith, leb-true (0 + length bytes) room e))))
+    (λ e. rw (e, lt-ltb room (length bytes) (omega (arith, leb-false (0 + length bytes) room e))))
+
+pub rows-text-first : (total : ℕ) (numbers : List ℕ) (room : ℕ) → textEnd (text.outcome (rowsTextOf total numbers) room) ≡ first (rowsTextGrounds total numbers room) (length (rowsText total numbers))
+unfolding rowsTextOf first text.outcome text.made
+rows-text-first total numbers room =
+    by-test (ltb (length numbers) (11 * total)) (λ e. rw e) (λ e. rw e (fits-first (rowsText total numbers) room))
+
+pub answer-rows-first : (total : ℕ) (numbers : List ℕ) (room : ℕ) → textEnd (text.outcome (answerText (Resolved.Rows total) numbers) room) ≡ first (rowsTextGrounds total numbers room) (length (rowsText total numbers))
+unfolding answerText
+answer-rows-first total numbers room = rows-text-first total numbers room
+
+pub answer-refusal-first : (r : Refusal) (numbers : List ℕ) (room : ℕ) → textEnd (text.outcome (answerText (Resolved.Refused r) numbers) room) ≡ first (shortFor (length (refusalLine r)) room ∷ []) (length (refusalLine r))
+unfolding answerText
+answer-refusal-first r numbers room = fits-first (refusalLine r) room
+
+-- a buffer for which a text is too long stays
+pub text-left : (may : Option (List ℕ)) (lent : List ℕ) (r : Refusal) → text.outcome may (length lent) ≡ text.refused r → text.madeIn may lent ≡ lent
+unfolding text.outcome text.made text.madeIn placedText
+text-left none lent r e = refl
+text-left (some bytes) lent r e =
+    by-test (leb (0 + length bytes) (length lent)) (λ f. absurd (let given : _≡_ {A = text.Outcome} (text.given (length bytes)) (text.refused r) = rw f at e in let z : _≡_ {A = ℕ} 0 1 = cc in omega arith)) (λ f. rw f)

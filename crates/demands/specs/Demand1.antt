@@ -8,6 +8,7 @@ use Prim.Native.Nat.{ℕ, _≤_, _<_}
 use mathlib.Core.Path.{_≡_}
 use mathlib.Core.Bool.{Bool}
 use mathlib.Core.List.{List, [], _∷_}
+use mathlib.Core.Option.{Option}
 use lib.IntN.{ℤ}
 use lib.ListN.{length}
 use Rattle.sheet.specs.Block.{totalOf}
@@ -34,14 +35,17 @@ use Rattle.timestamp.specs.Count.{countOf}
 use Rattle.timestamp.specs.Outcomes as timestamp
 use Rattle.timestamp.specs.Outcomes.{Outcome, Decodes}
 use Rattle.timestamp.specs.declared.fields.Fields.{Fields}
+use Rattle.schema_text.specs.Rows.{rowsText, rowsTextOf, refusalLine, answerText}
+use Rattle.schema_text.specs.Making as text
+use Rattle.schema_text.specs.Making.{madeIn}
 use Rattle.c_api.specs.Answers.{Effect, refused, within, left}
 use Rattle.c_api.specs.Values as c_values
 use Rattle.c_api.specs.Values.{caseOf, numbersOf}
 use Rattle.c_api.specs.Timestamps.{fieldNumbers, fieldsOf, decodeEffect, Decoding}
 use Rattle.c_api.specs.Timestamps as c_timestamps
 use Rattle.c_api.specs.Promises.{Promises}
-use Rattle.demands.specs.Refusals.{first, openingGrounds, judgingGrounds, resolvingGrounds, rewritingGrounds, slotGrounds, readingGrounds, orderingGrounds, unknownUnit, ticks, encodingGrounds, cReadingGrounds, cDecodingGrounds, cEncodingGrounds}
-use Rattle.demands.specs.Ends.{openingEnd, judgingEnd, resolvingEnd, rewritingEnd, slotEnd, readingEnd, orderingEnd, timestampEnd, cEnd}
+use Rattle.demands.specs.Refusals.{first, openingGrounds, judgingGrounds, resolvingGrounds, rewritingGrounds, slotGrounds, readingGrounds, orderingGrounds, unknownUnit, ticks, encodingGrounds, rowsTextGrounds, shortFor, cReadingGrounds, cDecodingGrounds, cEncodingGrounds}
+use Rattle.demands.specs.Ends.{openingEnd, judgingEnd, resolvingEnd, rewritingEnd, slotEnd, readingEnd, orderingEnd, timestampEnd, textEnd, cEnd}
 
 -- "Each call ends with the result or one numbered refusal, chosen in the order document 01 states"
 pub record Chosen : Type 1 where
@@ -65,6 +69,10 @@ pub record Chosen : Type 1 where
   pub decoding-one : (unit : ℕ) (count : ℤ) (o o′ : Outcome Fields) → Decodes (unitOf unit) count o → Decodes (unitOf unit) count o′ → o ≡ o′
   -- `timestamp::encode`
   pub encoding : (unit : ℕ) (f : Fields) → timestampEnd (timestamp.encoding (unitOf unit) f) ≡ first (encodingGrounds unit f) (countOf (ticks unit) f)
+  -- `schema_text::rows_text`, and `schema_text::answer_text` of rows and of a refusal
+  pub rows-text : (total : ℕ) (numbers : List ℕ) (room : ℕ) → textEnd (text.outcome (rowsTextOf total numbers) room) ≡ first (rowsTextGrounds total numbers room) (length (rowsText total numbers))
+  pub answer-rows : (total : ℕ) (numbers : List ℕ) (room : ℕ) → textEnd (text.outcome (answerText (Resolved.Rows total) numbers) room) ≡ first (rowsTextGrounds total numbers room) (length (rowsText total numbers))
+  pub answer-refusal : (r : Refusal) (numbers : List ℕ) (room : ℕ) → textEnd (text.outcome (answerText (Resolved.Refused r) numbers) room) ≡ first (shortFor (length (refusalLine r)) room ∷ []) (length (refusalLine r))
   -- `griffeljol_read`, `griffeljol_decode` and `griffeljol_encode`
   pub c-reading : (c : ColumnType) (bs : List ℕ) (lent : ℕ) → cEnd (c_values.reading c bs lent) ≡ first (cReadingGrounds c bs lent) (caseOf (valueOf c bs), numbersOf (valueOf c bs))
   pub c-decoding : (unit : ℕ) (count : ℤ) (lent : ℕ) (o : Outcome Fields) → Decodes (unitOf unit) count o → (f : Fields) × (cEnd (within lent (decodeEffect o)) ≡ first (cDecodingGrounds unit lent) (7, fieldNumbers f))
@@ -76,6 +84,8 @@ pub record Unchanged : Type 1 where
   pub rows : (sheet lent : List ℕ) (r : Refusal) → schema.outcome sheet (length lent) ≡ Resolved.Refused r → written (schema.outcome sheet (length lent)) sheet lent ≡ lent
   -- the output of `schema::rewrite`, and in C
   pub output : (sheet lent : List ℕ) (start : ℕ) (r : Refusal) → rewriteOutcome sheet (length lent) start ≡ Rewritten.Refused r → rewriteWritten (rewriteOutcome sheet (length lent) start) sheet lent start ≡ lent
+  -- the buffer of a text
+  pub text-buffer : (may : Option (List ℕ)) (lent : List ℕ) (r : Refusal) → text.outcome may (length lent) ≡ text.refused r → madeIn may lent ≡ lent
   -- the outputs of `griffeljol_read` and `griffeljol_encode`
   pub c-value : (c : ColumnType) (bs lent : List ℕ) (number place : ℕ) → c_values.reading c bs (length lent) ≡ refused number place → left (c_values.reading c bs (length lent)) lent ≡ lent
   pub c-count : (unit : ℕ) (numbers lent : List ℤ) (number place : ℕ) → c_timestamps.encoding unit numbers (length lent) ≡ refused number place → left (c_timestamps.encoding unit numbers (length lent)) lent ≡ lent

@@ -10,6 +10,7 @@ use Rattle.column.specs.Outcome as column
 use Rattle.column_order.specs.Outcome as column_order
 use Rattle.column_order.specs.Outcome.{Relation}
 use Rattle.timestamp.specs.Outcomes as timestamp
+use Rattle.schema_text.specs.Making as text
 use Rattle.c_api.specs.Answers as c_api
 use Rattle.demands.specs.Refusals.{End, result, refusal}
 
@@ -49,6 +50,11 @@ orderingEnd (column_order.refused number place value) = refusal number place
 abbrev pub timestampEnd : {A : Type 0} → timestamp.Outcome A → End A
 timestampEnd (timestamp.given a) = result a
 timestampEnd (timestamp.refused number place) = refusal number place
+
+-- making a text answers the number of its bytes
+abbrev pub textEnd : text.Outcome → End ℕ
+textEnd (text.given n) = result n
+textEnd (text.refused r) = refusal (r .number) (r .place)
 
 -- a C call's result is the value that it answers and what it writes
 abbrev pub cEnd : {A : Type 0} → c_api.Effect A → End (ℕ × List A)

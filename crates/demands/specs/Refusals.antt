@@ -30,6 +30,7 @@ use Rattle.column_order.specs.Order.{hasOrder}
 use Rattle.timestamp.specs.Count.{isDateTime, countOf}
 use Rattle.timestamp.specs.Outcomes.{isSigned64}
 use Rattle.timestamp.specs.declared.fields.Fields.{Fields as DateTime}
+use Rattle.schema_text.specs.Rows.{rowsText}
 use Rattle.c_api.specs.Timestamps.{areFields, fieldsOf}
 
 -- what a call ends with: "the result or one numbered refusal", which has a place
@@ -168,6 +169,13 @@ fieldGrounds unit f = ground 18 0 (not (isDateTime (ticks unit) f)) ∷ ground 1
 -- "Both check the unit first (20); encoding then 18, then 19"
 abbrev pub encodingGrounds : ℕ → DateTime → List Ground
 encodingGrounds unit f = unknownUnit unit ∷ fieldGrounds unit f
+
+-- a text -------------------------------------------------------------------------------------------------------------------------
+
+-- "output too short": of rows, the numbers that were lent for them, and the buffer for their text
+abbrev pub rowsTextGrounds : ℕ → List ℕ → ℕ → List Ground
+rowsTextGrounds total numbers room =
+    ground 14 0 (ltb (length numbers) (11 * total)) ∷ ground 14 0 (ltb room (length (rowsText total numbers))) ∷ []
 
 -- the C interface ------------------------------------------------------------------------------------------------------------------
 
