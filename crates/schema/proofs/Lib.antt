@@ -1,5 +1,6 @@
 -- What the proofs of several functions use, and what the crates above cite.
 pub mod LevelsLaws
+pub mod DepthLaws
 pub mod RowsLaws
 pub mod PlacingLaws
 pub mod ResolvingLaws

@@ -11,9 +11,9 @@ use Rattle.sheet.specs.Slot.{slots, slotAt}
 use Rattle.tree.specs.Tree.{SlotBytes, Tree, node}
 use Rattle.schema.specs.Rows.{rowsFrom, runRowsFrom, row, parentOf, role, rows, rowWidth}
 use Rattle.tree.specs.Reading.{treeOf}
-use Rattle.tree.specs.Judgement.{refusal}
+use Rattle.tree.specs.Judgement.{refusal, judgementOf}
 use Rattle.schema.specs.Outcome.{answer, outcome, written}
-use Rattle.tree.specs.Steps.{treeAt, runAt, judgementOf}
+use Rattle.tree.specs.Steps.{treeAt, runAt}
 use Rattle.schema.specs.Steps.{placed}
 use Rattle.schema.specs.declared.roles.Parent.{Parent}
 use Rattle.tree.specs.declared.refusal.Refusal.{Refusal}

@@ -9,10 +9,9 @@ use borrow.Author.Tests.{le-leb, lt-leb, leb-true}
 use lib.Dec.{leb}
 use borrow.Rule.Slice.PartMut.{putMid, post-is}
 use lib.ListN.{length, take, drop}
-use Rattle.tree.specs.Judgement.{judgement}
+use Rattle.tree.specs.Judgement.{judgement, judgementOf}
 use Rattle.schema.specs.Outcome.{shortOutput}
 use Rattle.schema.specs.Rewriting.{rewritten, fits, rewriteAnswer, rewriteOutcome, stretched, rewriteWritten}
-use Rattle.tree.specs.Steps.{judgementOf}
 use Rattle.tree.specs.declared.refusal.Refusal.{Refusal}
 use Rattle.tree.specs.declared.refusal.Verdict.{Verdict}
 use Rattle.tree.specs.declared.judgement.Judgement.{Judgement}

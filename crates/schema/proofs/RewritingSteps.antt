@@ -19,9 +19,10 @@ use Rattle.tree.specs.Annotated.{annotated, kind}
 use Rattle.tree.specs.Tree.{SlotBytes, Tree, Fields, node, empty, field, listing, listings, size}
 use Rattle.tree.specs.Rules.{underMap, placeBelow, isMap, isRequiredOrOptional, mapRun, mapKept, rule13, Keeps, KeepsAll}
 use Rattle.tree.specs.Reading.{treeOf}
-use Rattle.tree.specs.Steps.{sizes, judgementOf}
+use Rattle.tree.specs.Steps.{sizes}
 use Rattle.tree.specs.declared.place.Place.{Place}
 use Rattle.tree.specs.declared.place.Place.the-variants.{Root}
+use Rattle.tree.specs.Judgement.{judgementOf}
 use Rattle.tree.specs.declared.judgement.Judgement.{Judgement}
 use Rattle.tree.proofs.StandingLaws.{sizes-field, size-node}
 use Rattle.tree.proofs.NodeLaws.{under-below}

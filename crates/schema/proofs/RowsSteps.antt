@@ -16,14 +16,15 @@ use Rattle.annotation.specs.Signed.{natural}
 use Rattle.annotation.specs.declared.slot.Annotated.{Annotated}
 use Rattle.annotation.specs.declared.resolution.Kind.{Kind}
 use Rattle.tree.specs.Annotated.{annotatedBy, annotated, kind}
-use Rattle.tree.specs.Tree.{SlotBytes, Tree, Fields, node, count, size}
+use Rattle.tree.specs.Tree.{SlotBytes, Tree, Fields, node, count, size, runDepths}
 use Rattle.tree.specs.Reading.{trees}
 use Rattle.schema.specs.Rows.{isMapParent, role, parentBy, parentOf, afterFirst, row, rowsFrom, runRowsFrom, rowWidth}
-use Rattle.tree.specs.Steps.{Claimed, Visited, treeAt, runAt, fieldsAt, sizes}
-use Rattle.schema.specs.Steps.{HasLevels, placed}
+use Rattle.tree.specs.Steps.{Claimed, Visited, treeAt, runAt, fieldsAt, sizes, depthAt}
+use Rattle.schema.specs.Steps.{HasLevels, NoneTooDeep, placed}
 use Rattle.schema.specs.declared.roles.Parent.{Parent}
 use Rattle.tree.proofs.StandingLaws.{runAt-zero, size-node}
 use Rattle.tree.proofs.VisitLaws.{treeAt-slot, run-at, run-below, next-after, next-claimed, run-split, run-end, run-end-empty, tree-within}
+use Rattle.schema.proofs.DepthLaws.{rest-deep}
 use Rattle.schema.proofs.PlacingLaws.{placed-empty, placed-after, placed-set}
 use Rattle.schema.proofs.RowsLaws.{length-rowsFrom, length-runRowsFrom}
 
@@ -57,31 +58,33 @@ module _ (b l : List ℕ) (at n up : ℕ) (p : Parent) (above : SlotBytes) (path
           ∙ ap (λ (fs : Fields). placed l (rowWidth * at) (runRowsFrom at up p above path fs)) (sym (run-split b at n h k c next e))
 
 -- the rows of a run written up to one of its fields: with those of the others they are the run's, whatever path has the levels that they stand below
-pub record Behind (b lent : List ℕ) (start n up : ℕ) (p : Parent) (above : SlotBytes) (d r : ℕ) (rows : List ℕ) (at left : ℕ) (q : Parent) : Type 0 where
+pub record Behind (b lent : List ℕ) (start n l up : ℕ) (p : Parent) (above : SlotBytes) (d r : ℕ) (rows : List ℕ) (at left : ℕ) (q : Parent) : Type 0 where
   pub reached : start ≤ at
   pub claimed : left ≤ count (trees (drop at (slots b)))
+  pub deep : NoneTooDeep (runDepths (depthAt l) (runAt (slots b) at left))
   pub long : length rows ≡ length lent
   pub ended : start + sizes (runAt (slots b) start n) ≡ at + sizes (runAt (slots b) at left)
   pub found : (path : List Tree) → HasLevels path d r → placed lent (rowWidth * start) (runRowsFrom start up p above path (runAt (slots b) start n)) ≡ placed rows (rowWidth * at) (runRowsFrom at up q above path (runAt (slots b) at left))
 
-pub behind-start : (b lent : List ℕ) (start n up : ℕ) (p : Parent) (above : SlotBytes) (d r : ℕ) → n ≤ count (trees (drop start (slots b))) → Behind b lent start n up p above d r lent start n p
-behind-start b lent start n up p above d r c =
-    record { reached = le-refl start; claimed = c; long = refl; ended = refl; found = λ path g. refl }
+pub behind-start : (b lent : List ℕ) (start n l up : ℕ) (p : Parent) (above : SlotBytes) (d r : ℕ) → n ≤ count (trees (drop start (slots b))) → NoneTooDeep (runDepths (depthAt l) (runAt (slots b) start n)) → Behind b lent start n l up p above d r lent start n p
+behind-start b lent start n l up p above d r c g =
+    record { reached = le-refl start; claimed = c; deep = g; long = refl; ended = refl; found = λ path g. refl }
 
-module _ (b lent : List ℕ) (start n up : ℕ) (p : Parent) (above : SlotBytes) (d r : ℕ) (rows : List ℕ) (at left : ℕ) (q : Parent) (i : Behind b lent start n up p above d r rows at left q) where
+module _ (b lent : List ℕ) (start n l up : ℕ) (p : Parent) (above : SlotBytes) (d r : ℕ) (rows : List ℕ) (at left : ℕ) (q : Parent) (i : Behind b lent start n l up p above d r rows at left q) where
   pub behind-end : left ≡ 0 → (at ≡ start + sizes (runAt (slots b) start n)) × ((path : List Tree) → HasLevels path d r → rows ≡ placed lent (rowWidth * start) (runRowsFrom start up p above path (runAt (slots b) start n)))
   behind-end e = (
     run-end-empty b at left e ∙ sym (i .ended),
     (λ path h. run-rows-empty b rows at left up q above path e ∙ sym (i .found path h)),
   )
 
-  pub behind-next : Claimed b → rowWidth * totalOf b ≤ length lent → (left ≡ 0 → ⊥) → (next : ℕ) (m : List ℕ) (o : Parent) → next ≡ at + size (treeAt (slots b) at) → ((path : List Tree) → HasLevels path d r → m ≡ placed rows (rowWidth * at) (rowsFrom at up q above path (treeAt (slots b) at))) → length m ≡ length rows → o ≡ afterFirst q → Behind b lent start n up p above d r m next (left - 1) o
+  pub behind-next : Claimed b → rowWidth * totalOf b ≤ length lent → (left ≡ 0 → ⊥) → (next : ℕ) (m : List ℕ) (o : Parent) → next ≡ at + size (treeAt (slots b) at) → ((path : List Tree) → HasLevels path d r → m ≡ placed rows (rowWidth * at) (rowsFrom at up q above path (treeAt (slots b) at))) → length m ≡ length rows → o ≡ afterFirst q → Behind b lent start n l up p above d r m next (left - 1) o
   behind-next h f k next m o e w long u =
       let below = run-below b at left h k (i .claimed) in
       let room : rowWidth * totalOf b ≤ length rows = omega (arith, i .long) in
       record {
         reached = omega (arith, i .reached, next-after b at left h k (i .claimed) next e);
         claimed = next-claimed b at left h k (i .claimed) next e;
+        deep = rest-deep b at left l h k (i .claimed) (i .deep) next e;
         long = long ∙ i .long;
         ended = i .ended ∙ run-end b at left h k (i .claimed) next e;
         found = λ path g. i .found path g ∙ sym (run-rows b rows at left up q above path h k (i .claimed) next e room below m (w path g) o (placed m (rowWidth * next) (runRowsFrom next up o above path (runAt (slots b) next (left - 1)))) u refl);

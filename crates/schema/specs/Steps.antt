@@ -2,14 +2,14 @@
 use Prim.Native.Nat.{ℕ, _+_, _≤_}
 use mathlib.Core.Path.{_≡_}
 use mathlib.Core.List.{List, [], _∷_, _++_}
-use lib.ListN.{length, take, drop}
+use lib.ListN.{length, getD, take, drop}
 use mathlib.Core.Bool.{Bool}
 use lib.Dec.{eqb}
 use Rattle.parquet.specs.Logical as logical
 use Rattle.annotation.specs.Rewriting.{writtenOf}
 use Rattle.annotation.specs.declared.rewriting.Rewriting.{Rewriting}
 use Rattle.tree.specs.Annotated.{annotated}
-use Rattle.tree.specs.Tree.{SlotBytes, Tree}
+use Rattle.tree.specs.Tree.{SlotBytes, Tree, mostDepth}
 use Rattle.schema.specs.Levels.{definitionLevel, repetitionLevel}
 use Rattle.schema.specs.declared.rows.Row.{Row}
 
@@ -31,6 +31,10 @@ pub record HasLevels (path : List Tree) (definition repetition : ℕ) : Type 0 w
 pub record LevelsAtMost (n definition repetition : ℕ) : Type 0 where
   pub definition-most : definition ≤ n
   pub repetition-most : repetition ≤ n
+
+-- of nodes that stand at such depths none is too deep
+unfoldable pub NoneTooDeep : List ℕ → Type 0
+NoneTooDeep depths = (k : ℕ) → getD depths k 0 ≤ mostDepth
 
 -- whether a node, its parent a resolved MAP or not, is written as a MAP
 unfoldable pub isWrittenMap : Bool → SlotBytes → Bool

@@ -8,6 +8,7 @@ use crate::roles::Parent;
 use crate::rows::ROW_WIDTH;
 use crate::rows::write_run;
 use tree::Judgement;
+use tree::LEVELS;
 use tree::Refusal;
 use tree::judge;
 
@@ -30,7 +31,7 @@ pub fn resolve(sheet: &[u8], rows: &mut [u32]) -> Resolved
             if rows.len() < ROW_WIDTH * total {
                 return Resolved::Refused(short_output());
             }
-            write_run(sheet, rows, 0, 1, 0, Parent::Other, 0, 0);
+            write_run(sheet, rows, 0, 1, LEVELS, 0, Parent::Other, 0, 0);
             Resolved::Rows(total)
         }
     }

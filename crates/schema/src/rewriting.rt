@@ -7,7 +7,7 @@ ghost use Rattle.sheet.specs.Slot.{slots, slotAt};
 ghost use Rattle.annotation.specs.Rewriting.{writtenOf};
 ghost use Rattle.annotation.specs.declared.rewriting.Rewriting.{Rewriting};
 ghost use Rattle.tree.specs.Annotated.{annotated};
-ghost use Rattle.tree.specs.Steps.{judgementOf};
+ghost use Rattle.tree.specs.Judgement.{judgementOf};
 ghost use Rattle.schema.specs.Rewriting.{withRewriting, withRewritings, rewritten, rewriteOutcome, rewriteWritten};
 ghost use Rattle.schema.specs.Steps.{isWrittenMap, writtenInOrder};
 use crate::output::short_output;

@@ -1,15 +1,15 @@
-// The rows of a tree, written from a node to its run and back.
+// The rows of a tree, written from a node to its run and back, while levels of depth and nodes are left.
 ghost use mathlib.Core.Path.{_≡_};
 ghost use mathlib.Core.List.{List};
-ghost use Prim.Native.Nat.{_+_, _*_, _≤_, _<_};
+ghost use Prim.Native.Nat.{suc, _+_, _*_, _≤_, _<_};
 ghost use lib.ListN.{length, drop};
 ghost use Rattle.sheet.specs.Block.{totalOf};
 ghost use Rattle.sheet.specs.Slot.{slots, slotAt};
-ghost use Rattle.tree.specs.Tree.{Tree, count as Tree·count, size};
+ghost use Rattle.tree.specs.Tree.{Tree, count as Tree·count, size, depths, runDepths, mostDepth};
 ghost use Rattle.schema.specs.Rows.{rowWidth, rowsFrom, runRowsFrom, parentBy};
 ghost use Rattle.tree.specs.Reading.{trees};
-ghost use Rattle.tree.specs.Steps.{Claimed, treeAt, runAt, sizes};
-ghost use Rattle.schema.specs.Steps.{HasLevels, LevelsAtMost, placed, rowNumbers};
+ghost use Rattle.tree.specs.Steps.{Claimed, treeAt, runAt, sizes, depthAt};
+ghost use Rattle.schema.specs.Steps.{HasLevels, LevelsAtMost, NoneTooDeep, placed, rowNumbers};
 use crate::levels::in_definition;
 use crate::levels::in_repetition;
 use crate::roles::Parent;
@@ -47,6 +47,7 @@ pub(crate) fn write_run(
     rows: &mut [u32],
     start: usize,
     count: usize,
+    levels: usize,
     up: usize,
     parent: Parent,
     definition_level: u32,
@@ -57,6 +58,8 @@ pub(crate) fn write_run(
     requires { ⌜ up < totalOf (now sheet) ⌝ }
     requires { ⌜ rowWidth * totalOf (now sheet) ≤ length (now rows) ⌝ }
     requires { ⌜ LevelsAtMost start «definition_level» «repetition_level» ⌝ }
+    requires { ⌜ levels ≤ suc mostDepth ⌝ }
+    requires { ⌜ NoneTooDeep (runDepths (depthAt levels) (runAt (slots (now sheet)) start count)) ⌝ }
     ensures { λ r. ⌜ r ≡ start + sizes (runAt (slots (now (sheet .entry))) start count) ⌝ }
     ensures { λ _. ⌜ ((path : List Tree) → HasLevels path «definition_level» «repetition_level» → now (rows .exit) ≡ placed (now (rows .entry)) (rowWidth * start) (runRowsFrom start up parent (slotAt (now (sheet .entry)) up) path (runAt (slots (now (sheet .entry))) start count))) ⌝ }
 {
@@ -68,6 +71,7 @@ pub(crate) fn write_run(
             sheet,
             rows,
             at,
+            levels,
             up,
             above,
             definition_level,
@@ -84,6 +88,7 @@ fn write_tree(
     sheet: &[u8],
     rows: &mut [u32],
     at: usize,
+    levels: usize,
     up: usize,
     parent: Parent,
     definition_level: u32,
@@ -94,6 +99,8 @@ fn write_tree(
     requires { ⌜ up < totalOf (now sheet) ⌝ }
     requires { ⌜ rowWidth * totalOf (now sheet) ≤ length (now rows) ⌝ }
     requires { ⌜ LevelsAtMost at «definition_level» «repetition_level» ⌝ }
+    requires { ⌜ levels ≤ suc mostDepth ⌝ }
+    requires { ⌜ NoneTooDeep (depths (depthAt levels) (treeAt (slots (now sheet)) at)) ⌝ }
     ensures { λ r. ⌜ r ≡ at + size (treeAt (slots (now (sheet .entry))) at) ⌝ }
     ensures { λ _. ⌜ ((path : List Tree) → HasLevels path «definition_level» «repetition_level» → now (rows .exit) ≡ placed (now (rows .entry)) (rowWidth * at) (rowsFrom at up parent (slotAt (now (sheet .entry)) up) path (treeAt (slots (now (sheet .entry))) at))) ⌝ }
 {
@@ -127,6 +134,7 @@ fn write_tree(
         rows,
         at + 1,
         s.children as usize,
+        levels - 1,
         at,
         kind.kind,
         own,
@@ -144,6 +152,7 @@ fn write_fields(
     rows: &mut [u32],
     at: usize,
     count: usize,
+    levels: usize,
     up: usize,
     kind: u32,
     own: u32,
@@ -155,6 +164,8 @@ fn write_fields(
     requires { ⌜ up < totalOf (now sheet) ⌝ }
     requires { ⌜ rowWidth * totalOf (now sheet) ≤ length (now rows) ⌝ }
     requires { ⌜ LevelsAtMost at «definition_level» «repetition_level» ⌝ }
+    requires { ⌜ levels ≤ suc mostDepth ⌝ }
+    requires { ⌜ NoneTooDeep (runDepths (depthAt levels) (runAt (slots (now sheet)) at count)) ⌝ }
     ensures { λ r. ⌜ r ≡ at + sizes (runAt (slots (now (sheet .entry))) at count) ⌝ }
     ensures { λ _. ⌜ ((path : List Tree) → HasLevels path «definition_level» «repetition_level» → now (rows .exit) ≡ placed (now (rows .entry)) (rowWidth * at) (runRowsFrom at up (parentBy kind own) (slotAt (now (sheet .entry)) up) path (runAt (slots (now (sheet .entry))) at count))) ⌝ }
 {
@@ -166,6 +177,7 @@ fn write_fields(
         rows,
         at,
         count,
+        levels,
         up,
         parent_by(kind, own),
         definition_level,

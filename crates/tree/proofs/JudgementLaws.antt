@@ -12,19 +12,19 @@ use Rattle.sheet.specs.Opening as sheet
 use Rattle.sheet.specs.Slot.{slots}
 use Rattle.sheet.specs.declared.opening.Opened.{Opened}
 use Rattle.sheet.proofs.OpeningLaws.{openOf-total, openOf-least, openOf-most}
-use Rattle.tree.specs.Tree.{SlotBytes, Tree, empty, listing, size, depths, mostDepth}
+use Rattle.tree.specs.Tree.{SlotBytes, Tree, empty, listing, size, depths, AtMostDeep, mostDepth}
 use Rattle.tree.specs.Rules.{Keeps}
 use Rattle.tree.specs.Faults.{faults}
 use Rattle.tree.specs.Reading.{treeOf}
-use Rattle.tree.specs.Judgement.{orElse, refusal, leftOver, missing, firstFault, deepness, tooDeep, unlawful, treeRefusal, judgedAs, judgement}
-use Rattle.tree.specs.Steps.{Claimed, treeAt, runAt, lastOf, ruleWeight, faultFrom, firstOf, verdictOf, treeOrDeep, judgedTree, judgedOn, judgedRun, depthAt, judgedNodes, judgementOf}
+use Rattle.tree.specs.Judgement.{orElse, refusal, leftOver, missing, firstFault, deepness, tooDeep, unlawful, treeRefusal, judgedAs, judgement, judgedNodes, judgementOf}
+use Rattle.tree.specs.Steps.{Claimed, treeAt, runAt, lastOf, ruleWeight, faultFrom, firstOf, verdictOf, treeOrDeep, judgedTree, judgedOn, judgedRun, depthAt}
 use Rattle.tree.specs.declared.place.Place.{Place}
 use Rattle.tree.specs.declared.refusal.Refusal.{Refusal}
 use Rattle.tree.specs.declared.refusal.Verdict.{Verdict}
 use Rattle.tree.specs.declared.judging.TreeJudged.{TreeJudged}
 use Rattle.tree.specs.declared.judging.RunJudged.{RunJudged}
 use Rattle.tree.specs.declared.judgement.Judgement.{Judgement}
-use Rattle.tree.proofs.FaultLaws.{none-orElse, orElse-assoc, none-keeps}
+use Rattle.tree.proofs.FaultLaws.{none-orElse, orElse-assoc, none-atMostDeep, none-keeps}
 use Rattle.tree.proofs.OpenPlacesLaws.{fills-trees}
 use Rattle.tree.proofs.TreeOfLaws.{accepted-fills, fills-listing}
 use Rattle.tree.proofs.StandingLaws.{treeAt-zero}
@@ -218,7 +218,10 @@ module _ (b : List ℕ) where
     no-faults =
         none-orElse _ _ (sym (treeRefusal-places (slots b)) ∙ sym (judgement-nodes b (opened .0) (opened .1)) ∙ judged-lawful .0) .1
 
-    -- its tree keeps every rule and lists its slots
+    -- its tree is not too deep, keeps every rule and lists its slots
+    pub judged-deep : AtMostDeep mostDepth (treeOf (slots b))
+    judged-deep = none-atMostDeep (treeOf (slots b)) (none-orElse _ _ no-faults .0)
+
     pub judged-keeps : Keeps Place.Root (treeOf (slots b))
     judged-keeps = none-keeps (treeOf (slots b)) (none-orElse _ _ no-faults .1)
 

@@ -89,12 +89,17 @@ module _ (b : List ℕ) (at : ℕ) (s : Numbers) (v : Visited b at s) where
       unfolding treeBy
       tree-judged = tree-step ∙ rw d
 
--- the measures of the three calls: of the fields behind a tree's root, of the run of some fields, of a tree of a run that started earlier
-pub fields-falls : (total at t : ℕ) → at < total → 3 * (total - at) ≡ t → 3 * (total - (at + 1)) + 2 < t
-fields-falls total at t h e = omega arith
+-- what is left at a number with so many levels: the nodes from it on, and the levels
+abbrev pub remaining : ℕ → ℕ → ℕ → ℕ
+remaining total at levels = (total - at) + levels
 
-pub run-falls : (total at t : ℕ) → 3 * (total - at) + 2 ≡ t → 3 * (total - at) + 1 < t
-run-falls total at t e = omega arith
+-- the measures of the three calls: of the fields behind a tree's root, for which nodes and levels both fall; of the run of some fields; and of a tree of
+-- a run that started earlier
+pub fields-falls : (total at levels t : ℕ) → at < total → (levels ≡ 0 → ⊥) → 3 * remaining total at levels ≡ t → 3 * remaining total (at + 1) (levels - 1) + 2 < t
+fields-falls total at levels t h k e = omega arith
 
-pub tree-falls : (total start at t : ℕ) → start ≤ at → 3 * (total - start) + 1 ≡ t → 3 * (total - at) < t
-tree-falls total start at t h e = omega arith
+pub run-falls : (total at levels t : ℕ) → 3 * remaining total at levels + 2 ≡ t → 3 * remaining total at levels + 1 < t
+run-falls total at levels t e = omega arith
+
+pub tree-falls : (total start at levels t : ℕ) → start ≤ at → 3 * remaining total start levels + 1 ≡ t → 3 * remaining total at levels < t
+tree-falls total start at levels t h e = omega arith

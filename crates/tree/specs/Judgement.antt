@@ -4,6 +4,7 @@ use mathlib.Core.Bool.{cond, not}
 use mathlib.Core.List.{List, [], _∷_, map}
 use lib.Dec.{leb, ltb}
 use lib.ListN.{length}
+use Rattle.sheet.specs.Block.{totalOf}
 use Rattle.sheet.specs.First.{firstWrong}
 use Rattle.sheet.specs.Opening as sheet
 use Rattle.tree.specs.Tree.{SlotBytes, Tree, depths, mostDepth}
@@ -13,6 +14,7 @@ use Rattle.tree.specs.OpenPlaces.{openPlaces, isNoPlace}
 use Rattle.tree.specs.declared.place.Place.the-variants.{Root}
 use Rattle.tree.specs.declared.refusal.Refusal.{Refusal}
 use Rattle.tree.specs.declared.refusal.Verdict.{Verdict}
+use Rattle.tree.specs.declared.judgement.Judgement.{Judgement}
 
 -- a numbered refusal at its place
 abbrev pub refusal : ℕ → ℕ → Refusal
@@ -61,3 +63,12 @@ judgedAs (sheet.accepted t ss) = treeRefusal ss
 
 unfoldable pub judgement : List ℕ → Verdict
 judgement bytes = judgedAs (sheet.outcome bytes)
+
+-- an answer to a sheet of so many nodes: that number where it is lawful, or the refusal
+unfoldable pub judgedNodes : Verdict → ℕ → Judgement
+judgedNodes Verdict.Lawful total = Judgement.Nodes total
+judgedNodes (Verdict.Refused r) total = Judgement.Refused r
+
+-- what judging answers for any bytes
+unfoldable pub judgementOf : List ℕ → Judgement
+judgementOf bytes = judgedNodes (judgement bytes) (totalOf bytes)

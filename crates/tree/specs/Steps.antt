@@ -14,12 +14,11 @@ use Rattle.tree.specs.Rules.{underMap, rule8, rule12, listKept, mapKept}
 use Rattle.tree.specs.Faults.{faults, runFaults}
 use Rattle.tree.specs.Reading.{trees, takeFields, firstTree}
 use Rattle.parquet.specs.Logical as logical
-use Rattle.tree.specs.Judgement.{deepness, firstFault, refusal, judgement}
+use Rattle.tree.specs.Judgement.{deepness, firstFault, refusal}
 use Rattle.tree.specs.declared.place.Place.{Place}
 use Rattle.tree.specs.declared.refusal.Verdict.{Verdict}
 use Rattle.tree.specs.declared.judging.TreeJudged.{TreeJudged}
 use Rattle.tree.specs.declared.judging.RunJudged.{RunJudged}
-use Rattle.tree.specs.declared.judgement.Judgement.{Judgement}
 
 -- the tree that stands at number k of some slots
 unfoldable pub treeAt : List SlotBytes → ℕ → Tree
@@ -125,11 +124,3 @@ brokenWith13 least below s fs = cond (eqb least 0) (cond (not (underMap below) |
 -- which rule, 12 or none, a node of some logical type breaks there
 unfoldable pub listBroken : ℕ → SlotBytes → Fields → ℕ
 listBroken code s fs = cond (not (eqb code logical.LIST) || listKept s fs) 0 12
-
--- what judging a sheet answers: its number of nodes, or the refusal
-unfoldable pub judgedNodes : Verdict → ℕ → Judgement
-judgedNodes Verdict.Lawful total = Judgement.Nodes total
-judgedNodes (Verdict.Refused r) total = Judgement.Refused r
-
-unfoldable pub judgementOf : List ℕ → Judgement
-judgementOf bytes = judgedNodes (judgement bytes) (totalOf bytes)

@@ -17,7 +17,7 @@ use crate::place::place_under;
 use crate::place::under_map;
 
 // Levels that a tree may have: depths 0 to 32.
-pub(crate) const LEVELS: usize = 33;
+pub const LEVELS: usize = 33;
 
 // A fault is one number, so that it is handed on in a register: a rule's number counts so much in it, and the number of the node
 // that breaks the rule stands below.

@@ -12,6 +12,7 @@ mod structure; // structure.rt: rules 12 and 13
 pub use faults::annotated;
 pub use judgement::Judgement;
 pub use judgement::judge;
+pub use judging::LEVELS;
 pub use place::Place;
 pub use refusal::Refusal;
 pub use refusal::Verdict;

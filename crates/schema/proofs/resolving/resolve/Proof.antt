@@ -1,6 +1,7 @@
 -- `schema::resolving::resolve` meets its contract: refused before anything is written, or the rows of its tree.
 use Rattle.tree.proofs.JudgementLaws.{judged-total, judged-some, judged-claimed}
 use Rattle.tree.proofs.VisitLaws.{root-claimed}
+use Rattle.schema.proofs.DepthLaws.{root-deep}
 use Rattle.schema.proofs.ResolvingLaws.{resolve-short, resolve-refused, resolve-rows, written-refused, written-rows}
 use Rattle.schema.specs.Levels.{howMany}
 use native.Mathlib.Omega.{arith}
@@ -35,7 +36,7 @@ write-run-requires : tie.Need-write-run-requires
 write-run-requires c κs =
     let nodes = sym (c .before .before .before .before .before .judge .ensures) ∙ c .before .before .before .judgement2 .given .1 in
     let some = judged-some _ _ nodes in
-    (judged-claimed _ _ nodes, (root-claimed _ (judged-claimed _ _ nodes) some, (some, (omega (arith, judged-total _ _ nodes, c .before .if1 .left), record { definition-most = omega arith; repetition-most = omega arith }))))
+    (judged-claimed _ _ nodes, (root-claimed _ (judged-claimed _ _ nodes) some, (some, (omega (arith, judged-total _ _ nodes, c .before .if1 .left), (record { definition-most = omega arith; repetition-most = omega arith }, (omega arith, root-deep _ _ nodes))))))
 
 returns-2 : tie.Need-returns-2
 returns-2 c =

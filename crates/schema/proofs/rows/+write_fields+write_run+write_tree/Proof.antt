@@ -1,6 +1,5 @@
--- The proof of the cycle of calls {write_fields, write_run, write_tree}. Nodes fall as they do in judging: with r nodes from k on, a tree's measure is 3r, a run's
--- 3r + 1, that of some fields 3r + 2.
-use Prim.Native.Nat.{ℕ, _+_, _*_, _-_, _<_}
+-- The proof of the cycle of calls {write_fields, write_run, write_tree}.
+use Prim.Native.Nat.{ℕ, _+_, _*_, _<_}
 use mathlib.Core.Path.{_≡_, refl, _∙_}
 use borrow.Author.Needs.{needs}
 use lib.ListN.{length-set}
@@ -8,10 +7,11 @@ use native.Mathlib.Omega.{arith}
 use Rattle.sheet.specs.Block.{totalOf}
 use Rattle.sheet.specs.Slot.{slotAt}
 use Rattle.tree.specs.Steps.{Visited}
-use Rattle.tree.proofs.JudgingSteps.{tree-falls, run-falls, fields-falls}
+use Rattle.tree.proofs.JudgingSteps.{remaining, tree-falls, run-falls, fields-falls}
 use Rattle.tree.proofs.VisitLaws.{run-below, children-claimed, tree-end, tree-within, run-end-empty}
 use Rattle.schema.specs.Levels.{isOptionalOrRepeated, isRepeatedCode}
 use Rattle.schema.specs.Steps.{rowNumbers}
+use Rattle.schema.proofs.DepthLaws.{level-left, fields-deep, first-deep}
 use Rattle.schema.proofs.LevelsLaws.{levels-below, levels-most, counted-most, at-most}
 use Rattle.schema.proofs.RowsSteps.{Behind, behind-start, behind-end, behind-next, run-rows-empty, tree-rows, parent-is, row-is, long-enough, row-fits}
 use borrow.Fn.Kinds.{In}
@@ -39,14 +39,16 @@ use Rattle.tree.proofs.annotated.Reads as annotated-reads
 use Rattle.schema.proofs.rows.+write_fields+write_run+write_tree.{statement}
 use Rattle.schema.proofs.rows.+write_fields+write_run+write_tree.Tie.{close}
 
+-- Remaining nodes and levels fall as they do in judging: from a tree at k to its root's fields at k + 1 both by one, from those fields to their run neither, and from
+-- a run to its trees nodes alone. With x of both, a tree's measure is 3x, a run's 3x + 1, that of some fields 3x + 2.
 abbrev μ-write-fields : Measures 2 write-fields-kinds.ps ℕ
-μ-write-fields κs a = 3 * (totalOf (a .0 .now) - a .1 .1 .0) + 2
+μ-write-fields κs a = 3 * remaining (totalOf (a .0 .now)) (a .1 .1 .0) (a .1 .1 .1 .1 .0) + 2
 
 abbrev μ-write-run : Measures 2 write-run-kinds.ps ℕ
-μ-write-run κs a = 3 * (totalOf (a .0 .now) - a .1 .1 .0) + 1
+μ-write-run κs a = 3 * remaining (totalOf (a .0 .now)) (a .1 .1 .0) (a .1 .1 .1 .1 .0) + 1
 
 abbrev μ-write-tree : Measures 2 write-tree-kinds.ps ℕ
-μ-write-tree κs a = 3 * (totalOf (a .0 .now) - a .1 .1 .0)
+μ-write-tree κs a = 3 * remaining (totalOf (a .0 .now)) (a .1 .1 .0) (a .1 .1 .1 .0)
 
 abbrev write-fields-at : ℕ → In 2 write-fields-kinds.ps
 write-fields-at t =
@@ -99,7 +101,7 @@ write-fields-write-run-requires : (t : ℕ) → write-fields-lts.Need-write-run-
 ) (write-fields-at t) write-fields.Post
 write-fields-write-run-requires t c κs =
     let start = c .before .before .before .before .before in
-    (run-falls _ _ _ (start .pre .0), start .pre .1)
+    (run-falls _ _ _ _ (start .pre .0), start .pre .1)
 
 write-fields-same-length : (t : ℕ) → write-fields-lts.Need-same-length (
   parent-by-reads.Asked,
@@ -118,10 +120,10 @@ write-fields-returns-2 : (t : ℕ) → write-fields-lts.Need-returns-2 (
 write-fields-returns-2 t c = rw (c .before .before .before .parent-by .ensures) at (c .before .before .write-run .ensures)
 
 abbrev write-run-Inv-loop : write-run-lts.InvT-loop
-write-run-Inv-loop sheet rows₀ start count up definition repetition at₀ left₀ above₀ rows at left above = Behind sheet rows₀ start count up above₀ (slotAt sheet up) definition repetition rows at left above
+write-run-Inv-loop sheet rows₀ start count levels up definition repetition at₀ left₀ above₀ rows at left above = Behind sheet rows₀ start count levels up above₀ (slotAt sheet up) definition repetition rows at left above
 
 abbrev write-run-μ-loop : write-run-lts.MeasureT-loop
-write-run-μ-loop sheet rows₀ start count up definition repetition at₀ left₀ above₀ rows at left above = left
+write-run-μ-loop sheet rows₀ start count levels up definition repetition at₀ left₀ above₀ rows at left above = left
 
 write-run-loop-holds : (t : ℕ) → write-run-lts.Need-loop-holds (
   write-tree-below t,
@@ -129,7 +131,7 @@ write-run-loop-holds : (t : ℕ) → write-run-lts.Need-loop-holds (
   after-first-reads.Asked,
   after-first-reads.Learnt,
 ) (write-run-at t) write-run.Post write-run-Inv-loop write-run-μ-loop
-write-run-loop-holds t c = behind-start _ _ _ _ _ _ _ _ _ (c .before .before .pre .1 .1 .0)
+write-run-loop-holds t c = behind-start _ _ _ _ _ _ _ _ _ _ (c .before .before .pre .1 .1 .0) (c .before .before .pre .1 .1 .1 .1 .1 .1 .1)
 
 write-run-write-tree-requires : (t : ℕ) → write-run-lts.Need-write-tree-requires (
   write-tree-below t,
@@ -142,7 +144,7 @@ write-run-write-tree-requires t c κs =
     let loop = c .before .before .loop in
     let some : loop .left ≡ 0 → ⊥ = λ e. omega (arith, c .before .loop-test .taken) in
     let below = run-below (start .args .sheet .now) (loop .at) (loop .left) (start .pre .1 .0) some (loop .inv .claimed) in
-    (tree-falls _ _ _ _ (loop .inv .reached) (start .pre .0), (start .pre .1 .0, (below, (start .pre .1 .1 .1 .0, (long-enough _ _ _ (start .pre .1 .1 .1 .1 .0) (loop .inv .long), at-most _ _ _ _ (start .pre .1 .1 .1 .1 .1) (loop .inv .reached))))))
+    (tree-falls _ _ _ _ _ (loop .inv .reached) (start .pre .0), (start .pre .1 .0, (below, (start .pre .1 .1 .1 .0, (long-enough _ _ _ (start .pre .1 .1 .1 .1 .0) (loop .inv .long), (at-most _ _ _ _ (start .pre .1 .1 .1 .1 .1 .0) (loop .inv .reached), (start .pre .1 .1 .1 .1 .1 .1 .0, first-deep _ _ _ _ (start .pre .1 .0) some (loop .inv .claimed) (loop .inv .deep))))))))
 
 write-run-after-first-requires : (t : ℕ) → write-run-lts.Need-after-first-requires (
   write-tree-below t,
@@ -179,7 +181,7 @@ write-run-loop-again t c =
     let loop = c .before .before .before .before .before .before .loop in
     let tree = c .before .before .before .write-tree in
     let some : loop .left ≡ 0 → ⊥ = λ e. omega (arith, c .before .before .before .before .before .loop-test .taken) in
-    behind-next _ _ _ _ _ _ _ _ _ _ _ _ _ (loop .inv) (start .pre .1 .0) (start .pre .1 .1 .1 .1 .0) some _ _ _ (tree .ensures .0) (tree .ensures .1) (tree .kept .1 .0) (c .after-first .ensures)
+    behind-next _ _ _ _ _ _ _ _ _ _ _ _ _ _ (loop .inv) (start .pre .1 .0) (start .pre .1 .1 .1 .1 .0) some _ _ _ (tree .ensures .0) (tree .ensures .1) (tree .kept .1 .0) (c .after-first .ensures)
 
 write-run-same-length : (t : ℕ) → write-run-lts.Need-same-length (
   write-tree-below t,
@@ -195,7 +197,7 @@ write-run-returns : (t : ℕ) → write-run-lts.Need-returns (
   after-first-reads.Asked,
   after-first-reads.Learnt,
 ) (write-run-at t) write-run.Post write-run-Inv-loop write-run-μ-loop
-write-run-returns t c = behind-end _ _ _ _ _ _ _ _ _ _ _ _ _ (c .before .loop .inv) (omega (arith, c .loop-test .left))
+write-run-returns t c = behind-end _ _ _ _ _ _ _ _ _ _ _ _ _ _ (c .before .loop .inv) (omega (arith, c .loop-test .left))
 
 write-tree-slot-at-requires : (t : ℕ) → write-tree-lts.Need-slot-at-requires (
   slot-at-reads.Asked,
@@ -365,7 +367,7 @@ write-tree-add-own-definition : (t : ℕ) → write-tree-lts.Need-add-own-defini
 ) (write-tree-at t) write-tree.Post
 write-tree-add-own-definition t c =
     let start = c .before .before .before .before .before .before .before .before in
-    omega (arith, start .pre .1 .1 .0, start .pre .1 .0 .most, start .pre .1 .1 .1 .1 .1 .definition-most, c .in-definition .ensures, counted-most isOptionalOrRepeated (c .before .before .before .before .before .slot-at .result .repetition))
+    omega (arith, start .pre .1 .1 .0, start .pre .1 .0 .most, start .pre .1 .1 .1 .1 .1 .0 .definition-most, c .in-definition .ensures, counted-most isOptionalOrRepeated (c .before .before .before .before .before .slot-at .result .repetition))
 
 write-tree-in-repetition-requires : (t : ℕ) → write-tree-lts.Need-in-repetition-requires (
   slot-at-reads.Asked,
@@ -415,7 +417,7 @@ write-tree-add-own-repetition : (t : ℕ) → write-tree-lts.Need-add-own-repeti
 ) (write-tree-at t) write-tree.Post
 write-tree-add-own-repetition t c =
     let start = c .before .before .before .before .before .before .before .before .before in
-    omega (arith, start .pre .1 .1 .0, start .pre .1 .0 .most, start .pre .1 .1 .1 .1 .1 .repetition-most, c .in-repetition .ensures, counted-most isRepeatedCode (c .before .before .before .before .before .before .slot-at .result .repetition))
+    omega (arith, start .pre .1 .1 .0, start .pre .1 .0 .most, start .pre .1 .1 .1 .1 .1 .0 .repetition-most, c .in-repetition .ensures, counted-most isRepeatedCode (c .before .before .before .before .before .before .slot-at .result .repetition))
 
 write-tree-mul-base : (t : ℕ) → write-tree-lts.Need-mul-base (
   slot-at-reads.Asked,
@@ -489,30 +491,6 @@ write-tree-type-length-requires : (t : ℕ) → write-tree-lts.Need-type-length-
 ) (write-tree-at t) write-tree.Post
 write-tree-type-length-requires t c κs = search needs
 
-write-tree-cast-t22 : (t : ℕ) → write-tree-lts.Need-cast-t22 (
-  slot-at-reads.Asked,
-  slot-at-reads.Learnt,
-  annotated-reads.Asked,
-  annotated-reads.Learnt,
-  is-map-parent-reads.Asked,
-  is-map-parent-reads.Learnt,
-  resolved-kind-reads.Asked,
-  resolved-kind-reads.Learnt,
-  role-reads.Asked,
-  role-reads.Learnt,
-  in-definition-reads.Asked,
-  in-definition-reads.Learnt,
-  in-repetition-reads.Asked,
-  in-repetition-reads.Learnt,
-  type-length-reads.Asked,
-  type-length-reads.Learnt,
-  write-row-reads.Asked,
-  write-row-reads.Learnt,
-  write-fields-below t,
-  write-fields.Post,
-) (write-tree-at t) write-tree.Post
-write-tree-cast-t22 t c = search needs
-
 write-tree-cast-t23 : (t : ℕ) → write-tree-lts.Need-cast-t23 (
   slot-at-reads.Asked,
   slot-at-reads.Learnt,
@@ -535,7 +513,31 @@ write-tree-cast-t23 : (t : ℕ) → write-tree-lts.Need-cast-t23 (
   write-fields-below t,
   write-fields.Post,
 ) (write-tree-at t) write-tree.Post
-write-tree-cast-t23 t c = omega (arith, c .before .before .before .before .before .before .before .before .before .before .before .before .before .pre .1 .1 .1 .0, c .before .before .before .before .before .before .before .before .before .before .before .before .before .pre .1 .0 .most)
+write-tree-cast-t23 t c = search needs
+
+write-tree-cast-t24 : (t : ℕ) → write-tree-lts.Need-cast-t24 (
+  slot-at-reads.Asked,
+  slot-at-reads.Learnt,
+  annotated-reads.Asked,
+  annotated-reads.Learnt,
+  is-map-parent-reads.Asked,
+  is-map-parent-reads.Learnt,
+  resolved-kind-reads.Asked,
+  resolved-kind-reads.Learnt,
+  role-reads.Asked,
+  role-reads.Learnt,
+  in-definition-reads.Asked,
+  in-definition-reads.Learnt,
+  in-repetition-reads.Asked,
+  in-repetition-reads.Learnt,
+  type-length-reads.Asked,
+  type-length-reads.Learnt,
+  write-row-reads.Asked,
+  write-row-reads.Learnt,
+  write-fields-below t,
+  write-fields.Post,
+) (write-tree-at t) write-tree.Post
+write-tree-cast-t24 t c = omega (arith, c .before .before .before .before .before .before .before .before .before .before .before .before .before .pre .1 .1 .1 .0, c .before .before .before .before .before .before .before .before .before .before .before .before .before .pre .1 .0 .most)
 
 write-tree-write-row-requires : (t : ℕ) → write-tree-lts.Need-write-row-requires (
   slot-at-reads.Asked,
@@ -609,6 +611,32 @@ write-tree-cast-write-fields : (t : ℕ) → write-tree-lts.Need-cast-write-fiel
 ) (write-tree-at t) write-tree.Post
 write-tree-cast-write-fields t c = search needs
 
+write-tree-sub-write-fields : (t : ℕ) → write-tree-lts.Need-sub-write-fields (
+  slot-at-reads.Asked,
+  slot-at-reads.Learnt,
+  annotated-reads.Asked,
+  annotated-reads.Learnt,
+  is-map-parent-reads.Asked,
+  is-map-parent-reads.Learnt,
+  resolved-kind-reads.Asked,
+  resolved-kind-reads.Learnt,
+  role-reads.Asked,
+  role-reads.Learnt,
+  in-definition-reads.Asked,
+  in-definition-reads.Learnt,
+  in-repetition-reads.Asked,
+  in-repetition-reads.Learnt,
+  type-length-reads.Asked,
+  type-length-reads.Learnt,
+  write-row-reads.Asked,
+  write-row-reads.Learnt,
+  write-fields-below t,
+  write-fields.Post,
+) (write-tree-at t) write-tree.Post
+write-tree-sub-write-fields t c =
+    let start = c .before .before .before .before .before .before .before .before .before .before .before .before .before .before .before .before .before .before in
+    omega (arith, level-left (start .args .levels) _ (start .pre .1 .1 .1 .1 .1 .1 .1))
+
 write-tree-write-fields-requires : (t : ℕ) → write-tree-lts.Need-write-fields-requires (
   slot-at-reads.Asked,
   slot-at-reads.Learnt,
@@ -634,8 +662,10 @@ write-tree-write-fields-requires : (t : ℕ) → write-tree-lts.Need-write-field
 write-tree-write-fields-requires t c κs =
     let start = c .before .before .before .before .before .before .before .before .before .before .before .before .before .before .before .before .before .before in
     let s = c .before .before .before .before .before .before .before .before .before .before .before .before .before .before .before .slot-at in
-    let levels = levels-most (start .args .sheet .now) (start .args .at) (s .result) _ _ _ _ _ _ (c .before .before .before .before .before .before .before .before .before .before .in-definition .ensures) (c .before .before .before .before .before .before .before .before .before .in-repetition .ensures) refl refl _ (start .pre .1 .1 .1 .1 .1) in
-    (fields-falls _ _ _ (start .pre .1 .1 .0) (start .pre .0), (start .pre .1 .0, (children-claimed _ _ _ (s .ensures) (start .pre .1 .0) (start .pre .1 .1 .0), (start .pre .1 .1 .0, (long-enough _ _ _ (start .pre .1 .1 .1 .1 .0) (c .before .before .before .before .write-row .kept .0), levels)))))
+    let levels = levels-most (start .args .sheet .now) (start .args .at) (s .result) _ _ _ _ _ _ (c .before .before .before .before .before .before .before .before .before .before .in-definition .ensures) (c .before .before .before .before .before .before .before .before .before .in-repetition .ensures) refl refl _ (start .pre .1 .1 .1 .1 .1 .0) in
+    let visited : Visited (start .args .sheet .now) (start .args .at) (s .result) = record { claimed = start .pre .1 .0; below = start .pre .1 .1 .0; numbers = s .ensures } in
+    let deep = start .pre .1 .1 .1 .1 .1 .1 in
+    (fields-falls _ _ _ _ (start .pre .1 .1 .0) (level-left _ _ (deep .1)) (start .pre .0), (start .pre .1 .0, (children-claimed _ _ _ (s .ensures) (start .pre .1 .0) (start .pre .1 .1 .0), (start .pre .1 .1 .0, (long-enough _ _ _ (start .pre .1 .1 .1 .1 .0) (c .before .before .before .before .write-row .kept .0), (levels, (omega (arith, deep .0), fields-deep _ _ _ _ visited (deep .0) (deep .1))))))))
 
 write-tree-cast-rows-2 : (t : ℕ) → write-tree-lts.Need-cast-rows-2 (
   slot-at-reads.Asked,
@@ -873,11 +903,12 @@ pub +write-fields+write-run+write-tree-spec : {M : Type 1} → statement M
     (write-tree-mul-base t)
     (write-tree-cast-rows t)
     (write-tree-type-length-requires t)
-    (write-tree-cast-t22 t)
     (write-tree-cast-t23 t)
+    (write-tree-cast-t24 t)
     (write-tree-write-row-requires t)
     (write-tree-add-write-fields t)
     (write-tree-cast-write-fields t)
+    (write-tree-sub-write-fields t)
     (write-tree-write-fields-requires t)
     (write-tree-cast-rows-2 t)
     (write-tree-add-rows t)

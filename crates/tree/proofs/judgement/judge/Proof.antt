@@ -1,6 +1,6 @@
 -- `tree::judgement::judge` meets its contract, case by case.
 use Rattle.tree.proofs.JudgementLaws.{nodes-total, judgement-nodes, judgement-length, judgement-check, judgement-header, judgement-slot}
-use Rattle.tree.specs.Steps.{judgementOf, judgedNodes}
+use Rattle.tree.specs.Judgement.{judgementOf, judgedNodes}
 use mathlib.Core.Path.{sym, _∙_}
 use borrow.Author.Needs.{needs}
 use Rattle.tree.proofs.judgement.judge.Statement.{statement}

@@ -1,5 +1,5 @@
 -- `tree::judgement::nodes_or` meets its contract, case by case.
-use Rattle.tree.specs.Steps.{judgedNodes}
+use Rattle.tree.specs.Judgement.{judgedNodes}
 use borrow.Author.Needs.{needs}
 use Rattle.tree.proofs.judgement.nodes_or.Statement.{statement}
 use Rattle.tree.proofs.judgement.nodes_or.Tie as tie

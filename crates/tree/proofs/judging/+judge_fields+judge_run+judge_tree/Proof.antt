@@ -1,6 +1,5 @@
--- The proof of the cycle of calls {judge_fields, judge_run, judge_tree}. Nodes fall: a tree at k hands on to the fields at k + 1, those to their run, and a run at k
--- to trees at k and behind it. With r nodes from k on, a tree's measure is 3r, a run's 3r + 1, that of some fields 3r + 2.
-use Prim.Native.Nat.{ℕ, _+_, _*_, _-_, _<_}
+-- The proof of the cycle of calls {judge_fields, judge_run, judge_tree}.
+use Prim.Native.Nat.{ℕ, _+_, _*_, _<_}
 use mathlib.Core.Path.{_≡_, sym, _∙_, ap, ap₂}
 use mathlib.Core.Bool.{Bool}
 use mathlib.Core.List.{[], _∷_}
@@ -13,7 +12,7 @@ use Rattle.annotation.specs.Rewriting.{writtenOf}
 use Rattle.annotation.specs.declared.slot.Annotated.{Annotated}
 use Rattle.tree.specs.Steps.{Visited, fieldsAt, firstOf, faultFrom}
 use Rattle.tree.specs.declared.judging.TreeJudged.{TreeJudged}
-use Rattle.tree.proofs.JudgingSteps.{Judging, judging-start, judging-end, judging-deep, judging-next, run-empty, tree-deep, tree-inner, tree-run-deep, tree-judged, tree-falls, run-falls, fields-falls}
+use Rattle.tree.proofs.JudgingSteps.{Judging, judging-start, judging-end, judging-deep, judging-next, run-empty, tree-deep, tree-inner, tree-run-deep, tree-judged, remaining, tree-falls, run-falls, fields-falls}
 use Rattle.tree.proofs.VisitLaws.{run-below, children-claimed}
 use Rattle.tree.proofs.NodeLaws.{placeBelow-is, own-is, broken-most}
 use borrow.Fn.Kinds.{In}
@@ -39,14 +38,16 @@ use Rattle.tree.proofs.place.under_map.Reads as under-map-reads
 use Rattle.tree.proofs.judging.+judge_fields+judge_run+judge_tree.{statement}
 use Rattle.tree.proofs.judging.+judge_fields+judge_run+judge_tree.Tie.{close}
 
+-- Remaining nodes and levels fall: from a tree at k to its root's fields at k + 1 both by one, from those fields to their run neither, and from a run to its trees,
+-- which stand where it starts or behind, nodes alone. With x of both, a tree's measure is 3x, a run's 3x + 1, that of some fields 3x + 2.
 abbrev μ-judge-fields : Measures 1 judge-fields-kinds.ps ℕ
-μ-judge-fields κs a = 3 * (totalOf (a .0 .now) - a .1 .0) + 2
+μ-judge-fields κs a = 3 * remaining (totalOf (a .0 .now)) (a .1 .0) (a .1 .1 .1 .0) + 2
 
 abbrev μ-judge-run : Measures 1 judge-run-kinds.ps ℕ
-μ-judge-run κs a = 3 * (totalOf (a .0 .now) - a .1 .0) + 1
+μ-judge-run κs a = 3 * remaining (totalOf (a .0 .now)) (a .1 .0) (a .1 .1 .1 .0) + 1
 
 abbrev μ-judge-tree : Measures 1 judge-tree-kinds.ps ℕ
-μ-judge-tree κs a = 3 * (totalOf (a .0 .now) - a .1 .0)
+μ-judge-tree κs a = 3 * remaining (totalOf (a .0 .now)) (a .1 .0) (a .1 .1 .0)
 
 abbrev judge-fields-at : ℕ → In 1 judge-fields-kinds.ps
 judge-fields-at t =
@@ -87,7 +88,7 @@ judge-fields-judge-run-requires : (t : ℕ) → judge-fields-lts.Need-judge-run-
   judge-run-below t,
   judge-run.Post,
 ) (judge-fields-at t) judge-fields.Post
-judge-fields-judge-run-requires t c κs = (run-falls _ _ _ (c .before .before .pre .0), c .before .before .pre .1)
+judge-fields-judge-run-requires t c κs = (run-falls _ _ _ _ (c .before .before .pre .0), c .before .before .pre .1)
 
 judge-fields-returns-2 : (t : ℕ) → judge-fields-lts.Need-returns-2 (
   judge-run-below t,
@@ -120,7 +121,7 @@ judge-run-judge-tree-requires t c κs =
     let judging = c .before .loop .inv in
     let some : c .before .loop .left ≡ 0 → ⊥ = λ e. omega (arith, c .loop-test .taken) in
     let below = run-below (start .args .sheet .now) (c .before .loop .at) (c .before .loop .left) (start .pre .1 .0) some (judging .claimed) in
-    (tree-falls _ _ _ _ (judging .reached) (start .pre .0), (start .pre .1 .0, (below, start .pre .1 .1 .1)))
+    (tree-falls _ _ _ _ _ (judging .reached) (start .pre .0), (start .pre .1 .0, (below, start .pre .1 .1 .1)))
 
 judge-run-enum-known-tree : (t : ℕ) → judge-run-lts.Need-enum-known-tree (
   judge-tree-below t,
@@ -439,7 +440,7 @@ judge-tree-judge-fields-requires : (t : ℕ) → judge-tree-lts.Need-judge-field
 judge-tree-judge-fields-requires t c κs =
     let start = c .before .before .before .before .before .before .before .before .before in
     let visited : Visited (start .args .sheet .now) (start .args .at) (c .before .before .before .before .before .before .slot-at .result) = record { claimed = start .pre .1 .0; below = start .pre .1 .1 .0; numbers = c .before .before .before .before .before .before .slot-at .ensures } in
-    (fields-falls _ _ _ (start .pre .1 .1 .0) (start .pre .0), (start .pre .1 .0, (children-claimed _ _ _ (visited .numbers) (visited .claimed) (visited .below), omega (arith, start .pre .1 .1 .1))))
+    (fields-falls _ _ _ _ (start .pre .1 .1 .0) (c .before .before .before .before .before .before .before .if1 .left) (start .pre .0), (start .pre .1 .0, (children-claimed _ _ _ (visited .numbers) (visited .claimed) (visited .below), omega (arith, start .pre .1 .1 .1))))
 
 judge-tree-enum-known-run : (t : ℕ) → judge-tree-lts.Need-enum-known-run (
   slot-at-reads.Asked,
