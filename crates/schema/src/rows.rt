@@ -40,8 +40,8 @@ struct Row {
     repetition_level: u32,
 }
 
-// Writes the rows of the run of so many fields at a number, one field after the other, under the node at up, which has these levels,
-// and answers where the next tree stands.
+// Writes the rows of the run of so many fields at a number, one field after the other, with so many levels of depth left, under the
+// node at up, which has this definition and this repetition level, and answers where the next tree stands.
 pub(crate) fn write_run(
     sheet: &[u8],
     rows: &mut [u32],
@@ -83,7 +83,8 @@ pub(crate) fn write_run(
     at
 }
 
-// Writes the rows of the tree at a number, under the node at up, which has these levels, and answers where the next tree stands.
+// Writes the rows of the tree at a number, with so many levels of depth left, under the node at up, which has this definition and this
+// repetition level, and answers where the next tree stands.
 fn write_tree(
     sheet: &[u8],
     rows: &mut [u32],
@@ -145,8 +146,8 @@ fn write_tree(
     next
 }
 
-// Writes the rows of the run of so many fields at a number, under the node at up of some kind, role and levels, and answers where
-// the next tree stands: most nodes have no field, and are written without a call.
+// Writes the rows of the run of so many fields at a number, with so many levels of depth left, under the node at up of some kind, role,
+// definition and repetition level, and answers where the next tree stands: most nodes have no field, and are written without a call.
 fn write_fields(
     sheet: &[u8],
     rows: &mut [u32],

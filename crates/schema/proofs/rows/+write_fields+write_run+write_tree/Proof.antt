@@ -199,622 +199,105 @@ write-run-returns : (t : ℕ) → write-run-lts.Need-returns (
 ) (write-run-at t) write-run.Post write-run-Inv-loop write-run-μ-loop
 write-run-returns t c = behind-end _ _ _ _ _ _ _ _ _ _ _ _ _ _ (c .before .loop .inv) (omega (arith, c .loop-test .left))
 
-write-tree-slot-at-requires : (t : ℕ) → write-tree-lts.Need-slot-at-requires (
-  slot-at-reads.Asked,
-  slot-at-reads.Learnt,
-  annotated-reads.Asked,
-  annotated-reads.Learnt,
-  is-map-parent-reads.Asked,
-  is-map-parent-reads.Learnt,
-  resolved-kind-reads.Asked,
-  resolved-kind-reads.Learnt,
-  role-reads.Asked,
-  role-reads.Learnt,
-  in-definition-reads.Asked,
-  in-definition-reads.Learnt,
-  in-repetition-reads.Asked,
-  in-repetition-reads.Learnt,
-  type-length-reads.Asked,
-  type-length-reads.Learnt,
-  write-row-reads.Asked,
-  write-row-reads.Learnt,
-  write-fields-below t,
-  write-fields.Post,
-) (write-tree-at t) write-tree.Post
+-- what a tree calls
+abbrev write-tree-calls : ℕ → write-tree-lts.Claims
+write-tree-calls t = (slot-at-reads.Asked, slot-at-reads.Learnt, annotated-reads.Asked, annotated-reads.Learnt, is-map-parent-reads.Asked, is-map-parent-reads.Learnt, resolved-kind-reads.Asked, resolved-kind-reads.Learnt, role-reads.Asked, role-reads.Learnt, in-definition-reads.Asked, in-definition-reads.Learnt, in-repetition-reads.Asked, in-repetition-reads.Learnt, type-length-reads.Asked, type-length-reads.Learnt, write-row-reads.Asked, write-row-reads.Learnt, write-fields-below t, write-fields.Post)
+
+write-tree-slot-at-requires : (t : ℕ) → write-tree-lts.Need-slot-at-requires (write-tree-calls t) (write-tree-at t) write-tree.Post
 write-tree-slot-at-requires t c κs = search needs
 
-write-tree-annotated-requires : (t : ℕ) → write-tree-lts.Need-annotated-requires (
-  slot-at-reads.Asked,
-  slot-at-reads.Learnt,
-  annotated-reads.Asked,
-  annotated-reads.Learnt,
-  is-map-parent-reads.Asked,
-  is-map-parent-reads.Learnt,
-  resolved-kind-reads.Asked,
-  resolved-kind-reads.Learnt,
-  role-reads.Asked,
-  role-reads.Learnt,
-  in-definition-reads.Asked,
-  in-definition-reads.Learnt,
-  in-repetition-reads.Asked,
-  in-repetition-reads.Learnt,
-  type-length-reads.Asked,
-  type-length-reads.Learnt,
-  write-row-reads.Asked,
-  write-row-reads.Learnt,
-  write-fields-below t,
-  write-fields.Post,
-) (write-tree-at t) write-tree.Post
+write-tree-annotated-requires : (t : ℕ) → write-tree-lts.Need-annotated-requires (write-tree-calls t) (write-tree-at t) write-tree.Post
 write-tree-annotated-requires t c κs = search needs
 
-write-tree-is-map-parent-requires : (t : ℕ) → write-tree-lts.Need-is-map-parent-requires (
-  slot-at-reads.Asked,
-  slot-at-reads.Learnt,
-  annotated-reads.Asked,
-  annotated-reads.Learnt,
-  is-map-parent-reads.Asked,
-  is-map-parent-reads.Learnt,
-  resolved-kind-reads.Asked,
-  resolved-kind-reads.Learnt,
-  role-reads.Asked,
-  role-reads.Learnt,
-  in-definition-reads.Asked,
-  in-definition-reads.Learnt,
-  in-repetition-reads.Asked,
-  in-repetition-reads.Learnt,
-  type-length-reads.Asked,
-  type-length-reads.Learnt,
-  write-row-reads.Asked,
-  write-row-reads.Learnt,
-  write-fields-below t,
-  write-fields.Post,
-) (write-tree-at t) write-tree.Post
+write-tree-is-map-parent-requires : (t : ℕ) → write-tree-lts.Need-is-map-parent-requires (write-tree-calls t) (write-tree-at t) write-tree.Post
 write-tree-is-map-parent-requires t c κs = search needs
 
-write-tree-resolved-kind-requires : (t : ℕ) → write-tree-lts.Need-resolved-kind-requires (
-  slot-at-reads.Asked,
-  slot-at-reads.Learnt,
-  annotated-reads.Asked,
-  annotated-reads.Learnt,
-  is-map-parent-reads.Asked,
-  is-map-parent-reads.Learnt,
-  resolved-kind-reads.Asked,
-  resolved-kind-reads.Learnt,
-  role-reads.Asked,
-  role-reads.Learnt,
-  in-definition-reads.Asked,
-  in-definition-reads.Learnt,
-  in-repetition-reads.Asked,
-  in-repetition-reads.Learnt,
-  type-length-reads.Asked,
-  type-length-reads.Learnt,
-  write-row-reads.Asked,
-  write-row-reads.Learnt,
-  write-fields-below t,
-  write-fields.Post,
-) (write-tree-at t) write-tree.Post
+write-tree-resolved-kind-requires : (t : ℕ) → write-tree-lts.Need-resolved-kind-requires (write-tree-calls t) (write-tree-at t) write-tree.Post
 write-tree-resolved-kind-requires t c κs = search needs
 
-write-tree-role-requires : (t : ℕ) → write-tree-lts.Need-role-requires (
-  slot-at-reads.Asked,
-  slot-at-reads.Learnt,
-  annotated-reads.Asked,
-  annotated-reads.Learnt,
-  is-map-parent-reads.Asked,
-  is-map-parent-reads.Learnt,
-  resolved-kind-reads.Asked,
-  resolved-kind-reads.Learnt,
-  role-reads.Asked,
-  role-reads.Learnt,
-  in-definition-reads.Asked,
-  in-definition-reads.Learnt,
-  in-repetition-reads.Asked,
-  in-repetition-reads.Learnt,
-  type-length-reads.Asked,
-  type-length-reads.Learnt,
-  write-row-reads.Asked,
-  write-row-reads.Learnt,
-  write-fields-below t,
-  write-fields.Post,
-) (write-tree-at t) write-tree.Post
+write-tree-role-requires : (t : ℕ) → write-tree-lts.Need-role-requires (write-tree-calls t) (write-tree-at t) write-tree.Post
 write-tree-role-requires t c κs = record { claimed = c .before .before .before .before .before .before .pre .1 .0; below = c .before .before .before .before .before .before .pre .1 .1 .0; numbers = c .before .before .before .slot-at .ensures }
 
-write-tree-in-definition-requires : (t : ℕ) → write-tree-lts.Need-in-definition-requires (
-  slot-at-reads.Asked,
-  slot-at-reads.Learnt,
-  annotated-reads.Asked,
-  annotated-reads.Learnt,
-  is-map-parent-reads.Asked,
-  is-map-parent-reads.Learnt,
-  resolved-kind-reads.Asked,
-  resolved-kind-reads.Learnt,
-  role-reads.Asked,
-  role-reads.Learnt,
-  in-definition-reads.Asked,
-  in-definition-reads.Learnt,
-  in-repetition-reads.Asked,
-  in-repetition-reads.Learnt,
-  type-length-reads.Asked,
-  type-length-reads.Learnt,
-  write-row-reads.Asked,
-  write-row-reads.Learnt,
-  write-fields-below t,
-  write-fields.Post,
-) (write-tree-at t) write-tree.Post
+write-tree-in-definition-requires : (t : ℕ) → write-tree-lts.Need-in-definition-requires (write-tree-calls t) (write-tree-at t) write-tree.Post
 write-tree-in-definition-requires t c κs = search needs
 
-write-tree-add-own-definition : (t : ℕ) → write-tree-lts.Need-add-own-definition (
-  slot-at-reads.Asked,
-  slot-at-reads.Learnt,
-  annotated-reads.Asked,
-  annotated-reads.Learnt,
-  is-map-parent-reads.Asked,
-  is-map-parent-reads.Learnt,
-  resolved-kind-reads.Asked,
-  resolved-kind-reads.Learnt,
-  role-reads.Asked,
-  role-reads.Learnt,
-  in-definition-reads.Asked,
-  in-definition-reads.Learnt,
-  in-repetition-reads.Asked,
-  in-repetition-reads.Learnt,
-  type-length-reads.Asked,
-  type-length-reads.Learnt,
-  write-row-reads.Asked,
-  write-row-reads.Learnt,
-  write-fields-below t,
-  write-fields.Post,
-) (write-tree-at t) write-tree.Post
+write-tree-add-own-definition : (t : ℕ) → write-tree-lts.Need-add-own-definition (write-tree-calls t) (write-tree-at t) write-tree.Post
 write-tree-add-own-definition t c =
     let start = c .before .before .before .before .before .before .before .before in
     omega (arith, start .pre .1 .1 .0, start .pre .1 .0 .most, start .pre .1 .1 .1 .1 .1 .0 .definition-most, c .in-definition .ensures, counted-most isOptionalOrRepeated (c .before .before .before .before .before .slot-at .result .repetition))
 
-write-tree-in-repetition-requires : (t : ℕ) → write-tree-lts.Need-in-repetition-requires (
-  slot-at-reads.Asked,
-  slot-at-reads.Learnt,
-  annotated-reads.Asked,
-  annotated-reads.Learnt,
-  is-map-parent-reads.Asked,
-  is-map-parent-reads.Learnt,
-  resolved-kind-reads.Asked,
-  resolved-kind-reads.Learnt,
-  role-reads.Asked,
-  role-reads.Learnt,
-  in-definition-reads.Asked,
-  in-definition-reads.Learnt,
-  in-repetition-reads.Asked,
-  in-repetition-reads.Learnt,
-  type-length-reads.Asked,
-  type-length-reads.Learnt,
-  write-row-reads.Asked,
-  write-row-reads.Learnt,
-  write-fields-below t,
-  write-fields.Post,
-) (write-tree-at t) write-tree.Post
+write-tree-in-repetition-requires : (t : ℕ) → write-tree-lts.Need-in-repetition-requires (write-tree-calls t) (write-tree-at t) write-tree.Post
 write-tree-in-repetition-requires t c κs = search needs
 
-write-tree-add-own-repetition : (t : ℕ) → write-tree-lts.Need-add-own-repetition (
-  slot-at-reads.Asked,
-  slot-at-reads.Learnt,
-  annotated-reads.Asked,
-  annotated-reads.Learnt,
-  is-map-parent-reads.Asked,
-  is-map-parent-reads.Learnt,
-  resolved-kind-reads.Asked,
-  resolved-kind-reads.Learnt,
-  role-reads.Asked,
-  role-reads.Learnt,
-  in-definition-reads.Asked,
-  in-definition-reads.Learnt,
-  in-repetition-reads.Asked,
-  in-repetition-reads.Learnt,
-  type-length-reads.Asked,
-  type-length-reads.Learnt,
-  write-row-reads.Asked,
-  write-row-reads.Learnt,
-  write-fields-below t,
-  write-fields.Post,
-) (write-tree-at t) write-tree.Post
+write-tree-add-own-repetition : (t : ℕ) → write-tree-lts.Need-add-own-repetition (write-tree-calls t) (write-tree-at t) write-tree.Post
 write-tree-add-own-repetition t c =
     let start = c .before .before .before .before .before .before .before .before .before in
     omega (arith, start .pre .1 .1 .0, start .pre .1 .0 .most, start .pre .1 .1 .1 .1 .1 .0 .repetition-most, c .in-repetition .ensures, counted-most isRepeatedCode (c .before .before .before .before .before .before .slot-at .result .repetition))
 
-write-tree-mul-base : (t : ℕ) → write-tree-lts.Need-mul-base (
-  slot-at-reads.Asked,
-  slot-at-reads.Learnt,
-  annotated-reads.Asked,
-  annotated-reads.Learnt,
-  is-map-parent-reads.Asked,
-  is-map-parent-reads.Learnt,
-  resolved-kind-reads.Asked,
-  resolved-kind-reads.Learnt,
-  role-reads.Asked,
-  role-reads.Learnt,
-  in-definition-reads.Asked,
-  in-definition-reads.Learnt,
-  in-repetition-reads.Asked,
-  in-repetition-reads.Learnt,
-  type-length-reads.Asked,
-  type-length-reads.Learnt,
-  write-row-reads.Asked,
-  write-row-reads.Learnt,
-  write-fields-below t,
-  write-fields.Post,
-) (write-tree-at t) write-tree.Post
+write-tree-mul-base : (t : ℕ) → write-tree-lts.Need-mul-base (write-tree-calls t) (write-tree-at t) write-tree.Post
 write-tree-mul-base t c = omega (arith, c .before .before .before .before .before .before .before .before .before .pre .1 .1 .0, c .before .before .before .before .before .before .before .before .before .pre .1 .0 .most)
 
-write-tree-cast-rows : (t : ℕ) → write-tree-lts.Need-cast-rows (
-  slot-at-reads.Asked,
-  slot-at-reads.Learnt,
-  annotated-reads.Asked,
-  annotated-reads.Learnt,
-  is-map-parent-reads.Asked,
-  is-map-parent-reads.Learnt,
-  resolved-kind-reads.Asked,
-  resolved-kind-reads.Learnt,
-  role-reads.Asked,
-  role-reads.Learnt,
-  in-definition-reads.Asked,
-  in-definition-reads.Learnt,
-  in-repetition-reads.Asked,
-  in-repetition-reads.Learnt,
-  type-length-reads.Asked,
-  type-length-reads.Learnt,
-  write-row-reads.Asked,
-  write-row-reads.Learnt,
-  write-fields-below t,
-  write-fields.Post,
-) (write-tree-at t) write-tree.Post
+write-tree-cast-rows : (t : ℕ) → write-tree-lts.Need-cast-rows (write-tree-calls t) (write-tree-at t) write-tree.Post
 write-tree-cast-rows t c = search needs
 
-write-tree-type-length-requires : (t : ℕ) → write-tree-lts.Need-type-length-requires (
-  slot-at-reads.Asked,
-  slot-at-reads.Learnt,
-  annotated-reads.Asked,
-  annotated-reads.Learnt,
-  is-map-parent-reads.Asked,
-  is-map-parent-reads.Learnt,
-  resolved-kind-reads.Asked,
-  resolved-kind-reads.Learnt,
-  role-reads.Asked,
-  role-reads.Learnt,
-  in-definition-reads.Asked,
-  in-definition-reads.Learnt,
-  in-repetition-reads.Asked,
-  in-repetition-reads.Learnt,
-  type-length-reads.Asked,
-  type-length-reads.Learnt,
-  write-row-reads.Asked,
-  write-row-reads.Learnt,
-  write-fields-below t,
-  write-fields.Post,
-) (write-tree-at t) write-tree.Post
+write-tree-type-length-requires : (t : ℕ) → write-tree-lts.Need-type-length-requires (write-tree-calls t) (write-tree-at t) write-tree.Post
 write-tree-type-length-requires t c κs = search needs
 
-write-tree-cast-t23 : (t : ℕ) → write-tree-lts.Need-cast-t23 (
-  slot-at-reads.Asked,
-  slot-at-reads.Learnt,
-  annotated-reads.Asked,
-  annotated-reads.Learnt,
-  is-map-parent-reads.Asked,
-  is-map-parent-reads.Learnt,
-  resolved-kind-reads.Asked,
-  resolved-kind-reads.Learnt,
-  role-reads.Asked,
-  role-reads.Learnt,
-  in-definition-reads.Asked,
-  in-definition-reads.Learnt,
-  in-repetition-reads.Asked,
-  in-repetition-reads.Learnt,
-  type-length-reads.Asked,
-  type-length-reads.Learnt,
-  write-row-reads.Asked,
-  write-row-reads.Learnt,
-  write-fields-below t,
-  write-fields.Post,
-) (write-tree-at t) write-tree.Post
+write-tree-cast-t23 : (t : ℕ) → write-tree-lts.Need-cast-t23 (write-tree-calls t) (write-tree-at t) write-tree.Post
 write-tree-cast-t23 t c = search needs
 
-write-tree-cast-t24 : (t : ℕ) → write-tree-lts.Need-cast-t24 (
-  slot-at-reads.Asked,
-  slot-at-reads.Learnt,
-  annotated-reads.Asked,
-  annotated-reads.Learnt,
-  is-map-parent-reads.Asked,
-  is-map-parent-reads.Learnt,
-  resolved-kind-reads.Asked,
-  resolved-kind-reads.Learnt,
-  role-reads.Asked,
-  role-reads.Learnt,
-  in-definition-reads.Asked,
-  in-definition-reads.Learnt,
-  in-repetition-reads.Asked,
-  in-repetition-reads.Learnt,
-  type-length-reads.Asked,
-  type-length-reads.Learnt,
-  write-row-reads.Asked,
-  write-row-reads.Learnt,
-  write-fields-below t,
-  write-fields.Post,
-) (write-tree-at t) write-tree.Post
+write-tree-cast-t24 : (t : ℕ) → write-tree-lts.Need-cast-t24 (write-tree-calls t) (write-tree-at t) write-tree.Post
 write-tree-cast-t24 t c = omega (arith, c .before .before .before .before .before .before .before .before .before .before .before .before .before .pre .1 .1 .1 .0, c .before .before .before .before .before .before .before .before .before .before .before .before .before .pre .1 .0 .most)
 
-write-tree-write-row-requires : (t : ℕ) → write-tree-lts.Need-write-row-requires (
-  slot-at-reads.Asked,
-  slot-at-reads.Learnt,
-  annotated-reads.Asked,
-  annotated-reads.Learnt,
-  is-map-parent-reads.Asked,
-  is-map-parent-reads.Learnt,
-  resolved-kind-reads.Asked,
-  resolved-kind-reads.Learnt,
-  role-reads.Asked,
-  role-reads.Learnt,
-  in-definition-reads.Asked,
-  in-definition-reads.Learnt,
-  in-repetition-reads.Asked,
-  in-repetition-reads.Learnt,
-  type-length-reads.Asked,
-  type-length-reads.Learnt,
-  write-row-reads.Asked,
-  write-row-reads.Learnt,
-  write-fields-below t,
-  write-fields.Post,
-) (write-tree-at t) write-tree.Post
+write-tree-write-row-requires : (t : ℕ) → write-tree-lts.Need-write-row-requires (write-tree-calls t) (write-tree-at t) write-tree.Post
 write-tree-write-row-requires t c κs = row-fits _ _ _ _ (c .before .before .before .before .before .before .before .before .before .before .before .before .before .pre .1 .1 .0) (c .before .before .before .before .before .before .before .before .before .before .before .before .before .pre .1 .1 .1 .1 .0) refl
 
-write-tree-add-write-fields : (t : ℕ) → write-tree-lts.Need-add-write-fields (
-  slot-at-reads.Asked,
-  slot-at-reads.Learnt,
-  annotated-reads.Asked,
-  annotated-reads.Learnt,
-  is-map-parent-reads.Asked,
-  is-map-parent-reads.Learnt,
-  resolved-kind-reads.Asked,
-  resolved-kind-reads.Learnt,
-  role-reads.Asked,
-  role-reads.Learnt,
-  in-definition-reads.Asked,
-  in-definition-reads.Learnt,
-  in-repetition-reads.Asked,
-  in-repetition-reads.Learnt,
-  type-length-reads.Asked,
-  type-length-reads.Learnt,
-  write-row-reads.Asked,
-  write-row-reads.Learnt,
-  write-fields-below t,
-  write-fields.Post,
-) (write-tree-at t) write-tree.Post
+write-tree-add-write-fields : (t : ℕ) → write-tree-lts.Need-add-write-fields (write-tree-calls t) (write-tree-at t) write-tree.Post
 write-tree-add-write-fields t c = omega (arith, c .before .before .before .before .before .before .before .before .before .before .before .before .before .before .before .before .before .pre .1 .1 .0, c .before .before .before .before .before .before .before .before .before .before .before .before .before .before .before .before .before .pre .1 .0 .most)
 
-write-tree-cast-write-fields : (t : ℕ) → write-tree-lts.Need-cast-write-fields (
-  slot-at-reads.Asked,
-  slot-at-reads.Learnt,
-  annotated-reads.Asked,
-  annotated-reads.Learnt,
-  is-map-parent-reads.Asked,
-  is-map-parent-reads.Learnt,
-  resolved-kind-reads.Asked,
-  resolved-kind-reads.Learnt,
-  role-reads.Asked,
-  role-reads.Learnt,
-  in-definition-reads.Asked,
-  in-definition-reads.Learnt,
-  in-repetition-reads.Asked,
-  in-repetition-reads.Learnt,
-  type-length-reads.Asked,
-  type-length-reads.Learnt,
-  write-row-reads.Asked,
-  write-row-reads.Learnt,
-  write-fields-below t,
-  write-fields.Post,
-) (write-tree-at t) write-tree.Post
+write-tree-cast-write-fields : (t : ℕ) → write-tree-lts.Need-cast-write-fields (write-tree-calls t) (write-tree-at t) write-tree.Post
 write-tree-cast-write-fields t c = search needs
 
-write-tree-sub-write-fields : (t : ℕ) → write-tree-lts.Need-sub-write-fields (
-  slot-at-reads.Asked,
-  slot-at-reads.Learnt,
-  annotated-reads.Asked,
-  annotated-reads.Learnt,
-  is-map-parent-reads.Asked,
-  is-map-parent-reads.Learnt,
-  resolved-kind-reads.Asked,
-  resolved-kind-reads.Learnt,
-  role-reads.Asked,
-  role-reads.Learnt,
-  in-definition-reads.Asked,
-  in-definition-reads.Learnt,
-  in-repetition-reads.Asked,
-  in-repetition-reads.Learnt,
-  type-length-reads.Asked,
-  type-length-reads.Learnt,
-  write-row-reads.Asked,
-  write-row-reads.Learnt,
-  write-fields-below t,
-  write-fields.Post,
-) (write-tree-at t) write-tree.Post
+-- where a tree calls for its fields, what it started with
+abbrev write-tree-start : (t : ℕ) → write-tree-lts.After-struct-known3 (write-tree-calls t) (write-tree-at t) write-tree.Post → write-tree-lts.Start (write-tree-calls t) (write-tree-at t) write-tree.Post
+write-tree-start t c = c .before .before .before .before .before .before .before .before .before .before .before .before .before .before .before .before .before .before
+
+write-tree-sub-write-fields : (t : ℕ) → write-tree-lts.Need-sub-write-fields (write-tree-calls t) (write-tree-at t) write-tree.Post
 write-tree-sub-write-fields t c =
-    let start = c .before .before .before .before .before .before .before .before .before .before .before .before .before .before .before .before .before .before in
+    let start = write-tree-start t c in
     omega (arith, level-left (start .args .levels) _ (start .pre .1 .1 .1 .1 .1 .1 .1))
 
-write-tree-write-fields-requires : (t : ℕ) → write-tree-lts.Need-write-fields-requires (
-  slot-at-reads.Asked,
-  slot-at-reads.Learnt,
-  annotated-reads.Asked,
-  annotated-reads.Learnt,
-  is-map-parent-reads.Asked,
-  is-map-parent-reads.Learnt,
-  resolved-kind-reads.Asked,
-  resolved-kind-reads.Learnt,
-  role-reads.Asked,
-  role-reads.Learnt,
-  in-definition-reads.Asked,
-  in-definition-reads.Learnt,
-  in-repetition-reads.Asked,
-  in-repetition-reads.Learnt,
-  type-length-reads.Asked,
-  type-length-reads.Learnt,
-  write-row-reads.Asked,
-  write-row-reads.Learnt,
-  write-fields-below t,
-  write-fields.Post,
-) (write-tree-at t) write-tree.Post
+write-tree-write-fields-requires : (t : ℕ) → write-tree-lts.Need-write-fields-requires (write-tree-calls t) (write-tree-at t) write-tree.Post
 write-tree-write-fields-requires t c κs =
-    let start = c .before .before .before .before .before .before .before .before .before .before .before .before .before .before .before .before .before .before in
+    let start = write-tree-start t c in
     let s = c .before .before .before .before .before .before .before .before .before .before .before .before .before .before .before .slot-at in
     let levels = levels-most (start .args .sheet .now) (start .args .at) (s .result) _ _ _ _ _ _ (c .before .before .before .before .before .before .before .before .before .before .in-definition .ensures) (c .before .before .before .before .before .before .before .before .before .in-repetition .ensures) refl refl _ (start .pre .1 .1 .1 .1 .1 .0) in
     let visited : Visited (start .args .sheet .now) (start .args .at) (s .result) = record { claimed = start .pre .1 .0; below = start .pre .1 .1 .0; numbers = s .ensures } in
     let deep = start .pre .1 .1 .1 .1 .1 .1 in
     (fields-falls _ _ _ _ (start .pre .1 .1 .0) (level-left _ _ (deep .1)) (start .pre .0), (start .pre .1 .0, (children-claimed _ _ _ (s .ensures) (start .pre .1 .0) (start .pre .1 .1 .0), (start .pre .1 .1 .0, (long-enough _ _ _ (start .pre .1 .1 .1 .1 .0) (c .before .before .before .before .write-row .kept .0), (levels, (omega (arith, deep .0), fields-deep _ _ _ _ visited (deep .0) (deep .1))))))))
 
-write-tree-cast-rows-2 : (t : ℕ) → write-tree-lts.Need-cast-rows-2 (
-  slot-at-reads.Asked,
-  slot-at-reads.Learnt,
-  annotated-reads.Asked,
-  annotated-reads.Learnt,
-  is-map-parent-reads.Asked,
-  is-map-parent-reads.Learnt,
-  resolved-kind-reads.Asked,
-  resolved-kind-reads.Learnt,
-  role-reads.Asked,
-  role-reads.Learnt,
-  in-definition-reads.Asked,
-  in-definition-reads.Learnt,
-  in-repetition-reads.Asked,
-  in-repetition-reads.Learnt,
-  type-length-reads.Asked,
-  type-length-reads.Learnt,
-  write-row-reads.Asked,
-  write-row-reads.Learnt,
-  write-fields-below t,
-  write-fields.Post,
-) (write-tree-at t) write-tree.Post
+write-tree-cast-rows-2 : (t : ℕ) → write-tree-lts.Need-cast-rows-2 (write-tree-calls t) (write-tree-at t) write-tree.Post
 write-tree-cast-rows-2 t c =
     let start = c .before .before .before .before .before .before .before .before .before .before .before .before .before .before .before .before .before .before .before .before .before in
     let visited : Visited (start .args .sheet .now) (start .args .at) (c .before .before .before .before .before .before .before .before .before .before .before .before .before .before .before .before .before .before .slot-at .result) = record { claimed = start .pre .1 .0; below = start .pre .1 .1 .0; numbers = c .before .before .before .before .before .before .before .before .before .before .before .before .before .before .before .before .before .before .slot-at .ensures } in
     let end = tree-end (start .args .sheet .now) (start .args .at) _ visited _ (c .before .before .write-fields .ensures .0) in
     omega (arith, tree-within (start .args .sheet .now) (start .args .at) (start .pre .1 .0) (start .pre .1 .1 .0), start .pre .1 .0 .most, end)
 
-write-tree-add-rows : (t : ℕ) → write-tree-lts.Need-add-rows (
-  slot-at-reads.Asked,
-  slot-at-reads.Learnt,
-  annotated-reads.Asked,
-  annotated-reads.Learnt,
-  is-map-parent-reads.Asked,
-  is-map-parent-reads.Learnt,
-  resolved-kind-reads.Asked,
-  resolved-kind-reads.Learnt,
-  role-reads.Asked,
-  role-reads.Learnt,
-  in-definition-reads.Asked,
-  in-definition-reads.Learnt,
-  in-repetition-reads.Asked,
-  in-repetition-reads.Learnt,
-  type-length-reads.Asked,
-  type-length-reads.Learnt,
-  write-row-reads.Asked,
-  write-row-reads.Learnt,
-  write-fields-below t,
-  write-fields.Post,
-) (write-tree-at t) write-tree.Post
+write-tree-add-rows : (t : ℕ) → write-tree-lts.Need-add-rows (write-tree-calls t) (write-tree-at t) write-tree.Post
 write-tree-add-rows t c = omega (arith, c .before .before .before .before .before .before .before .before .before .before .before .before .before .before .before .before .before .before .before .before .before .pre .1 .1 .0, c .before .before .before .before .before .before .before .before .before .before .before .before .before .before .before .before .before .before .before .before .before .pre .1 .0 .most)
 
-write-tree-mul-rows : (t : ℕ) → write-tree-lts.Need-mul-rows (
-  slot-at-reads.Asked,
-  slot-at-reads.Learnt,
-  annotated-reads.Asked,
-  annotated-reads.Learnt,
-  is-map-parent-reads.Asked,
-  is-map-parent-reads.Learnt,
-  resolved-kind-reads.Asked,
-  resolved-kind-reads.Learnt,
-  role-reads.Asked,
-  role-reads.Learnt,
-  in-definition-reads.Asked,
-  in-definition-reads.Learnt,
-  in-repetition-reads.Asked,
-  in-repetition-reads.Learnt,
-  type-length-reads.Asked,
-  type-length-reads.Learnt,
-  write-row-reads.Asked,
-  write-row-reads.Learnt,
-  write-fields-below t,
-  write-fields.Post,
-) (write-tree-at t) write-tree.Post
+write-tree-mul-rows : (t : ℕ) → write-tree-lts.Need-mul-rows (write-tree-calls t) (write-tree-at t) write-tree.Post
 write-tree-mul-rows t c = omega (arith, c .before .before .before .before .before .before .before .before .before .before .before .before .before .before .before .before .before .before .before .before .before .pre .1 .1 .0, c .before .before .before .before .before .before .before .before .before .before .before .before .before .before .before .before .before .before .before .before .before .pre .1 .0 .most)
 
-write-tree-slice-write-rows : (t : ℕ) → write-tree-lts.Need-slice-write-rows (
-  slot-at-reads.Asked,
-  slot-at-reads.Learnt,
-  annotated-reads.Asked,
-  annotated-reads.Learnt,
-  is-map-parent-reads.Asked,
-  is-map-parent-reads.Learnt,
-  resolved-kind-reads.Asked,
-  resolved-kind-reads.Learnt,
-  role-reads.Asked,
-  role-reads.Learnt,
-  in-definition-reads.Asked,
-  in-definition-reads.Learnt,
-  in-repetition-reads.Asked,
-  in-repetition-reads.Learnt,
-  type-length-reads.Asked,
-  type-length-reads.Learnt,
-  write-row-reads.Asked,
-  write-row-reads.Learnt,
-  write-fields-below t,
-  write-fields.Post,
-) (write-tree-at t) write-tree.Post
+write-tree-slice-write-rows : (t : ℕ) → write-tree-lts.Need-slice-write-rows (write-tree-calls t) (write-tree-at t) write-tree.Post
 write-tree-slice-write-rows t c =
     let start = c .before .before .before .before .before .before .before .before .before .before .before .before .before .before .before .before .before .before .before .before .before in
     omega (arith, start .pre .1 .1 .0, start .pre .1 .1 .1 .1 .0, c .before .before .before .before .before .before .before .write-row .kept .0, c .before .before .write-fields .kept .1 .0)
 
-write-tree-same-length : (t : ℕ) → write-tree-lts.Need-same-length (
-  slot-at-reads.Asked,
-  slot-at-reads.Learnt,
-  annotated-reads.Asked,
-  annotated-reads.Learnt,
-  is-map-parent-reads.Asked,
-  is-map-parent-reads.Learnt,
-  resolved-kind-reads.Asked,
-  resolved-kind-reads.Learnt,
-  role-reads.Asked,
-  role-reads.Learnt,
-  in-definition-reads.Asked,
-  in-definition-reads.Learnt,
-  in-repetition-reads.Asked,
-  in-repetition-reads.Learnt,
-  type-length-reads.Asked,
-  type-length-reads.Learnt,
-  write-row-reads.Asked,
-  write-row-reads.Learnt,
-  write-fields-below t,
-  write-fields.Post,
-) (write-tree-at t) write-tree.Post
+write-tree-same-length : (t : ℕ) → write-tree-lts.Need-same-length (write-tree-calls t) (write-tree-at t) write-tree.Post
 write-tree-same-length t c = simp length-set (c .before .before .write-fields .kept .1 .0 ∙ c .before .before .before .before .before .before .before .write-row .kept .0)
 
-write-tree-returns : (t : ℕ) → write-tree-lts.Need-returns (
-  slot-at-reads.Asked,
-  slot-at-reads.Learnt,
-  annotated-reads.Asked,
-  annotated-reads.Learnt,
-  is-map-parent-reads.Asked,
-  is-map-parent-reads.Learnt,
-  resolved-kind-reads.Asked,
-  resolved-kind-reads.Learnt,
-  role-reads.Asked,
-  role-reads.Learnt,
-  in-definition-reads.Asked,
-  in-definition-reads.Learnt,
-  in-repetition-reads.Asked,
-  in-repetition-reads.Learnt,
-  type-length-reads.Asked,
-  type-length-reads.Learnt,
-  write-row-reads.Asked,
-  write-row-reads.Learnt,
-  write-fields-below t,
-  write-fields.Post,
-) (write-tree-at t) write-tree.Post
+write-tree-returns : (t : ℕ) → write-tree-lts.Need-returns (write-tree-calls t) (write-tree-at t) write-tree.Post
 unfolding rowNumbers
 write-tree-returns t c =
     let start = c .before .before .before .before .before .before .before .before .before .before .before .before .before .before .before .before .before .before .before .before .before in
@@ -867,28 +350,7 @@ pub +write-fields+write-run+write-tree-spec : {M : Type 1} → statement M
     (write-run-loop-again t)
     (write-run-same-length t)
     (write-run-returns t))
-    λ t. write-tree-lts.spec (
-      slot-at-reads.Asked,
-      slot-at-reads.Learnt,
-      annotated-reads.Asked,
-      annotated-reads.Learnt,
-      is-map-parent-reads.Asked,
-      is-map-parent-reads.Learnt,
-      resolved-kind-reads.Asked,
-      resolved-kind-reads.Learnt,
-      role-reads.Asked,
-      role-reads.Learnt,
-      in-definition-reads.Asked,
-      in-definition-reads.Learnt,
-      in-repetition-reads.Asked,
-      in-repetition-reads.Learnt,
-      type-length-reads.Asked,
-      type-length-reads.Learnt,
-      write-row-reads.Asked,
-      write-row-reads.Learnt,
-      write-fields-below t,
-      write-fields.Post,
-    )
+    λ t. write-tree-lts.spec (write-tree-calls t)
     (write-tree-at t)
     write-tree.Post
     (write-tree-slot-at-requires t)
