@@ -77,46 +77,25 @@ abbrev write-tree-below : ℕ → In 2 write-tree-kinds.ps
 write-tree-below t =
     and 2 write-tree-kinds.ps (falls 2 write-tree-kinds.ps _<_ μ-write-tree t) write-tree.Pre
 
-write-fields-returns : (t : ℕ) → write-fields-lts.Need-returns (
-  parent-by-reads.Asked,
-  parent-by-reads.Learnt,
-  write-run-below t,
-  write-run.Post,
-) (write-fields-at t) write-fields.Post
+-- what some fields call
+abbrev write-fields-calls : ℕ → write-fields-lts.Claims
+write-fields-calls t = (parent-by-reads.Asked, parent-by-reads.Learnt, write-run-below t, write-run.Post)
+
+write-fields-returns : (t : ℕ) → write-fields-lts.Need-returns (write-fields-calls t) (write-fields-at t) write-fields.Post
 write-fields-returns t c = (run-end-empty _ _ _ (c .if1 .taken), λ path g. run-rows-empty _ _ _ _ _ _ _ path (c .if1 .taken))
 
-write-fields-parent-by-requires : (t : ℕ) → write-fields-lts.Need-parent-by-requires (
-  parent-by-reads.Asked,
-  parent-by-reads.Learnt,
-  write-run-below t,
-  write-run.Post,
-) (write-fields-at t) write-fields.Post
+write-fields-parent-by-requires : (t : ℕ) → write-fields-lts.Need-parent-by-requires (write-fields-calls t) (write-fields-at t) write-fields.Post
 write-fields-parent-by-requires t c κs = search needs
 
-write-fields-write-run-requires : (t : ℕ) → write-fields-lts.Need-write-run-requires (
-  parent-by-reads.Asked,
-  parent-by-reads.Learnt,
-  write-run-below t,
-  write-run.Post,
-) (write-fields-at t) write-fields.Post
+write-fields-write-run-requires : (t : ℕ) → write-fields-lts.Need-write-run-requires (write-fields-calls t) (write-fields-at t) write-fields.Post
 write-fields-write-run-requires t c κs =
     let start = c .before .before .before .before .before in
     (run-falls _ _ _ _ (start .pre .0), start .pre .1)
 
-write-fields-same-length : (t : ℕ) → write-fields-lts.Need-same-length (
-  parent-by-reads.Asked,
-  parent-by-reads.Learnt,
-  write-run-below t,
-  write-run.Post,
-) (write-fields-at t) write-fields.Post
+write-fields-same-length : (t : ℕ) → write-fields-lts.Need-same-length (write-fields-calls t) (write-fields-at t) write-fields.Post
 write-fields-same-length t c = c .before .before .write-run .kept .1 .0
 
-write-fields-returns-2 : (t : ℕ) → write-fields-lts.Need-returns-2 (
-  parent-by-reads.Asked,
-  parent-by-reads.Learnt,
-  write-run-below t,
-  write-run.Post,
-) (write-fields-at t) write-fields.Post
+write-fields-returns-2 : (t : ℕ) → write-fields-lts.Need-returns-2 (write-fields-calls t) (write-fields-at t) write-fields.Post
 write-fields-returns-2 t c = rw (c .before .before .before .parent-by .ensures) at (c .before .before .write-run .ensures)
 
 abbrev write-run-Inv-loop : write-run-lts.InvT-loop
@@ -125,20 +104,14 @@ write-run-Inv-loop sheet rows₀ start count levels up definition repetition at�
 abbrev write-run-μ-loop : write-run-lts.MeasureT-loop
 write-run-μ-loop sheet rows₀ start count levels up definition repetition at₀ left₀ above₀ rows at left above = left
 
-write-run-loop-holds : (t : ℕ) → write-run-lts.Need-loop-holds (
-  write-tree-below t,
-  write-tree.Post,
-  after-first-reads.Asked,
-  after-first-reads.Learnt,
-) (write-run-at t) write-run.Post write-run-Inv-loop write-run-μ-loop
+-- what a run calls
+abbrev write-run-calls : ℕ → write-run-lts.Claims
+write-run-calls t = (write-tree-below t, write-tree.Post, after-first-reads.Asked, after-first-reads.Learnt)
+
+write-run-loop-holds : (t : ℕ) → write-run-lts.Need-loop-holds (write-run-calls t) (write-run-at t) write-run.Post write-run-Inv-loop write-run-μ-loop
 write-run-loop-holds t c = behind-start _ _ _ _ _ _ _ _ _ _ (c .before .before .pre .1 .1 .0) (c .before .before .pre .1 .1 .1 .1 .1 .1 .1)
 
-write-run-write-tree-requires : (t : ℕ) → write-run-lts.Need-write-tree-requires (
-  write-tree-below t,
-  write-tree.Post,
-  after-first-reads.Asked,
-  after-first-reads.Learnt,
-) (write-run-at t) write-run.Post write-run-Inv-loop write-run-μ-loop
+write-run-write-tree-requires : (t : ℕ) → write-run-lts.Need-write-tree-requires (write-run-calls t) (write-run-at t) write-run.Post write-run-Inv-loop write-run-μ-loop
 write-run-write-tree-requires t c κs =
     let start = c .before .before .before .before .before in
     let loop = c .before .before .loop in
@@ -146,36 +119,16 @@ write-run-write-tree-requires t c κs =
     let below = run-below (start .args .sheet .now) (loop .at) (loop .left) (start .pre .1 .0) some (loop .inv .claimed) in
     (tree-falls _ _ _ _ _ (loop .inv .reached) (start .pre .0), (start .pre .1 .0, (below, (start .pre .1 .1 .1 .0, (long-enough _ _ _ (start .pre .1 .1 .1 .1 .0) (loop .inv .long), (at-most _ _ _ _ (start .pre .1 .1 .1 .1 .1 .0) (loop .inv .reached), (start .pre .1 .1 .1 .1 .1 .1 .0, first-deep _ _ _ _ (start .pre .1 .0) some (loop .inv .claimed) (loop .inv .deep))))))))
 
-write-run-after-first-requires : (t : ℕ) → write-run-lts.Need-after-first-requires (
-  write-tree-below t,
-  write-tree.Post,
-  after-first-reads.Asked,
-  after-first-reads.Learnt,
-) (write-run-at t) write-run.Post write-run-Inv-loop write-run-μ-loop
+write-run-after-first-requires : (t : ℕ) → write-run-lts.Need-after-first-requires (write-run-calls t) (write-run-at t) write-run.Post write-run-Inv-loop write-run-μ-loop
 write-run-after-first-requires t c κs = search needs
 
-write-run-sub-left : (t : ℕ) → write-run-lts.Need-sub-left (
-  write-tree-below t,
-  write-tree.Post,
-  after-first-reads.Asked,
-  after-first-reads.Learnt,
-) (write-run-at t) write-run.Post write-run-Inv-loop write-run-μ-loop
+write-run-sub-left : (t : ℕ) → write-run-lts.Need-sub-left (write-run-calls t) (write-run-at t) write-run.Post write-run-Inv-loop write-run-μ-loop
 write-run-sub-left t c = omega (arith, c .before .before .before .before .before .loop-test .taken)
 
-write-run-loop-less : (t : ℕ) → write-run-lts.Need-loop-less (
-  write-tree-below t,
-  write-tree.Post,
-  after-first-reads.Asked,
-  after-first-reads.Learnt,
-) (write-run-at t) write-run.Post write-run-Inv-loop write-run-μ-loop
+write-run-loop-less : (t : ℕ) → write-run-lts.Need-loop-less (write-run-calls t) (write-run-at t) write-run.Post write-run-Inv-loop write-run-μ-loop
 write-run-loop-less t c = omega (arith, c .before .before .before .before .before .loop-test .taken)
 
-write-run-loop-again : (t : ℕ) → write-run-lts.Need-loop-again (
-  write-tree-below t,
-  write-tree.Post,
-  after-first-reads.Asked,
-  after-first-reads.Learnt,
-) (write-run-at t) write-run.Post write-run-Inv-loop write-run-μ-loop
+write-run-loop-again : (t : ℕ) → write-run-lts.Need-loop-again (write-run-calls t) (write-run-at t) write-run.Post write-run-Inv-loop write-run-μ-loop
 write-run-loop-again t c =
     let start = c .before .before .before .before .before .before .before .before .before in
     let loop = c .before .before .before .before .before .before .loop in
@@ -183,20 +136,10 @@ write-run-loop-again t c =
     let some : loop .left ≡ 0 → ⊥ = λ e. omega (arith, c .before .before .before .before .before .loop-test .taken) in
     behind-next _ _ _ _ _ _ _ _ _ _ _ _ _ _ (loop .inv) (start .pre .1 .0) (start .pre .1 .1 .1 .1 .0) some _ _ _ (tree .ensures .0) (tree .ensures .1) (tree .kept .1 .0) (c .after-first .ensures)
 
-write-run-same-length : (t : ℕ) → write-run-lts.Need-same-length (
-  write-tree-below t,
-  write-tree.Post,
-  after-first-reads.Asked,
-  after-first-reads.Learnt,
-) (write-run-at t) write-run.Post write-run-Inv-loop write-run-μ-loop
+write-run-same-length : (t : ℕ) → write-run-lts.Need-same-length (write-run-calls t) (write-run-at t) write-run.Post write-run-Inv-loop write-run-μ-loop
 write-run-same-length t c = c .before .loop .inv .long
 
-write-run-returns : (t : ℕ) → write-run-lts.Need-returns (
-  write-tree-below t,
-  write-tree.Post,
-  after-first-reads.Asked,
-  after-first-reads.Learnt,
-) (write-run-at t) write-run.Post write-run-Inv-loop write-run-μ-loop
+write-run-returns : (t : ℕ) → write-run-lts.Need-returns (write-run-calls t) (write-run-at t) write-run.Post write-run-Inv-loop write-run-μ-loop
 write-run-returns t c = behind-end _ _ _ _ _ _ _ _ _ _ _ _ _ _ (c .before .loop .inv) (omega (arith, c .loop-test .left))
 
 -- what a tree calls
@@ -278,20 +221,24 @@ write-tree-write-fields-requires t c κs =
 
 write-tree-cast-rows-2 : (t : ℕ) → write-tree-lts.Need-cast-rows-2 (write-tree-calls t) (write-tree-at t) write-tree.Post
 write-tree-cast-rows-2 t c =
-    let start = c .before .before .before .before .before .before .before .before .before .before .before .before .before .before .before .before .before .before .before .before .before in
+    let start = write-tree-start t (c .before .before .before) in
     let visited : Visited (start .args .sheet .now) (start .args .at) (c .before .before .before .before .before .before .before .before .before .before .before .before .before .before .before .before .before .before .slot-at .result) = record { claimed = start .pre .1 .0; below = start .pre .1 .1 .0; numbers = c .before .before .before .before .before .before .before .before .before .before .before .before .before .before .before .before .before .before .slot-at .ensures } in
     let end = tree-end (start .args .sheet .now) (start .args .at) _ visited _ (c .before .before .write-fields .ensures .0) in
     omega (arith, tree-within (start .args .sheet .now) (start .args .at) (start .pre .1 .0) (start .pre .1 .1 .0), start .pre .1 .0 .most, end)
 
 write-tree-add-rows : (t : ℕ) → write-tree-lts.Need-add-rows (write-tree-calls t) (write-tree-at t) write-tree.Post
-write-tree-add-rows t c = omega (arith, c .before .before .before .before .before .before .before .before .before .before .before .before .before .before .before .before .before .before .before .before .before .pre .1 .1 .0, c .before .before .before .before .before .before .before .before .before .before .before .before .before .before .before .before .before .before .before .before .before .pre .1 .0 .most)
+write-tree-add-rows t c =
+    let start = write-tree-start t (c .before .before .before) in
+    omega (arith, start .pre .1 .1 .0, start .pre .1 .0 .most)
 
 write-tree-mul-rows : (t : ℕ) → write-tree-lts.Need-mul-rows (write-tree-calls t) (write-tree-at t) write-tree.Post
-write-tree-mul-rows t c = omega (arith, c .before .before .before .before .before .before .before .before .before .before .before .before .before .before .before .before .before .before .before .before .before .pre .1 .1 .0, c .before .before .before .before .before .before .before .before .before .before .before .before .before .before .before .before .before .before .before .before .before .pre .1 .0 .most)
+write-tree-mul-rows t c =
+    let start = write-tree-start t (c .before .before .before) in
+    omega (arith, start .pre .1 .1 .0, start .pre .1 .0 .most)
 
 write-tree-slice-write-rows : (t : ℕ) → write-tree-lts.Need-slice-write-rows (write-tree-calls t) (write-tree-at t) write-tree.Post
 write-tree-slice-write-rows t c =
-    let start = c .before .before .before .before .before .before .before .before .before .before .before .before .before .before .before .before .before .before .before .before .before in
+    let start = write-tree-start t (c .before .before .before) in
     omega (arith, start .pre .1 .1 .0, start .pre .1 .1 .1 .1 .0, c .before .before .before .before .before .before .before .write-row .kept .0, c .before .before .write-fields .kept .1 .0)
 
 write-tree-same-length : (t : ℕ) → write-tree-lts.Need-same-length (write-tree-calls t) (write-tree-at t) write-tree.Post
@@ -300,7 +247,7 @@ write-tree-same-length t c = simp length-set (c .before .before .write-fields .k
 write-tree-returns : (t : ℕ) → write-tree-lts.Need-returns (write-tree-calls t) (write-tree-at t) write-tree.Post
 unfolding rowNumbers
 write-tree-returns t c =
-    let start = c .before .before .before .before .before .before .before .before .before .before .before .before .before .before .before .before .before .before .before .before .before in
+    let start = write-tree-start t (c .before .before .before) in
     let visited : Visited (start .args .sheet .now) (start .args .at) (c .before .before .before .before .before .before .before .before .before .before .before .before .before .before .before .before .before .before .slot-at .result) = record { claimed = start .pre .1 .0; below = start .pre .1 .1 .0; numbers = c .before .before .before .before .before .before .before .before .before .before .before .before .before .before .before .before .before .before .slot-at .ensures } in
     let run = c .before .before .write-fields in
     let end = tree-end (start .args .sheet .now) (start .args .at) _ visited _ (run .ensures .0) in
@@ -319,12 +266,7 @@ write-tree-returns t c =
 
 pub +write-fields+write-run+write-tree-spec : {M : Type 1} → statement M
 +write-fields+write-run+write-tree-spec =
-    close μ-write-fields μ-write-run μ-write-tree (λ t. write-fields-lts.spec (
-      parent-by-reads.Asked,
-      parent-by-reads.Learnt,
-      write-run-below t,
-      write-run.Post,
-    )
+    close μ-write-fields μ-write-run μ-write-tree (λ t. write-fields-lts.spec (write-fields-calls t)
     (write-fields-at t)
     write-fields.Post
     (write-fields-returns t)
@@ -332,12 +274,7 @@ pub +write-fields+write-run+write-tree-spec : {M : Type 1} → statement M
     (write-fields-write-run-requires t)
     (write-fields-same-length t)
     (write-fields-returns-2 t))
-    (λ t. write-run-lts.spec (
-      write-tree-below t,
-      write-tree.Post,
-      after-first-reads.Asked,
-      after-first-reads.Learnt,
-    )
+    (λ t. write-run-lts.spec (write-run-calls t)
     (write-run-at t)
     write-run.Post
     write-run-Inv-loop

@@ -76,24 +76,22 @@ abbrev judge-tree-below : ℕ → In 1 judge-tree-kinds.ps
 judge-tree-below t =
     and 1 judge-tree-kinds.ps (falls 1 judge-tree-kinds.ps _<_ μ-judge-tree t) judge-tree.Pre
 
+-- what some fields call
+abbrev judge-fields-calls : ℕ → judge-fields-lts.Claims
+judge-fields-calls t = (judge-run-below t, judge-run.Post)
+
 judge-fields-returns :
     (t : ℕ) →
     judge-fields-lts.Need-returns
-    (judge-run-below t, judge-run.Post)
+    (judge-fields-calls t)
     (judge-fields-at t)
     judge-fields.Post
 judge-fields-returns t c = run-empty _ _ _ _ _ (c .if1 .taken)
 
-judge-fields-judge-run-requires : (t : ℕ) → judge-fields-lts.Need-judge-run-requires (
-  judge-run-below t,
-  judge-run.Post,
-) (judge-fields-at t) judge-fields.Post
+judge-fields-judge-run-requires : (t : ℕ) → judge-fields-lts.Need-judge-run-requires (judge-fields-calls t) (judge-fields-at t) judge-fields.Post
 judge-fields-judge-run-requires t c κs = (run-falls _ _ _ _ (c .before .before .pre .0), c .before .before .pre .1)
 
-judge-fields-returns-2 : (t : ℕ) → judge-fields-lts.Need-returns-2 (
-  judge-run-below t,
-  judge-run.Post,
-) (judge-fields-at t) judge-fields.Post
+judge-fields-returns-2 : (t : ℕ) → judge-fields-lts.Need-returns-2 (judge-fields-calls t) (judge-fields-at t) judge-fields.Post
 judge-fields-returns-2 t c = c .judge-run .ensures
 
 abbrev judge-run-Inv-loop : judge-run-lts.InvT-loop
@@ -102,20 +100,14 @@ judge-run-Inv-loop sheet start count levels place at₀ left₀ last₀ inner₀
 abbrev judge-run-μ-loop : judge-run-lts.MeasureT-loop
 judge-run-μ-loop sheet start count levels place at₀ left₀ last₀ inner₀ fault₀ at left last inner fault = left
 
-judge-run-loop-holds : (t : ℕ) → judge-run-lts.Need-loop-holds (
-  judge-tree-below t,
-  judge-tree.Post,
-  first-of-reads.Asked,
-  first-of-reads.Learnt,
-) (judge-run-at t) judge-run.Post judge-run-Inv-loop judge-run-μ-loop
+-- what a run calls
+abbrev judge-run-calls : ℕ → judge-run-lts.Claims
+judge-run-calls t = (judge-tree-below t, judge-tree.Post, first-of-reads.Asked, first-of-reads.Learnt)
+
+judge-run-loop-holds : (t : ℕ) → judge-run-lts.Need-loop-holds (judge-run-calls t) (judge-run-at t) judge-run.Post judge-run-Inv-loop judge-run-μ-loop
 judge-run-loop-holds t c = judging-start _ _ _ _ _ (c .before .pre .1 .1 .0)
 
-judge-run-judge-tree-requires : (t : ℕ) → judge-run-lts.Need-judge-tree-requires (
-  judge-tree-below t,
-  judge-tree.Post,
-  first-of-reads.Asked,
-  first-of-reads.Learnt,
-) (judge-run-at t) judge-run.Post judge-run-Inv-loop judge-run-μ-loop
+judge-run-judge-tree-requires : (t : ℕ) → judge-run-lts.Need-judge-tree-requires (judge-run-calls t) (judge-run-at t) judge-run.Post judge-run-Inv-loop judge-run-μ-loop
 judge-run-judge-tree-requires t c κs =
     let start = c .before .before .before in
     let judging = c .before .loop .inv in
@@ -123,389 +115,87 @@ judge-run-judge-tree-requires t c κs =
     let below = run-below (start .args .sheet .now) (c .before .loop .at) (c .before .loop .left) (start .pre .1 .0) some (judging .claimed) in
     (tree-falls _ _ _ _ _ (judging .reached) (start .pre .0), (start .pre .1 .0, (below, start .pre .1 .1 .1)))
 
-judge-run-enum-known-tree : (t : ℕ) → judge-run-lts.Need-enum-known-tree (
-  judge-tree-below t,
-  judge-tree.Post,
-  first-of-reads.Asked,
-  first-of-reads.Learnt,
-) (judge-run-at t) judge-run.Post judge-run-Inv-loop judge-run-μ-loop
+judge-run-enum-known-tree : (t : ℕ) → judge-run-lts.Need-enum-known-tree (judge-run-calls t) (judge-run-at t) judge-run.Post judge-run-Inv-loop judge-run-μ-loop
 judge-run-enum-known-tree t c = search needs
 
-judge-run-returns : (t : ℕ) → judge-run-lts.Need-returns (
-  judge-tree-below t,
-  judge-tree.Post,
-  first-of-reads.Asked,
-  first-of-reads.Learnt,
-) (judge-run-at t) judge-run.Post judge-run-Inv-loop judge-run-μ-loop
+judge-run-returns : (t : ℕ) → judge-run-lts.Need-returns (judge-run-calls t) (judge-run-at t) judge-run.Post judge-run-Inv-loop judge-run-μ-loop
 judge-run-returns t c =
     let loop = c .before .before .before .before .before in
     let some : loop .loop .left ≡ 0 → ⊥ = λ e. omega (arith, c .before .before .before .before .loop-test .taken) in
     judging-deep _ _ _ _ _ _ _ _ _ _ (loop .loop .inv) (loop .before .before .pre .1 .0) some _ (sym (c .before .before .before .judge-tree .ensures) ∙ c .before .tree .given .1)
 
-judge-run-enum-known-tree-2 : (t : ℕ) → judge-run-lts.Need-enum-known-tree-2 (
-  judge-tree-below t,
-  judge-tree.Post,
-  first-of-reads.Asked,
-  first-of-reads.Learnt,
-) (judge-run-at t) judge-run.Post judge-run-Inv-loop judge-run-μ-loop
+judge-run-enum-known-tree-2 : (t : ℕ) → judge-run-lts.Need-enum-known-tree-2 (judge-run-calls t) (judge-run-at t) judge-run.Post judge-run-Inv-loop judge-run-μ-loop
 judge-run-enum-known-tree-2 t c = search needs
 
-judge-run-first-of-requires : (t : ℕ) → judge-run-lts.Need-first-of-requires (
-  judge-tree-below t,
-  judge-tree.Post,
-  first-of-reads.Asked,
-  first-of-reads.Learnt,
-) (judge-run-at t) judge-run.Post judge-run-Inv-loop judge-run-μ-loop
+judge-run-first-of-requires : (t : ℕ) → judge-run-lts.Need-first-of-requires (judge-run-calls t) (judge-run-at t) judge-run.Post judge-run-Inv-loop judge-run-μ-loop
 judge-run-first-of-requires t c κs = search needs
 
-judge-run-sub-left : (t : ℕ) → judge-run-lts.Need-sub-left (
-  judge-tree-below t,
-  judge-tree.Post,
-  first-of-reads.Asked,
-  first-of-reads.Learnt,
-) (judge-run-at t) judge-run.Post judge-run-Inv-loop judge-run-μ-loop
+judge-run-sub-left : (t : ℕ) → judge-run-lts.Need-sub-left (judge-run-calls t) (judge-run-at t) judge-run.Post judge-run-Inv-loop judge-run-μ-loop
 judge-run-sub-left t c = omega (arith, c .before .before .before .before .before .loop-test .taken)
 
-judge-run-loop-less : (t : ℕ) → judge-run-lts.Need-loop-less (
-  judge-tree-below t,
-  judge-tree.Post,
-  first-of-reads.Asked,
-  first-of-reads.Learnt,
-) (judge-run-at t) judge-run.Post judge-run-Inv-loop judge-run-μ-loop
+judge-run-loop-less : (t : ℕ) → judge-run-lts.Need-loop-less (judge-run-calls t) (judge-run-at t) judge-run.Post judge-run-Inv-loop judge-run-μ-loop
 judge-run-loop-less t c = omega (arith, c .before .before .before .before .before .loop-test .taken)
 
-judge-run-loop-again : (t : ℕ) → judge-run-lts.Need-loop-again (
-  judge-tree-below t,
-  judge-tree.Post,
-  first-of-reads.Asked,
-  first-of-reads.Learnt,
-) (judge-run-at t) judge-run.Post judge-run-Inv-loop judge-run-μ-loop
+judge-run-loop-again : (t : ℕ) → judge-run-lts.Need-loop-again (judge-run-calls t) (judge-run-at t) judge-run.Post judge-run-Inv-loop judge-run-μ-loop
 judge-run-loop-again t c =
     let loop = c .before .before .before .before .before .before in
     let some : loop .loop .left ≡ 0 → ⊥ = λ e. omega (arith, c .before .before .before .before .before .loop-test .taken) in
     judging-next _ _ _ _ _ _ _ _ _ _ (loop .loop .inv) (loop .before .before .pre .1 .0) some _ _ _ _ (sym (c .before .before .before .before .judge-tree .ensures) ∙ c .before .before .tree2 .given .1) (c .first-of .ensures)
 
-judge-run-returns-2 : (t : ℕ) → judge-run-lts.Need-returns-2 (
-  judge-tree-below t,
-  judge-tree.Post,
-  first-of-reads.Asked,
-  first-of-reads.Learnt,
-) (judge-run-at t) judge-run.Post judge-run-Inv-loop judge-run-μ-loop
+judge-run-returns-2 : (t : ℕ) → judge-run-lts.Need-returns-2 (judge-run-calls t) (judge-run-at t) judge-run.Post judge-run-Inv-loop judge-run-μ-loop
 judge-run-returns-2 t c = judging-end _ _ _ _ _ _ _ _ _ _ (c .before .loop .inv) (omega (arith, c .loop-test .left))
 
-judge-tree-returns : (t : ℕ) → judge-tree-lts.Need-returns (
-  slot-at-reads.Asked,
-  slot-at-reads.Learnt,
-  annotated-reads.Asked,
-  annotated-reads.Learnt,
-  under-map-reads.Asked,
-  under-map-reads.Learnt,
-  judge-reads.Asked,
-  judge-reads.Learnt,
-  place-under-reads.Asked,
-  place-under-reads.Learnt,
-  broken-to-12-reads.Asked,
-  broken-to-12-reads.Learnt,
-  judge-fields-below t,
-  judge-fields.Post,
-  broken-with-13-reads.Asked,
-  broken-with-13-reads.Learnt,
-  own-first-reads.Asked,
-  own-first-reads.Learnt,
-) (judge-tree-at t) judge-tree.Post
+-- what a tree calls
+abbrev judge-tree-calls : ℕ → judge-tree-lts.Claims
+judge-tree-calls t = (slot-at-reads.Asked, slot-at-reads.Learnt, annotated-reads.Asked, annotated-reads.Learnt, under-map-reads.Asked, under-map-reads.Learnt, judge-reads.Asked, judge-reads.Learnt, place-under-reads.Asked, place-under-reads.Learnt, broken-to-12-reads.Asked, broken-to-12-reads.Learnt, judge-fields-below t, judge-fields.Post, broken-with-13-reads.Asked, broken-with-13-reads.Learnt, own-first-reads.Asked, own-first-reads.Learnt)
+
+judge-tree-returns : (t : ℕ) → judge-tree-lts.Need-returns (judge-tree-calls t) (judge-tree-at t) judge-tree.Post
 judge-tree-returns t c = tree-deep _ _ _ _ (c .if1 .taken)
 
-judge-tree-slot-at-requires : (t : ℕ) → judge-tree-lts.Need-slot-at-requires (
-  slot-at-reads.Asked,
-  slot-at-reads.Learnt,
-  annotated-reads.Asked,
-  annotated-reads.Learnt,
-  under-map-reads.Asked,
-  under-map-reads.Learnt,
-  judge-reads.Asked,
-  judge-reads.Learnt,
-  place-under-reads.Asked,
-  place-under-reads.Learnt,
-  broken-to-12-reads.Asked,
-  broken-to-12-reads.Learnt,
-  judge-fields-below t,
-  judge-fields.Post,
-  broken-with-13-reads.Asked,
-  broken-with-13-reads.Learnt,
-  own-first-reads.Asked,
-  own-first-reads.Learnt,
-) (judge-tree-at t) judge-tree.Post
+judge-tree-slot-at-requires : (t : ℕ) → judge-tree-lts.Need-slot-at-requires (judge-tree-calls t) (judge-tree-at t) judge-tree.Post
 judge-tree-slot-at-requires t c κs = search needs
 
-judge-tree-annotated-requires : (t : ℕ) → judge-tree-lts.Need-annotated-requires (
-  slot-at-reads.Asked,
-  slot-at-reads.Learnt,
-  annotated-reads.Asked,
-  annotated-reads.Learnt,
-  under-map-reads.Asked,
-  under-map-reads.Learnt,
-  judge-reads.Asked,
-  judge-reads.Learnt,
-  place-under-reads.Asked,
-  place-under-reads.Learnt,
-  broken-to-12-reads.Asked,
-  broken-to-12-reads.Learnt,
-  judge-fields-below t,
-  judge-fields.Post,
-  broken-with-13-reads.Asked,
-  broken-with-13-reads.Learnt,
-  own-first-reads.Asked,
-  own-first-reads.Learnt,
-) (judge-tree-at t) judge-tree.Post
+judge-tree-annotated-requires : (t : ℕ) → judge-tree-lts.Need-annotated-requires (judge-tree-calls t) (judge-tree-at t) judge-tree.Post
 judge-tree-annotated-requires t c κs = search needs
 
-judge-tree-under-map-requires : (t : ℕ) → judge-tree-lts.Need-under-map-requires (
-  slot-at-reads.Asked,
-  slot-at-reads.Learnt,
-  annotated-reads.Asked,
-  annotated-reads.Learnt,
-  under-map-reads.Asked,
-  under-map-reads.Learnt,
-  judge-reads.Asked,
-  judge-reads.Learnt,
-  place-under-reads.Asked,
-  place-under-reads.Learnt,
-  broken-to-12-reads.Asked,
-  broken-to-12-reads.Learnt,
-  judge-fields-below t,
-  judge-fields.Post,
-  broken-with-13-reads.Asked,
-  broken-with-13-reads.Learnt,
-  own-first-reads.Asked,
-  own-first-reads.Learnt,
-) (judge-tree-at t) judge-tree.Post
+judge-tree-under-map-requires : (t : ℕ) → judge-tree-lts.Need-under-map-requires (judge-tree-calls t) (judge-tree-at t) judge-tree.Post
 judge-tree-under-map-requires t c κs = search needs
 
-judge-tree-judge-requires : (t : ℕ) → judge-tree-lts.Need-judge-requires (
-  slot-at-reads.Asked,
-  slot-at-reads.Learnt,
-  annotated-reads.Asked,
-  annotated-reads.Learnt,
-  under-map-reads.Asked,
-  under-map-reads.Learnt,
-  judge-reads.Asked,
-  judge-reads.Learnt,
-  place-under-reads.Asked,
-  place-under-reads.Learnt,
-  broken-to-12-reads.Asked,
-  broken-to-12-reads.Learnt,
-  judge-fields-below t,
-  judge-fields.Post,
-  broken-with-13-reads.Asked,
-  broken-with-13-reads.Learnt,
-  own-first-reads.Asked,
-  own-first-reads.Learnt,
-) (judge-tree-at t) judge-tree.Post
+judge-tree-judge-requires : (t : ℕ) → judge-tree-lts.Need-judge-requires (judge-tree-calls t) (judge-tree-at t) judge-tree.Post
 judge-tree-judge-requires t c κs = search needs
 
-judge-tree-place-under-requires : (t : ℕ) → judge-tree-lts.Need-place-under-requires (
-  slot-at-reads.Asked,
-  slot-at-reads.Learnt,
-  annotated-reads.Asked,
-  annotated-reads.Learnt,
-  under-map-reads.Asked,
-  under-map-reads.Learnt,
-  judge-reads.Asked,
-  judge-reads.Learnt,
-  place-under-reads.Asked,
-  place-under-reads.Learnt,
-  broken-to-12-reads.Asked,
-  broken-to-12-reads.Learnt,
-  judge-fields-below t,
-  judge-fields.Post,
-  broken-with-13-reads.Asked,
-  broken-with-13-reads.Learnt,
-  own-first-reads.Asked,
-  own-first-reads.Learnt,
-) (judge-tree-at t) judge-tree.Post
+judge-tree-place-under-requires : (t : ℕ) → judge-tree-lts.Need-place-under-requires (judge-tree-calls t) (judge-tree-at t) judge-tree.Post
 judge-tree-place-under-requires t c κs = search needs
 
-judge-tree-broken-to-12-requires : (t : ℕ) → judge-tree-lts.Need-broken-to-12-requires (
-  slot-at-reads.Asked,
-  slot-at-reads.Learnt,
-  annotated-reads.Asked,
-  annotated-reads.Learnt,
-  under-map-reads.Asked,
-  under-map-reads.Learnt,
-  judge-reads.Asked,
-  judge-reads.Learnt,
-  place-under-reads.Asked,
-  place-under-reads.Learnt,
-  broken-to-12-reads.Asked,
-  broken-to-12-reads.Learnt,
-  judge-fields-below t,
-  judge-fields.Post,
-  broken-with-13-reads.Asked,
-  broken-with-13-reads.Learnt,
-  own-first-reads.Asked,
-  own-first-reads.Learnt,
-) (judge-tree-at t) judge-tree.Post
+judge-tree-broken-to-12-requires : (t : ℕ) → judge-tree-lts.Need-broken-to-12-requires (judge-tree-calls t) (judge-tree-at t) judge-tree.Post
 judge-tree-broken-to-12-requires t c κs =
     let start = c .before .before .before .before .before .before .before in
     let refusal = c .before .judge .ensures .0 ∙ ap₂ (λ (n : Annotated) (u : Bool). refusalOf (resolutionOf n u)) (c .before .before .before .annotated .ensures) (c .before .before .under-map .ensures) in
     let logical = c .before .judge .ensures .1 ∙ ap₂ (λ (n : Annotated) (u : Bool). writtenOf n u .logical) (c .before .before .before .annotated .ensures) (c .before .before .under-map .ensures) in
     (record { claimed = start .pre .1 .0; below = start .pre .1 .1 .0; numbers = c .before .before .before .before .slot-at .ensures }, (refusal, logical))
 
-judge-tree-add-judge-fields : (t : ℕ) → judge-tree-lts.Need-add-judge-fields (
-  slot-at-reads.Asked,
-  slot-at-reads.Learnt,
-  annotated-reads.Asked,
-  annotated-reads.Learnt,
-  under-map-reads.Asked,
-  under-map-reads.Learnt,
-  judge-reads.Asked,
-  judge-reads.Learnt,
-  place-under-reads.Asked,
-  place-under-reads.Learnt,
-  broken-to-12-reads.Asked,
-  broken-to-12-reads.Learnt,
-  judge-fields-below t,
-  judge-fields.Post,
-  broken-with-13-reads.Asked,
-  broken-with-13-reads.Learnt,
-  own-first-reads.Asked,
-  own-first-reads.Learnt,
-) (judge-tree-at t) judge-tree.Post
+judge-tree-add-judge-fields : (t : ℕ) → judge-tree-lts.Need-add-judge-fields (judge-tree-calls t) (judge-tree-at t) judge-tree.Post
 judge-tree-add-judge-fields t c = omega (arith, c .before .before .before .before .before .before .before .before .pre .1 .1 .0, c .before .before .before .before .before .before .before .before .pre .1 .0 .most)
 
-judge-tree-cast-judge-fields : (t : ℕ) → judge-tree-lts.Need-cast-judge-fields (
-  slot-at-reads.Asked,
-  slot-at-reads.Learnt,
-  annotated-reads.Asked,
-  annotated-reads.Learnt,
-  under-map-reads.Asked,
-  under-map-reads.Learnt,
-  judge-reads.Asked,
-  judge-reads.Learnt,
-  place-under-reads.Asked,
-  place-under-reads.Learnt,
-  broken-to-12-reads.Asked,
-  broken-to-12-reads.Learnt,
-  judge-fields-below t,
-  judge-fields.Post,
-  broken-with-13-reads.Asked,
-  broken-with-13-reads.Learnt,
-  own-first-reads.Asked,
-  own-first-reads.Learnt,
-) (judge-tree-at t) judge-tree.Post
+judge-tree-cast-judge-fields : (t : ℕ) → judge-tree-lts.Need-cast-judge-fields (judge-tree-calls t) (judge-tree-at t) judge-tree.Post
 judge-tree-cast-judge-fields t c = search needs
 
-judge-tree-sub-judge-fields : (t : ℕ) → judge-tree-lts.Need-sub-judge-fields (
-  slot-at-reads.Asked,
-  slot-at-reads.Learnt,
-  annotated-reads.Asked,
-  annotated-reads.Learnt,
-  under-map-reads.Asked,
-  under-map-reads.Learnt,
-  judge-reads.Asked,
-  judge-reads.Learnt,
-  place-under-reads.Asked,
-  place-under-reads.Learnt,
-  broken-to-12-reads.Asked,
-  broken-to-12-reads.Learnt,
-  judge-fields-below t,
-  judge-fields.Post,
-  broken-with-13-reads.Asked,
-  broken-with-13-reads.Learnt,
-  own-first-reads.Asked,
-  own-first-reads.Learnt,
-) (judge-tree-at t) judge-tree.Post
+judge-tree-sub-judge-fields : (t : ℕ) → judge-tree-lts.Need-sub-judge-fields (judge-tree-calls t) (judge-tree-at t) judge-tree.Post
 judge-tree-sub-judge-fields t c = omega (arith, c .before .before .before .before .before .before .before .if1 .left)
 
-judge-tree-judge-fields-requires : (t : ℕ) → judge-tree-lts.Need-judge-fields-requires (
-  slot-at-reads.Asked,
-  slot-at-reads.Learnt,
-  annotated-reads.Asked,
-  annotated-reads.Learnt,
-  under-map-reads.Asked,
-  under-map-reads.Learnt,
-  judge-reads.Asked,
-  judge-reads.Learnt,
-  place-under-reads.Asked,
-  place-under-reads.Learnt,
-  broken-to-12-reads.Asked,
-  broken-to-12-reads.Learnt,
-  judge-fields-below t,
-  judge-fields.Post,
-  broken-with-13-reads.Asked,
-  broken-with-13-reads.Learnt,
-  own-first-reads.Asked,
-  own-first-reads.Learnt,
-) (judge-tree-at t) judge-tree.Post
+judge-tree-judge-fields-requires : (t : ℕ) → judge-tree-lts.Need-judge-fields-requires (judge-tree-calls t) (judge-tree-at t) judge-tree.Post
 judge-tree-judge-fields-requires t c κs =
     let start = c .before .before .before .before .before .before .before .before .before in
     let visited : Visited (start .args .sheet .now) (start .args .at) (c .before .before .before .before .before .before .slot-at .result) = record { claimed = start .pre .1 .0; below = start .pre .1 .1 .0; numbers = c .before .before .before .before .before .before .slot-at .ensures } in
     (fields-falls _ _ _ _ (start .pre .1 .1 .0) (c .before .before .before .before .before .before .before .if1 .left) (start .pre .0), (start .pre .1 .0, (children-claimed _ _ _ (visited .numbers) (visited .claimed) (visited .below), omega (arith, start .pre .1 .1 .1))))
 
-judge-tree-enum-known-run : (t : ℕ) → judge-tree-lts.Need-enum-known-run (
-  slot-at-reads.Asked,
-  slot-at-reads.Learnt,
-  annotated-reads.Asked,
-  annotated-reads.Learnt,
-  under-map-reads.Asked,
-  under-map-reads.Learnt,
-  judge-reads.Asked,
-  judge-reads.Learnt,
-  place-under-reads.Asked,
-  place-under-reads.Learnt,
-  broken-to-12-reads.Asked,
-  broken-to-12-reads.Learnt,
-  judge-fields-below t,
-  judge-fields.Post,
-  broken-with-13-reads.Asked,
-  broken-with-13-reads.Learnt,
-  own-first-reads.Asked,
-  own-first-reads.Learnt,
-) (judge-tree-at t) judge-tree.Post
+judge-tree-enum-known-run : (t : ℕ) → judge-tree-lts.Need-enum-known-run (judge-tree-calls t) (judge-tree-at t) judge-tree.Post
 judge-tree-enum-known-run t c = search needs
 
-judge-tree-enum-known-run-2 : (t : ℕ) → judge-tree-lts.Need-enum-known-run-2 (
-  slot-at-reads.Asked,
-  slot-at-reads.Learnt,
-  annotated-reads.Asked,
-  annotated-reads.Learnt,
-  under-map-reads.Asked,
-  under-map-reads.Learnt,
-  judge-reads.Asked,
-  judge-reads.Learnt,
-  place-under-reads.Asked,
-  place-under-reads.Learnt,
-  broken-to-12-reads.Asked,
-  broken-to-12-reads.Learnt,
-  judge-fields-below t,
-  judge-fields.Post,
-  broken-with-13-reads.Asked,
-  broken-with-13-reads.Learnt,
-  own-first-reads.Asked,
-  own-first-reads.Learnt,
-) (judge-tree-at t) judge-tree.Post
+judge-tree-enum-known-run-2 : (t : ℕ) → judge-tree-lts.Need-enum-known-run-2 (judge-tree-calls t) (judge-tree-at t) judge-tree.Post
 judge-tree-enum-known-run-2 t c = search needs
 
-judge-tree-broken-with-13-requires : (t : ℕ) → judge-tree-lts.Need-broken-with-13-requires (
-  slot-at-reads.Asked,
-  slot-at-reads.Learnt,
-  annotated-reads.Asked,
-  annotated-reads.Learnt,
-  under-map-reads.Asked,
-  under-map-reads.Learnt,
-  judge-reads.Asked,
-  judge-reads.Learnt,
-  place-under-reads.Asked,
-  place-under-reads.Learnt,
-  broken-to-12-reads.Asked,
-  broken-to-12-reads.Learnt,
-  judge-fields-below t,
-  judge-fields.Post,
-  broken-with-13-reads.Asked,
-  broken-with-13-reads.Learnt,
-  own-first-reads.Asked,
-  own-first-reads.Learnt,
-) (judge-tree-at t) judge-tree.Post
+judge-tree-broken-with-13-requires : (t : ℕ) → judge-tree-lts.Need-broken-with-13-requires (judge-tree-calls t) (judge-tree-at t) judge-tree.Post
 judge-tree-broken-with-13-requires t c κs =
     let start = c .before .before .before .before .before .before .before .before .before .before .before .before .before in
     let visited : Visited (start .args .sheet .now) (start .args .at) (c .before .before .before .before .before .before .before .before .before .before .slot-at .result) = record { claimed = start .pre .1 .0; below = start .pre .1 .1 .0; numbers = c .before .before .before .before .before .before .before .before .before .before .slot-at .ensures } in
@@ -513,26 +203,7 @@ judge-tree-broken-with-13-requires t c κs =
     let below = c .before .before .before .before .before .before .place-under .ensures ∙ placeBelow-is _ _ _ (start .args .place) visited _ logical in
     (start .pre .1 .0, (start .pre .1 .1 .0, tree-inner _ _ _ visited _ _ _ below (c .before .before .before .before .before .before .before .before .before .before .before .if1 .left) (start .pre .1 .1 .1) _ (c .before .before .before .judge-fields .ensures) _ _ _ _ (c .before .run2 .given .1)))
 
-judge-tree-own-first-requires : (t : ℕ) → judge-tree-lts.Need-own-first-requires (
-  slot-at-reads.Asked,
-  slot-at-reads.Learnt,
-  annotated-reads.Asked,
-  annotated-reads.Learnt,
-  under-map-reads.Asked,
-  under-map-reads.Learnt,
-  judge-reads.Asked,
-  judge-reads.Learnt,
-  place-under-reads.Asked,
-  place-under-reads.Learnt,
-  broken-to-12-reads.Asked,
-  broken-to-12-reads.Learnt,
-  judge-fields-below t,
-  judge-fields.Post,
-  broken-with-13-reads.Asked,
-  broken-with-13-reads.Learnt,
-  own-first-reads.Asked,
-  own-first-reads.Learnt,
-) (judge-tree-at t) judge-tree.Post
+judge-tree-own-first-requires : (t : ℕ) → judge-tree-lts.Need-own-first-requires (judge-tree-calls t) (judge-tree-at t) judge-tree.Post
 judge-tree-own-first-requires t c κs =
     let start = c .before .before .before .before .before .before .before .before .before .before .before .before .before .before in
     let visited : Visited (start .args .sheet .now) (start .args .at) (c .before .before .before .before .before .before .before .before .before .before .before .slot-at .result) = record { claimed = start .pre .1 .0; below = start .pre .1 .1 .0; numbers = c .before .before .before .before .before .before .before .before .before .before .before .slot-at .ensures } in
@@ -541,26 +212,7 @@ judge-tree-own-first-requires t c κs =
     let own = own-is _ _ _ _ _ _ (c .before .before .before .before .before .before .broken-to-12 .ensures) below (c .broken-with-13 .ensures) in
     (omega (arith, own, broken-most (start .args .place) (slotAt (start .args .sheet .now) (start .args .at)) (fieldsAt (start .args .sheet .now) (start .args .at))), omega (arith, visited .below, visited .claimed .most))
 
-judge-tree-returns-2 : (t : ℕ) → judge-tree-lts.Need-returns-2 (
-  slot-at-reads.Asked,
-  slot-at-reads.Learnt,
-  annotated-reads.Asked,
-  annotated-reads.Learnt,
-  under-map-reads.Asked,
-  under-map-reads.Learnt,
-  judge-reads.Asked,
-  judge-reads.Learnt,
-  place-under-reads.Asked,
-  place-under-reads.Learnt,
-  broken-to-12-reads.Asked,
-  broken-to-12-reads.Learnt,
-  judge-fields-below t,
-  judge-fields.Post,
-  broken-with-13-reads.Asked,
-  broken-with-13-reads.Learnt,
-  own-first-reads.Asked,
-  own-first-reads.Learnt,
-) (judge-tree-at t) judge-tree.Post
+judge-tree-returns-2 : (t : ℕ) → judge-tree-lts.Need-returns-2 (judge-tree-calls t) (judge-tree-at t) judge-tree.Post
 judge-tree-returns-2 t c =
     let start = c .before .before .before .before .before .before .before .before .before .before .before .before .before in
     let visited : Visited (start .args .sheet .now) (start .args .at) (c .before .before .before .before .before .before .before .before .before .before .slot-at .result) = record { claimed = start .pre .1 .0; below = start .pre .1 .1 .0; numbers = c .before .before .before .before .before .before .before .before .before .before .slot-at .ensures } in
@@ -568,26 +220,7 @@ judge-tree-returns-2 t c =
     let below = c .before .before .before .before .before .before .place-under .ensures ∙ placeBelow-is _ _ _ (start .args .place) visited _ logical in
     tree-run-deep _ _ _ visited _ _ _ below (c .before .before .before .before .before .before .before .before .before .before .before .if1 .left) (start .pre .1 .1 .1) _ (c .before .before .before .judge-fields .ensures) _ (c .before .run .given .1)
 
-judge-tree-returns-3 : (t : ℕ) → judge-tree-lts.Need-returns-3 (
-  slot-at-reads.Asked,
-  slot-at-reads.Learnt,
-  annotated-reads.Asked,
-  annotated-reads.Learnt,
-  under-map-reads.Asked,
-  under-map-reads.Learnt,
-  judge-reads.Asked,
-  judge-reads.Learnt,
-  place-under-reads.Asked,
-  place-under-reads.Learnt,
-  broken-to-12-reads.Asked,
-  broken-to-12-reads.Learnt,
-  judge-fields-below t,
-  judge-fields.Post,
-  broken-with-13-reads.Asked,
-  broken-with-13-reads.Learnt,
-  own-first-reads.Asked,
-  own-first-reads.Learnt,
-) (judge-tree-at t) judge-tree.Post
+judge-tree-returns-3 : (t : ℕ) → judge-tree-lts.Need-returns-3 (judge-tree-calls t) (judge-tree-at t) judge-tree.Post
 judge-tree-returns-3 t c =
     let start = c .before .before .before .before .before .before .before .before .before .before .before .before .before .before .before in
     let visited : Visited (start .args .sheet .now) (start .args .at) (c .before .before .before .before .before .before .before .before .before .before .before .before .slot-at .result) = record { claimed = start .pre .1 .0; below = start .pre .1 .1 .0; numbers = c .before .before .before .before .before .before .before .before .before .before .before .before .slot-at .ensures } in
@@ -600,21 +233,13 @@ judge-tree-returns-3 t c =
 
 pub +judge-fields+judge-run+judge-tree-spec : {M : Type 1} → statement M
 +judge-fields+judge-run+judge-tree-spec =
-    close μ-judge-fields μ-judge-run μ-judge-tree (λ t. judge-fields-lts.spec (
-      judge-run-below t,
-      judge-run.Post,
-    )
+    close μ-judge-fields μ-judge-run μ-judge-tree (λ t. judge-fields-lts.spec (judge-fields-calls t)
     (judge-fields-at t)
     judge-fields.Post
     (judge-fields-returns t)
     (judge-fields-judge-run-requires t)
     (judge-fields-returns-2 t))
-    (λ t. judge-run-lts.spec (
-      judge-tree-below t,
-      judge-tree.Post,
-      first-of-reads.Asked,
-      first-of-reads.Learnt,
-    )
+    (λ t. judge-run-lts.spec (judge-run-calls t)
     (judge-run-at t)
     judge-run.Post
     judge-run-Inv-loop
@@ -629,26 +254,7 @@ pub +judge-fields+judge-run+judge-tree-spec : {M : Type 1} → statement M
     (judge-run-loop-less t)
     (judge-run-loop-again t)
     (judge-run-returns-2 t))
-    λ t. judge-tree-lts.spec (
-      slot-at-reads.Asked,
-      slot-at-reads.Learnt,
-      annotated-reads.Asked,
-      annotated-reads.Learnt,
-      under-map-reads.Asked,
-      under-map-reads.Learnt,
-      judge-reads.Asked,
-      judge-reads.Learnt,
-      place-under-reads.Asked,
-      place-under-reads.Learnt,
-      broken-to-12-reads.Asked,
-      broken-to-12-reads.Learnt,
-      judge-fields-below t,
-      judge-fields.Post,
-      broken-with-13-reads.Asked,
-      broken-with-13-reads.Learnt,
-      own-first-reads.Asked,
-      own-first-reads.Learnt,
-    )
+    λ t. judge-tree-lts.spec (judge-tree-calls t)
     (judge-tree-at t)
     judge-tree.Post
     (judge-tree-returns t)
