@@ -1,12 +1,12 @@
 -- Levels of depth that are left at the numbers of a sheet: those of a node are, one less, those of its fields, and those of a run are its trees'.
 use Prim.Native.Nat.{ℕ, zero, suc, _+_, _-_, _≤_}
-use mathlib.Core.Path.{_≡_, refl, sym, ap, _∙_, subst}
+use mathlib.Core.Path.{_≡_, refl, subst}
 use mathlib.Core.List.{List, [], _∷_, _++_, append-nil}
 use native.Mathlib.Omega.{arith}
 use lib.ListN.{drop}
 use Rattle.sheet.specs.Slot.{slots, slotAt}
 use Rattle.sheet.specs.declared.slots.Slot.{Slot as Numbers}
-use Rattle.tree.specs.Tree.{SlotBytes, Tree, Fields, node, empty, field, count, size, depths, runDepths, AtMostDeep, mostDepth}
+use Rattle.tree.specs.Tree.{SlotBytes, Tree, Fields, node, count, size, depths, runDepths, AtMostDeep, mostDepth}
 use Rattle.tree.specs.Reading.{trees}
 use Rattle.tree.specs.Judgement.{judgementOf}
 use Rattle.tree.specs.Steps.{Claimed, Visited, treeAt, runAt, fieldsAt, depthAt}
