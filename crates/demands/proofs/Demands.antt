@@ -5,7 +5,7 @@ use Rattle.schema.proofs.DemandLaws as demand
 use Rattle.schema.proofs.RewriteLaws.{rewrite-kept}
 use Rattle.schema.proofs.RowKindLaws.{rows-kinds}
 use Rattle.schema.proofs.RewriteDemandLaws as rewriting
-use Rattle.schema.proofs.RoleLaws.{roles-exactly}
+use Rattle.schema.proofs.RowRoleLaws.{roles-exactly}
 use Rattle.schema.proofs.WrittenBackLaws.{written-back, key-value-bare}
 use Rattle.column.proofs.PromiseLaws as value
 use Rattle.column_order.proofs.PromiseLaws as ordered

@@ -18,7 +18,7 @@ pub mod RewriteLaws
 pub mod RewriteDemandLaws
 pub mod AcceptedLaws
 pub mod NodeRowLaws
-pub mod RoleLaws
+pub mod RowRoleLaws
 pub mod WrittenBackLaws
 pub mod ResolvesLaws
 pub mod RowKindLaws

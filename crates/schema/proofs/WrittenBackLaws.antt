@@ -45,7 +45,7 @@ use Rattle.schema.proofs.RewrittenSlotLaws.{rewrittenSlot, Holds, kept-
 use Rattle.schema.proofs.RewrittenTreeLaws.{rewrittenTree, resolves}
 use Rattle.schema.proofs.RewriteDemandLaws.{slots-are, total-is}
 use Rattle.schema.proofs.NodeRowLaws.{NodeRow, node-row, row-kind}
-use Rattle.schema.proofs.RoleLaws.{roles-exactly}
+use Rattle.schema.proofs.RowRoleLaws.{roles-exactly}
 
 -- one node -------------------------------------------------------------------------------------------------------------------
 
