@@ -18,13 +18,11 @@ use Rattle.laws.proofs.BoolLaws.{and-both, both-and, by-test}
 use Rattle.timestamp.specs.Calendar.{months, isLeap, daysOfMonth}
 use Rattle.timestamp.specs.Units.{TimeUnit, millis, micros, nanos, ticksPerSecond, unitOf}
 use Rattle.timestamp.specs.Count.{isDateTime}
-use Rattle.timestamp.specs.Outcomes.{Outcome, noDateTime, unknownUnit, ticksInDay, dayTicks, Decodes, decoded, encoded, encodingIn}
+use Rattle.timestamp.specs.Outcomes.{Outcome, noDateTime, unknownUnit, dayHas, Decodes, decoded, encoded, encodingIn}
 use Rattle.timestamp.specs.Outcomes as timestamp
 use Rattle.timestamp.specs.declared.fields.Fields.{Fields}
 use Rattle.timestamp.specs.declared.decoding.Decoded.{Decoded}
 use Rattle.timestamp.specs.declared.encoding.Encoded.{Encoded}
-use Rattle.timestamp.specs.declared.units.DayTicks
-use Rattle.timestamp.specs.declared.units.DayTicks.{DayTicks}
 use Rattle.timestamp.proofs.ClockLaws.{Time, time-parts}
 use Rattle.timestamp.proofs.CountLaws.{date-time-parts, decodes-one, encoding-none}
 use Rattle.timestamp.proofs.DateLaws.{Date, date-parts}
@@ -162,19 +160,19 @@ module _ (numbers : List ℤ) where
 -- ---- no numbers
 
 -- by whether a unit is named
-pub unformed-known : (unit lent n : ℕ) (r : DayTicks) → dayTicks r ≡ ticksInDay (unitOf unit) → r ≡ DayTicks.Ticks n → encoding unit [] lent ≡ within lent (encodeEffect noDateTime)
+pub unformed-known : (unit tick lent : ℕ) (b : Bool) → timestamp.given b ≡ dayHas (unitOf unit) tick → encoding unit [] lent ≡ within lent (encodeEffect noDateTime)
 unfolding encoding
-unformed-known unit lent n r e p = known (unitOf unit) (sym (ap dayTicks p) ∙ e)
+unformed-known unit tick lent b = known (unitOf unit)
   where
-    known : (u : Option TimeUnit) → timestamp.given n ≡ ticksInDay u → within lent (encodeEffect (encodingOf u [])) ≡ within lent (encodeEffect noDateTime)
+    known : (u : Option TimeUnit) → timestamp.given b ≡ dayHas u tick → within lent (encodeEffect (encodingOf u [])) ≡ within lent (encodeEffect noDateTime)
     known none q = absurd (let z : _≡_ {A = ℕ} 0 1 = cc in omega arith)
     known (some unit) q = rw (no-numbers unit)
 
-pub unformed-unknown : (unit lent : ℕ) (r : DayTicks) → dayTicks r ≡ ticksInDay (unitOf unit) → r ≡ DayTicks.UnknownUnit → encoding unit [] lent ≡ within lent (encodeEffect unknownUnit)
+pub unformed-unknown : (unit tick lent : ℕ) → unknownUnit ≡ dayHas (unitOf unit) tick → encoding unit [] lent ≡ within lent (encodeEffect unknownUnit)
 unfolding encoding
-unformed-unknown unit lent r e p = unknown (unitOf unit) (sym (ap dayTicks p) ∙ e)
+unformed-unknown unit tick lent = unknown (unitOf unit)
   where
-    unknown : (u : Option TimeUnit) → unknownUnit ≡ ticksInDay u → within lent (encodeEffect (encodingOf u [])) ≡ within lent (encodeEffect unknownUnit)
+    unknown : (u : Option TimeUnit) → unknownUnit ≡ dayHas u tick → within lent (encodeEffect (encodingOf u [])) ≡ within lent (encodeEffect unknownUnit)
     unknown none q = refl
     unknown (some unit) q = absurd (let z : _≡_ {A = ℕ} 0 1 = cc in omega arith)
 

@@ -13,10 +13,10 @@ use crate::answers::NO_PLACE;
 use crate::answers::RESULT;
 use crate::answers::SHORT_OUTPUT;
 use crate::answers::packed;
-use timestamp::DayTicks;
 use timestamp::Decoded;
 use timestamp::Encoded;
 use timestamp::Fields;
+use timestamp::InDay;
 
 // How many fields there are.
 const FIELDS: usize = 7;
@@ -43,6 +43,9 @@ const GREATEST_MINUTE: i64 = 59;
 const GREATEST_SECOND: i64 = 59;
 
 const GREATEST_FRACTION: i64 = 999_999_999;
+
+// The first tick of a day, which it has in every unit that there is.
+const FIRST_TICK: u64 = 0;
 
 // Writes the fields of a count: year, month, day, hour, minute, second, fraction. The value is 7.
 #[no_mangle]
@@ -156,8 +159,9 @@ fn fields_of(fields: &[i64]) -> Fields
 fn no_date_time(unit: u32) -> u64
     ensures { λ r. ⌜ ((lent : ℕ) → r ≡ answer (encoding unit [] lent)) ⌝ }
 {
-    match timestamp::ticks_per_day(unit) {
-        DayTicks::Ticks(_) => packed(NO_DATE_TIME, NO_PLACE),
-        DayTicks::UnknownUnit => packed(UNKNOWN_UNIT, NO_PLACE),
+    match timestamp::in_day(unit, FIRST_TICK) {
+        InDay::Within => packed(NO_DATE_TIME, NO_PLACE),
+        InDay::Beyond => packed(NO_DATE_TIME, NO_PLACE),
+        InDay::UnknownUnit => packed(UNKNOWN_UNIT, NO_PLACE),
     }
 }

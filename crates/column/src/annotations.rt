@@ -15,7 +15,7 @@ use crate::numbers::in_bits;
 use column_type::ColumnType;
 use decimal::Fit;
 use decimal::is_below_power;
-use timestamp::DayTicks;
+use timestamp::InDay;
 
 // Whether the column's values are INT(n, false).
 pub(crate) fn is_unsigned(c: ColumnType) -> bool
@@ -60,14 +60,13 @@ fn in_day(n: u64, weight: u64, unit: u32) -> bool
     requires { ⌜ n < 2 * weight ⌝ }
     ensures { λ r. ⌜ r ≡ inDay (unitOf unit) (twosComplement weight n) ⌝ }
 {
-    match timestamp::ticks_per_day(unit) {
-        DayTicks::Ticks(ticks) => {
-            if n >= weight {
-                return false;
-            }
-            n < ticks
-        }
-        DayTicks::UnknownUnit => false,
+    if n >= weight {
+        return false;
+    }
+    match timestamp::in_day(unit, n) {
+        InDay::Within => true,
+        InDay::Beyond => false,
+        InDay::UnknownUnit => false,
     }
 }
 

@@ -1,8 +1,9 @@
--- What decoding and encoding answer: document 01's refusals by number and place, or the value.
+-- What decoding, encoding and the test of a day's tick answer: document 01's refusals by number and place, or the value.
 use Prim.Native.Nat.{ℕ, _-_, _^_}
 use mathlib.Core.Path.{_≡_}
-use mathlib.Core.Bool.{Bool, cond, _&&_}
+use mathlib.Core.Bool.{Bool, true, false, cond, _&&_}
 use mathlib.Core.Option.{Option, none, some}
+use lib.Dec.{ltb}
 use lib.IntN.{ℤ, pos, negsuc}
 use lib.Signed.{leZ}
 -- a type of the code: the seven fields, as `Count` has them
@@ -13,9 +14,9 @@ use Rattle.timestamp.specs.declared.decoding.Decoded.{Decoded}
 -- what encode answers: `Count`, which holds a signed 64-bit number, `NoDateTime`, `NotRepresentable` or `UnknownUnit`
 use Rattle.timestamp.specs.declared.encoding.Encoded
 use Rattle.timestamp.specs.declared.encoding.Encoded.{Encoded}
--- what ticks_per_day answers: `Ticks`, which holds an unsigned 64-bit number, or `UnknownUnit`
-use Rattle.timestamp.specs.declared.units.DayTicks
-use Rattle.timestamp.specs.declared.units.DayTicks.{DayTicks}
+-- what in_day answers: `Within`, `Beyond` or `UnknownUnit`
+use Rattle.timestamp.specs.declared.units.InDay
+use Rattle.timestamp.specs.declared.units.InDay.{InDay}
 use Rattle.timestamp.specs.Units.{TimeUnit, ticksPerSecond, ticksPerDay}
 use Rattle.timestamp.specs.Count.{isDateTime, countOf, FieldsOf}
 
@@ -48,15 +49,16 @@ encoded Encoded.NoDateTime = noDateTime
 encoded Encoded.NotRepresentable = notRepresentable
 encoded Encoded.UnknownUnit = unknownUnit
 
--- what each answer of ticks_per_day stands for
-abbrev pub dayTicks : DayTicks → Outcome ℕ
-dayTicks (DayTicks.Ticks n) = given n
-dayTicks DayTicks.UnknownUnit = unknownUnit
+-- what each answer of in_day stands for
+abbrev pub dayAnswer : InDay → Outcome Bool
+dayAnswer InDay.Within = given true
+dayAnswer InDay.Beyond = given false
+dayAnswer InDay.UnknownUnit = unknownUnit
 
--- the ticks of a day: 20 where no unit is named, else those of that unit
-abbrev pub ticksInDay : Option TimeUnit → Outcome ℕ
-ticksInDay none = unknownUnit
-ticksInDay (some unit) = given (ticksPerDay (ticksPerSecond unit))
+-- whether a day has a tick, the first being 0: 20 where no unit is named, else whether it lies below those of that unit
+abbrev pub dayHas : Option TimeUnit → ℕ → Outcome Bool
+dayHas none tick = unknownUnit
+dayHas (some unit) tick = given (ltb tick (ticksPerDay (ticksPerSecond unit)))
 
 -- the greatest signed 64-bit number
 abbrev pub greatest : ℕ

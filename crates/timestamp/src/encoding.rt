@@ -2,10 +2,11 @@
 
 ghost use mathlib.Core.Path.{_≡_};
 ghost use mathlib.Core.Bool.{cond};
-ghost use Prim.Native.Nat.{_+_, _*_, _<_, _≤_, _^_};
+ghost use Prim.Native.Nat.{_*_, _<_, _^_};
 ghost use lib.IntN.{pos, _+ℤ_, _*ℤ_};
-ghost use Rattle.timestamp.specs.Units.{millis, nanos, ticksPerSecond, ticksPerDay, unitOf};
+ghost use Rattle.timestamp.specs.Units.{unitOf};
 ghost use Rattle.timestamp.specs.Outcomes.{encoded, encoding, encodingIn, isSigned64, given, notRepresentable};
+ghost use Rattle.timestamp.specs.Steps.{AreTicks};
 use crate::calendar::Date;
 use crate::calendar::YEARS_REACHED;
 use crate::calendar::day_number;
@@ -23,9 +24,11 @@ use crate::signed::folded;
 use crate::signed::is_negative;
 use crate::signed::signed;
 use crate::units::GREATEST_COUNT;
-use crate::units::Scaled;
-use crate::units::scale_of;
-use crate::units::ticks_per_second;
+use crate::units::Micros;
+use crate::units::Millis;
+use crate::units::Named;
+use crate::units::Nanos;
+use crate::units::which;
 
 // What encoding answers.
 pub enum Encoded {
@@ -42,32 +45,40 @@ pub enum Encoded {
 pub fn encode(unit: u32, fields: Fields) -> Encoded
     ensures { λ r. ⌜ encoded r ≡ encoding (unitOf unit) fields ⌝ }
 {
-    let near = near::encode(ticks_per_second(unit), fields);
-    match near {
-        Near::Count(n) => Encoded::Count(n),
-        Near::Other => encode_any(unit, fields),
-    }
-}
-
-// The same of any fields.
-fn encode_any(unit: u32, fields: Fields) -> Encoded
-    ensures { λ r. ⌜ encoded r ≡ encoding (unitOf unit) fields ⌝ }
-{
-    let scaled = scale_of(unit);
-    match scaled {
-        Scaled::By(scale) => encode_in(scale.second, scale.day, scale.reached, fields),
-        Scaled::UnknownUnit => Encoded::UnknownUnit,
+    let named = which(unit);
+    match named {
+        Named::Millis => Millis::encode(fields),
+        Named::Micros => Micros::encode(fields),
+        Named::Nanos => Nanos::encode(fields),
+        Named::Unknown => Encoded::UnknownUnit,
     }
 }
 
 // The count of the fields at so many ticks in a second and in a day, of which so many days have counts.
-fn encode_in(
+pub(crate) fn encode_in(
     ticks_per_second: u64,
     ticks_per_day: u64,
     days_reached: u64,
     fields: Fields,
 ) -> Encoded
-    requires { ⌜ (ticksPerSecond millis ≤ «ticks_per_second») × («ticks_per_second» ≤ ticksPerSecond nanos) × («ticks_per_day» ≡ ticksPerDay «ticks_per_second») × («days_reached» * «ticks_per_day» < 2 ^ 63) ⌝ }
+    requires { ⌜ AreTicks «ticks_per_second» «ticks_per_day» «days_reached» ⌝ }
+    ensures { λ r. ⌜ encoded r ≡ encodingIn «ticks_per_second» fields ⌝ }
+{
+    let near = near::encode(ticks_per_second, fields);
+    match near {
+        Near::Count(n) => Encoded::Count(n),
+        Near::Other => encode_any(ticks_per_second, ticks_per_day, days_reached, fields),
+    }
+}
+
+// The same of any fields.
+fn encode_any(
+    ticks_per_second: u64,
+    ticks_per_day: u64,
+    days_reached: u64,
+    fields: Fields,
+) -> Encoded
+    requires { ⌜ AreTicks «ticks_per_second» «ticks_per_day» «days_reached» ⌝ }
     ensures { λ r. ⌜ encoded r ≡ encodingIn «ticks_per_second» fields ⌝ }
 {
     let date = Date {

@@ -1,13 +1,17 @@
-// The three time units, each a type that knows its ticks in a second and in a day and divides a count into days.
+// The three time units, each a type that knows its ticks in a second and in a day, divides a count into days, encodes fields and tells
+// which ticks a day has.
 
 ghost use mathlib.Core.Path.{_≡_};
+ghost use lib.Dec.{ltb};
 ghost use Rattle.timestamp.specs.Units.{millis, micros, nanos, ticksPerSecond, ticksPerDay, unitOf, unitNamed};
 ghost use Rattle.timestamp.specs.FloorDivision.{FloorDivision};
 ghost use Rattle.timestamp.specs.declared.division.Division.{Division};
-ghost use Rattle.timestamp.specs.Outcomes.{dayTicks, ticksInDay};
-ghost use Rattle.timestamp.specs.Steps.{IsScaled, secondTicks};
+ghost use Rattle.timestamp.specs.Outcomes.{encoded, encodingIn, given, dayAnswer, dayHas};
 use crate::division::Division;
 use crate::division::floor_divide;
+use crate::encoding::Encoded;
+use crate::encoding::encode_in;
+use crate::fields::Fields;
 
 // The seconds of a day.
 pub(crate) const SECONDS_PER_DAY: u64 = 86_400;
@@ -36,6 +40,25 @@ impl Millis {
     {
         floor_divide(count, Self::TICKS_PER_DAY)
     }
+
+    // The count of the fields, as ticks since 1 January 1970.
+    pub fn encode(fields: Fields) -> Encoded
+        ensures { λ r. ⌜ encoded r ≡ encodingIn (ticksPerSecond millis) fields ⌝ }
+    {
+        encode_in(
+            Self::TICKS_PER_SECOND,
+            Self::TICKS_PER_DAY,
+            Self::DAYS_REACHED,
+            fields,
+        )
+    }
+
+    // Whether a day has this tick, the first being 0.
+    pub fn has_tick(tick: u64) -> bool
+        ensures { λ r. ⌜ r ≡ ltb tick (ticksPerDay (ticksPerSecond millis)) ⌝ }
+    {
+        tick < Self::TICKS_PER_DAY
+    }
 }
 
 // Millionths of a second.
@@ -58,6 +81,25 @@ impl Micros {
     {
         floor_divide(count, Self::TICKS_PER_DAY)
     }
+
+    // The count of the fields, as ticks since 1 January 1970.
+    pub fn encode(fields: Fields) -> Encoded
+        ensures { λ r. ⌜ encoded r ≡ encodingIn (ticksPerSecond micros) fields ⌝ }
+    {
+        encode_in(
+            Self::TICKS_PER_SECOND,
+            Self::TICKS_PER_DAY,
+            Self::DAYS_REACHED,
+            fields,
+        )
+    }
+
+    // Whether a day has this tick, the first being 0.
+    pub fn has_tick(tick: u64) -> bool
+        ensures { λ r. ⌜ r ≡ ltb tick (ticksPerDay (ticksPerSecond micros)) ⌝ }
+    {
+        tick < Self::TICKS_PER_DAY
+    }
 }
 
 // Thousand-millionths of a second.
@@ -79,6 +121,25 @@ impl Nanos {
         ensures { λ r. ⌜ ((d : Division) → FloorDivision count (ticksPerDay (ticksPerSecond nanos)) d → d ≡ r) ⌝ }
     {
         floor_divide(count, Self::TICKS_PER_DAY)
+    }
+
+    // The count of the fields, as ticks since 1 January 1970.
+    pub fn encode(fields: Fields) -> Encoded
+        ensures { λ r. ⌜ encoded r ≡ encodingIn (ticksPerSecond nanos) fields ⌝ }
+    {
+        encode_in(
+            Self::TICKS_PER_SECOND,
+            Self::TICKS_PER_DAY,
+            Self::DAYS_REACHED,
+            fields,
+        )
+    }
+
+    // Whether a day has this tick, the first being 0.
+    pub fn has_tick(tick: u64) -> bool
+        ensures { λ r. ⌜ r ≡ ltb tick (ticksPerDay (ticksPerSecond nanos)) ⌝ }
+    {
+        tick < Self::TICKS_PER_DAY
     }
 }
 
@@ -106,73 +167,33 @@ pub(crate) fn which(unit: u32) -> Named
     Named::Unknown
 }
 
-// The ticks of a unit in a second and in a day, and the days that have counts in it.
-pub(crate) struct Scale {
-    pub(crate) second: u64,
-    pub(crate) day: u64,
-    pub(crate) reached: u64,
-}
-
-pub(crate) enum Scaled {
-    By(Scale),
+// Whether a day has a tick.
+pub enum InDay {
+    Within,
+    Beyond,
     // The unit is not 1 to 3.
     UnknownUnit,
 }
 
-// The scale of the unit of that number.
-pub(crate) fn scale_of(unit: u32) -> Scaled
-    ensures { λ r. ⌜ IsScaled (unitOf unit) r ⌝ }
+// Whether a day has this tick, the first being 0, in the unit of that number.
+pub fn in_day(unit: u32, tick: u64) -> InDay
+    ensures { λ r. ⌜ dayAnswer r ≡ dayHas (unitOf unit) tick ⌝ }
 {
     let named = which(unit);
     match named {
-        Named::Millis => Scaled::By(Scale {
-            second: Millis::TICKS_PER_SECOND,
-            day: Millis::TICKS_PER_DAY,
-            reached: Millis::DAYS_REACHED,
-        }),
-        Named::Micros => Scaled::By(Scale {
-            second: Micros::TICKS_PER_SECOND,
-            day: Micros::TICKS_PER_DAY,
-            reached: Micros::DAYS_REACHED,
-        }),
-        Named::Nanos => Scaled::By(Scale {
-            second: Nanos::TICKS_PER_SECOND,
-            day: Nanos::TICKS_PER_DAY,
-            reached: Nanos::DAYS_REACHED,
-        }),
-        Named::Unknown => Scaled::UnknownUnit,
+        Named::Millis => answered(Millis::has_tick(tick)),
+        Named::Micros => answered(Micros::has_tick(tick)),
+        Named::Nanos => answered(Nanos::has_tick(tick)),
+        Named::Unknown => InDay::UnknownUnit,
     }
 }
 
-// The ticks of a second in the unit of that number, and 0 where there is none.
-pub(crate) fn ticks_per_second(unit: u32) -> u64
-    ensures { λ r. ⌜ r ≡ secondTicks (unitOf unit) ⌝ }
+// The answer in a unit that there is.
+fn answered(within: bool) -> InDay
+    ensures { λ r. ⌜ dayAnswer r ≡ given within ⌝ }
 {
-    let named = which(unit);
-    match named {
-        Named::Millis => Millis::TICKS_PER_SECOND,
-        Named::Micros => Micros::TICKS_PER_SECOND,
-        Named::Nanos => Nanos::TICKS_PER_SECOND,
-        Named::Unknown => 0,
+    if within {
+        return InDay::Within;
     }
-}
-
-// What the ticks of a day are.
-pub enum DayTicks {
-    Ticks(u64),
-    // The unit is not 1 to 3.
-    UnknownUnit,
-}
-
-// The ticks of a day in the unit of that number.
-pub fn ticks_per_day(unit: u32) -> DayTicks
-    ensures { λ r. ⌜ dayTicks r ≡ ticksInDay (unitOf unit) ⌝ }
-{
-    let named = which(unit);
-    match named {
-        Named::Millis => DayTicks::Ticks(Millis::TICKS_PER_DAY),
-        Named::Micros => DayTicks::Ticks(Micros::TICKS_PER_DAY),
-        Named::Nanos => DayTicks::Ticks(Nanos::TICKS_PER_DAY),
-        Named::Unknown => DayTicks::UnknownUnit,
-    }
+    InDay::Beyond
 }

@@ -1,36 +1,42 @@
--- `timestamp::encoding::encode` meets its contract: the count of near fields, and what any fields have.
-use native.Mathlib.Omega.{arith}
-use mathlib.Core.Path.{sym, ap, _∙_}
+-- `timestamp::encoding::encode` meets its contract, unit by unit.
+use mathlib.Core.Path.{_≡_, _∙_}
 use borrow.Author.Needs.{needs}
-use mir.Syntax.{w64}
-use mir.ValLaws.{toZ-ofZ}
-use Rattle.timestamp.specs.Units.{unitOf}
-use Rattle.timestamp.specs.Outcomes.{given}
-use Rattle.timestamp.proofs.UnitLaws.{ticks-few, near-encoded}
+use Rattle.timestamp.specs.declared.units.Named.{Named}
+use Rattle.timestamp.specs.Units.{unitOf, unitNamed}
+use Rattle.timestamp.specs.Outcomes.{encoding}
+use Rattle.timestamp.proofs.UnitLaws.{encoding-told}
 use Rattle.timestamp.proofs.encoding.encode.Statement.{statement}
 use Rattle.timestamp.proofs.encoding.encode.Tie as tie
 
-encode-requires : tie.Need-encode-requires
-encode-requires c κs = omega (arith, c .ticks-per-second .ensures, ticks-few (unitOf (c .before .args .unit)))
+-- what is answered in the unit that was read
+told : (c : tie.After-which) (k : Named) → c .which .result ≡ k → encoding (unitNamed k) (c .before .args .fields) ≡ encoding (unitOf (c .before .args .unit)) (c .before .args .fields)
+told c k e = encoding-told (c .before .args .unit) (c .which .result) k (c .before .args .fields) (c .which .ensures) e
 
--- the count that was found is what is encoded
 returns : tie.Need-returns
-returns c =
-    let k = c .before .before .before in
-    let a = k .before .before .args in
-    ap given (toZ-ofZ w64 _ (record { sfits = c .known-told .given .0 .1 })) ∙ sym (near-encoded (unitOf (a .unit)) (a .fields) (k .before .ticks-per-second .result) (k .encode .result) (c .before .near .given .0 .0) (k .before .ticks-per-second .ensures) (k .encode .ensures) (c .before .near .given .1))
+returns c = c .encode .ensures ∙ told (c .before .before .before) _ (c .before .enum-told .given .1)
 
 returns-2 : tie.Need-returns-2
-returns-2 c = c .encode-any .ensures
+returns-2 c = c .encode2 .ensures ∙ told (c .before .before .before) _ (c .before .enum-told2 .given .1)
+
+returns-3 : tie.Need-returns-3
+returns-3 c = c .encode3 .ensures ∙ told (c .before .before .before) _ (c .before .enum-told3 .given .1)
+
+returns-4 : tie.Need-returns-4
+returns-4 c = told (c .before .before) _ (c .enum-told4 .given .1)
 
 pub encode-spec : {M : Type 1} → statement M
 encode-spec =
     tie.close
     (tie.spec
     (λ c κs. search needs)
-    encode-requires
-    (λ c. search needs)
     (λ c. search needs)
     (λ c κs. search needs)
+    (λ c. search needs)
+    (λ c κs. search needs)
+    (λ c. search needs)
+    (λ c κs. search needs)
+    (λ c. search needs)
     returns
-    returns-2)
+    returns-2
+    returns-3
+    returns-4)

@@ -18,7 +18,6 @@ use Rattle.timestamp.specs.Count.{isDateTime, countOf}
 use Rattle.timestamp.specs.Outcomes.{given}
 use Rattle.timestamp.specs.Units.{ticksPerDay}
 use Rattle.timestamp.proofs.CalendarLaws.{common-days, common-date}
-use Rattle.timestamp.proofs.ClockLaws.{time-parts}
 use Rattle.timestamp.proofs.CountLaws.{date-time-told, encoding-good}
 use Rattle.timestamp.proofs.DateLaws.{date-parts}
 use Rattle.timestamp.proofs.FloorLaws.{joined, signed-fits}
@@ -96,14 +95,8 @@ returns-7 c =
     let e = c .before .before .before in
     let t = start e .args .ticks-per-second in
     let f = start e .args .fields in
-    let time = time-parts t (f .hour) (f .minute) (f .second) (f .fraction) (time-is e) in
-    let fits = signed-fits (countOf t f) (subst (λ (z : ℤ). mag z < 2 ^ 63) (count-is c) (c .count-of .ok)) in (
-      positive (time .fraction-below),
-      encoding-good t f (formed e) fits ∙ ap given (sym (toZ-ofZ w64 (c .count-of .result) (record { sfits = c .count-of .ok }) ∙ count-is c)),
-    )
-  where
-    positive : {a b : ℕ} → a < b → 0 < b
-    positive h = omega arith
+    let fits = signed-fits (countOf t f) (subst (λ (z : ℤ). mag z < 2 ^ 63) (count-is c) (c .count-of .ok)) in
+    encoding-good t f (formed e) fits ∙ ap given (sym (toZ-ofZ w64 (c .count-of .result) (record { sfits = c .count-of .ok }) ∙ count-is c))
 
 pub encode-spec : {M : Type 1} → statement M
 encode-spec =
