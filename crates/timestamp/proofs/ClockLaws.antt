@@ -7,6 +7,7 @@ use mathlib.Core.Bool.{true, _&&_}
 use borrow.Author.Tests.{ltb-true, lt-ltb}
 use lib.Dec.{ltb}
 use Rattle.timestamp.specs.Clock.{hoursPerDay, minutesPerHour, secondsPerMinute, isTime, tickOfDay}
+use Rattle.timestamp.specs.Steps.{isClock}
 use Rattle.timestamp.specs.Units.{ticksPerDay}
 use Rattle.timestamp.proofs.DivisionLaws.{steps-one, suc-times}
 use Rattle.laws.proofs.BoolLaws.{and-both, both-and}
@@ -17,18 +18,19 @@ pub record Time (t h m s f : ℕ) : Type 0 where
   pub second-below : s < 60
   pub fraction-below : f < t
 
+-- its hour, minute and second
+pub clock-parts : (h m s : ℕ) → isClock h m s ≡ true → (h < 24) × (m < 60) × (s < 60)
+clock-parts h m s e =
+    let second = and-both (ltb h hoursPerDay && ltb m minutesPerHour) (ltb s secondsPerMinute) e in
+    let hour = and-both (ltb h hoursPerDay) (ltb m minutesPerHour) (second .0) in
+    (ltb-true h 24 (hour .0), ltb-true m 60 (hour .1), ltb-true s 60 (second .1))
+
 pub time-parts : (t h m s f : ℕ) → isTime t h m s f ≡ true → Time t h m s f
 unfolding isTime
 time-parts t h m s f e =
-    let fraction = and-both (ltb h hoursPerDay && ltb m minutesPerHour && ltb s secondsPerMinute) (ltb f t) e in
-    let second = and-both (ltb h hoursPerDay && ltb m minutesPerHour) (ltb s secondsPerMinute) (fraction .0) in
-    let hour = and-both (ltb h hoursPerDay) (ltb m minutesPerHour) (second .0) in
-    record {
-      hour-below = ltb-true h 24 (hour .0);
-      minute-below = ltb-true m 60 (hour .1);
-      second-below = ltb-true s 60 (second .1);
-      fraction-below = ltb-true f t (fraction .1);
-    }
+    let fraction = and-both (isClock h m s) (ltb f t) e in
+    let clock = clock-parts h m s (fraction .0) in
+    record { hour-below = clock .0; minute-below = clock .1; second-below = clock .2; fraction-below = ltb-true f t (fraction .1) }
 
 pub parts-time : (t h m s f : ℕ) → Time t h m s f → isTime t h m s f ≡ true
 unfolding isTime

@@ -12,3 +12,4 @@ pub mod ReachLaws
 pub mod ClockLaws
 pub mod CountLaws
 pub mod UnitLaws
+pub mod MomentLaws

@@ -1,5 +1,6 @@
 -- Which unit a number names, and what is answered in it.
-use Prim.Native.Nat.{ℕ}
+use Prim.Native.Nat.{ℕ, _≤_}
+use native.Mathlib.Omega.{arith}
 use mathlib.Core.Path.{_≡_, sym, ap, subst, _∙_}
 use mathlib.Core.Bool.{Bool, cond}
 use mathlib.Core.Option.{Option, none, some}
@@ -7,9 +8,11 @@ use borrow.Author.Tests.{ne-eqb}
 use lib.Dec.{eqb}
 use lib.IntN.{ℤ}
 use Rattle.timestamp.specs.declared.fields.Fields.{Fields}
+use Rattle.timestamp.specs.declared.moment.Moment.{Moment}
 use Rattle.timestamp.specs.declared.units.Named.{Named}
-use Rattle.timestamp.specs.Units.{TimeUnit, millis, micros, nanos, unitOf, unitNamed}
-use Rattle.timestamp.specs.Outcomes.{Outcome, Decodes, encoding, dayHas}
+use Rattle.timestamp.specs.Units.{TimeUnit, millis, micros, nanos, ticksPerSecond, unitOf, unitNamed}
+use Rattle.timestamp.specs.Outcomes.{Outcome, Decodes, dayHas}
+use Rattle.timestamp.specs.Steps.{encodingFor}
 use Rattle.timestamp.proofs.CountLaws.{decodes-one}
 
 pub unit-none : (n : ℕ) → (n ≡ 1 → ⊥) → (n ≡ 2 → ⊥) → (n ≡ 3 → ⊥) → unitOf n ≡ none
@@ -26,9 +29,15 @@ decodes-told n r k count o e told p =
     let is : Decodes (unitOf n) count o = subst (λ (u : Option TimeUnit). Decodes u count o) (sym (unit-told n r k e told)) p in
     (is, λ o′ q. decodes-one (unitOf n) count o′ o q is)
 
--- so it is with what encoding answers, and with the ticks of a day
-pub encoding-told : (n : ℕ) (r k : Named) (f : Fields) → unitNamed r ≡ unitOf n → r ≡ k → encoding (unitNamed k) f ≡ encoding (unitOf n) f
-encoding-told n r k f e told = ap (λ (u : Option TimeUnit). encoding u f) (sym (unit-told n r k e told))
+-- so it is with what encoding answers of a moment, and with the ticks of a day
+pub encoding-told : (n : ℕ) (r k : Named) (m : Moment) (fraction : ℕ) → unitNamed r ≡ unitOf n → r ≡ k → encodingFor (unitNamed k) m fraction ≡ encodingFor (unitOf n) m fraction
+encoding-told n r k m fraction e told = ap (λ (u : Option TimeUnit). encodingFor u m fraction) (sym (unit-told n r k e told))
 
 pub day-told : (n : ℕ) (r k : Named) (tick : ℕ) → unitNamed r ≡ unitOf n → r ≡ k → dayHas (unitNamed k) tick ≡ dayHas (unitOf n) tick
 day-told n r k tick e told = ap (λ (u : Option TimeUnit). dayHas u tick) (sym (unit-told n r k e told))
+
+-- each unit has a thousand ticks in a second or more
+pub ticks-least : (unit : TimeUnit) → 1000 ≤ ticksPerSecond unit
+ticks-least millis = omega arith
+ticks-least micros = omega arith
+ticks-least nanos = omega arith

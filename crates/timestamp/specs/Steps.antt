@@ -1,25 +1,25 @@
 -- What private functions promise each other; no public contract cites it.
-use Prim.Native.Nat.{ℕ, _+_, _*_, _-_, _/_, _%_, _<_, _≤_, _^_}
+use Prim.Native.Nat.{ℕ, _+_, _*_, _-_, _/_, _%_, _<_, _≤_}
 use mathlib.Core.Path.{_≡_}
-use mathlib.Core.Bool.{false}
+use mathlib.Core.Bool.{Bool, true, false, cond, _&&_}
 use mathlib.Core.List.{_∷_}
-use lib.IntN.{ℤ, subℕ}
+use mathlib.Core.Option.{Option, none, some}
+use lib.Dec.{ltb}
+use lib.IntN.{ℤ, pos, subℕ, _+ℤ_, _*ℤ_}
 use lib.ListN.{getD}
--- types of the code: a month's `days`, an unsigned 32-bit number, and its `offset`, a signed 64-bit one; near fields' `Count`, which holds a signed 64-bit number, or `Other`
+use lib.Signed.{mag}
+-- types of the code: a month's `days`, an unsigned 32-bit number, and its `offset`, a signed 64-bit one
 use Rattle.timestamp.specs.declared.calendar.Month.{Month}
+-- near fields' `Second`, which holds a signed 64-bit number, or `Other`; a moment's `Second`, which holds one, `Far` or `NoDateTime`
 use Rattle.timestamp.specs.declared.near.Near
 use Rattle.timestamp.specs.declared.near.Near.{Near}
+use Rattle.timestamp.specs.declared.moment.Moment
+use Rattle.timestamp.specs.declared.moment.Moment.{Moment}
 use Rattle.timestamp.specs.declared.fields.Fields.{Fields}
-use Rattle.timestamp.specs.Calendar.{months}
-use Rattle.timestamp.specs.Outcomes.{encodingIn, given}
-use Rattle.timestamp.specs.Units.{millis, nanos, ticksPerSecond, ticksPerDay}
-
--- ticks of a second as some unit may have them, those of their day, and so many days that their ticks fit 63 bits
-pub record AreTicks (second day reached : ℕ) : Type 0 where
-  pub second-least : ticksPerSecond millis ≤ second
-  pub second-most : second ≤ ticksPerSecond nanos
-  pub day-is : day ≡ ticksPerDay second
-  pub reached-fits : reached * day < 2 ^ 63
+use Rattle.timestamp.specs.Calendar.{months, isDate, dayNumber}
+use Rattle.timestamp.specs.Clock.{hoursPerDay, minutesPerHour, secondsPerMinute, secondsPerDay}
+use Rattle.timestamp.specs.Outcomes.{Outcome, isSigned64, given, noDateTime, notRepresentable, unknownUnit}
+use Rattle.timestamp.specs.Units.{TimeUnit, ticksPerSecond}
 
 -- the day number of the day before the first of a month, in the year from 1 March of year 0 on
 abbrev pub offsetOf : ℕ → ℤ
@@ -30,11 +30,53 @@ pub record IsMonth (month : ℕ) (r : Month) : Type 0 where
   pub days-are : r .days ≡ getD (0 ∷ months false) month 0
   pub offset-is : 1 ≤ month → month ≤ 12 → r .offset ≡ offsetOf month
 
+-- a year as far from year 0 as this has no count in any unit
+abbrev pub yearsReached : ℕ
+yearsReached = 300000000
+
 -- a day that lies nearer to 1 January 1970 than so many has counts in every unit
 abbrev pub daysReached : ℕ
 daysReached = 106751
 
--- the count of near fields is what encoding them gives; of others nothing is said
-abbrev pub IsNear : ℕ → Fields → Near → Type 0
-IsNear perSecond f (Near.Count n) = encodingIn perSecond f ≡ given n
-IsNear perSecond f Near.Other = Unit {0}
+-- and so has a second of those days
+abbrev pub secondsReached : ℕ
+secondsReached = daysReached * secondsPerDay
+
+-- an hour, a minute and a second in their ranges
+abbrev pub isClock : ℕ → ℕ → ℕ → Bool
+isClock hour minute second = ltb hour hoursPerDay && ltb minute minutesPerHour && ltb second secondsPerMinute
+
+-- fields of a date and a time, whatever the fraction is
+abbrev pub isFormed : Fields → Bool
+isFormed f = isDate (f .year) (f .month) (f .day) && isClock (f .hour) (f .minute) (f .second)
+
+-- the seconds from the start of 1 January 1970 to theirs
+abbrev pub secondOf : Fields → ℤ
+secondOf f =
+    dayNumber (f .year) (f .month) (f .day) *ℤ pos secondsPerDay +ℤ pos ((f .hour * minutesPerHour + f .minute) * secondsPerMinute + f .second)
+
+-- the moment of fields: their second, but of a year at or beyond the limit, or that they form no date or time
+abbrev pub IsMoment : Fields → Moment → Type 0
+IsMoment f (Moment.Second s) = (isFormed f ≡ true) × (s ≡ secondOf f)
+IsMoment f Moment.Far = (isFormed f ≡ true) × (yearsReached ≤ mag (f .year))
+IsMoment f Moment.NoDateTime = isFormed f ≡ false
+
+-- the second of near fields is theirs, and near; of others nothing is said
+abbrev pub IsNear : Fields → Near → Type 0
+IsNear f (Near.Second s) = IsMoment f (Moment.Second s) × (mag s < secondsReached)
+IsNear f Near.Other = Unit {0}
+
+-- what encoding answers where fields have a count: 19, else the count
+abbrev pub counting : ℤ → Outcome ℤ
+counting count = cond (isSigned64 count) (given count) notRepresentable
+
+-- what it answers of a moment and a fraction, in a unit with so many ticks in a second
+abbrev pub encodingAt : ℕ → Moment → ℕ → Outcome ℤ
+encodingAt perSecond (Moment.Second s) fraction = cond (ltb fraction perSecond) (counting (s *ℤ pos perSecond +ℤ pos fraction)) noDateTime
+encodingAt perSecond Moment.Far fraction = cond (ltb fraction perSecond) notRepresentable noDateTime
+encodingAt perSecond Moment.NoDateTime fraction = noDateTime
+
+-- and in the unit that is named: 20 where none is
+abbrev pub encodingFor : Option TimeUnit → Moment → ℕ → Outcome ℤ
+encodingFor none moment fraction = unknownUnit
+encodingFor (some unit) moment fraction = encodingAt (ticksPerSecond unit) moment fraction

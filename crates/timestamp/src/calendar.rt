@@ -69,7 +69,7 @@ pub(crate) fn date_of(day: i64) -> Date
 // The day number of a date.
 pub(crate) fn day_number(date: Date) -> i64
     requires { ⌜ (mag (date .year) < 300000000) × (isDate (date .year) (date .month) (date .day) ≡ true) ⌝ }
-    ensures { λ r. ⌜ r ≡ dayNumber (date .year) (date .month) (date .day) ⌝ }
+    ensures { λ r. ⌜ (r ≡ dayNumber (date .year) (date .month) (date .day)) × (mag r < 2 ^ 43) ⌝ }
 {
     let era_date = EraDate {
         year: raised(date.year, YEARS_BEFORE),

@@ -1,9 +1,10 @@
-// The time of a day: its hour, minute, second and fraction, and the ticks that have passed.
+// The time of a day: its hour, minute, second and fraction, and the seconds that have passed.
 
 ghost use mathlib.Core.Path.{_≡_};
 ghost use mathlib.Core.Bool.{true};
 ghost use Prim.Native.Nat.{_+_, _*_, _<_, _≤_};
 ghost use Rattle.timestamp.specs.Clock.{hoursPerDay, minutesPerHour, secondsPerMinute, secondsPerDay, isTime, tickOfDay};
+ghost use Rattle.timestamp.specs.Steps.{isClock};
 ghost use Rattle.timestamp.specs.Units.{nanos, ticksPerSecond, ticksPerDay};
 
 const HOURS_PER_DAY: u32 = 24;
@@ -20,14 +21,13 @@ pub(crate) struct Time {
     pub(crate) fraction: u32,
 }
 
-// Whether there is such an hour, minute and second, and the fraction is below one second.
-pub(crate) fn is_time(ticks_per_second: u64, time: Time) -> bool
-    ensures { λ r. ⌜ r ≡ isTime «ticks_per_second» (time .hour) (time .minute) (time .second) (time .fraction) ⌝ }
+// Whether there is such an hour, minute and second.
+pub(crate) fn is_clock(time: Time) -> bool
+    ensures { λ r. ⌜ r ≡ isClock (time .hour) (time .minute) (time .second) ⌝ }
 {
     (time.hour < HOURS_PER_DAY)
         & (time.minute < MINUTES_PER_HOUR)
         & (time.second < SECONDS_PER_MINUTE)
-        & ((time.fraction as u64) < ticks_per_second)
 }
 
 // The time at a tick of the day.
@@ -43,14 +43,6 @@ pub(crate) fn time_of(ticks_per_second: u64, tick: u64) -> Time
         second: seconds % SECONDS_PER_MINUTE,
         fraction: (tick % ticks_per_second) as u32,
     }
-}
-
-// The ticks of the day that have passed at a time.
-pub(crate) fn tick_of_day(ticks_per_second: u64, time: Time) -> u64
-    requires { ⌜ («ticks_per_second» ≤ ticksPerSecond nanos) × (isTime «ticks_per_second» (time .hour) (time .minute) (time .second) (time .fraction) ≡ true) ⌝ }
-    ensures { λ r. ⌜ r ≡ tickOfDay «ticks_per_second» (time .hour) (time .minute) (time .second) (time .fraction) ⌝ }
-{
-    second_of_day(time) as u64 * ticks_per_second + time.fraction as u64
 }
 
 // The seconds of the day that have passed at a time.

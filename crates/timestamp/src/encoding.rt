@@ -1,29 +1,23 @@
 // From fields to the count of their date and time.
 
 ghost use mathlib.Core.Path.{_≡_};
-ghost use mathlib.Core.Bool.{cond};
-ghost use Prim.Native.Nat.{_*_, _<_, _^_};
+ghost use Prim.Native.Nat.{_<_, _≤_, _^_};
 ghost use lib.IntN.{pos, _+ℤ_, _*ℤ_};
-ghost use Rattle.timestamp.specs.Units.{unitOf};
-ghost use Rattle.timestamp.specs.Outcomes.{encoded, encoding, encodingIn, isSigned64, given, notRepresentable};
-ghost use Rattle.timestamp.specs.Steps.{AreTicks};
-use crate::calendar::Date;
-use crate::calendar::YEARS_REACHED;
-use crate::calendar::day_number;
-use crate::calendar::is_date;
-use crate::clock::Time;
-use crate::clock::is_time;
-use crate::clock::tick_of_day;
-use crate::division::Division;
+ghost use lib.Signed.{mag};
+ghost use Rattle.timestamp.specs.Units.{nanos, ticksPerSecond, unitOf};
+ghost use Rattle.timestamp.specs.Outcomes.{encoded, encoding};
+ghost use Rattle.timestamp.specs.Steps.{secondsReached, counting, encodingAt, encodingFor};
+ghost use Rattle.timestamp.specs.declared.moment.Moment;
 use crate::division::joined;
 use crate::division::turned;
 use crate::fields::Fields;
+use crate::moment::Moment;
+use crate::moment::moment_of;
 use crate::near;
 use crate::near::Near;
 use crate::signed::folded;
 use crate::signed::is_negative;
 use crate::signed::signed;
-use crate::units::GREATEST_COUNT;
 use crate::units::Micros;
 use crate::units::Millis;
 use crate::units::Named;
@@ -41,95 +35,84 @@ pub enum Encoded {
     UnknownUnit,
 }
 
+// The greatest count, as a signed number of 64 bits: each count folds onto a number that is not above it.
+const GREATEST_COUNT: u64 = 0x7fff_ffff_ffff_ffff;
+
 // The count of the fields, as ticks since 1 January 1970 in the unit of that number.
 pub fn encode(unit: u32, fields: Fields) -> Encoded
     ensures { λ r. ⌜ encoded r ≡ encoding (unitOf unit) fields ⌝ }
 {
+    let near = near::second_of(fields);
+    match near {
+        Near::Second(second) => encode_near(unit, second, fields.fraction),
+        Near::Other => encode_any(unit, moment_of(fields), fields.fraction),
+    }
+}
+
+// The count at a fraction of a near second, in the unit of that number.
+fn encode_near(unit: u32, second: i64, fraction: u32) -> Encoded
+    requires { ⌜ mag second < secondsReached ⌝ }
+    ensures { λ r. ⌜ encoded r ≡ encodingFor (unitOf unit) (Moment.Second second) fraction ⌝ }
+{
     let named = which(unit);
     match named {
-        Named::Millis => Millis::encode(fields),
-        Named::Micros => Micros::encode(fields),
-        Named::Nanos => Nanos::encode(fields),
+        Named::Millis => Millis::encode_near(second, fraction),
+        Named::Micros => Micros::encode_near(second, fraction),
+        Named::Nanos => Nanos::encode_near(second, fraction),
         Named::Unknown => Encoded::UnknownUnit,
     }
 }
 
-// The count of the fields at so many ticks in a second and in a day, of which so many days have counts.
-pub(crate) fn encode_in(
-    ticks_per_second: u64,
-    ticks_per_day: u64,
-    days_reached: u64,
-    fields: Fields,
-) -> Encoded
-    requires { ⌜ AreTicks «ticks_per_second» «ticks_per_day» «days_reached» ⌝ }
-    ensures { λ r. ⌜ encoded r ≡ encodingIn «ticks_per_second» fields ⌝ }
+// The count at a fraction of a moment's second, in the unit of that number.
+fn encode_any(unit: u32, moment: Moment, fraction: u32) -> Encoded
+    ensures { λ r. ⌜ encoded r ≡ encodingFor (unitOf unit) moment fraction ⌝ }
 {
-    let near = near::encode(ticks_per_second, fields);
-    match near {
-        Near::Count(n) => Encoded::Count(n),
-        Near::Other => encode_any(ticks_per_second, ticks_per_day, days_reached, fields),
+    let named = which(unit);
+    match named {
+        Named::Millis => Millis::encode(moment, fraction),
+        Named::Micros => Micros::encode(moment, fraction),
+        Named::Nanos => Nanos::encode(moment, fraction),
+        Named::Unknown => Encoded::UnknownUnit,
     }
 }
 
-// The same of any fields.
-fn encode_any(
-    ticks_per_second: u64,
-    ticks_per_day: u64,
-    days_reached: u64,
-    fields: Fields,
-) -> Encoded
-    requires { ⌜ AreTicks «ticks_per_second» «ticks_per_day» «days_reached» ⌝ }
-    ensures { λ r. ⌜ encoded r ≡ encodingIn «ticks_per_second» fields ⌝ }
+// The count at a fraction of a near second, at so many ticks in a second.
+pub(crate) fn encode_near_at(second: i64, fraction: u32, ticks_per_second: u64) -> Encoded
+    requires { ⌜ (mag second < secondsReached) × («ticks_per_second» ≤ ticksPerSecond nanos) ⌝ }
+    ensures { λ r. ⌜ encoded r ≡ encodingAt «ticks_per_second» (Moment.Second second) fraction ⌝ }
 {
-    let date = Date {
-        year: fields.year,
-        month: fields.month,
-        day: fields.day,
-    };
-    let time = Time {
-        hour: fields.hour,
-        minute: fields.minute,
-        second: fields.second,
-        fraction: fields.fraction,
-    };
-    if !(is_date(date) & is_time(ticks_per_second, time)) {
+    if ticks_per_second <= fraction as u64 {
         return Encoded::NoDateTime;
     }
-    if folded(fields.year) >= YEARS_REACHED {
-        return Encoded::NotRepresentable;
-    }
-    count_of(
-        Division {
-            day: day_number(date),
-            rest: tick_of_day(ticks_per_second, time),
-        },
-        ticks_per_day,
-        days_reached,
-    )
+    Encoded::Count(joined(second, ticks_per_second, fraction as u64))
 }
 
-// The count of a day number and a tick of that day, at so many ticks in a day, of which so many days have counts.
-fn count_of(division: Division, ticks_per_day: u64, days_reached: u64) -> Encoded
-    requires { ⌜ (division .rest < «ticks_per_day») × («ticks_per_day» < 2 ^ 63) × («days_reached» * «ticks_per_day» < 2 ^ 63) ⌝ }
-    ensures { λ r. ⌜ encoded r ≡ cond (isSigned64 (division .day *ℤ pos «ticks_per_day» +ℤ pos (division .rest))) (given (division .day *ℤ pos «ticks_per_day» +ℤ pos (division .rest))) notRepresentable ⌝ }
+// The count at a fraction of a moment's second, at so many ticks in a second.
+pub(crate) fn encode_at(moment: Moment, fraction: u32, ticks_per_second: u64) -> Encoded
+    requires { ⌜ «ticks_per_second» ≤ ticksPerSecond nanos ⌝ }
+    ensures { λ r. ⌜ encoded r ≡ encodingAt «ticks_per_second» moment fraction ⌝ }
 {
-    if folded(division.day) < days_reached {
-        return Encoded::Count(joined(division.day, ticks_per_day, division.rest));
+    if ticks_per_second <= fraction as u64 {
+        return Encoded::NoDateTime;
     }
-    count_at_end(division, ticks_per_day)
+    match moment {
+        Moment::Second(second) => count_of(second, fraction as u64, ticks_per_second),
+        Moment::Far => Encoded::NotRepresentable,
+        Moment::NoDateTime => Encoded::NoDateTime,
+    }
 }
 
-// The same on any day, by the number that the count folds onto.
-fn count_at_end(division: Division, ticks_per_day: u64) -> Encoded
-    requires { ⌜ (division .rest < «ticks_per_day») × («ticks_per_day» < 2 ^ 63) ⌝ }
-    ensures { λ r. ⌜ encoded r ≡ cond (isSigned64 (division .day *ℤ pos «ticks_per_day» +ℤ pos (division .rest))) (given (division .day *ℤ pos «ticks_per_day» +ℤ pos (division .rest))) notRepresentable ⌝ }
+// The count at a fraction of any second, by the number that the count folds onto.
+fn count_of(second: i64, fraction: u64, ticks_per_second: u64) -> Encoded
+    requires { ⌜ (fraction < «ticks_per_second») × («ticks_per_second» < 2 ^ 63) ⌝ }
+    ensures { λ r. ⌜ encoded r ≡ counting (second *ℤ pos «ticks_per_second» +ℤ pos fraction) ⌝ }
 {
-    let negative = is_negative(division.day);
-    let days = folded(division.day);
-    if GREATEST_COUNT / ticks_per_day < days {
+    let negative = is_negative(second);
+    let seconds = folded(second);
+    if GREATEST_COUNT / ticks_per_second < seconds {
         return Encoded::NotRepresentable;
     }
-    let size = days * ticks_per_day + turned(negative, division.rest, ticks_per_day);
+    let size = seconds * ticks_per_second + turned(negative, fraction, ticks_per_second);
     if GREATEST_COUNT < size {
         return Encoded::NotRepresentable;
     }

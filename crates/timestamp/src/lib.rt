@@ -6,6 +6,7 @@ pub mod division;
 pub mod encoding;
 mod eras;
 pub mod fields;
+mod moment;
 mod near;
 mod signed;
 pub mod units;

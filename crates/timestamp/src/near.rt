@@ -1,17 +1,15 @@
-// Fields of years that counts of every unit reach, on days that a month has in every year: their count, with no test of its size.
+// Fields of years that counts of every unit reach, on days that a month has in every year: their second, by small numbers.
 
 ghost use mathlib.Core.Path.{_≡_};
 ghost use mathlib.Core.Bool.{true};
 ghost use Prim.Native.Nat.{_<_, _≤_};
-ghost use lib.IntN.{pos, _+ℤ_, _*ℤ_};
+ghost use lib.IntN.{pos};
 ghost use lib.Signed.{mag};
 ghost use Rattle.timestamp.specs.Calendar.{dayNumber, isDate};
-ghost use Rattle.timestamp.specs.Clock.{isTime, tickOfDay};
-ghost use Rattle.timestamp.specs.Units.{nanos, ticksPerSecond, ticksPerDay};
 ghost use Rattle.timestamp.specs.Steps.{IsNear, daysReached, offsetOf};
 use crate::calendar::month_at;
 use crate::clock::Time;
-use crate::clock::is_time;
+use crate::clock::is_clock;
 use crate::clock::second_of_day;
 use crate::division::joined;
 use crate::eras::days_before_year;
@@ -27,15 +25,15 @@ const FIRST_YEAR: u64 = 1_680;
 const LAST_YEAR: u64 = 2_260;
 
 pub(crate) enum Near {
-    Count(i64),
-    // The fields may have a count or none.
+    // So many seconds since 1 January 1970.
+    Second(i64),
+    // The fields may have a second or none.
     Other,
 }
 
-// The count of such fields, at so many ticks in a second.
-pub(crate) fn encode(ticks_per_second: u64, fields: Fields) -> Near
-    requires { ⌜ «ticks_per_second» ≤ ticksPerSecond nanos ⌝ }
-    ensures { λ r. ⌜ IsNear «ticks_per_second» fields r ⌝ }
+// The second of such fields.
+pub(crate) fn second_of(fields: Fields) -> Near
+    ensures { λ r. ⌜ IsNear fields r ⌝ }
 {
     if is_negative(fields.year) {
         return Near::Other;
@@ -60,11 +58,11 @@ pub(crate) fn encode(ticks_per_second: u64, fields: Fields) -> Near
         second: fields.second,
         fraction: fields.fraction,
     };
-    if !is_time(ticks_per_second, time) {
+    if !is_clock(time) {
         return Near::Other;
     }
     let day = day_number(year, fields.month, month.offset, fields.day);
-    Near::Count(count_of(ticks_per_second, day, time))
+    Near::Second(joined(day, SECONDS_PER_DAY, second_of_day(time) as u64))
 }
 
 // The day number of a date of such a year.
@@ -73,13 +71,4 @@ fn day_number(year: u64, month: u32, offset: i64, day: u32) -> i64
     ensures { λ r. ⌜ (r ≡ dayNumber (pos year) month day) × (mag r < daysReached) ⌝ }
 {
     days_before_year(year - years_before_march(month)) as i64 + offset + day as i64
-}
-
-// The count at a time of such a day.
-fn count_of(ticks_per_second: u64, day: i64, time: Time) -> i64
-    requires { ⌜ («ticks_per_second» ≤ ticksPerSecond nanos) × (mag day < daysReached) × (isTime «ticks_per_second» (time .hour) (time .minute) (time .second) (time .fraction) ≡ true) ⌝ }
-    ensures { λ r. ⌜ r ≡ day *ℤ pos (ticksPerDay «ticks_per_second») +ℤ pos (tickOfDay «ticks_per_second» (time .hour) (time .minute) (time .second) (time .fraction)) ⌝ }
-{
-    let seconds = joined(day, SECONDS_PER_DAY, second_of_day(time) as u64);
-    joined(seconds, ticks_per_second, time.fraction as u64)
 }

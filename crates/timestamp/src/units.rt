@@ -1,24 +1,25 @@
-// The three time units, each a type that knows its ticks in a second and in a day, divides a count into days, encodes fields and tells
-// which ticks a day has.
+// The three time units, each a type that knows its ticks in a second and in a day, divides a count into days, counts the ticks up to a
+// moment and tells which ticks a day has.
 
 ghost use mathlib.Core.Path.{_≡_};
+ghost use Prim.Native.Nat.{_<_};
 ghost use lib.Dec.{ltb};
+ghost use lib.Signed.{mag};
 ghost use Rattle.timestamp.specs.Units.{millis, micros, nanos, ticksPerSecond, ticksPerDay, unitOf, unitNamed};
 ghost use Rattle.timestamp.specs.FloorDivision.{FloorDivision};
 ghost use Rattle.timestamp.specs.declared.division.Division.{Division};
-ghost use Rattle.timestamp.specs.Outcomes.{encoded, encodingIn, given, dayAnswer, dayHas};
+ghost use Rattle.timestamp.specs.Outcomes.{encoded, given, dayAnswer, dayHas};
+ghost use Rattle.timestamp.specs.Steps.{secondsReached, encodingAt};
+ghost use Rattle.timestamp.specs.declared.moment.Moment;
 use crate::division::Division;
 use crate::division::floor_divide;
 use crate::encoding::Encoded;
-use crate::encoding::encode_in;
-use crate::fields::Fields;
+use crate::encoding::encode_at;
+use crate::encoding::encode_near_at;
+use crate::moment::Moment;
 
 // The seconds of a day.
 pub(crate) const SECONDS_PER_DAY: u64 = 86_400;
-
-// The greatest count, as a signed number of 64 bits: each count folds onto a number that is not above it, and so many days as it fills
-// have counts, before 1970 and after.
-pub(crate) const GREATEST_COUNT: u64 = 0x7fff_ffff_ffff_ffff;
 
 // Thousandths of a second.
 pub struct Millis;
@@ -31,8 +32,6 @@ impl Millis {
 
     pub const TICKS_PER_DAY: u64 = Self::TICKS_PER_SECOND * SECONDS_PER_DAY;
 
-    pub(crate) const DAYS_REACHED: u64 = GREATEST_COUNT / Self::TICKS_PER_DAY;
-
     // The days of a count, rounded down, and the ticks left. There is one such division.
     pub fn divide(count: i64) -> Division
         ensures { λ r. ⌜ FloorDivision count (ticksPerDay (ticksPerSecond millis)) r ⌝ }
@@ -41,16 +40,19 @@ impl Millis {
         floor_divide(count, Self::TICKS_PER_DAY)
     }
 
-    // The count of the fields, as ticks since 1 January 1970.
-    pub fn encode(fields: Fields) -> Encoded
-        ensures { λ r. ⌜ encoded r ≡ encodingIn (ticksPerSecond millis) fields ⌝ }
+    // The count at a fraction of a moment's second.
+    pub(crate) fn encode(moment: Moment, fraction: u32) -> Encoded
+        ensures { λ r. ⌜ encoded r ≡ encodingAt (ticksPerSecond millis) moment fraction ⌝ }
     {
-        encode_in(
-            Self::TICKS_PER_SECOND,
-            Self::TICKS_PER_DAY,
-            Self::DAYS_REACHED,
-            fields,
-        )
+        encode_at(moment, fraction, Self::TICKS_PER_SECOND)
+    }
+
+    // The same of a near second.
+    pub(crate) fn encode_near(second: i64, fraction: u32) -> Encoded
+        requires { ⌜ mag second < secondsReached ⌝ }
+        ensures { λ r. ⌜ encoded r ≡ encodingAt (ticksPerSecond millis) (Moment.Second second) fraction ⌝ }
+    {
+        encode_near_at(second, fraction, Self::TICKS_PER_SECOND)
     }
 
     // Whether a day has this tick, the first being 0.
@@ -72,8 +74,6 @@ impl Micros {
 
     pub const TICKS_PER_DAY: u64 = Self::TICKS_PER_SECOND * SECONDS_PER_DAY;
 
-    pub(crate) const DAYS_REACHED: u64 = GREATEST_COUNT / Self::TICKS_PER_DAY;
-
     // The days of a count, rounded down, and the ticks left. There is one such division.
     pub fn divide(count: i64) -> Division
         ensures { λ r. ⌜ FloorDivision count (ticksPerDay (ticksPerSecond micros)) r ⌝ }
@@ -82,16 +82,19 @@ impl Micros {
         floor_divide(count, Self::TICKS_PER_DAY)
     }
 
-    // The count of the fields, as ticks since 1 January 1970.
-    pub fn encode(fields: Fields) -> Encoded
-        ensures { λ r. ⌜ encoded r ≡ encodingIn (ticksPerSecond micros) fields ⌝ }
+    // The count at a fraction of a moment's second.
+    pub(crate) fn encode(moment: Moment, fraction: u32) -> Encoded
+        ensures { λ r. ⌜ encoded r ≡ encodingAt (ticksPerSecond micros) moment fraction ⌝ }
     {
-        encode_in(
-            Self::TICKS_PER_SECOND,
-            Self::TICKS_PER_DAY,
-            Self::DAYS_REACHED,
-            fields,
-        )
+        encode_at(moment, fraction, Self::TICKS_PER_SECOND)
+    }
+
+    // The same of a near second.
+    pub(crate) fn encode_near(second: i64, fraction: u32) -> Encoded
+        requires { ⌜ mag second < secondsReached ⌝ }
+        ensures { λ r. ⌜ encoded r ≡ encodingAt (ticksPerSecond micros) (Moment.Second second) fraction ⌝ }
+    {
+        encode_near_at(second, fraction, Self::TICKS_PER_SECOND)
     }
 
     // Whether a day has this tick, the first being 0.
@@ -113,8 +116,6 @@ impl Nanos {
 
     pub const TICKS_PER_DAY: u64 = Self::TICKS_PER_SECOND * SECONDS_PER_DAY;
 
-    pub(crate) const DAYS_REACHED: u64 = GREATEST_COUNT / Self::TICKS_PER_DAY;
-
     // The days of a count, rounded down, and the ticks left. There is one such division.
     pub fn divide(count: i64) -> Division
         ensures { λ r. ⌜ FloorDivision count (ticksPerDay (ticksPerSecond nanos)) r ⌝ }
@@ -123,16 +124,19 @@ impl Nanos {
         floor_divide(count, Self::TICKS_PER_DAY)
     }
 
-    // The count of the fields, as ticks since 1 January 1970.
-    pub fn encode(fields: Fields) -> Encoded
-        ensures { λ r. ⌜ encoded r ≡ encodingIn (ticksPerSecond nanos) fields ⌝ }
+    // The count at a fraction of a moment's second.
+    pub(crate) fn encode(moment: Moment, fraction: u32) -> Encoded
+        ensures { λ r. ⌜ encoded r ≡ encodingAt (ticksPerSecond nanos) moment fraction ⌝ }
     {
-        encode_in(
-            Self::TICKS_PER_SECOND,
-            Self::TICKS_PER_DAY,
-            Self::DAYS_REACHED,
-            fields,
-        )
+        encode_at(moment, fraction, Self::TICKS_PER_SECOND)
+    }
+
+    // The same of a near second.
+    pub(crate) fn encode_near(second: i64, fraction: u32) -> Encoded
+        requires { ⌜ mag second < secondsReached ⌝ }
+        ensures { λ r. ⌜ encoded r ≡ encodingAt (ticksPerSecond nanos) (Moment.Second second) fraction ⌝ }
+    {
+        encode_near_at(second, fraction, Self::TICKS_PER_SECOND)
     }
 
     // Whether a day has this tick, the first being 0.

@@ -36,12 +36,21 @@ day-of-requires c κs =
 lowered-requires : tie.Need-lowered-requires
 lowered-requires c κs = search needs
 
+day-most : (c : tie.After-lowered) → mag (subℕ (c .before .day-of .result) 146097719468) < 2 ^ 43
+day-most c = difference-most (c .before .day-of .result) 146097719468 (2 ^ 43) (omega (arith, c .before .day-of .ensures .1)) (omega arith)
+
+-- the day is counted back from a million eras before, and stays near enough
+day-is : (c : tie.After-lowered) → toZ w64 (ofZ w64 (c .lowered .result)) ≡ subℕ (c .before .day-of .result) 146097719468
+day-is c = read-back (c .lowered .ensures) (omega (arith, day-most c))
+
 returns : tie.Need-returns
 returns c =
     let o = c .before in
     let r = o .before in
-    let d = r .before .before .args .date in
-    read-back (c .lowered .ensures) (difference-most (o .day-of .result) 146097719468 (2 ^ 63) (omega (arith, o .day-of .ensures .1)) (omega arith)) ∙ sym (day-number-from (d .year) (r .raised .result) 1000000 (d .month) (d .day) (o .day-of .result) (year-is r) (o .day-of .ensures .0))
+    let d = r .before .before .args .date in (
+      day-is c ∙ sym (day-number-from (d .year) (r .raised .result) 1000000 (d .month) (d .day) (o .day-of .result) (year-is r) (o .day-of .ensures .0)),
+      subst (λ (z : ℤ). mag z < 2 ^ 43) (sym (day-is c)) (day-most c),
+    )
 
 pub day-number-spec : {M : Type 1} → statement M
 day-number-spec = tie.close (tie.spec raised-requires day-of-requires lowered-requires returns)

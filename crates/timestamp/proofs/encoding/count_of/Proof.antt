@@ -1,53 +1,93 @@
--- `timestamp::encoding::count_of` meets its contract: on the days that are reached no number leaves 64 bits.
-use Prim.Native.Nat.{suc, _*_, _<_, _≤_, _^_}
+-- `timestamp::encoding::count_of` meets its contract: the count folds onto the ticks that its seconds fold onto, with the fraction turned before 0.
+use Prim.Native.Nat.{ℕ, _+_, _*_, _-_, _<_, _≤_, _^_}
+use native.Mathlib.Nat.{le-div-iff-mul-le, div-lt-iff-lt-mul}
 use native.Mathlib.Omega.{arith}
-use native.Mathlib.Nat.{mul-le-mul-right}
-use mathlib.Core.Path.{_≡_, sym, ap, subst, _∙_}
-use mathlib.Core.Bool.{Bool, cond}
+use mathlib.Core.Path.{_≡_, sym, ap, _∙_}
+use mathlib.Core.Bool.{Bool}
 use borrow.Author.Needs.{needs}
 use lib.IntN.{ℤ}
-use lib.Signed.{mag}
-use mir.Syntax.{w64}
-use mir.Val.{SFits}
-use mir.ValLaws.{toZ-ofZ}
-use Rattle.timestamp.specs.Outcomes.{given, notRepresentable}
-use Rattle.timestamp.proofs.FloorLaws.{joined, joined-asked, joined-told, signed-fits}
-use Rattle.timestamp.proofs.SignedLaws.{folded-told}
+use Rattle.timestamp.specs.Outcomes.{given}
+use Rattle.timestamp.proofs.CountLaws.{counted-fits, counted-beyond}
+use Rattle.timestamp.proofs.FloorLaws.{joined, joined-signed, turned-of, turned-below}
+use Rattle.timestamp.proofs.SignedLaws.{signed-of, signed-told, signed-back}
 use Rattle.timestamp.proofs.encoding.count_of.Statement.{statement}
 use Rattle.timestamp.proofs.encoding.count_of.Tie as tie
 
--- what is passed in, and the day number
-abbrev start : tie.Then1 → tie.Start
-start c = c .before .before .before
+is-negative-requires : tie.Need-is-negative-requires
+is-negative-requires c κs = search needs
 
-day-fits : (c : tie.Then1) → SFits w64 (start c .args .division .day)
-day-fits c = record { sfits = c .before .before .struct-told .given .0 .1 }
+folded-requires : tie.Need-folded-requires
+folded-requires c κs = search needs
 
--- the days that are reached fill no more than 63 bits
-reached : (c : tie.Then1) → suc (mag (start c .args .division .day)) * start c .args .ticks-per-day < 2 ^ 63
-reached c =
-    let s = start c in
-    let days : suc (mag (s .args .division .day)) ≤ s .args .days-reached = omega (arith, c .if1 .taken, folded-told (day-fits c) (c .before .folded .ensures)) in
-    let most : suc (mag (s .args .division .day)) * s .args .ticks-per-day ≤ s .args .days-reached * s .args .ticks-per-day = mul-le-mul-right (s .args .ticks-per-day) days in
-    omega (arith, s .pre .2)
+div-if1 : tie.Need-div-if1
+div-if1 c = search needs
 
-joined-requires : tie.Need-joined-requires
-joined-requires c κs = let t = c .before in (start t .pre .0, joined-asked (start t .args .ticks-per-day) (day-fits t) (reached t))
+-- what is passed in, the sign, and what the count folds onto
+abbrev start : tie.After-folded → tie.Start
+start m = m .before .before
+
+abbrev negative : tie.After-folded → Bool
+negative m = m .before .is-negative .result
+
+abbrev size : tie.After-folded → ℕ
+size m = m .folded .result * start m .args .ticks-per-second + turned-of (negative m) (start m .args .fraction) (start m .args .ticks-per-second)
+
+count-is : (m : tie.After-folded) → joined (start m .args .second) (start m .args .ticks-per-second) (start m .args .fraction) ≡ signed-of (negative m) (size m)
+count-is m =
+    let s = start m in
+    ap (λ (z : ℤ). joined z (s .args .ticks-per-second) (s .args .fraction)) (signed-told {x = s .args .second} (s .fits .second) (m .before .is-negative .ensures) (m .folded .ensures)) ∙ joined-signed (negative m) (m .folded .result) (s .args .ticks-per-second) (s .args .fraction) (s .pre .0)
 
 returns : tie.Need-returns
 returns c =
+    let m = c .before in
+    let beyond = div-lt-iff-lt-mul {k = start m .args .ticks-per-second} {x = 2 ^ 63 - 1} {y = m .folded .result} (omega arith) .0 (c .if1 .taken) in
+    sym (counted-beyond _ (negative m) (size m) (count-is m) (omega (arith, beyond)))
+
+-- the seconds' ticks are not above the greatest number
+seconds-fit : (c : tie.Else1) → c .before .folded .result * start (c .before) .args .ticks-per-second ≤ 2 ^ 63 - 1
+seconds-fit c = le-div-iff-mul-le {k = start (c .before) .args .ticks-per-second} (omega arith) .0 (c .if1 .left)
+
+mul-size : tie.Need-mul-size
+mul-size c = omega (arith, seconds-fit c)
+
+turned-requires : tie.Need-turned-requires
+turned-requires c κs = search needs
+
+add-size : tie.Need-add-size
+add-size c =
+    let m = c .before .before in
+    omega (arith, seconds-fit (c .before), c .turned .ensures, turned-below (negative m) (start m .args .fraction) (start m .args .ticks-per-second) (start m .pre .0), start m .pre .1)
+
+-- the sum of the code is what the count folds onto
+size-is : (c : tie.After-turned) → c .before .before .folded .result * start (c .before .before) .args .ticks-per-second + c .turned .result ≡ size (c .before .before)
+size-is c = ap (λ (r : ℕ). c .before .before .folded .result * start (c .before .before) .args .ticks-per-second + r) (c .turned .ensures)
+
+returns-2 : tie.Need-returns-2
+returns-2 c =
+    let m = c .before .before .before in
+    sym (counted-beyond _ (negative m) (size m) (count-is m) (omega (arith, size-is (c .before), c .if2 .taken)))
+
+signed-requires : tie.Need-signed-requires
+signed-requires c κs = search needs
+
+returns-3 : tie.Need-returns-3
+returns-3 c =
     let t = c .before .before in
-    let a = start t .args in
-    let z = joined (a .division .day) (a .ticks-per-day) (a .division .rest) in
-    let told : c .joined .result ≡ z = joined-told (a .ticks-per-day) (a .division .rest) (day-fits t) (c .joined .ensures) in
-    ap given (toZ-ofZ w64 (c .joined .result) (record { sfits = c .joined .ok }) ∙ told) ∙ ap (λ (b : Bool). cond b (given z) notRepresentable) (sym (signed-fits z (subst (λ (w : ℤ). mag w < 2 ^ 63) told (c .joined .ok))))
+    let m = t .before .before in
+    let fits : size m < 2 ^ 63 = omega (arith, size-is t, c .before .if2 .left) in
+    ap given (signed-back (negative m) (size m) (c .signed .ensures ∙ ap (signed-of (negative m)) (size-is t)) fits) ∙ sym (counted-fits _ (negative m) (size m) (count-is m) fits)
 
 pub count-of-spec : {M : Type 1} → statement M
 count-of-spec =
     tie.close
     (tie.spec
-    (λ c κs. search needs)
-    joined-requires
+    is-negative-requires
+    folded-requires
+    div-if1
     returns
-    (λ c κs. search needs)
-    (λ c. search needs))
+    mul-size
+    turned-requires
+    add-size
+    returns-2
+    signed-requires
+    returns-3)

@@ -1,28 +1,50 @@
--- `timestamp::encoding::encode` meets its contract, unit by unit.
-use mathlib.Core.Path.{_≡_, _∙_}
+-- `timestamp::encoding::encode` meets its contract: near fields by their second, and others by their moment.
+use Prim.Native.Nat.{_<_}
+use mathlib.Core.Path.{_≡_, sym, ap, subst, _∙_}
 use borrow.Author.Needs.{needs}
-use Rattle.timestamp.specs.declared.units.Named.{Named}
-use Rattle.timestamp.specs.Units.{unitOf, unitNamed}
-use Rattle.timestamp.specs.Outcomes.{encoding}
-use Rattle.timestamp.proofs.UnitLaws.{encoding-told}
+use lib.IntN.{ℤ}
+use lib.Signed.{mag}
+use mir.Syntax.{w64}
+use mir.Val.{toZ, ofZ}
+use mir.ValLaws.{toZ-ofZ}
+use Rattle.timestamp.specs.declared.near.Near
+use Rattle.timestamp.specs.declared.near.Near.{Near}
+use Rattle.timestamp.specs.declared.moment.Moment
+use Rattle.timestamp.specs.declared.moment.Moment.{Moment}
+use Rattle.timestamp.specs.Units.{unitOf}
+use Rattle.timestamp.specs.Steps.{secondsReached, IsNear, encodingFor}
+use Rattle.timestamp.proofs.MomentLaws.{moment-for}
 use Rattle.timestamp.proofs.encoding.encode.Statement.{statement}
 use Rattle.timestamp.proofs.encoding.encode.Tie as tie
 
--- what is answered in the unit that was read
-told : (c : tie.After-which) (k : Named) → c .which .result ≡ k → encoding (unitNamed k) (c .before .args .fields) ≡ encoding (unitOf (c .before .args .unit)) (c .before .args .fields)
-told c k e = encoding-told (c .before .args .unit) (c .which .result) k (c .before .args .fields) (c .which .ensures) e
+-- what is passed in, and the second of near fields as it is passed on
+abbrev start : tie.After-second-of → tie.Start
+start c = c .before
+
+near-told : (c : tie.After-near) → IsNear (start (c .before .before) .args .fields) (Near.Second (c .near .given .0 .0))
+near-told c =
+    let n = c .before .before in
+    subst (IsNear (start n .args .fields)) (c .near .given .1) (n .second-of .ensures)
+
+second-back : (c : tie.After-known-told) → toZ w64 (ofZ w64 (c .before .near .given .0 .0)) ≡ c .before .near .given .0 .0
+second-back c = toZ-ofZ w64 (c .before .near .given .0 .0) (record { sfits = c .known-told .given .0 .1 })
+
+encode-near-requires : tie.Need-encode-near-requires
+encode-near-requires c κs = subst (λ (z : ℤ). mag z < secondsReached) (sym (second-back c)) (near-told (c .before) .1)
 
 returns : tie.Need-returns
-returns c = c .encode .ensures ∙ told (c .before .before .before) _ (c .before .enum-told .given .1)
+returns c =
+    let n = c .before .before in
+    let a = start (n .before .before) .args in
+    c .encode-near .ensures
+    ∙ ap (λ (z : ℤ). encodingFor (unitOf (a .unit)) (Moment.Second z) (a .fields .fraction)) (second-back (c .before))
+    ∙ moment-for (unitOf (a .unit)) (a .fields) (Moment.Second (n .near .given .0 .0)) (near-told n .0)
 
 returns-2 : tie.Need-returns-2
-returns-2 c = c .encode2 .ensures ∙ told (c .before .before .before) _ (c .before .enum-told2 .given .1)
-
-returns-3 : tie.Need-returns-3
-returns-3 c = c .encode3 .ensures ∙ told (c .before .before .before) _ (c .before .enum-told3 .given .1)
-
-returns-4 : tie.Need-returns-4
-returns-4 c = told (c .before .before) _ (c .enum-told4 .given .1)
+returns-2 c =
+    let m = c .before in
+    let a = start (m .before .before .before) .args in
+    c .encode-any .ensures ∙ moment-for (unitOf (a .unit)) (a .fields) (m .moment-of .result) (m .moment-of .ensures)
 
 pub encode-spec : {M : Type 1} → statement M
 encode-spec =
@@ -30,13 +52,9 @@ encode-spec =
     (tie.spec
     (λ c κs. search needs)
     (λ c. search needs)
-    (λ c κs. search needs)
+    encode-near-requires
     (λ c. search needs)
     (λ c κs. search needs)
-    (λ c. search needs)
     (λ c κs. search needs)
-    (λ c. search needs)
     returns
-    returns-2
-    returns-3
-    returns-4)
+    returns-2)

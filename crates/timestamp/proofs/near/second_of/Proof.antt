@@ -1,4 +1,4 @@
--- `timestamp::near::encode` meets its contract: the tests let through fields that form a date and time, and the count is theirs.
+-- `timestamp::near::second_of` meets its contract: the tests let through fields that form a date and time, and the second is theirs.
 use Prim.Native.Nat.{ℕ, _<_, _≤_, _^_}
 use native.Mathlib.Omega.{arith}
 use mathlib.Core.Path.{_≡_, sym, ap, subst, _∙_}
@@ -13,17 +13,15 @@ use mir.Val.{toZ, ofZ}
 use mir.ValLaws.{toZ-ofZ}
 use Rattle.laws.proofs.BoolLaws.{both-and}
 use Rattle.timestamp.specs.Calendar.{isDate, dayNumber}
-use Rattle.timestamp.specs.Clock.{isTime, tickOfDay}
-use Rattle.timestamp.specs.Count.{isDateTime, countOf}
-use Rattle.timestamp.specs.Outcomes.{given}
-use Rattle.timestamp.specs.Units.{ticksPerDay}
+use Rattle.timestamp.specs.Steps.{daysReached, secondsReached, isClock, isFormed}
 use Rattle.timestamp.proofs.CalendarLaws.{common-days, common-date}
-use Rattle.timestamp.proofs.CountLaws.{date-time-told, encoding-good}
+use Rattle.timestamp.proofs.ClockLaws.{clock-parts}
 use Rattle.timestamp.proofs.DateLaws.{date-parts}
-use Rattle.timestamp.proofs.FloorLaws.{joined, signed-fits}
+use Rattle.timestamp.proofs.FloorLaws.{joined-below}
+use Rattle.timestamp.proofs.MomentLaws.{second-told}
 use Rattle.timestamp.proofs.SignedLaws.{signed-of, signed-told}
-use Rattle.timestamp.proofs.near.encode.Statement.{statement}
-use Rattle.timestamp.proofs.near.encode.Tie as tie
+use Rattle.timestamp.proofs.near.second_of.Statement.{statement}
+use Rattle.timestamp.proofs.near.second_of.Tie as tie
 
 -- the places that are passed, from where all tests hold back to the start
 abbrev day-known : tie.Else6 → tie.Else5
@@ -53,11 +51,13 @@ date-is e =
     let last : f .day ≤ common-days (f .month) = subst (λ (n : ℕ). f .day ≤ n) (month-known e .month-at .ensures .days-are) (day-known e .if5 .left) in
     common-date (pos (year-known e .folded .result)) (f .month) (f .day) (both-and (leb 1 (f .day)) (leb (f .day) (common-days (f .month))) (le-leb 1 (f .day) (day-known e .before .before .before .if4 .left)) (le-leb (f .day) (common-days (f .month)) last))
 
-time-is : (e : tie.Else6) → let f = start e .args .fields in isTime (start e .args .ticks-per-second) (f .hour) (f .minute) (f .second) (f .fraction) ≡ true
-time-is e = sym (e .before .is-time .ensures) ∙ not-false _ (e .if6 .left)
+clock-is : (e : tie.Else6) → let f = start e .args .fields in isClock (f .hour) (f .minute) (f .second) ≡ true
+clock-is e = sym (e .before .is-clock .ensures) ∙ not-false _ (e .if6 .left)
 
-formed : (e : tie.Else6) → isDateTime (start e .args .ticks-per-second) (start e .args .fields) ≡ true
-formed e = sym (date-time-told (start e .args .ticks-per-second) (start e .args .fields) (sym (year-is e)) (sym (date-is e)) (sym (time-is e)))
+formed : (e : tie.Else6) → isFormed (start e .args .fields) ≡ true
+formed e =
+    let f = start e .args .fields in
+    both-and (isDate (f .year) (f .month) (f .day)) (isClock (f .hour) (f .minute) (f .second)) (ap (λ (y : ℤ). isDate y (f .month) (f .day)) (year-is e) ∙ date-is e) (clock-is e)
 
 day-number-requires : tie.Need-day-number-requires
 day-number-requires c κs =
@@ -75,31 +75,32 @@ day-number-requires c κs =
 day-back : (c : tie.After-day-number) → toZ w64 (ofZ w64 (c .day-number .result)) ≡ c .day-number .result
 day-back c = toZ-ofZ w64 (c .day-number .result) (record { sfits = c .day-number .ok })
 
-count-of-requires : tie.Need-count-of-requires
-count-of-requires c κs =
-    let e = c .before .before in
-    (start e .pre, subst (λ (z : ℤ). mag z < 106751) (sym (day-back c)) (c .day-number .ensures .1), time-is e)
+day-near : (c : tie.After-day-number) → mag (toZ w64 (ofZ w64 (c .day-number .result))) < daysReached
+day-near c = subst (λ (z : ℤ). mag z < daysReached) (sym (day-back c)) (c .day-number .ensures .1)
 
--- and the count is that of the fields
-count-is : (c : tie.After-count-of) → let s = start (c .before .before .before) in c .count-of .result ≡ countOf (s .args .ticks-per-second) (s .args .fields)
-unfolding countOf
-count-is c =
+second-of-day-requires : tie.Need-second-of-day-requires
+second-of-day-requires c κs =
+    let f = start (c .before .before) .args .fields in
+    clock-parts (f .hour) (f .minute) (f .second) (clock-is (c .before .before))
+
+joined-requires : tie.Need-joined-requires
+joined-requires c κs =
     let d = c .before in
-    let e = d .before .before in
-    let t = start e .args .ticks-per-second in
-    let f = start e .args .fields in
-    c .count-of .ensures ∙ ap (λ (z : ℤ). joined z (ticksPerDay t) (tickOfDay t (f .hour) (f .minute) (f .second) (f .fraction))) (day-back d ∙ d .day-number .ensures .0 ∙ ap (λ (y : ℤ). dayNumber y (f .month) (f .day)) (sym (year-is e)))
+    (c .second-of-day .ensures .1, omega (arith, day-near d))
 
 returns-7 : tie.Need-returns-7
 returns-7 c =
-    let e = c .before .before .before in
-    let t = start e .args .ticks-per-second in
+    let d = c .before .before in
+    let e = d .before .before in
     let f = start e .args .fields in
-    let fits = signed-fits (countOf t f) (subst (λ (z : ℤ). mag z < 2 ^ 63) (count-is c) (c .count-of .ok)) in
-    encoding-good t f (formed e) fits ∙ ap given (sym (toZ-ofZ w64 (c .count-of .result) (record { sfits = c .count-of .ok }) ∙ count-is c))
+    let day = d .day-number .ensures .0 ∙ ap (λ (y : ℤ). dayNumber y (f .month) (f .day)) (sym (year-is e)) in
+    let back = toZ-ofZ w64 (c .joined .result) (record { sfits = c .joined .ok }) in (
+      (formed e, back ∙ second-told f (record { sfits = d .day-number .ok }) day (c .before .second-of-day .ensures .0) (c .joined .ensures)),
+      subst (λ (z : ℤ). mag z < secondsReached) (sym (back ∙ c .joined .ensures)) (joined-below (toZ w64 (ofZ w64 (d .day-number .result))) 86400 (c .before .second-of-day .result) 106751 (c .before .second-of-day .ensures .1) (day-near d)),
+    )
 
-pub encode-spec : {M : Type 1} → statement M
-encode-spec =
+pub second-of-spec : {M : Type 1} → statement M
+second-of-spec =
     tie.close
     (tie.spec
     (λ c κs. search needs)
@@ -113,5 +114,7 @@ encode-spec =
     (λ c κs. search needs)
     (λ c. search needs)
     day-number-requires
-    count-of-requires
+    second-of-day-requires
+    (λ c. search needs)
+    joined-requires
     returns-7)
