@@ -4,7 +4,7 @@ use mathlib.Core.Bool.{Bool, false}
 use mathlib.Core.Option.{Option, none, some}
 use Prim.Native.Nat.{ℕ, _*_, _<_, _≤_}
 use lib.Dec.{leb·zero}
-use lib.IntN.{ℤ, pos, negsuc}
+use lib.IntN.{pos, negsuc}
 use Rattle.timestamp.specs.Units.{TimeUnit}
 use Rattle.timestamp.specs.Outcomes.{given, unknownUnit, dayHas}
 use Rattle.column.specs.Numbers.{twosComplement}

@@ -13,7 +13,8 @@ use lib.Signed.{mag}
 use Rattle.timestamp.specs.Calendar.{divides, isLeap, months, daysOfMonth, dayOf, dayNumber, isDate}
 use Rattle.laws.proofs.BoolLaws.{by-test, and-both, both-and}
 use Rattle.laws.proofs.DifferenceLaws.{below?, pos-sub, negsuc-sub, sub-eq, sub-inj, sub-above, sub-below}
-use Rattle.timestamp.proofs.DateLaws.{Date, date-parts, parts-date, era-day-of, day-of-pos, day-number-era}
+use Rattle.timestamp.proofs.DateLaws.{Date, date-parts, parts-date, era-day-of, day-of-pos, date-era, day-number-era}
+use Rattle.timestamp.proofs.EraDateLaws.{era-date}
 
 -- ---- leap years
 
@@ -121,3 +122,22 @@ raised-most (negsuc m) n by most e h = omega (arith, sub-inj 0 (suc m) n by (sym
 pub raised-least : (x : ℤ) (n by most : ℕ) → x ≡ subℕ n by → mag x < most → by ≤ n + most
 raised-least (pos m) n by most e h = omega (arith, sub-inj m 0 n by (sym (pos-sub m) ∙ e))
 raised-least (negsuc m) n by most e h = omega (arith, sub-inj 0 (suc m) n by (sym (negsuc-sub m) ∙ e))
+
+-- ---- each day number has a date
+
+pub date-some : (day : ℤ) → (y : ℤ) × (m : ℕ) × (d : ℕ) × (isDate y m d ≡ true) × (dayNumber y m d ≡ day)
+date-some day =
+    let e = counted-from day in
+    let date = era-date (e .1) in
+    let y = subℕ (date .year) (400 * e .0) in (
+      y,
+      date .month,
+      date .day-of-month,
+      date-era y (date .year) (e .0) (date .month) (date .day-of-month) refl ∙ date .is-date,
+      day-number-from y (date .year) (e .0) (date .month) (date .day-of-month) (e .1) refl (date .is) ∙ sym (e .2),
+    )
+  where
+    -- counted from 1 March, so many eras before year 0 that it is not negative
+    counted-from : (z : ℤ) → (e : ℕ) × (n : ℕ) × (z ≡ subℕ n (146097 * e + 719468))
+    counted-from (pos m) = (0, m + 719468, pos-sub m ∙ sub-eq m 0 (m + 719468) (146097 * 0 + 719468) (omega arith))
+    counted-from (negsuc m) = (suc m, 146097 * suc m + 719468 - suc m, negsuc-sub m ∙ sub-eq 0 (suc m) (146097 * suc m + 719468 - suc m) (146097 * suc m + 719468) (omega arith))

@@ -1,33 +1,30 @@
 -- What is promised of decoding and encoding, over the ticks in a second, t, and so once for all units.
-use Prim.Native.Nat.{ℕ, _<_, _≤_, _^_}
+use Prim.Native.Nat.{ℕ, _/_, _%_, _<_, _≤_, _^_}
+use native.Mathlib.Nat.{mod-lt}
 use native.Mathlib.Omega.{arith}
 use mathlib.Core.Path.{_≡_, refl, sym, ap, ap₂, subst, _∙_}
-use mathlib.Core.Bool.{Bool, true, false, cond, _&&_}
+use mathlib.Core.Bool.{Bool, true, false, not, cond}
 use mathlib.Core.Option.{Option, none, some}
 use lib.IntN.{ℤ}
-use lib.Signed.{mag}
+use lib.Signed.{mag, nonNeg}
 use Rattle.timestamp.specs.declared.fields.Fields.{Fields}
 use Rattle.timestamp.specs.Calendar.{isDate, dayNumber}
 use Rattle.timestamp.specs.Clock.{isTime, tickOfDay}
-use Rattle.timestamp.specs.Units.{TimeUnit, ticksPerSecond, ticksPerDay}
+use Rattle.timestamp.specs.Units.{TimeUnit, millis, micros, nanos, ticksPerSecond, ticksPerDay}
 use Rattle.timestamp.specs.Count.{isDateTime, countOf, FieldsOf}
 use Rattle.timestamp.specs.Outcomes.{Outcome, refused, given, noDateTime, notRepresentable, isSigned64, Decodes, encodingIn, encoding}
-use Rattle.laws.proofs.BoolLaws.{and-both}
+use Rattle.laws.proofs.BoolLaws.{and-both, both-and}
+use Rattle.timestamp.proofs.CalendarLaws.{date-some}
 use Rattle.timestamp.proofs.DateLaws.{date-one}
 use Rattle.timestamp.proofs.ReachLaws.{count-far}
-use Rattle.timestamp.proofs.ClockLaws.{time-parts, tick-below, time-one}
-use Rattle.timestamp.proofs.FloorLaws.{joined-one, signed-fits, signed-beyond}
-use Rattle.timestamp.proofs.SignedLaws.{signed-of, signed-mag}
+use Rattle.timestamp.proofs.ClockLaws.{time-parts, parts-time, tick-below, time-one, tick-time, tick-back}
+use Rattle.timestamp.proofs.FloorLaws.{joined, joined-one, turned-of, turned-below, divided-signed, signed-fits, signed-beyond}
+use Rattle.timestamp.proofs.SignedLaws.{signed-of, signed-is, signed-mag}
 
 -- fields that form a date and time are of a date and of a time
 pub date-time-parts : (t : ℕ) (f : Fields) → isDateTime t f ≡ true → (isDate (f .year) (f .month) (f .day) ≡ true) × (isTime t (f .hour) (f .minute) (f .second) (f .fraction) ≡ true)
 unfolding isDateTime
 date-time-parts t f e = and-both (isDate (f .year) (f .month) (f .day)) (isTime t (f .hour) (f .minute) (f .second) (f .fraction)) e
-
--- and both tests tell whether they do
-pub date-time-told : (t : ℕ) (f : Fields) {y : ℤ} {date time : Bool} → y ≡ f .year → date ≡ isDate y (f .month) (f .day) → time ≡ isTime t (f .hour) (f .minute) (f .second) (f .fraction) → (date && time) ≡ isDateTime t f
-unfolding isDateTime
-date-time-told t f e p q = ap₂ _&&_ (p ∙ ap (λ (y : ℤ). isDate y (f .month) (f .day)) e) q
 
 -- fields that have the same count are equal
 pub count-one : (t : ℕ) (f g : Fields) → isDateTime t f ≡ true → isDateTime t g ≡ true → countOf t f ≡ countOf t g → f ≡ g
@@ -67,6 +64,42 @@ pub decodes-one : (u : Option TimeUnit) (count : ℤ) (o o′ : Outcome Fields) 
 decodes-one none count o o′ p q = p ∙ sym q
 decodes-one (some unit) count o o′ p q = p .1 ∙ ap given (fields-one (p .2) (q .2)) ∙ sym (q .1)
 
+-- every count has fields: the date of its days, rounded down, and the time of its rest
+pub fields-some : (t : ℕ) (count : ℤ) → 0 < t → (f : Fields) × FieldsOf t count f
+unfolding isDateTime countOf
+fields-some t count h = (f, record { formed = both-and _ _ (date .3) (parts-time t _ _ _ _ (tick-time t rest h below)); counted = counted })
+  where
+    b : Bool
+    b = not (nonNeg count)
+
+    positive : 0 < ticksPerDay t
+    positive = omega arith
+
+    rest : ℕ
+    rest = turned-of b (mag count % ticksPerDay t) (ticksPerDay t)
+
+    below : rest < ticksPerDay t
+    below = turned-below b (mag count % ticksPerDay t) (ticksPerDay t) (mod-lt (mag count) positive)
+
+    date : (y : ℤ) × (m : ℕ) × (d : ℕ) × (isDate y m d ≡ true) × (dayNumber y m d ≡ signed-of b (mag count / ticksPerDay t))
+    date = date-some (signed-of b (mag count / ticksPerDay t))
+
+    f : Fields
+    f = record { year = date .0; month = date .1; day = date .2; hour = rest / t / 60 / 60; minute = rest / t / 60 % 60; second = rest / t % 60; fraction = rest % t }
+
+    counted : countOf t f ≡ count
+    counted =
+        ap₂ (λ (z : ℤ) (r : ℕ). joined z (ticksPerDay t) r) (date .4) (tick-back t rest) ∙ sym (divided-signed b (mag count) (ticksPerDay t) positive) ∙ sym (signed-is count)
+
+-- so every count decodes
+pub decodes-some : (unit : TimeUnit) (count : ℤ) → (f : Fields) × Decodes (some unit) count (given f)
+decodes-some unit count = let some-fields = fields-some (ticksPerSecond unit) count (positive unit) in (some-fields .0, (some-fields .0, refl, some-fields .1))
+  where
+    positive : (unit : TimeUnit) → 0 < ticksPerSecond unit
+    positive millis = omega arith
+    positive micros = omega arith
+    positive nanos = omega arith
+
 -- ---- encoding, refusal by refusal
 
 pub encoding-none : (t : ℕ) (f : Fields) → isDateTime t f ≡ false → encodingIn t f ≡ noDateTime
@@ -79,11 +112,14 @@ unfolding encodingIn
 encoding-formed t f e =
     ap (λ (b : Bool). cond b (cond (isSigned64 (countOf t f)) (given (countOf t f)) notRepresentable) noDateTime) e
 
+pub encoding-beyond : (t : ℕ) (f : Fields) → isDateTime t f ≡ true → isSigned64 (countOf t f) ≡ false → encodingIn t f ≡ notRepresentable
+encoding-beyond t f p q = encoding-formed t f p ∙ ap (λ (b : Bool). cond b (given (countOf t f)) notRepresentable) q
+
 pub encoding-far : (t : ℕ) (f : Fields) → isDateTime t f ≡ true → 300000000 ≤ mag (f .year) → 1000 ≤ t → encodingIn t f ≡ notRepresentable
 unfolding countOf
 encoding-far t f e h k =
     let parts = date-time-parts t f e in
-    encoding-formed t f e ∙ ap (λ (b : Bool). cond b (given (countOf t f)) notRepresentable) (count-far (f .year) (f .month) (f .day) t (tickOfDay t (f .hour) (f .minute) (f .second) (f .fraction)) (parts .0) h k (tick-below t (f .hour) (f .minute) (f .second) (f .fraction) (time-parts t (f .hour) (f .minute) (f .second) (f .fraction) (parts .1))))
+    encoding-beyond t f e (count-far (f .year) (f .month) (f .day) t (tickOfDay t (f .hour) (f .minute) (f .second) (f .fraction)) (parts .0) h k (tick-below t (f .hour) (f .minute) (f .second) (f .fraction) (time-parts t (f .hour) (f .minute) (f .second) (f .fraction) (parts .1))))
 
 -- encoding gives the count exactly where the fields are good and the count fits
 pub encoding-good : (t : ℕ) (f : Fields) → isDateTime t f ≡ true → isSigned64 (countOf t f) ≡ true → encodingIn t f ≡ given (countOf t f)

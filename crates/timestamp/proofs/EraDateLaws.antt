@@ -3,13 +3,14 @@ use Prim.Native.Nat.{ℕ, suc, _+_, _*_, _-_, _/_, _%_, _<_, _≤_, _^_}
 use native.Mathlib.Numerals.{add-one}
 use native.Mathlib.Nat.{add-zero, div-eq-of-lt, le-div-iff-mul-le, div-lt-iff-lt-mul}
 use native.Mathlib.Omega.{arith}
-use mathlib.Core.Path.{_≡_, sym, ap, subst, _∙_}
+use mathlib.Core.Path.{_≡_, refl, sym, ap, subst, _∙_}
 use mathlib.Core.Bool.{true}
 use lib.IntN.{pos}
 use Rattle.timestamp.specs.Calendar.{isLeap, daysOfMonth, daysOfYear, dayOf, isDate}
 use Rattle.laws.proofs.DifferenceLaws.{below?}
 use Rattle.timestamp.proofs.DivisionLaws.{one-if, rest-is}
 use Rattle.timestamp.proofs.YearLaws.{march, days-of-year, days-of-year-most}
+use Rattle.timestamp.proofs.EraLaws.{year-at, day-at, day-year}
 use Rattle.timestamp.proofs.MonthLaws.{month-days, march-month, march-month-of, march-month-end, january-end}
 use Rattle.timestamp.proofs.DateLaws.{parts-date, era-day-of, day-of-pos, day-of-march, day-of-january}
 
@@ -77,6 +78,20 @@ module _ (n k i s : ℕ) (i-is : i ≡ (5 * k + 2) / 153) (s-is : s ≡ march-mo
   -- also by the years and the month that were told
   pub date-named : (years month : ℕ) → years ≡ i / 10 → month ≡ (i + 3 - 1) % 12 + 1 → k < daysOfYear (pos (n + 1)) → Date-in (n + years) month
   date-named years month y m h = subst (λ (a : ℕ). Date-in (n + a) month) (sym y) (subst (Date-in (n + i / 10)) (sym m) (date-told h))
+
+-- so each day has a date
+pub record EraDate (day : ℕ) : Type 0 where
+  pub year : ℕ
+  pub month : ℕ
+  pub day-of-month : ℕ
+  pub is-date : isDate (pos year) month day-of-month ≡ true
+  pub is : dayOf (pos year) month day-of-month ≡ pos (day + 61)
+
+pub era-date : (day : ℕ) → EraDate day
+era-date day =
+    let at = day-year day in
+    let date = date-told (year-at day) (day-at day) ((5 * day-at day + 2) / 153) _ refl refl (at .within) in
+    record { year = _; month = _; day-of-month = _; is-date = date .0; is = date .1 ∙ ap (λ (n : ℕ). pos (n + 61)) (at .is) }
 
 -- and the day of a date is told by the days before its year from March on and those before its month
 march-date-day : (n m d r s : ℕ) → 3 ≤ m → m ≤ 12 → 1 ≤ d → dayOf (pos n) 3 1 ≡ pos (r + 61) → s ≡ march-month (m - 3) → dayOf (pos n) m d ≡ pos (r + s + (d - 1) + 61)

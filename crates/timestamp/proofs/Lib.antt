@@ -11,5 +11,6 @@ pub mod FloorLaws
 pub mod ReachLaws
 pub mod ClockLaws
 pub mod CountLaws
+pub mod RefusalLaws
 pub mod UnitLaws
 pub mod MomentLaws

@@ -32,7 +32,7 @@ pub(crate) fn floor_divide(count: i64, ticks_per_day: u64) -> Division
     }
 }
 
-// The count of days and a rest, at so many ticks in a day; or in the same way the ticks of seconds and a fraction.
+// The count of days and a rest, at so many ticks in a day; or in the same way seconds of days, and the ticks of seconds and a fraction.
 pub(crate) fn joined(day: i64, ticks_per_day: u64, rest: u64) -> i64
     requires { ⌜ (rest < «ticks_per_day») × (suc (mag day) * «ticks_per_day» < 2 ^ 63) ⌝ }
     ensures { λ r. ⌜ r ≡ day *ℤ pos «ticks_per_day» +ℤ pos rest ⌝ }
@@ -40,7 +40,7 @@ pub(crate) fn joined(day: i64, ticks_per_day: u64, rest: u64) -> i64
     day * ticks_per_day as i64 + rest as i64
 }
 
-// The rest itself, or counted from the day's other end.
+// The rest itself, or counted from the day's other end; or in the same way a fraction, from the second's.
 pub(crate) fn turned(negative: bool, rest: u64, ticks_per_day: u64) -> u64
     requires { ⌜ rest < «ticks_per_day» ⌝ }
     ensures { λ r. ⌜ r ≡ cond negative («ticks_per_day» - 1 - rest) rest ⌝ }

@@ -1,0 +1,65 @@
+-- Which refusal encoding gives: each exactly where document 01 has it, in the order 20, 18, 19.
+use Prim.Native.Nat.{ℕ}
+use native.Mathlib.Omega.{arith}
+use mathlib.Core.Path.{_≡_, refl, sym, ap, _∙_}
+use mathlib.Core.Bool.{true, false}
+use mathlib.Core.Option.{Option, none, some}
+use lib.IntN.{ℤ}
+use Rattle.timestamp.specs.declared.fields.Fields.{Fields}
+use Rattle.timestamp.specs.Units.{TimeUnit, ticksPerSecond}
+use Rattle.timestamp.specs.Count.{isDateTime, countOf}
+use Rattle.timestamp.specs.Outcomes.{Outcome, refused, given, isSigned64, encodingIn, encoding}
+use Rattle.laws.proofs.BoolLaws.{by-test}
+use Rattle.timestamp.proofs.CountLaws.{encoding-none, encoding-beyond, encoding-good}
+
+-- the number of a refusal, and 0 of what is given
+abbrev number : Outcome ℤ → ℕ
+number (refused n place) = n
+number (given count) = 0
+
+-- one answer has one number
+other : {X : Type 0} {o : Outcome ℤ} (a b : Outcome ℤ) → o ≡ a → o ≡ b → (number a ≡ number b → ⊥) → X
+other a b p q h = absurd (h (ap number (sym p ∙ q)))
+
+-- what encoding answers in a unit: three answers, each with what it takes
+by-answer : {X : Type 0} (t : ℕ) (f : Fields) → (isDateTime t f ≡ false → encodingIn t f ≡ refused 18 0 → X) → (isDateTime t f ≡ true → isSigned64 (countOf t f) ≡ false → encodingIn t f ≡ refused 19 0 → X) → (encodingIn t f ≡ given (countOf t f) → X) → X
+by-answer t f on-18 on-19 on-count =
+    by-test (isDateTime t f)
+    (λ p. by-test (isSigned64 (countOf t f)) (λ q. on-count (encoding-good t f p q)) (λ q. on-19 p q (encoding-beyond t f p q)))
+    (λ p. on-18 p (encoding-none t f p))
+
+-- 20 exactly where no unit is named
+pub refused-20 : (u : Option TimeUnit) (f : Fields) → (encoding u f ≡ refused 20 0 → u ≡ none) × (u ≡ none → encoding u f ≡ refused 20 0)
+refused-20 u f = (only u, λ e. ap (λ (v : Option TimeUnit). encoding v f) e)
+  where
+    only : (u : Option TimeUnit) → encoding u f ≡ refused 20 0 → u ≡ none
+    only none e = refl
+    only (some unit) e =
+        by-answer (ticksPerSecond unit) f
+        (λ p a. other (refused 18 0) (refused 20 0) a e (λ n. omega arith))
+        (λ p q a. other (refused 19 0) (refused 20 0) a e (λ n. omega arith))
+        (λ a. other (given (countOf (ticksPerSecond unit) f)) (refused 20 0) a e (λ n. omega arith))
+
+-- 18 exactly where one is, and the fields form no date or time in it
+pub refused-18 : (u : Option TimeUnit) (f : Fields) → (encoding u f ≡ refused 18 0 → (unit : TimeUnit) × (u ≡ some unit) × (isDateTime (ticksPerSecond unit) f ≡ false)) × ((unit : TimeUnit) → u ≡ some unit → isDateTime (ticksPerSecond unit) f ≡ false → encoding u f ≡ refused 18 0)
+refused-18 u f = (only u, λ unit e p. ap (λ (v : Option TimeUnit). encoding v f) e ∙ encoding-none (ticksPerSecond unit) f p)
+  where
+    only : (u : Option TimeUnit) → encoding u f ≡ refused 18 0 → (unit : TimeUnit) × (u ≡ some unit) × (isDateTime (ticksPerSecond unit) f ≡ false)
+    only none e = other (refused 20 0) (refused 18 0) refl e (λ n. omega arith)
+    only (some unit) e =
+        by-answer (ticksPerSecond unit) f
+        (λ p a. (unit, refl, p))
+        (λ p q a. other (refused 19 0) (refused 18 0) a e (λ n. omega arith))
+        (λ a. other (given (countOf (ticksPerSecond unit) f)) (refused 18 0) a e (λ n. omega arith))
+
+-- 19 exactly where they do, and no signed 64-bit number is their count
+pub refused-19 : (u : Option TimeUnit) (f : Fields) → (encoding u f ≡ refused 19 0 → (unit : TimeUnit) × (u ≡ some unit) × (isDateTime (ticksPerSecond unit) f ≡ true) × (isSigned64 (countOf (ticksPerSecond unit) f) ≡ false)) × ((unit : TimeUnit) → u ≡ some unit → isDateTime (ticksPerSecond unit) f ≡ true → isSigned64 (countOf (ticksPerSecond unit) f) ≡ false → encoding u f ≡ refused 19 0)
+refused-19 u f = (only u, λ unit e p q. ap (λ (v : Option TimeUnit). encoding v f) e ∙ encoding-beyond (ticksPerSecond unit) f p q)
+  where
+    only : (u : Option TimeUnit) → encoding u f ≡ refused 19 0 → (unit : TimeUnit) × (u ≡ some unit) × (isDateTime (ticksPerSecond unit) f ≡ true) × (isSigned64 (countOf (ticksPerSecond unit) f) ≡ false)
+    only none e = other (refused 20 0) (refused 19 0) refl e (λ n. omega arith)
+    only (some unit) e =
+        by-answer (ticksPerSecond unit) f
+        (λ p a. other (refused 18 0) (refused 19 0) a e (λ n. omega arith))
+        (λ p q a. (unit, refl, p, q))
+        (λ a. other (given (countOf (ticksPerSecond unit) f)) (refused 19 0) a e (λ n. omega arith))
