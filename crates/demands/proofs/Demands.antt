@@ -11,8 +11,8 @@ use Rattle.column.proofs.PromiseLaws as value
 use Rattle.column_order.proofs.PromiseLaws as ordered
 use Rattle.column_type.proofs.LawfulLaws.{lawful-exactly, unlawful-exactly}
 use Rattle.column_order.proofs.OrderLaws as order
-use Rattle.column_order.proofs.FloatLaws.{floatOrder-bits}
-use Rattle.timestamp.proofs.CountLaws.{decodes-one, encoding-decoded, decoding-encoded}
+use Rattle.timestamp.proofs.CountLaws.{decodes-some, decodes-one, encoding-decoded, decoding-encoded}
+use Rattle.timestamp.proofs.RefusalLaws.{refused-20, refused-18, refused-19}
 use mathlib.Core.Path.{_≡_, refl, subst}
 use mathlib.Core.Bool.{true, false}
 use mathlib.Core.List.{List, []}
@@ -71,6 +71,7 @@ demand1 =
             decoding = values.decoding-first;
             decoding-one = λ unit count o o′. decodes-one (unitOf unit) count o o′;
             encoding = values.encoding-first;
+            in-day = values.in-day-first;
             rows-text = sheets.rows-text-first;
             answer-rows = sheets.answer-rows-first;
             answer-refusal = sheets.answer-refusal-first;
@@ -154,9 +155,17 @@ demand2 =
             order-trans = order.order-trans;
             order-antisym = order.order-antisym;
             order-total = order.order-total;
-            float-bits = floatOrder-bits;
           };
-      timestamps = record { decodes = decodes-some; decodes-one = decodes-fields; decoded-encodes = encoding-decoded; encoded-decodes = decoding-encoded };
+      timestamps =
+          record {
+            decodes = decodes-some;
+            decodes-one = decodes-fields;
+            unknown-unit = refused-20;
+            no-date-time = refused-18;
+            not-representable = refused-19;
+            decoded-encodes = encoding-decoded;
+            encoded-decodes = decoding-encoded;
+          };
     }
 
 pub reader : Reader

@@ -147,6 +147,11 @@ encoding-first unit f =
     by-unit (λ (u : ℕ). timestampEnd (timestamp.encoding (unitOf u) f) ≡ first (encodingGrounds u f) (countOf (ticks u) f))
     (fields-first 1000 f) (fields-first 1000000 f) (fields-first 1000000000 f) (λ u e k. rw (e, k)) unit
 
+pub in-day-first : (unit tick : ℕ) → timestampEnd (timestamp.dayHas (unitOf unit) tick) ≡ first (unknownUnit unit ∷ []) (ltb tick (86400 * ticks unit))
+unfolding first
+in-day-first unit tick =
+    by-unit (λ (u : ℕ). timestampEnd (timestamp.dayHas (unitOf u) tick) ≡ first (unknownUnit u ∷ []) (ltb tick (86400 * ticks u))) refl refl refl (λ u e k. rw (e, k)) unit
+
 -- the C interface ----------------------------------------------------------------------------------------------------------------------
 
 -- 14 behind what was asked for

@@ -4,11 +4,12 @@
 -- "Any bytes may be offered to any public entry, with no condition on the caller": no public function has a `requires`, and `proofs/Entries` cites each entry's
 -- contract for any arguments. The contract gives the answer, and what lent memory holds at the end, as the outcome that is named here; `Ends` says what
 -- each outcome ends with.
-use Prim.Native.Nat.{ℕ, _≤_, _<_}
+use Prim.Native.Nat.{ℕ, _*_}
 use mathlib.Core.Path.{_≡_}
 use mathlib.Core.Bool.{Bool}
 use mathlib.Core.List.{List, [], _∷_}
 use mathlib.Core.Option.{Option}
+use lib.Dec.{ltb}
 use lib.IntN.{ℤ}
 use lib.ListN.{length}
 use Rattle.sheet.specs.Block.{totalOf}
@@ -69,6 +70,8 @@ pub record Chosen : Type 1 where
   pub decoding-one : (unit : ℕ) (count : ℤ) (o o′ : Outcome Fields) → Decodes (unitOf unit) count o → Decodes (unitOf unit) count o′ → o ≡ o′
   -- `timestamp::encode`
   pub encoding : (unit : ℕ) (f : Fields) → timestampEnd (timestamp.encoding (unitOf unit) f) ≡ first (encodingGrounds unit f) (countOf (ticks unit) f)
+  -- `timestamp::in_day`, by which TIME is held to its day
+  pub in-day : (unit tick : ℕ) → timestampEnd (timestamp.dayHas (unitOf unit) tick) ≡ first (unknownUnit unit ∷ []) (ltb tick (86400 * ticks unit))
   -- `schema_text::rows_text`, and `schema_text::answer_text` of rows and of a refusal
   pub rows-text : (total : ℕ) (numbers : List ℕ) (room : ℕ) → textEnd (text.outcome (rowsTextOf total numbers) room) ≡ first (rowsTextGrounds total numbers room) (length (rowsText total numbers))
   pub answer-rows : (total : ℕ) (numbers : List ℕ) (room : ℕ) → textEnd (text.outcome (answerText (Resolved.Rows total) numbers) room) ≡ first (rowsTextGrounds total numbers room) (length (rowsText total numbers))

@@ -5,10 +5,10 @@ use Prim.Native.Nat.{ℕ, _+_, _<_, _≤_, _^_}
 use mathlib.Core.Path.{_≡_}
 use mathlib.Core.Bool.{Bool, true, false, _||_}
 use mathlib.Core.Logic.{_⊎_, _↔_}
-use mathlib.Core.Option.{Option, some}
+use mathlib.Core.Option.{Option, none, some}
 use mathlib.Core.List.{List, []}
 use lib.Dec.{eqb}
-use lib.Ieee.{Format, binary32, binary64, ofBits}
+use lib.Ieee.{binary32, binary64, ofBits}
 use lib.IntN.{ℤ, pos, natAbs}
 use lib.ListN.{length, getD, take, drop}
 use Rattle.parquet.specs.Physical.{BOOLEAN, INT96, FLOAT, DOUBLE}
@@ -39,8 +39,7 @@ use Rattle.column.specs.Annotations.{isText}
 use Rattle.column.specs.Outcome as read
 use Rattle.column.specs.Promises.{Whole, ByteForm, RightLength, Held, InWidth, InDay}
 use Rattle.column.specs.declared.value.Value.the-variants.{Truth, Signed, Unsigned, Float, Double, Bytes}
-use Rattle.column_order.specs.Keys.{numberOf, floatKey, keyOrder}
-use Rattle.column_order.specs.Values.{floatOrder}
+use Rattle.column_order.specs.Keys.{numberOf}
 use Rattle.column_order.specs.Order.{hasOrder, orderOf}
 use Rattle.column_order.specs.Outcome as order
 use Rattle.column_order.specs.Promises.{AsNumbers, AsBytes, bitsBelow, FLOAT-SIGN, FLOAT-INFINITY, DOUBLE-SIGN, DOUBLE-INFINITY, IsNan}
@@ -49,8 +48,9 @@ use Rattle.column_order.specs.declared.answer.Order.the-variants.{Equal, Unorde
 use Rattle.decimal.specs.Number.{number}
 use Rattle.utf8.specs.Text.{Text}
 use Rattle.utf8.specs.Valid.{validUpTo}
-use Rattle.timestamp.specs.Units.{TimeUnit}
-use Rattle.timestamp.specs.Outcomes.{Outcome, given, Decodes, isSigned64, encoding}
+use Rattle.timestamp.specs.Units.{TimeUnit, ticksPerSecond}
+use Rattle.timestamp.specs.Count.{isDateTime, countOf}
+use Rattle.timestamp.specs.Outcomes.{Outcome, refused, given, Decodes, isSigned64, encoding}
 use Rattle.timestamp.specs.declared.fields.Fields.{Fields}
 
 -- "Annotations, old and new, resolve": forward and backward, and the kind in a row
@@ -148,14 +148,16 @@ pub record Ordering : Type 1 where
   pub order-trans : (c : ColumnType) → hasOrder c ≡ true → (a b d : List ℕ) → Valid c a → Valid c b → Valid c d → atMost (orderOf c a b) ≡ true → atMost (orderOf c b d) ≡ true → atMost (orderOf c a d) ≡ true
   pub order-antisym : (c : ColumnType) → hasOrder c ≡ true → (a b : List ℕ) → Valid c a → Valid c b → atMost (orderOf c a b) ≡ true → atMost (orderOf c b a) ≡ true → orderOf c a b ≡ Equal
   pub order-total : (c : ColumnType) → hasOrder c ≡ true → (a b : List ℕ) → Valid c a → Valid c b → (NotANumber c a → ⊥) → (NotANumber c b → ⊥) → (atMost (orderOf c a b) || atMost (orderOf c b a)) ≡ true
-  -- floats compare by `<`, `>` and `==` as their bits do
-  pub float-bits : (f : Format) (a b : ℕ) → floatOrder (ofBits f a) (ofBits f b) ≡ keyOrder (floatKey f a) (floatKey f b)
 
 -- ".. and timestamps, decoded and encoded"
 pub record Timestamps : Type 1 where
   -- "Every count decodes", and to one set of fields
   pub decodes : (unit : TimeUnit) (count : ℤ) → (f : Fields) × Decodes (some unit) count (given f)
   pub decodes-one : (unit : TimeUnit) (count : ℤ) (f g : Fields) → Decodes (some unit) count (given f) → Decodes (some unit) count (given g) → f ≡ g
+  -- "Both check the unit first (20); encoding then 18, then 19": each is given exactly where it holds and none before it does
+  pub unknown-unit : (u : Option TimeUnit) (f : Fields) → (encoding u f ≡ refused 20 0) ↔ (u ≡ none)
+  pub no-date-time : (unit : TimeUnit) (f : Fields) → (encoding (some unit) f ≡ refused 18 0) ↔ (isDateTime (ticksPerSecond unit) f ≡ false)
+  pub not-representable : (unit : TimeUnit) (f : Fields) → (encoding (some unit) f ≡ refused 19 0) ↔ ((isDateTime (ticksPerSecond unit) f ≡ true) × (isSigned64 (countOf (ticksPerSecond unit) f) ≡ false))
   -- every count's fields encode to it
   pub decoded-encodes : (unit : TimeUnit) (count : ℤ) (o : Outcome Fields) → isSigned64 count ≡ true → Decodes (some unit) count o → (f : Fields) × (o ≡ given f) × (encoding (some unit) f ≡ given count)
   -- "each encodable field set decodes back"

@@ -3,6 +3,7 @@ use Prim.Native.Nat.{ℕ}
 use native.Mathlib.Omega.{arith}
 use mathlib.Core.Path.{_≡_, refl, sym, ap, _∙_}
 use mathlib.Core.Bool.{true, false}
+use mathlib.Core.Logic.{_↔_}
 use mathlib.Core.Option.{Option, none, some}
 use lib.IntN.{ℤ}
 use Rattle.timestamp.specs.declared.fields.Fields.{Fields}
@@ -29,7 +30,7 @@ by-answer t f on-18 on-19 on-count =
     (λ p. on-18 p (encoding-none t f p))
 
 -- 20 exactly where no unit is named
-pub refused-20 : (u : Option TimeUnit) (f : Fields) → (encoding u f ≡ refused 20 0 → u ≡ none) × (u ≡ none → encoding u f ≡ refused 20 0)
+pub refused-20 : (u : Option TimeUnit) (f : Fields) → (encoding u f ≡ refused 20 0) ↔ (u ≡ none)
 refused-20 u f = (only u, λ e. ap (λ (v : Option TimeUnit). encoding v f) e)
   where
     only : (u : Option TimeUnit) → encoding u f ≡ refused 20 0 → u ≡ none
@@ -40,26 +41,26 @@ refused-20 u f = (only u, λ e. ap (λ (v : Option TimeUnit). encoding v f) e)
         (λ p q a. other (refused 19 0) (refused 20 0) a e (λ n. omega arith))
         (λ a. other (given (countOf (ticksPerSecond unit) f)) (refused 20 0) a e (λ n. omega arith))
 
--- 18 exactly where one is, and the fields form no date or time in it
-pub refused-18 : (u : Option TimeUnit) (f : Fields) → (encoding u f ≡ refused 18 0 → (unit : TimeUnit) × (u ≡ some unit) × (isDateTime (ticksPerSecond unit) f ≡ false)) × ((unit : TimeUnit) → u ≡ some unit → isDateTime (ticksPerSecond unit) f ≡ false → encoding u f ≡ refused 18 0)
-refused-18 u f = (only u, λ unit e p. ap (λ (v : Option TimeUnit). encoding v f) e ∙ encoding-none (ticksPerSecond unit) f p)
-  where
-    only : (u : Option TimeUnit) → encoding u f ≡ refused 18 0 → (unit : TimeUnit) × (u ≡ some unit) × (isDateTime (ticksPerSecond unit) f ≡ false)
-    only none e = other (refused 20 0) (refused 18 0) refl e (λ n. omega arith)
-    only (some unit) e =
-        by-answer (ticksPerSecond unit) f
-        (λ p a. (unit, refl, p))
-        (λ p q a. other (refused 19 0) (refused 18 0) a e (λ n. omega arith))
-        (λ a. other (given (countOf (ticksPerSecond unit) f)) (refused 18 0) a e (λ n. omega arith))
+module _ (unit : TimeUnit) (f : Fields) where
+  abbrev t : ℕ
+  t = ticksPerSecond unit
 
--- 19 exactly where they do, and no signed 64-bit number is their count
-pub refused-19 : (u : Option TimeUnit) (f : Fields) → (encoding u f ≡ refused 19 0 → (unit : TimeUnit) × (u ≡ some unit) × (isDateTime (ticksPerSecond unit) f ≡ true) × (isSigned64 (countOf (ticksPerSecond unit) f) ≡ false)) × ((unit : TimeUnit) → u ≡ some unit → isDateTime (ticksPerSecond unit) f ≡ true → isSigned64 (countOf (ticksPerSecond unit) f) ≡ false → encoding u f ≡ refused 19 0)
-refused-19 u f = (only u, λ unit e p q. ap (λ (v : Option TimeUnit). encoding v f) e ∙ encoding-beyond (ticksPerSecond unit) f p q)
-  where
-    only : (u : Option TimeUnit) → encoding u f ≡ refused 19 0 → (unit : TimeUnit) × (u ≡ some unit) × (isDateTime (ticksPerSecond unit) f ≡ true) × (isSigned64 (countOf (ticksPerSecond unit) f) ≡ false)
-    only none e = other (refused 20 0) (refused 19 0) refl e (λ n. omega arith)
-    only (some unit) e =
-        by-answer (ticksPerSecond unit) f
+  -- 18 exactly where the fields form no date or time in the unit
+  pub refused-18 : (encoding (some unit) f ≡ refused 18 0) ↔ (isDateTime t f ≡ false)
+  refused-18 = (
+    λ e. by-answer t f
+        (λ p a. p)
+        (λ p q a. other (refused 19 0) (refused 18 0) a e (λ n. omega arith))
+        (λ a. other (given (countOf t f)) (refused 18 0) a e (λ n. omega arith)),
+    encoding-none t f,
+  )
+
+  -- 19 exactly where they do, and no signed 64-bit number is their count
+  pub refused-19 : (encoding (some unit) f ≡ refused 19 0) ↔ ((isDateTime t f ≡ true) × (isSigned64 (countOf t f) ≡ false))
+  refused-19 = (
+    λ e. by-answer t f
         (λ p a. other (refused 18 0) (refused 19 0) a e (λ n. omega arith))
-        (λ p q a. (unit, refl, p, q))
-        (λ a. other (given (countOf (ticksPerSecond unit) f)) (refused 19 0) a e (λ n. omega arith))
+        (λ p q a. (p, q))
+        (λ a. other (given (countOf t f)) (refused 19 0) a e (λ n. omega arith)),
+    λ h. encoding-beyond t f (h .0) (h .1),
+  )
