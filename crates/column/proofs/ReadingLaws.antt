@@ -1,6 +1,6 @@
 -- What it says of bytes that a value is read of them. Assumes nothing.
 use mathlib.Core.Path.{_≡_, refl}
-use mathlib.Core.Bool.{Bool, true, false, cond, _||_}
+use mathlib.Core.Bool.{Bool, true, false, not, cond, _||_}
 use mathlib.Core.List.{List}
 use Prim.Native.Nat.{ℕ, _*_, _^_, _≤_}
 use native.Mathlib.Omega.{arith}
@@ -16,6 +16,7 @@ use Rattle.column.specs.Lengths.{isByteForm, lengthRight}
 use Rattle.column.specs.Annotations.{isWhole, wholeKeeps, bytesKeep, textPlace, annotationPlace, keeps}
 use Rattle.column.specs.Reading.{wholeValue, valueOf, checked, readOf, readLawful}
 use Rattle.column.specs.declared.value.Value.{Value}
+use Rattle.column.specs.declared.value.Read.{Read}
 use Rattle.column.specs.declared.value.Read.the-variants as read
 use Rattle.column.proofs.LengthLaws.{width-right}
 
@@ -41,6 +42,28 @@ reads c bs v = go (isLawful c) refl (lengthRight c (length bs)) refl (keeps c bs
 pub read-lawful : (c : ColumnType) (bs : List ℕ) → isLawful c ≡ true → readLawful c bs ≡ readOf c bs
 unfolding readOf
 read-lawful c bs e = rw e
+
+-- and before it
+pub read-unlawful : (c : ColumnType) (bs : List ℕ) → isLawful c ≡ false → read.Unlawful ≡ readOf c bs
+unfolding readOf
+read-unlawful c bs e = rw e
+
+-- 20 is the answer for an unlawful column type alone
+abbrev pub isUnlawful : Read → Bool
+isUnlawful (read.Value v) = false
+isUnlawful read.Unlawful = true
+isUnlawful read.WrongLength = false
+isUnlawful (read.BreaksAnnotation place) = false
+
+pub unlawful-exactly : (c : ColumnType) (bs : List ℕ) → isUnlawful (readOf c bs) ≡ not (isLawful c)
+unfolding readOf
+unlawful-exactly c bs = go (isLawful c) (lengthRight c (length bs)) (keeps c bs)
+  where
+    go : (l r k : Bool) → isUnlawful (cond l (cond r (checked k (annotationPlace c bs) (valueOf c bs)) read.WrongLength) read.Unlawful) ≡ not l
+    go true true true = refl
+    go true true false = refl
+    go true false k = refl
+    go false r k = refl
 
 -- a value under UNKNOWN is refused at no byte
 pub unknown-place : (c : ColumnType) (bs : List ℕ) → c .kind ≡ UNKNOWN → annotationPlace c bs ≡ 0

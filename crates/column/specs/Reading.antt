@@ -16,6 +16,7 @@ use Rattle.column.specs.declared.value.Value.{Value}
 use Rattle.column.specs.declared.value.Value.the-variants.{Truth, Signed, Unsigned, Float, Double, Bytes}
 use Rattle.column.specs.declared.value.Read.{Read}
 use Rattle.column.specs.declared.value.Read.the-variants as read
+use Rattle.column.specs.declared.value.Both.{Both}
 
 -- "INT(n, false) reads its bytes unsigned"; every other whole number is signed
 abbrev pub wholeValue : ColumnType → ℕ → ℤ → Value
@@ -41,3 +42,7 @@ readLawful c bs = cond (lengthRight c (length bs)) (checked (keeps c bs) (annota
 -- "One value is checked for 20, then 15, then 16"
 unfoldable pub readOf : ColumnType → List ℕ → Read
 readOf c bs = cond (isLawful c) (readLawful c bs) read.Unlawful
+
+-- two values of one column, each checked so
+abbrev pub bothOf : ColumnType → List ℕ → List ℕ → Both
+bothOf c a b = record { first = readOf c a; second = readOf c b }

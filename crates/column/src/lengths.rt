@@ -20,7 +20,7 @@ const FLOAT_BYTES: usize = 4;
 const DOUBLE_BYTES: usize = 8;
 
 // Whether a value of the column may have so many bytes.
-pub fn length_right(c: ColumnType, n: usize) -> bool
+pub(crate) fn length_right(c: ColumnType, n: usize) -> bool
     ensures { λ r. ⌜ r ≡ lengthRight c n ⌝ }
 {
     if n > MOST_BYTES {
@@ -53,7 +53,7 @@ fn width_right(c: ColumnType, n: usize) -> bool
 }
 
 // Whether the column holds decimals as bytes.
-pub fn is_byte_decimal(c: ColumnType) -> bool
+fn is_byte_decimal(c: ColumnType) -> bool
     ensures { λ r. ⌜ r ≡ isByteDecimal c ⌝ }
 {
     if !is_byte_form(c) {

@@ -15,10 +15,9 @@ pub mod reading;
 // A value that was read, and what reading answers.
 pub mod value;
 
-pub use lengths::is_byte_decimal;
-pub use lengths::length_right;
 pub use reading::read;
-pub use reading::read_lawful;
+pub use reading::read_both;
+pub use value::Both;
 pub use value::Read;
 pub use value::Value;
 pub use value::place;

@@ -12,7 +12,7 @@ ghost use Rattle.parquet.specs.Logical.{DECIMAL, UNKNOWN};
 ghost use Rattle.column.specs.Numbers.{little, twosComplement};
 ghost use Rattle.column.specs.Lengths.{mostBytes, isByteForm, lengthRight};
 ghost use Rattle.column.specs.Annotations.{isWhole, isTruth, inDigits, wholeKeeps, bytesKeep, textPlace, annotationPlace, keeps};
-ghost use Rattle.column.specs.Reading.{wholeValue, valueOf, checked, readOf, readLawful};
+ghost use Rattle.column.specs.Reading.{wholeValue, valueOf, checked, readOf, bothOf, readLawful};
 ghost use Rattle.column.specs.Outcome.{outcomeOf, outcome};
 use crate::annotations::decimal_keeps;
 use crate::annotations::is_text;
@@ -27,6 +27,7 @@ use crate::numbers::INT32_SIGN;
 use crate::numbers::INT64_SIGN;
 use crate::numbers::little;
 use crate::numbers::signed;
+use crate::value::Both;
 use crate::value::NO_PLACE;
 use crate::value::Read;
 use crate::value::Value;
@@ -43,8 +44,25 @@ pub fn read(c: ColumnType, value: &[u8]) -> Read
     read_lawful(c, value)
 }
 
-// The same behind the check of the column type, for a caller that made it: 15, then 16, whether or not the column type is lawful.
-pub fn read_lawful(c: ColumnType, value: &[u8]) -> Read
+// Two values of one column type, each as `read` answers it, behind one check of the column type.
+pub fn read_both(c: ColumnType, a: &[u8], b: &[u8]) -> Both
+    ensures { λ r. ⌜ r ≡ bothOf c (now (a .entry)) (now (b .entry)) ⌝ }
+    ensures { λ r. ⌜ outcomeOf (r .first) ≡ outcome c (now (a .entry)) ⌝ }
+    ensures { λ r. ⌜ outcomeOf (r .second) ≡ outcome c (now (b .entry)) ⌝ }
+{
+    if !column_type::is_lawful(c) {
+        return Both {
+            first: Read::Unlawful,
+            second: Read::Unlawful,
+        };
+    }
+    let first = read_lawful(c, a);
+    let second = read_lawful(c, b);
+    Both { first, second }
+}
+
+// A value behind the check of the column type: 15, then 16.
+fn read_lawful(c: ColumnType, value: &[u8]) -> Read
     ensures { λ r. ⌜ r ≡ readLawful c (now (value .entry)) ⌝ }
 {
     if !length_right(c, value.len()) {

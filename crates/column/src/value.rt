@@ -23,6 +23,12 @@ pub enum Read {
     BreaksAnnotation { place: u32 },
 }
 
+// What reading two values of one column type answers.
+pub struct Both {
+    pub first: Read,
+    pub second: Read,
+}
+
 // Document 01's numbers of the refusals.
 const NO_REFUSAL: u32 = 0;
 

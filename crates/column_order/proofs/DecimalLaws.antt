@@ -1,44 +1,50 @@
 -- The order of decimals in bytes is what comparing them within their precision answers. Assumes nothing.
 use mathlib.Core.Path.{_≡_, refl, sym, ap, ap₂, _∙_}
-use mathlib.Core.Bool.{Bool, true, false, cond, _&&_}
+use mathlib.Core.Bool.{Bool, true, false, cond, _&&_, _||_}
 use mathlib.Core.List.{List, [], _∷_}
 use mathlib.Core.Logic.{⊎-elim}
-use Prim.Native.Nat.{ℕ}
+use mathlib.Core.Option.{none}
+use Prim.Native.Nat.{ℕ, _^_}
 use native.Mathlib.Omega.{arith}
-use lib.Dec.{eqb}
-use lib.IntN.{ℤ}
+use lib.Dec.{eqb, ltb, leb}
+use lib.IntN.{ℤ, natAbs}
 use lib.ListN.{length}
 use lib.Signed.{ltZ}
 use types.Run.{OneOf}
 use denote.Enum.Declared.{tagOf}
-use borrow.Author.Tests.{eqb-true}
+use borrow.Author.Tests.{eqb-true, le-leb}
 use Rattle.laws.proofs.BoolLaws.{and-left, and-right}
+use Rattle.parquet.specs.Physical.{BYTE-ARRAY, FIXED-LEN-BYTE-ARRAY}
 use Rattle.parquet.specs.Logical.{DECIMAL, UNKNOWN}
 use Rattle.decimal.specs.Number.{number}
-use Rattle.decimal.specs.Order.{order, orderOf}
+use Rattle.decimal.specs.Order.{order, orderOf as decimalOrder}
 use Rattle.decimal.proofs.OrderLaws.{orderOf-order}
 use Rattle.decimal.specs.Precision.{isLength}
+use Rattle.decimal.proofs.PrecisionLaws.{isLength-bounds}
+use Rattle.decimal.specs.Fit.{fitOf}
+use Rattle.decimal.specs.Within as within
 use Rattle.decimal.specs.Within.{asCompared, orderWithin}
+use Rattle.decimal.specs.declared.fit.Fit.{Fit}
+use Rattle.decimal.specs.declared.fit.Fit.the-variants as fit
 use Rattle.decimal.specs.declared.order.Order as decimal
 use Rattle.decimal.specs.declared.within.Compared.{Compared}
 use Rattle.decimal.specs.declared.within.Compared.the-variants as compared
 use Rattle.decimal.proofs.within.Compared as Compared′
-use Rattle.decimal.proofs.WithinLaws.{within-both}
 use Rattle.column_type.specs.Lawful.{isLawful}
 use Rattle.column_type.specs.declared.types.ColumnType.{ColumnType}
-use Rattle.column.specs.Lengths.{isByteForm, isByteDecimal, lengthRight}
+use Rattle.column.specs.Lengths.{mostBytes, widthOf, isWidth, isByteForm, isByteDecimal, lengthRight}
 use Rattle.column.specs.Annotations.{inDigits, bytesKeep, textPlace}
 use Rattle.column.specs.Reading.{checked, readOf}
 use Rattle.column.specs.declared.value.Read.{Read}
 use Rattle.column.specs.declared.value.Value.{Value}
-use Rattle.column.proofs.LengthLaws.{decimal-right}
 use Rattle.column.proofs.ReadingLaws.{read-lawful, bytes-read}
 use Rattle.column_order.specs.Keys.{whole, keyOf, wholeOrder, keyOrder}
-use Rattle.column_order.specs.Order.{FIRST, SECOND, unlessRefused, valuesOrder}
+use Rattle.column_order.specs.Order.{FIRST, SECOND, unlessRefused, valuesOrder, orderOf}
 use Rattle.column_order.specs.declared.answer.Order.{Order}
-use Rattle.column_order.specs.declared.answer.Order.the-variants.{Less, Equal, Greater, WrongLength, BreaksAnnotation}
+use Rattle.column_order.specs.declared.answer.Order.the-variants.{Less, Equal, Greater, Unordered, NoOrder}
 use Rattle.column_order.proofs.KeyLaws.{byte-number}
-use Rattle.column_order.proofs.OrderLaws.{takes-decimal, decimal-key}
+use Rattle.column_order.proofs.RefusalLaws.{order-lawful}
+use Rattle.column_order.proofs.OrderLaws.{takes-decimal, decimal-ordered, decimal-key}
 
 -- the answers of comparing within a precision, as answers here; whatever is no order comes to `refused`
 abbrev pub asOrder : Order → Compared → Order
@@ -64,6 +70,36 @@ whole-as refused x y = go (ltZ x y) (ltZ y x)
     go true u = refl
     go false true = refl
     go false false = refl
+
+-- what reading answers for so many bytes of a number, by how it fits its precision
+abbrev asRead : ℕ → Fit → Read
+asRead len fit.Within = Read.Value (Value.Bytes 0 len)
+asRead len fit.Beyond = Read.BreaksAnnotation 0
+asRead len fit.WrongLength = Read.WrongLength
+
+within-length : (bs : List ℕ) (p : ℕ) → fitOf bs p ≡ fit.Within → isLength (length bs) ≡ true
+unfolding fitOf
+within-length bs p = go (isLength (length bs))
+  where
+    go : (t : Bool) → cond t (cond (ltb (natAbs (number bs)) (10 ^ p)) fit.Within fit.Beyond) fit.WrongLength ≡ fit.Within → t ≡ true
+    go true e = refl
+    go false e = absurd (let z : _≡_ {A = ℕ} 0 1 = cc in omega arith)
+
+both-false : (t : Bool) → (t && false) ≡ false
+both-false true = refl
+both-false false = refl
+
+-- the refusal of the first value, or else that of the second
+abbrev pub refusal : ColumnType → List ℕ → List ℕ → Order
+refusal c a b = unlessRefused FIRST (readOf c a) (unlessRefused SECOND (readOf c b) Unordered)
+
+-- a byte form that is not FIXED has no width
+pub array-width : (c : ColumnType) → isByteDecimal c ≡ true → (c .physical ≡ FIXED-LEN-BYTE-ARRAY → ⊥) → widthOf c ≡ none
+array-width c is other = rw (go (eqb (c .physical) BYTE-ARRAY) refl (and-left (isByteForm c) (eqb (c .kind) DECIMAL) is))
+  where
+    go : (t : Bool) → eqb (c .physical) BYTE-ARRAY ≡ t → (t || eqb (c .physical) FIXED-LEN-BYTE-ARRAY) ≡ true → c .physical ≡ BYTE-ARRAY
+    go true e f = eqb-true (c .physical) BYTE-ARRAY e
+    go false e f = absurd (other (eqb-true (c .physical) FIXED-LEN-BYTE-ARRAY f))
 
 module _ (c : ColumnType) (lawful : isLawful c ≡ true) (is : isByteDecimal c ≡ true) where
   form : isByteForm c ≡ true
@@ -92,40 +128,61 @@ module _ (c : ColumnType) (lawful : isLawful c ≡ true) (is : isByteDecimal c �
       ∙ ap (λ (r : Read). cond (lengthRight c (length bs)) r Read.WrongLength)
       (sym (bytes-read c bs known form) ∙ ap₂ (λ (t : Bool) (place : ℕ). checked t place (Value.Bytes 0 (length bs))) (keeps-digits bs) (no-place bs))
 
-  wrong : (bs : List ℕ) → lengthRight c (length bs) ≡ false → readOf c bs ≡ Read.WrongLength
-  wrong bs e = read bs ∙ ap (λ (t : Bool). cond t (checked (inDigits (c .p1) (number bs)) 0 (Value.Bytes 0 (length bs))) Read.WrongLength) e
+  wide : (n : ℕ) → isWidth (widthOf c) n ≡ true → lengthRight c n ≡ isLength n
+  unfolding lengthRight
+  wide n w = rw (w, is) (go (isLength n) refl)
+    where
+      go : (t : Bool) → isLength n ≡ t → (leb n mostBytes && true && t) ≡ t
+      go true e = rw (le-leb n mostBytes (omega (arith, isLength-bounds n e .1)))
+      go false e = both-false (leb n mostBytes && true)
 
-  right : (bs : List ℕ) → lengthRight c (length bs) ≡ true → readOf c bs ≡ checked (inDigits (c .p1) (number bs)) 0 (Value.Bytes 0 (length bs))
-  right bs e = read bs ∙ ap (λ (t : Bool). cond t (checked (inDigits (c .p1) (number bs)) 0 (Value.Bytes 0 (length bs))) Read.WrongLength) e
+  not-wide : (n : ℕ) → isWidth (widthOf c) n ≡ false → lengthRight c n ≡ false
+  unfolding lengthRight
+  not-wide n w = rw (w, both-false (leb n mostBytes))
+
+  -- a value of any other width, and one of its column's, by how its number fits the precision
+  other-width : (bs : List ℕ) → isWidth (widthOf c) (length bs) ≡ false → readOf c bs ≡ Read.WrongLength
+  other-width bs w = read bs ∙ rw (not-wide (length bs) w)
+
+  own-width : (bs : List ℕ) → isWidth (widthOf c) (length bs) ≡ true → readOf c bs ≡ asRead (length bs) (fitOf bs (c .p1))
+  unfolding fitOf
+  own-width bs w = read bs ∙ rw (wide (length bs) w) (go (isLength (length bs)) (inDigits (c .p1) (number bs)))
+    where
+      go : (l t : Bool) → cond l (checked t 0 (Value.Bytes 0 (length bs))) Read.WrongLength ≡ asRead (length bs) (cond l (cond t fit.Within fit.Beyond) fit.WrongLength)
+      go true true = refl
+      go true false = refl
+      go false t = refl
 
   module _ (a b : List ℕ) where
-    pub wrong-first : lengthRight c (length a) ≡ false → WrongLength FIRST ≡ valuesOrder c a b
-    wrong-first e = rw (wrong a e)
+    judged : valuesOrder c a b ≡ orderOf c a b
+    judged =
+        let k = eqb-true (c .kind) DECIMAL kind in
+        ap (λ (t : Bool). cond t (valuesOrder c a b) NoOrder) (sym (decimal-ordered c k (takes-decimal c lawful k))) ∙ order-lawful c a b lawful
 
-    pub wrong-second : lengthRight c (length b) ≡ false → unlessRefused FIRST (readOf c a) (WrongLength SECOND) ≡ valuesOrder c a b
-    wrong-second e = rw (wrong b e)
+    pub wrong-first : isWidth (widthOf c) (length a) ≡ false → refusal c a b ≡ orderOf c a b
+    wrong-first w = let e : refusal c a b ≡ valuesOrder c a b = rw (other-width a w) in e ∙ judged
 
-    module _ (e : lengthRight c (length a) ≡ true) (f : lengthRight c (length b) ≡ true) where
-      length-a : isLength (length a) ≡ true
-      length-a = decimal-right c (length a) e form kind
+    pub wrong-second : isWidth (widthOf c) (length b) ≡ false → refusal c a b ≡ orderOf c a b
+    wrong-second w = let e : refusal c a b ≡ valuesOrder c a b = rw (other-width b w) in e ∙ judged
 
-      length-b : isLength (length b) ≡ true
-      length-b = decimal-right c (length b) f form kind
+    keys : fitOf a (c .p1) ≡ fit.Within → fitOf b (c .p1) ≡ fit.Within → (refused : Order) → asOrder refused (asCompared (decimalOrder a b)) ≡ keyOrder (keyOf c a) (keyOf c b)
+    unfolding keyOrder
+    keys e f refused =
+        ap (λ (o : decimal.Order). asOrder refused (asCompared o)) (orderOf-order a b (within-length a (c .p1) e) (within-length b (c .p1) f))
+        ∙ whole-as refused (number a) (number b)
+        ∙ sym (ap₂ keyOrder (key a) (key b))
 
-      keys : (refused : Order) → asOrder refused (asCompared (orderOf a b)) ≡ keyOrder (keyOf c a) (keyOf c b)
-      unfolding keyOrder
-      keys refused =
-          ap (λ (o : decimal.Order). asOrder refused (asCompared o)) (orderOf-order a b length-a length-b)
-          ∙ whole-as refused (number a) (number b)
-          ∙ sym (ap₂ keyOrder (key a) (key b))
-
-      pub both-right : asOrder (unlessRefused FIRST (readOf c a) (BreaksAnnotation SECOND 0)) (orderWithin a b (c .p1)) ≡ valuesOrder c a b
-      both-right =
-          ap (asOrder (unlessRefused FIRST (readOf c a) (BreaksAnnotation SECOND 0))) (within-both a b (c .p1) length-a length-b)
-          ∙ rw (right a e, right b f) (go (inDigits (c .p1) (number a)) (inDigits (c .p1) (number b)))
-        where
-          go : (t u : Bool) → asOrder (unlessRefused FIRST (checked t 0 (Value.Bytes 0 (length a))) (BreaksAnnotation SECOND 0)) (cond (t && u) (asCompared (orderOf a b)) compared.Beyond)
-              ≡ unlessRefused FIRST (checked t 0 (Value.Bytes 0 (length a))) (unlessRefused SECOND (checked u 0 (Value.Bytes 0 (length b))) (keyOrder (keyOf c a) (keyOf c b)))
-          go true true = keys (BreaksAnnotation SECOND 0)
-          go true false = refl
-          go false u = refl
+    pub own-widths : isWidth (widthOf c) (length a) ≡ true → isWidth (widthOf c) (length b) ≡ true → asOrder (refusal c a b) (orderWithin a b (c .p1)) ≡ orderOf c a b
+    unfolding orderWithin
+    own-widths v w =
+        let e : asOrder (refusal c a b) (orderWithin a b (c .p1)) ≡ valuesOrder c a b = rw (own-width a v, own-width b w) (go (fitOf a (c .p1)) (fitOf b (c .p1)) refl refl) in
+        e ∙ judged
+      where
+        go : (f g : Fit) → fitOf a (c .p1) ≡ f → fitOf b (c .p1) ≡ g
+            → asOrder (unlessRefused FIRST (asRead (length a) f) (unlessRefused SECOND (asRead (length b) g) Unordered)) (within.unlessRefused f (within.unlessRefused g (asCompared (decimalOrder a b))))
+            ≡ unlessRefused FIRST (asRead (length a) f) (unlessRefused SECOND (asRead (length b) g) (keyOrder (keyOf c a) (keyOf c b)))
+        go fit.Within fit.Within p q = keys p q Unordered
+        go fit.Within fit.Beyond p q = refl
+        go fit.Within fit.WrongLength p q = refl
+        go fit.Beyond g p q = refl
+        go fit.WrongLength g p q = refl

@@ -1,23 +1,22 @@
 -- Which value a refusal is laid on, and that it is then what reading answers for that value. Assumes nothing.
 use mathlib.Core.Path.{_≡_, refl, sym, ap, _∙_}
-use mathlib.Core.Bool.{Bool, true, false, cond}
+use mathlib.Core.Bool.{Bool, true, false, not, cond}
 use mathlib.Core.List.{List, [], _∷_}
 use mathlib.Core.Logic.{_↔_, _⊎_, inl, inr}
 use Prim.Native.Nat.{ℕ, _≤_}
 use native.Mathlib.Omega.{arith}
 use lib.Dec.{ltb}
-use lib.ListN.{length}
 use lib.Signed.{ltZ}
 use Rattle.column_type.specs.Lawful.{isLawful}
 use Rattle.column_type.specs.declared.types.ColumnType.{ColumnType}
-use Rattle.column.specs.Lengths.{mostBytes, lengthRight}
-use Rattle.column.specs.Annotations.{annotationPlace, keeps}
-use Rattle.column.specs.Reading.{valueOf, checked, readOf}
+use Rattle.column.specs.Lengths.{mostBytes}
+use Rattle.column.specs.Reading.{readOf}
 use Rattle.column.specs.Outcome as column
 use Rattle.column.specs.declared.value.Read.{Read}
 use Rattle.column.specs.declared.value.Read.the-variants as read
 use Rattle.column.specs.declared.value.Value.{Value}
 use Rattle.column.proofs.PlaceLaws as reading
+use Rattle.column.proofs.ReadingLaws.{isUnlawful, unlawful-exactly}
 use Rattle.column_order.specs.Keys.{Key, whole, bytes, none, keyOf, wholeOrder, byteOrder, keyOrder}
 use Rattle.column_order.specs.Order.{FIRST, SECOND, hasOrder, unlessRefused, valuesOrder, orderOf}
 use Rattle.column_order.specs.Comparison.{Valid}
@@ -72,13 +71,10 @@ unless-outcome value (read.BreaksAnnotation place) o h = refl
 
 -- a value of a lawful column is not refused with 20
 never-unlawful : (c : ColumnType) (bs : List ℕ) → isLawful c ≡ true → readOf c bs ≡ read.Unlawful → ⊥
-unfolding readOf
-never-unlawful c bs lawful = rw lawful (go (lengthRight c (length bs)) (keeps c bs))
-  where
-    go : (r k : Bool) → cond r (checked k (annotationPlace c bs) (valueOf c bs)) read.WrongLength ≡ read.Unlawful → ⊥
-    go true true e = let z : _≡_ {A = ℕ} 0 1 = cc in omega arith
-    go true false e = let z : _≡_ {A = ℕ} 0 1 = cc in omega arith
-    go false k e = let z : _≡_ {A = ℕ} 0 1 = cc in omega arith
+never-unlawful c bs lawful e =
+    let z : _≡_ {A = Bool} true false = ap isUnlawful (sym e) ∙ unlawful-exactly c bs ∙ ap not lawful in
+    let o : _≡_ {A = ℕ} 0 1 = cc in
+    omega arith
 
 -- a value that is given was read
 given-read : (c : ColumnType) (bs : List ℕ) (v : Value) → column.outcome c bs ≡ column.given v → readOf c bs ≡ read.Value v

@@ -2,12 +2,13 @@
 use mathlib.Core.Path.{_≡_, refl, sym, ap, ap₂, _∙_}
 use mathlib.Core.Bool.{Bool, true, false, not, cond, _||_}
 use mathlib.Core.List.{List}
-use Prim.Native.Nat.{ℕ}
+use Prim.Native.Nat.{ℕ, _≤_}
 use native.Mathlib.Omega.{arith}
 use lib.Dec.{eqb}
 use lib.Ieee.{binary32, binary64, ofBits}
 use lib.IntN.{pos}
 use lib.ListN.{length}
+use lib.Seq.{take-length}
 use borrow.Author.Tests.{leb-true, eqb-true, eqb-false}
 use Rattle.column_type.specs.declared.types.ColumnType.{ColumnType}
 use Rattle.decimal.specs.Number.{number}
@@ -23,18 +24,18 @@ use Rattle.column.specs.declared.value.Read.{Read}
 use Rattle.laws.proofs.BoolLaws.{and-left, and-right}
 use Rattle.column.proofs.ReadingLaws.{reads}
 use Rattle.column_order.specs.Keys.{Key, whole, bytes, numberOf, floatKey, keyOf, wholeOrder, byteOrder, keyOrder}
-use Rattle.column_order.specs.Values.{flag, truthOrder, signedOrder, unsignedOrder, singleOrder, doubleOrder}
+use Rattle.column_order.specs.Values.{flag, truthOrder, signedOrder, unsignedOrder, singleOrder, doubleOrder, stretch, stretchEnd, bytesOrder}
 use Rattle.column_order.specs.declared.answer.Order.{Order}
 use Rattle.column_order.proofs.FloatLaws.{floatOrder-bits}
 
--- two values by their cases, where `stretches` is the order of two stretches
-abbrev pub valueOrder : Order → Value → Value → Order
-valueOrder stretches (Truth p) v = truthOrder p v
-valueOrder stretches (Signed x) v = signedOrder x v
-valueOrder stretches (Unsigned m) v = unsignedOrder m v
-valueOrder stretches (Float x) v = singleOrder x v
-valueOrder stretches (Double x) v = doubleOrder x v
-valueOrder stretches (Bytes s n) v = stretches
+-- two values by their cases, whose stretches are those of the bytes `a` and `b`
+abbrev pub valueOrder : List ℕ → List ℕ → Value → Value → Order
+valueOrder a b (Truth p) v = truthOrder p v
+valueOrder a b (Signed x) v = signedOrder x v
+valueOrder a b (Unsigned m) v = unsignedOrder m v
+valueOrder a b (Float x) v = singleOrder x v
+valueOrder a b (Double x) v = doubleOrder x v
+valueOrder a b (Bytes s n) v = bytesOrder a s n v b
 
 -- a byte that is 0 or 1 is its truth value
 flag-truth : (n : ℕ) → isTruth n ≡ true → flag (eqb n 1) ≡ n
@@ -70,22 +71,23 @@ module _ (c : ColumnType) (a b : List ℕ) where
   truths p q e = ap₂ (λ (m n : ℕ). wholeOrder (pos m) (pos n)) (flag-truth (little a) (truth-kept c a p e)) (flag-truth (little b) (truth-kept c b q e))
 
   wholes : isWhole c ≡ true
-      → valueOrder (byteOrder a b) (wholeValue c (little a) (signed a)) (wholeValue c (little b) (signed b))
+      → valueOrder a b (wholeValue c (little a) (signed a)) (wholeValue c (little b) (signed b))
       ≡ wholeOrder (cond (isUnsigned c) (pos (little a)) (numberOf c a)) (cond (isUnsigned c) (pos (little b)) (numberOf c b))
   wholes e = go (isUnsigned c)
     where
-      go : (t : Bool) → valueOrder (byteOrder a b) (cond t (Unsigned (little a)) (Signed (signed a))) (cond t (Unsigned (little b)) (Signed (signed b)))
+      go : (t : Bool) → valueOrder a b (cond t (Unsigned (little a)) (Signed (signed a))) (cond t (Unsigned (little b)) (Signed (signed b)))
           ≡ wholeOrder (cond t (pos (little a)) (numberOf c a)) (cond t (pos (little b)) (numberOf c b))
       go true = refl
       go false = ap₂ wholeOrder (sym (whole-signed c a e)) (sym (whole-signed c b e))
 
+  -- the stretch of a value is all of its bytes
   stretches : isByteDecimal c ≡ false
-      → byteOrder a b ≡ keyOrder (cond (isByteDecimal c) (whole (numberOf c a)) (bytes a)) (cond (isByteDecimal c) (whole (numberOf c b)) (bytes b))
+      → byteOrder (stretch 0 (length a) a) (stretch 0 (length b) b) ≡ keyOrder (cond (isByteDecimal c) (whole (numberOf c a)) (bytes a)) (cond (isByteDecimal c) (whole (numberOf c b)) (bytes b))
   unfolding keyOrder
-  stretches d = rw d
+  stretches d = rw (take-length a, take-length b, d)
 
   pub value-order : isByteDecimal c ≡ false → keeps c a ≡ true → keeps c b ≡ true
-      → valueOrder (byteOrder a b) (valueOf c a) (valueOf c b) ≡ keyOrder (keyOf c a) (keyOf c b)
+      → valueOrder a b (valueOf c a) (valueOf c b) ≡ keyOrder (keyOf c a) (keyOf c b)
   unfolding valueOf keyOf keyOrder
   value-order d p q = go (eqb (c .physical) BOOLEAN) refl (isWhole c) refl (eqb (c .physical) FLOAT) (eqb (c .physical) DOUBLE)
     where
@@ -103,16 +105,33 @@ module _ (c : ColumnType) (a b : List ℕ) where
           (cond d (floatKey binary64 (little bs)) (cond (isByteDecimal c) (whole (numberOf c bs)) (bytes bs)))))
 
       go : (t : Bool) → eqb (c .physical) BOOLEAN ≡ t → (w : Bool) → isWhole c ≡ w → (f d : Bool)
-          → valueOrder (byteOrder a b) (value t w f d a) (value t w f d b) ≡ keyOrder (key t w f d a) (key t w f d b)
+          → valueOrder a b (value t w f d a) (value t w f d b) ≡ keyOrder (key t w f d a) (key t w f d b)
       go true e w i f d = truths p q e
       go false e true i f d = wholes i
       go false e false i true d = floatOrder-bits binary32 (little a) (little b)
       go false e false i false true = floatOrder-bits binary64 (little a) (little b)
       go false e false i false false = stretches d
 
+-- the stretch of a read value lies within the bytes that were read
+pub read-within : (c : ColumnType) (bs : List ℕ) (v : Value) → readOf c bs ≡ Read.Value v → stretchEnd v ≤ length bs
+unfolding valueOf
+read-within c bs v e =
+    rw (reads c bs v e .value) (go (eqb (c .physical) BOOLEAN) (isWhole c) (isUnsigned c) (eqb (c .physical) FLOAT) (eqb (c .physical) DOUBLE))
+  where
+    go : (t w u f d : Bool) → stretchEnd
+        (cond t (Truth (eqb (little bs) 1))
+        (cond w (cond u (Unsigned (little bs)) (Signed (signed bs)))
+        (cond f (Float (ofBits binary32 (little bs))) (cond d (Double (ofBits binary64 (little bs))) (Bytes 0 (length bs)))))) ≤ length bs
+    go true w u f d = omega arith
+    go false true true f d = omega arith
+    go false true false f d = omega arith
+    go false false u true d = omega arith
+    go false false u false true = omega arith
+    go false false u false false = omega arith
+
 pub read-order : (c : ColumnType) (a b : List ℕ) (x y : Value) → isByteDecimal c ≡ false → readOf c a ≡ Read.Value x → readOf c b ≡ Read.Value y
-    → valueOrder (byteOrder a b) x y ≡ keyOrder (keyOf c a) (keyOf c b)
+    → valueOrder a b x y ≡ keyOrder (keyOf c a) (keyOf c b)
 read-order c a b x y d p q =
     let r = reads c a x p in
     let s = reads c b y q in
-    ap₂ (valueOrder (byteOrder a b)) (r .value) (s .value) ∙ value-order c a b d (r .kept) (s .kept)
+    ap₂ (valueOrder a b) (r .value) (s .value) ∙ value-order c a b d (r .kept) (s .kept)

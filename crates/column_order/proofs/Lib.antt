@@ -4,6 +4,7 @@ pub mod WholeLaws
 pub mod ByteLaws
 pub mod FloatLaws
 pub mod KeyLaws
+pub mod RefusalLaws
 pub mod OrderLaws
 pub mod PromiseLaws
 pub mod DecimalLaws

@@ -180,7 +180,7 @@ takes-decimal c l k =
     p : ℕ
     p = c .physical
 
-decimal-ordered : (c : ColumnType) → c .kind ≡ DECIMAL → TakesDecimal c → hasOrder c ≡ true
+pub decimal-ordered : (c : ColumnType) → c .kind ≡ DECIMAL → TakesDecimal c → hasOrder c ≡ true
 decimal-ordered c k (inl e) = rw (k, e)
 decimal-ordered c k (inr (inl e)) = rw (k, e)
 decimal-ordered c k (inr (inr (inl e))) = rw (k, e)

@@ -1,14 +1,16 @@
 -- The order of two read values, case by case, as whole numbers and floats compare, which the contracts of private functions cite. Nothing here is
 -- a promise to a caller: that it is the order of the keys of their bytes is proved.
-use Prim.Native.Nat.{ℕ}
+use Prim.Native.Nat.{ℕ, _+_}
 use mathlib.Core.Bool.{Bool, cond}
+use mathlib.Core.List.{List}
 use lib.Ieee as Ieee
 use lib.IntN.{ℤ, pos}
+use lib.ListN.{take, drop}
 use Rattle.column.specs.declared.value.Value.{Value}
 use Rattle.column.specs.declared.value.Value.the-variants.{Truth, Signed, Unsigned, Float, Double, Bytes}
 use Rattle.column_order.specs.declared.answer.Order.{Order}
 use Rattle.column_order.specs.declared.answer.Order.the-variants.{Less, Equal, Greater, Unordered}
-use Rattle.column_order.specs.Keys.{wholeOrder}
+use Rattle.column_order.specs.Keys.{wholeOrder, byteOrder}
 
 -- a truth value as its byte has it
 abbrev pub flag : Bool → ℕ
@@ -58,3 +60,24 @@ doubleOrder x (Unsigned n) = Unordered
 doubleOrder x (Float y) = Unordered
 doubleOrder x (Double y) = floatOrder x y
 doubleOrder x (Bytes s n) = Unordered
+
+-- the bytes of a stretch, and where it ends among the bytes that were read; any other value has none, and ends at 0
+abbrev pub stretch : ℕ → ℕ → List ℕ → List ℕ
+stretch start len bs = take len (drop start bs)
+
+abbrev pub stretchEnd : Value → ℕ
+stretchEnd (Truth q) = 0
+stretchEnd (Signed y) = 0
+stretchEnd (Unsigned n) = 0
+stretchEnd (Float y) = 0
+stretchEnd (Double y) = 0
+stretchEnd (Bytes s n) = s + n
+
+-- a stretch of the bytes `a` against any value, whose stretch is one of the bytes `b`
+abbrev pub bytesOrder : List ℕ → ℕ → ℕ → Value → List ℕ → Order
+bytesOrder a start len (Truth q) b = Unordered
+bytesOrder a start len (Signed y) b = Unordered
+bytesOrder a start len (Unsigned n) b = Unordered
+bytesOrder a start len (Float y) b = Unordered
+bytesOrder a start len (Double y) b = Unordered
+bytesOrder a start len (Bytes s n) b = byteOrder (stretch start len a) (stretch s n b)

@@ -1,58 +1,69 @@
 // The order of decimals in bytes, whose refusals and numbers are judged together.
 ghost use mathlib.Core.Path.{_≡_};
 ghost use mathlib.Core.Bool.{true};
-ghost use Rattle.column_type.specs.Lawful.{isLawful};
-ghost use Rattle.column.specs.Lengths.{isByteDecimal};
+ghost use Rattle.column.specs.Lengths.{isWidth, widthOf, isByteDecimal};
 ghost use Rattle.column.specs.Reading.{readOf};
-ghost use Rattle.column_order.specs.Order.{FIRST, unlessRefused, valuesOrder};
+ghost use Rattle.column_order.specs.Order.{FIRST, SECOND, unlessRefused, orderOf};
+ghost use Rattle.column_order.specs.declared.answer.Order as declared;
 use crate::answer::FIRST;
-use crate::answer::NO_PLACE;
 use crate::answer::Order;
 use crate::answer::SECOND;
-use column::Read;
-use column::length_right;
+use crate::refusals::unless_refused;
+use column::codes;
 use column_type::ColumnType;
 use decimal::Compared;
 
-// The order of two values in a column of decimals in bytes. Of two that have right lengths and no order, one lies beyond the
-// precision: the first, or else the second.
-pub(crate) fn order_decimals(c: ColumnType, a: &[u8], b: &[u8]) -> Order
-    requires { ⌜ (isLawful c ≡ true) × (isByteDecimal c ≡ true) ⌝ }
-    ensures { λ r. ⌜ r ≡ valuesOrder c (now (a .entry)) (now (b .entry)) ⌝ }
+// Whether the column holds decimals in bytes.
+pub(crate) fn is_byte_decimal(c: ColumnType) -> bool
+    ensures { λ r. ⌜ r ≡ isByteDecimal c ⌝ }
 {
-    if !length_right(c, a.len()) {
-        return Order::WrongLength { value: FIRST };
+    ((c.physical == codes::BYTE_ARRAY) | (c.physical == codes::FIXED_LEN_BYTE_ARRAY))
+        & (c.kind == codes::DECIMAL)
+}
+
+// The order of two values in a column of decimals in bytes, which all have one. Of two without an order, one is refused.
+pub(crate) fn order_decimals(c: ColumnType, a: &[u8], b: &[u8]) -> Order
+    requires { ⌜ isByteDecimal c ≡ true ⌝ }
+    ensures { λ r. ⌜ r ≡ orderOf c (now (a .entry)) (now (b .entry)) ⌝ }
+{
+    if !column_type::is_lawful(c) {
+        return Order::Unlawful;
     }
-    if !length_right(c, b.len()) {
-        return unless_refused(c, a, Order::WrongLength { value: SECOND });
+    if !is_width(c, a.len()) {
+        return refused(c, a, b);
+    }
+    if !is_width(c, b.len()) {
+        return refused(c, a, b);
     }
     match decimal::compare_within(a, b, c.p1) {
         Compared::Less => Order::Less,
         Compared::Equal => Order::Equal,
         Compared::Greater => Order::Greater,
-        _ => unless_refused(
-            c,
-            a,
-            Order::BreaksAnnotation {
-                value: SECOND,
-                place: NO_PLACE,
-            },
-        ),
+        _ => refused(c, a, b),
     }
 }
 
-// The refusal of a first value, or what follows where it is read.
-fn unless_refused(c: ColumnType, a: &[u8], next: Order) -> Order
-    requires { ⌜ isLawful c ≡ true ⌝ }
-    ensures { λ r. ⌜ r ≡ unlessRefused FIRST (readOf c (now (a .entry))) next ⌝ }
+// Whether so many bytes are the width of the column's decimals in bytes, where it has one.
+fn is_width(c: ColumnType, n: usize) -> bool
+    requires { ⌜ isByteDecimal c ≡ true ⌝ }
+    ensures { λ r. ⌜ r ≡ isWidth (widthOf c) n ⌝ }
 {
-    match column::read_lawful(c, a) {
-        Read::Value(_) => next,
-        Read::Unlawful => Order::Unlawful,
-        Read::WrongLength => Order::WrongLength { value: FIRST },
-        Read::BreaksAnnotation { place } => Order::BreaksAnnotation {
-            value: FIRST,
-            place,
-        },
+    if c.physical == codes::FIXED_LEN_BYTE_ARRAY {
+        return n == c.type_length as usize;
     }
+    true
+}
+
+// The refusal of the first of two values, or else that of the second.
+fn refused(c: ColumnType, a: &[u8], b: &[u8]) -> Order
+    ensures { λ r. ⌜ r ≡ unlessRefused FIRST (readOf c (now (a .entry))) (unlessRefused SECOND (readOf c (now (b .entry))) declared.Order.Unordered) ⌝ }
+{
+    let both = column::read_both(c, a, b);
+    let first = both.first;
+    let second = both.second;
+    unless_refused(
+        FIRST,
+        first,
+        unless_refused(SECOND, second, Order::Unordered),
+    )
 }

@@ -10,6 +10,8 @@ mod doubles;
 mod floats;
 // Ordering two values.
 pub mod ordering;
+// The refusals of the two values.
+mod refusals;
 // The order of two stretches of bytes.
 mod stretches;
 // The order of two read values, by their cases.

@@ -1,7 +1,6 @@
 // Ordering two values of a column.
 ghost use mathlib.Core.Path.{_≡_};
-ghost use mathlib.Core.Bool.{true, false};
-ghost use Rattle.column_type.specs.Lawful.{isLawful};
+ghost use mathlib.Core.Bool.{true, false, cond};
 ghost use Rattle.column.specs.Lengths.{isByteDecimal};
 ghost use Rattle.column.specs.Reading.{readOf};
 ghost use Rattle.column.specs.declared.value.Read as declared;
@@ -11,8 +10,10 @@ ghost use Rattle.column_order.specs.Outcome.{outcomeOf, outcome};
 use crate::answer::FIRST;
 use crate::answer::Order;
 use crate::answer::SECOND;
+use crate::decimals::is_byte_decimal;
 use crate::decimals::order_decimals;
-use crate::stretches::order_bytes;
+use crate::refusals::unless_refused;
+use crate::values::compare_bytes;
 use crate::values::compare_double;
 use crate::values::compare_float;
 use crate::values::compare_signed;
@@ -28,16 +29,29 @@ pub fn order(c: ColumnType, a: &[u8], b: &[u8]) -> Order
     ensures { λ r. ⌜ r ≡ orderOf c (now (a .entry)) (now (b .entry)) ⌝ }
     ensures { λ r. ⌜ outcomeOf r ≡ outcome c (now (a .entry)) (now (b .entry)) ⌝ }
 {
-    if !column_type::is_lawful(c) {
-        return Order::Unlawful;
-    }
-    if !has_order(c) {
-        return Order::NoOrder;
-    }
-    if column::is_byte_decimal(c) {
+    if is_byte_decimal(c) {
         return order_decimals(c, a, b);
     }
     order_others(c, a, b)
+}
+
+// The order of two values in a column of anything but decimals in bytes: 20, then 17, then what the values decide.
+fn order_others(c: ColumnType, a: &[u8], b: &[u8]) -> Order
+    requires { ⌜ isByteDecimal c ≡ false ⌝ }
+    ensures { λ r. ⌜ r ≡ orderOf c (now (a .entry)) (now (b .entry)) ⌝ }
+{
+    let both = column::read_both(c, a, b);
+    let first = both.first;
+    let second = both.second;
+    match first {
+        Read::Unlawful => Order::Unlawful,
+        _ => {
+            if !has_order(c) {
+                return Order::NoOrder;
+            }
+            order_first(c, first, a, second, b)
+        }
+    }
 }
 
 // Whether the column has an order.
@@ -50,39 +64,29 @@ fn has_order(c: ColumnType) -> bool
     c.kind != codes::INTERVAL
 }
 
-// The order of two values in a column of anything but decimals in bytes.
-fn order_others(c: ColumnType, a: &[u8], b: &[u8]) -> Order
-    requires { ⌜ (isLawful c ≡ true) × (isByteDecimal c ≡ false) ⌝ }
+// The refusal of the first of two values, or what the second makes of it.
+fn order_first(c: ColumnType, first: Read, a: &[u8], second: Read, b: &[u8]) -> Order
+    requires { ⌜ (first ≡ readOf c (now a)) × (second ≡ readOf c (now b)) × (isByteDecimal c ≡ false) ⌝ }
     ensures { λ r. ⌜ r ≡ valuesOrder c (now (a .entry)) (now (b .entry)) ⌝ }
 {
-    match column::read_lawful(c, a) {
-        Read::Value(x) => order_after(c, x, a, b),
-        Read::Unlawful => Order::Unlawful,
-        Read::WrongLength => Order::WrongLength { value: FIRST },
-        Read::BreaksAnnotation { place } => Order::BreaksAnnotation {
-            value: FIRST,
-            place,
-        },
+    match first {
+        Read::Value(x) => order_second(c, x, a, second, b),
+        _ => unless_refused(FIRST, first, Order::Unordered),
     }
 }
 
-// The order of a first value that was read against a second.
-fn order_after(c: ColumnType, x: Value, a: &[u8], b: &[u8]) -> Order
-    requires { ⌜ (readOf c (now a) ≡ declared.Read.Value x) × (isByteDecimal c ≡ false) ⌝ }
+// The refusal of the second value, or its order against a first that was read.
+fn order_second(c: ColumnType, x: Value, a: &[u8], second: Read, b: &[u8]) -> Order
+    requires { ⌜ (readOf c (now a) ≡ declared.Read.Value x) × (second ≡ readOf c (now b)) × (isByteDecimal c ≡ false) ⌝ }
     ensures { λ r. ⌜ r ≡ unlessRefused SECOND (readOf c (now (b .entry))) (keyOrder (keyOf c (now (a .entry))) (keyOf c (now (b .entry)))) ⌝ }
 {
-    match column::read_lawful(c, b) {
+    match second {
         Read::Value(y) => order_read(c, x, a, y, b),
-        Read::Unlawful => Order::Unlawful,
-        Read::WrongLength => Order::WrongLength { value: SECOND },
-        Read::BreaksAnnotation { place } => Order::BreaksAnnotation {
-            value: SECOND,
-            place,
-        },
+        _ => unless_refused(SECOND, second, Order::Unordered),
     }
 }
 
-// The order of two values that were read: of stretches byte by byte, of others by their cases.
+// The order of two values that were read, by their cases.
 fn order_read(c: ColumnType, x: Value, a: &[u8], y: Value, b: &[u8]) -> Order
     requires { ⌜ (readOf c (now a) ≡ declared.Read.Value x) × (readOf c (now b) ≡ declared.Read.Value y) × (isByteDecimal c ≡ false) ⌝ }
     ensures { λ r. ⌜ r ≡ keyOrder (keyOf c (now (a .entry))) (keyOf c (now (b .entry))) ⌝ }
@@ -93,6 +97,6 @@ fn order_read(c: ColumnType, x: Value, a: &[u8], y: Value, b: &[u8]) -> Order
         Value::Unsigned(p) => compare_unsigned(p, y),
         Value::Float(p) => compare_float(p, y),
         Value::Double(p) => compare_double(p, y),
-        Value::Bytes { start: _, len: _ } => order_bytes(a, b),
+        Value::Bytes { start, len } => compare_bytes(a, start, len, y, b),
     }
 }

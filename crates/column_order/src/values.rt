@@ -1,9 +1,12 @@
 // The order of two read values, by their cases. Values of two cases, which one column never has, are unordered.
 ghost use mathlib.Core.Path.{_≡_};
-ghost use Rattle.column_order.specs.Values.{flag, truthOrder, signedOrder, unsignedOrder, singleOrder, doubleOrder};
+ghost use Prim.Native.Nat.{_+_, _≤_};
+ghost use lib.ListN.{length};
+ghost use Rattle.column_order.specs.Values.{flag, truthOrder, signedOrder, unsignedOrder, singleOrder, doubleOrder, stretchEnd, bytesOrder};
 use crate::answer::Order;
 use crate::doubles::order_doubles;
 use crate::floats::order_floats;
+use crate::stretches::order_bytes;
 use crate::wholes::order_numbers;
 use crate::wholes::order_signed;
 use column::Value;
@@ -75,6 +78,28 @@ pub(crate) fn compare_double(p: f64, y: Value) -> Order
         Value::Float(_) => Order::Unordered,
         Value::Double(q) => order_doubles(p, q),
         Value::Bytes { start: _, len: _ } => Order::Unordered,
+    }
+}
+
+// A stretch of the bytes `a` against any value, whose stretch is one of the bytes `b`.
+pub(crate) fn compare_bytes(a: &[u8], start: usize, len: usize, y: Value, b: &[u8]) -> Order
+    requires { ⌜ (start + len ≤ length (now a)) × (stretchEnd y ≤ length (now b)) ⌝ }
+    ensures { λ r. ⌜ r ≡ bytesOrder (now (a .entry)) start len y (now (b .entry)) ⌝ }
+{
+    match y {
+        Value::Truth(_) => Order::Unordered,
+        Value::Signed(_) => Order::Unordered,
+        Value::Unsigned(_) => Order::Unordered,
+        Value::Float(_) => Order::Unordered,
+        Value::Double(_) => Order::Unordered,
+        Value::Bytes {
+            start: from,
+            len: count,
+        } => {
+            let end = start + len;
+            let until = from + count;
+            order_bytes(&a[start..end], &b[from..until])
+        }
     }
 }
 

@@ -9,7 +9,7 @@ use Rattle.column_type.specs.declared.types.ColumnType.{ColumnType}
 use Rattle.column.specs.declared.value.Read.{Read}
 use Rattle.column.specs.Reading.{readOf}
 use Rattle.column.specs.Outcome.{outcomeOf, outcome}
-use Rattle.column.proofs.ReadingLaws.{read-lawful}
+use Rattle.column.proofs.ReadingLaws.{read-unlawful, read-lawful}
 use Rattle.column.proofs.reading.read.Statement.{statement}
 use Rattle.column.proofs.reading.read.Tie as tie
 
@@ -18,15 +18,13 @@ answered : (c : ColumnType) (bs : List ℕ) {r : Read} → r ≡ readOf c bs →
 unfolding outcome
 answered c bs e = (e, ap outcomeOf e)
 
-unlawful : (c : tie.Then1) → let s = c .before .before .before .args in Read.Unlawful ≡ readOf (s .c) (s .value .now)
-unfolding readOf
-unlawful c = rw (sym (c .before .is-lawful .ensures) ∙ not-true _ (c .if1 .taken))
-
 is-lawful-requires : tie.Need-is-lawful-requires
 is-lawful-requires c κs = search needs
 
 returns : tie.Need-returns
-returns c = answered (c .before .before .before .args .c) (c .before .before .before .args .value .now) (unlawful c)
+returns c =
+    let s = c .before .before .before .args in
+    answered (s .c) (s .value .now) (read-unlawful (s .c) (s .value .now) (sym (c .before .is-lawful .ensures) ∙ not-true _ (c .if1 .taken)))
 
 read-lawful-requires : tie.Need-read-lawful-requires
 read-lawful-requires c κs = search needs

@@ -1,63 +1,73 @@
--- `column_order::ordering::order_others` meets its contract: the refusal of the first value, or what the second makes of it.
+-- `column_order::ordering::order_others` meets its contract: 20 where no value can be read, then 17, then the values.
 -- Assumes nothing.
-use mathlib.Core.Path.{_≡_, sym, _∙_}
+use mathlib.Core.Path.{_≡_, sym, ap, subst, _∙_}
+use mathlib.Core.Bool.{Bool, cond}
+use mathlib.Core.List.{[], _∷_}
+use types.Run.{OneOf}
+use denote.Enum.Declared.{tagOf}
 use borrow.Author.Needs.{needs}
+use borrow.Author.Tests.{not-true, not-false}
 use Rattle.column.specs.Reading.{readOf}
-use Rattle.column.proofs.ReadingLaws.{read-lawful}
+use Rattle.column.specs.declared.value.Both.{Both}
+use Rattle.column.specs.declared.value.Read.{Read}
+use Rattle.column.proofs.value.Read as Read′
+use Rattle.column_order.specs.Order.{hasOrder, valuesOrder, orderOf}
+use Rattle.column_order.specs.declared.answer.Order.{Order}
+use Rattle.column_order.proofs.RefusalLaws.{read-unlawful, read-lawful}
 use Rattle.column_order.proofs.ordering.order_others.Statement.{statement}
 use Rattle.column_order.proofs.ordering.order_others.Tie as tie
 
--- the first value, read behind the check of the column type
-read : (c : tie.After-read-lawful) → let s = c .before .before .before .args in c .read-lawful .result ≡ readOf (s .c) (s .a .now)
-read c =
-    let s = c .before .before .before in
-    c .read-lawful .ensures ∙ read-lawful (s .args .c) (s .args .a .now) (s .pre .0)
+-- the two values, as they were read
+first : (c : tie.After-read-both) → let s = c .before .before .before .args in c .read-both .result .first ≡ readOf (s .c) (s .a .now)
+first c = ap (λ (r : Both). r .first) (c .read-both .ensures .0)
 
-read-lawful-requires : tie.Need-read-lawful-requires
-read-lawful-requires c κs = search needs
+second : (c : tie.After-read-both) → let s = c .before .before .before .args in c .read-both .result .second ≡ readOf (s .c) (s .b .now)
+second c = ap (λ (r : Both). r .second) (c .read-both .ensures .0)
 
-enum-known-x : tie.Need-enum-known-x
-enum-known-x c = search needs
+-- past 20, by whether the column has an order
+lawful : (c : tie.After-has-order) (t : Bool) → c .has-order .result ≡ t
+    → let s = c .before .before .before .before .before .args in
+    cond t (valuesOrder (s .c) (s .a .now) (s .b .now)) Order.NoOrder ≡ orderOf (s .c) (s .a .now) (s .b .now)
+lawful c t e =
+    let both = c .before .before in
+    let s = both .before .before .before .args in
+    ap (λ (u : Bool). cond u (valuesOrder (s .c) (s .a .now) (s .b .now)) Order.NoOrder) (sym e ∙ c .has-order .ensures)
+    ∙ read-lawful (s .c) (s .a .now) (s .b .now) (subst (λ (r : Read). OneOf (0 ∷ 2 ∷ 3 ∷ []) (tagOf Read′.the-type r)) (first both) (c .before .match .keys2))
 
-order-after-requires : tie.Need-order-after-requires
-order-after-requires c κs =
-    let at = c .before .before .before in
-    (sym (read at) ∙ c .before .x .given .1, at .before .before .before .pre .1)
+read-both-requires : tie.Need-read-both-requires
+read-both-requires c κs = search needs
 
 enum-told : tie.Need-enum-told
 enum-told c = search needs
 
-enum-told-2 : tie.Need-enum-told-2
-enum-told-2 c = search needs
-
-enum-known-place : tie.Need-enum-known-place
-enum-known-place c = search needs
+has-order-requires : tie.Need-has-order-requires
+has-order-requires c κs = search needs
 
 returns : tie.Need-returns
-returns c =
-    let at = c .before .before .before .before in
-    rw (sym (read at) ∙ c .before .before .x .given .1) (c .order-after .ensures)
+returns c = lawful (c .before) _ (not-true _ (c .if1 .taken))
+
+order-first-requires : tie.Need-order-first-requires
+order-first-requires c κs =
+    let both = c .before .before .before in
+    (first both, second both, both .before .before .before .pre)
 
 returns-2 : tie.Need-returns-2
-returns-2 c = rw (sym (read (c .before .before)) ∙ c .enum-told .given .1)
+returns-2 c =
+    let both = c .before .before in
+    let s = both .before .before .before .args in
+    read-unlawful (s .c) (s .a .now) (s .b .now) (sym (first both) ∙ c .enum-told .given .1)
 
 returns-3 : tie.Need-returns-3
-returns-3 c = rw (sym (read (c .before .before)) ∙ c .enum-told2 .given .1)
-
-returns-4 : tie.Need-returns-4
-returns-4 c = rw (sym (read (c .before .before .before)) ∙ c .before .place .given .1)
+returns-3 c = c .order-first .ensures ∙ lawful (c .before .before) _ (not-false _ (c .before .if1 .left))
 
 pub order-others-spec : {M : Type 1} → statement M
 order-others-spec =
     tie.close
     (tie.spec
-    read-lawful-requires
-    enum-known-x
-    order-after-requires
+    read-both-requires
     enum-told
-    enum-told-2
-    enum-known-place
+    has-order-requires
     returns
+    order-first-requires
     returns-2
-    returns-3
-    returns-4)
+    returns-3)

@@ -1,0 +1,34 @@
+-- `column_order::ordering::order_first` meets its contract: the refusal of the first value, or what the second makes of it.
+-- Assumes nothing.
+use mathlib.Core.Path.{_≡_, sym, _∙_}
+use borrow.Author.Needs.{needs}
+use Rattle.column_order.specs.Order.{FIRST}
+use Rattle.column_order.proofs.RefusalLaws.{refused-alike}
+use Rattle.column_order.proofs.ordering.order_first.Statement.{statement}
+use Rattle.column_order.proofs.ordering.order_first.Tie as tie
+
+enum-known-first : tie.Need-enum-known-first
+enum-known-first c = search needs
+
+order-second-requires : tie.Need-order-second-requires
+order-second-requires c κs =
+    let s = c .before .before .before .before .before in
+    (sym (s .pre .0) ∙ c .before .first .given .1, s .pre .1, s .pre .2)
+
+unless-refused-requires : tie.Need-unless-refused-requires
+unless-refused-requires c κs = search needs
+
+returns : tie.Need-returns
+returns c =
+    let s = c .before .before .before .before .before .before in
+    rw (sym (s .pre .0) ∙ c .before .before .first .given .1) (c .order-second .ensures)
+
+returns-2 : tie.Need-returns-2
+returns-2 c =
+    let s = c .before .before .before .before in
+    rw (sym (s .pre .0)) (c .unless-refused .ensures ∙ refused-alike FIRST (s .args .first) _ _ (c .before .match .keys2))
+
+pub order-first-spec : {M : Type 1} → statement M
+order-first-spec =
+    tie.close
+    (tie.spec enum-known-first order-second-requires unless-refused-requires returns returns-2)
