@@ -1,6 +1,7 @@
 // The order of decimals in bytes, whose refusals and numbers are judged together.
 ghost use mathlib.Core.Path.{_≡_};
 ghost use mathlib.Core.Bool.{true};
+ghost use Rattle.column_type.specs.Lawful.{isLawful};
 ghost use Rattle.column.specs.Lengths.{isWidth, widthOf, isByteDecimal};
 ghost use Rattle.column.specs.Reading.{readOf};
 ghost use Rattle.column_order.specs.Order.{FIRST, SECOND, unlessRefused, orderOf};
@@ -21,14 +22,11 @@ pub(crate) fn is_byte_decimal(c: ColumnType) -> bool
         & (c.kind == codes::DECIMAL)
 }
 
-// The order of two values in a column of decimals in bytes, which all have one. Of two without an order, one is refused.
+// The order of two values in a lawful column of decimals in bytes, each of which has one. Of two that are not ordered, one is refused.
 pub(crate) fn order_decimals(c: ColumnType, a: &[u8], b: &[u8]) -> Order
-    requires { ⌜ isByteDecimal c ≡ true ⌝ }
+    requires { ⌜ (isLawful c ≡ true) × (isByteDecimal c ≡ true) ⌝ }
     ensures { λ r. ⌜ r ≡ orderOf c (now (a .entry)) (now (b .entry)) ⌝ }
 {
-    if !column_type::is_lawful(c) {
-        return Order::Unlawful;
-    }
     if !is_width(c, a.len()) {
         return refused(c, a, b);
     }

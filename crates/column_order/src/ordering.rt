@@ -30,6 +30,9 @@ pub fn order(c: ColumnType, a: &[u8], b: &[u8]) -> Order
     ensures { λ r. ⌜ outcomeOf r ≡ outcome c (now (a .entry)) (now (b .entry)) ⌝ }
 {
     if is_byte_decimal(c) {
+        if !column_type::is_lawful(c) {
+            return Order::Unlawful;
+        }
         return order_decimals(c, a, b);
     }
     order_others(c, a, b)

@@ -1,44 +1,25 @@
--- `column_order::decimals::order_decimals` meets its contract: 20, then a wrong width, and else what comparing within the precision answers.
+-- `column_order::decimals::order_decimals` meets its contract: a wrong width first, and else what comparing within the precision answers.
 -- Assumes nothing.
 use mathlib.Core.Path.{_≡_, refl, sym, ap, _∙_}
-use mathlib.Core.Bool.{true}
 use borrow.Author.Needs.{needs}
 use borrow.Author.Tests.{not-true, not-false}
 use Rattle.decimal.specs.declared.within.Compared.{Compared}
-use Rattle.column_type.specs.Lawful.{isLawful}
 use Rattle.column_order.specs.Order.{orderOf}
-use Rattle.column_order.proofs.RefusalLaws.{order-unlawful}
 use Rattle.column_order.proofs.DecimalLaws.{asOrder, not-ordered, refusal, wrong-first, wrong-second, own-widths}
 use Rattle.column_order.proofs.decimals.order_decimals.Statement.{statement}
 use Rattle.column_order.proofs.decimals.order_decimals.Tie as tie
 
-abbrev start : tie.Else1 → tie.Start
-start c = c .before .before .before .before
-
-is-lawful : (c : tie.Else1) → isLawful (start c .args .c) ≡ true
-is-lawful c = sym (c .before .is-lawful .ensures) ∙ not-false _ (c .if1 .left)
-
 -- the order of two values of their column's width
 answer : (c : tie.After-compare-within) (o : Compared) → c .compare-within .result ≡ o
-    → let first = c .before .before .before in
-    let s = start (first .before .before) .args in
+    → let s = c .before .before .before .before .before .before .before .args in
     asOrder (refusal (s .c) (s .a .now) (s .b .now)) o ≡ orderOf (s .c) (s .a .now) (s .b .now)
 answer c o e =
     let second = c .before in
     let first = second .before .before in
-    let lawful = first .before .before in
-    let s = start lawful in
+    let s = first .before .before .before .before in
     ap (asOrder (refusal (s .args .c) (s .args .a .now) (s .args .b .now))) (sym e ∙ c .compare-within .ensures .0)
-    ∙ own-widths (s .args .c) (is-lawful lawful) (s .pre) (s .args .a .now) (s .args .b .now)
-    (sym (first .before .is-width .ensures) ∙ not-false _ (first .if2 .left)) (sym (second .before .is-width2 .ensures) ∙ not-false _ (second .if3 .left))
-
-is-lawful-requires : tie.Need-is-lawful-requires
-is-lawful-requires c κs = search needs
-
-returns : tie.Need-returns
-returns c =
-    let s = c .before .before .before .before .args in
-    order-unlawful (s .c) (s .a .now) (s .b .now) (sym (c .before .is-lawful .ensures) ∙ not-true _ (c .if1 .taken))
+    ∙ own-widths (s .args .c) (s .pre .0) (s .pre .1) (s .args .a .now) (s .args .b .now)
+    (sym (first .before .is-width .ensures) ∙ not-false _ (first .if1 .left)) (sym (second .before .is-width2 .ensures) ∙ not-false _ (second .if2 .left))
 
 is-width-requires : tie.Need-is-width-requires
 is-width-requires c κs = search needs
@@ -46,13 +27,12 @@ is-width-requires c κs = search needs
 refused-requires : tie.Need-refused-requires
 refused-requires c κs = search needs
 
-returns-2 : tie.Need-returns-2
-returns-2 c =
+returns : tie.Need-returns
+returns c =
     let first = c .before in
-    let lawful = first .before .before in
-    let s = start lawful in
+    let s = first .before .before .before .before in
     c .refused .ensures
-    ∙ wrong-first (s .args .c) (is-lawful lawful) (s .pre) (s .args .a .now) (s .args .b .now) (sym (first .before .is-width .ensures) ∙ not-true _ (first .if2 .taken))
+    ∙ wrong-first (s .args .c) (s .pre .0) (s .pre .1) (s .args .a .now) (s .args .b .now) (sym (first .before .is-width .ensures) ∙ not-true _ (first .if1 .taken))
 
 is-width-requires-2 : tie.Need-is-width-requires-2
 is-width-requires-2 c κs = search needs
@@ -60,13 +40,12 @@ is-width-requires-2 c κs = search needs
 refused-requires-2 : tie.Need-refused-requires-2
 refused-requires-2 c κs = search needs
 
-returns-3 : tie.Need-returns-3
-returns-3 c =
+returns-2 : tie.Need-returns-2
+returns-2 c =
     let second = c .before in
-    let lawful = second .before .before .before .before in
-    let s = start lawful in
+    let s = second .before .before .before .before .before .before in
     c .refused2 .ensures
-    ∙ wrong-second (s .args .c) (is-lawful lawful) (s .pre) (s .args .a .now) (s .args .b .now) (sym (second .before .is-width2 .ensures) ∙ not-true _ (second .if3 .taken))
+    ∙ wrong-second (s .args .c) (s .pre .0) (s .pre .1) (s .args .a .now) (s .args .b .now) (sym (second .before .is-width2 .ensures) ∙ not-true _ (second .if2 .taken))
 
 compare-within-requires : tie.Need-compare-within-requires
 compare-within-requires c κs = search needs
@@ -83,17 +62,17 @@ enum-told-3 c = search needs
 refused-requires-3 : tie.Need-refused-requires-3
 refused-requires-3 c κs = search needs
 
+returns-3 : tie.Need-returns-3
+returns-3 c = answer (c .before .before) Compared.Less (c .enum-told .given .1)
+
 returns-4 : tie.Need-returns-4
-returns-4 c = answer (c .before .before) Compared.Less (c .enum-told .given .1)
+returns-4 c = answer (c .before .before) Compared.Equal (c .enum-told2 .given .1)
 
 returns-5 : tie.Need-returns-5
-returns-5 c = answer (c .before .before) Compared.Equal (c .enum-told2 .given .1)
+returns-5 c = answer (c .before .before) Compared.Greater (c .enum-told3 .given .1)
 
 returns-6 : tie.Need-returns-6
-returns-6 c = answer (c .before .before) Compared.Greater (c .enum-told3 .given .1)
-
-returns-7 : tie.Need-returns-7
-returns-7 c =
+returns-6 c =
     let match = c .before in
     c .refused3 .ensures ∙ not-ordered _ (match .before .compare-within .result) (match .match .keys4) ∙ answer (match .before) _ refl
 
@@ -101,20 +80,18 @@ pub order-decimals-spec : {M : Type 1} → statement M
 order-decimals-spec =
     tie.close
     (tie.spec
-    is-lawful-requires
-    returns
     is-width-requires
     refused-requires
-    returns-2
+    returns
     is-width-requires-2
     refused-requires-2
-    returns-3
+    returns-2
     compare-within-requires
     enum-told
     enum-told-2
     enum-told-3
     refused-requires-3
+    returns-3
     returns-4
     returns-5
-    returns-6
-    returns-7)
+    returns-6)
