@@ -43,7 +43,7 @@ pub read-lawful : (c : ColumnType) (bs : List ℕ) → isLawful c ≡ true → r
 unfolding readOf
 read-lawful c bs e = rw e
 
--- and before it
+-- and where that check refuses
 pub read-unlawful : (c : ColumnType) (bs : List ℕ) → isLawful c ≡ false → read.Unlawful ≡ readOf c bs
 unfolding readOf
 read-unlawful c bs e = rw e

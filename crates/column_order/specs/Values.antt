@@ -1,4 +1,4 @@
--- The order of two read values, case by case, as whole numbers and floats compare, which the contracts of private functions cite. Nothing here is
+-- The order of two read values, case by case, as whole numbers, floats and bytes compare, which the contracts of private functions cite. Nothing here is
 -- a promise to a caller: that it is the order of the keys of their bytes is proved.
 use Prim.Native.Nat.{ℕ, _+_}
 use mathlib.Core.Bool.{Bool, cond}

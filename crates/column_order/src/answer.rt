@@ -28,7 +28,7 @@ pub(crate) const SECOND: u8 = 2;
 const NEITHER: u8 = 0;
 
 // The place of every refusal but that of text.
-pub(crate) const NO_PLACE: u32 = 0;
+const NO_PLACE: u32 = 0;
 
 // Document 01's numbers of the refusals.
 const NO_REFUSAL: u32 = 0;

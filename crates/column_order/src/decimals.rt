@@ -22,7 +22,7 @@ pub(crate) fn is_byte_decimal(c: ColumnType) -> bool
         & (c.kind == codes::DECIMAL)
 }
 
-// The order of two values in a lawful column of decimals in bytes, each of which has one. Of two that are not ordered, one is refused.
+// The order of two values in a lawful column of decimals in bytes, which has one. Where the two are not ordered, one is refused.
 pub(crate) fn order_decimals(c: ColumnType, a: &[u8], b: &[u8]) -> Order
     requires { ⌜ (isLawful c ≡ true) × (isByteDecimal c ≡ true) ⌝ }
     ensures { λ r. ⌜ r ≡ orderOf c (now (a .entry)) (now (b .entry)) ⌝ }

@@ -1,6 +1,6 @@
 // Ordering two values of a column.
 ghost use mathlib.Core.Path.{_≡_};
-ghost use mathlib.Core.Bool.{true, false, cond};
+ghost use mathlib.Core.Bool.{false};
 ghost use Rattle.column.specs.Lengths.{isByteDecimal};
 ghost use Rattle.column.specs.Reading.{readOf};
 ghost use Rattle.column.specs.declared.value.Read as declared;

@@ -1,6 +1,6 @@
 -- `column_order::ordering::order_first` meets its contract: the refusal of the first value, or what the second makes of it.
 -- Assumes nothing.
-use mathlib.Core.Path.{_≡_, sym, _∙_}
+use mathlib.Core.Path.{sym, _∙_}
 use borrow.Author.Needs.{needs}
 use Rattle.column_order.specs.Order.{FIRST}
 use Rattle.column_order.proofs.RefusalLaws.{refused-alike}

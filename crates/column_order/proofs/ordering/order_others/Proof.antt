@@ -11,7 +11,7 @@ use Rattle.column.specs.Reading.{readOf}
 use Rattle.column.specs.declared.value.Both.{Both}
 use Rattle.column.specs.declared.value.Read.{Read}
 use Rattle.column.proofs.value.Read as Read′
-use Rattle.column_order.specs.Order.{hasOrder, valuesOrder, orderOf}
+use Rattle.column_order.specs.Order.{valuesOrder, orderOf}
 use Rattle.column_order.specs.declared.answer.Order.{Order}
 use Rattle.column_order.proofs.RefusalLaws.{read-unlawful, read-lawful}
 use Rattle.column_order.proofs.ordering.order_others.Statement.{statement}

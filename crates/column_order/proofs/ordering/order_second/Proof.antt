@@ -1,6 +1,6 @@
 -- `column_order::ordering::order_second` meets its contract: the refusal of the second value, or the order.
 -- Assumes nothing.
-use mathlib.Core.Path.{_≡_, sym, _∙_}
+use mathlib.Core.Path.{sym, _∙_}
 use borrow.Author.Needs.{needs}
 use Rattle.column_order.specs.Order.{SECOND}
 use Rattle.column_order.proofs.RefusalLaws.{refused-alike}
