@@ -41,18 +41,28 @@ use Rattle.column_type.proofs.is_lawful.Statement as column-type-is-lawful-stat
 use Rattle.column_type.proofs.is_lawful.Met as column-type-is-lawful-met
 use Rattle.column.proofs.read.Statement as column-read-stated
 use Rattle.column.proofs.read.Met as column-read-met
+use Rattle.column.proofs.read_both.Statement as column-read-both-stated
+use Rattle.column.proofs.read_both.Met as column-read-both-met
 use Rattle.column_order.proofs.order.Statement as column-order-order-stated
 use Rattle.column_order.proofs.order.Met as column-order-order-met
 use Rattle.timestamp.proofs.decode.Statement as timestamp-decode-stated
 use Rattle.timestamp.proofs.decode.Met as timestamp-decode-met
 use Rattle.timestamp.proofs.encode.Statement as timestamp-encode-stated
 use Rattle.timestamp.proofs.encode.Met as timestamp-encode-met
+use Rattle.timestamp.proofs.in_day.Statement as timestamp-in-day-stated
+use Rattle.timestamp.proofs.in_day.Met as timestamp-in-day-met
 use Rattle.timestamp.proofs.units.Millis.divide.Statement as timestamp-Millis-divide-stated
 use Rattle.timestamp.proofs.units.Millis.divide.Met as timestamp-Millis-divide-met
+use Rattle.timestamp.proofs.units.Millis.has_tick.Statement as timestamp-Millis-has-tick-stated
+use Rattle.timestamp.proofs.units.Millis.has_tick.Met as timestamp-Millis-has-tick-met
 use Rattle.timestamp.proofs.units.Micros.divide.Statement as timestamp-Micros-divide-stated
 use Rattle.timestamp.proofs.units.Micros.divide.Met as timestamp-Micros-divide-met
+use Rattle.timestamp.proofs.units.Micros.has_tick.Statement as timestamp-Micros-has-tick-stated
+use Rattle.timestamp.proofs.units.Micros.has_tick.Met as timestamp-Micros-has-tick-met
 use Rattle.timestamp.proofs.units.Nanos.divide.Statement as timestamp-Nanos-divide-stated
 use Rattle.timestamp.proofs.units.Nanos.divide.Met as timestamp-Nanos-divide-met
+use Rattle.timestamp.proofs.units.Nanos.has_tick.Statement as timestamp-Nanos-has-tick-stated
+use Rattle.timestamp.proofs.units.Nanos.has_tick.Met as timestamp-Nanos-has-tick-met
 use Rattle.utf8.proofs.valid_up_to.Statement as utf8-valid-up-to-stated
 use Rattle.utf8.proofs.valid_up_to.Met as utf8-valid-up-to-met
 use Rattle.decimal.proofs.is_length.Statement as decimal-is-length-stated
@@ -156,6 +166,9 @@ column-type-is-lawful = column-type-is-lawful-met.met
 pub column-read : {M : Type 1} → column-read-stated.statement M
 column-read = column-read-met.met
 
+pub column-read-both : {M : Type 1} → column-read-both-stated.statement M
+column-read-both = column-read-both-met.met
+
 pub column-order-order : {M : Type 1} → column-order-order-stated.statement M
 column-order-order = column-order-order-met.met
 
@@ -167,14 +180,26 @@ timestamp-decode = timestamp-decode-met.met
 pub timestamp-encode : {M : Type 1} → timestamp-encode-stated.statement M
 timestamp-encode = timestamp-encode-met.met
 
+pub timestamp-in-day : {M : Type 1} → timestamp-in-day-stated.statement M
+timestamp-in-day = timestamp-in-day-met.met
+
 pub timestamp-Millis-divide : {M : Type 1} → timestamp-Millis-divide-stated.statement M
 timestamp-Millis-divide = timestamp-Millis-divide-met.met
+
+pub timestamp-Millis-has-tick : {M : Type 1} → timestamp-Millis-has-tick-stated.statement M
+timestamp-Millis-has-tick = timestamp-Millis-has-tick-met.met
 
 pub timestamp-Micros-divide : {M : Type 1} → timestamp-Micros-divide-stated.statement M
 timestamp-Micros-divide = timestamp-Micros-divide-met.met
 
+pub timestamp-Micros-has-tick : {M : Type 1} → timestamp-Micros-has-tick-stated.statement M
+timestamp-Micros-has-tick = timestamp-Micros-has-tick-met.met
+
 pub timestamp-Nanos-divide : {M : Type 1} → timestamp-Nanos-divide-stated.statement M
 timestamp-Nanos-divide = timestamp-Nanos-divide-met.met
+
+pub timestamp-Nanos-has-tick : {M : Type 1} → timestamp-Nanos-has-tick-stated.statement M
+timestamp-Nanos-has-tick = timestamp-Nanos-has-tick-met.met
 
 -- text and decimals ---------------------------------------------------------------------------------------------------------------
 
