@@ -2,7 +2,7 @@
 -- Assumes nothing.
 use Prim.Native.Nat.{ℕ}
 use mathlib.Core.Path.{_≡_, refl, sym, _∙_, subst}
-use mathlib.Core.Bool.{Bool, true, false, true≢false, _||_}
+use mathlib.Core.Bool.{Bool, true, false, true≢false, cond, _||_}
 use lib.Dec.{eqb}
 use Rattle.parquet.specs.Physical as physical
 use Rattle.parquet.specs.Logical as logical
@@ -101,6 +101,11 @@ kind-leaf Annotation.Plain n length leaf e = rw leaf
 kind-leaf (Annotation.Logical l) n length leaf e = rw (kind-logical l n) (logical-leaf l (n .physical) length leaf e)
 kind-leaf Annotation.Interval n length leaf e = refl
 kind-leaf Annotation.Unreadable n length leaf e = absurd (true≢false (sym e))
+
+-- an annotation that may stand can be read
+pub readable : (valid : Bool) (says : Annotation) (code length : ℕ) → annotationOn (cond valid says Annotation.Unreadable) code length ≡ true → valid ≡ true
+readable true says code length e = refl
+readable false says code length e = absurd (true≢false (sym e))
 
 -- a group that keeps rule 10 is plain, LIST or MAP
 pub group-kind : (n : Annotated) (underMap : Bool) → rule10 n underMap ≡ true → n .physical ≡ physical.GROUP → groupKind (kindOf n underMap .kind) ≡ true

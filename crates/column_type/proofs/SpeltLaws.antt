@@ -10,6 +10,7 @@ use Rattle.parquet.specs.Converted as converted
 use Rattle.parquet.specs.Logical as logical
 use Rattle.logical_type.specs.Parameters.{UNUSED, validParameters}
 use Rattle.logical_type.specs.Spelling.{codeOf, namedOf, statedOf}
+use Rattle.annotation.proofs.PlacementLaws.{readable}
 use Rattle.annotation.specs.Signed.{natural}
 use Rattle.logical_type.specs.Backward.{backwardOf}
 use Rattle.annotation.specs.Meaning.{annotationOf}
@@ -39,11 +40,6 @@ pub record Spelt (c : ColumnType) (n : Annotated) : Type 0 where
   pub logical : logicalListed (n .logical) ≡ true
   pub digits : decimalShape (n .converted) (n .logical) (n .scale) (n .precision) ≡ true
   pub kind : kindOf n false ≡ kindIn c
-
--- a code that says something where it takes its parameters, and rule 10 lets it stand
-readable : (valid : Bool) (says : Annotation) (code length : ℕ) → annotationOn (cond valid says Annotation.Unreadable) code length ≡ true → valid ≡ true
-readable true says code length e = refl
-readable false says code length e = e
 
 -- the codes of the logical types are listed
 code-listed : (l : LogicalType) → logicalListed (codeOf l) ≡ true

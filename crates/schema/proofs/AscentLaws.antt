@@ -23,7 +23,7 @@ use Rattle.schema.specs.Roles.{slotOf, Standing, Ascent, isResolvedMap, 
 use Rattle.schema.specs.declared.roles.Parent.{Parent}
 use Rattle.schema.specs.declared.roles.Parent.the-variants as parent
 use Rattle.schema.proofs.RepeatedFieldLaws.{no-list, no-map}
-use Rattle.schema.proofs.RewrittenRowsLaws.{map-below}
+use Rattle.schema.proofs.RewrittenRowsLaws.{map-after}
 
 -- the element's group --------------------------------------------------------------------------------------------------------
 
@@ -109,14 +109,6 @@ says-after parent.Map i a h = h
 says-after parent.KeyValue i a h = (h .0, omega arith)
 says-after parent.KeyValueRest i a h = (h .0, omega arith)
 
-map-kept : (q : Parent) → isMapParent (afterFirst q) ≡ isMapParent q
-map-kept parent.Other = refl
-map-kept parent.List = refl
-map-kept parent.ListLayer = refl
-map-kept parent.Map = refl
-map-kept parent.KeyValue = refl
-map-kept parent.KeyValueRest = refl
-
 pub under-after : (q : Parent) (i : ℕ) (above : SlotBytes) (a : Ascent) → Under q i above a → Under (afterFirst q) (suc i) above a
 under-after q i above a u =
     record {
@@ -126,7 +118,7 @@ under-after q i above a u =
       layer = λ h. ap afterFirst (u .layer h);
       first = λ h e. absurd (omega arith);
       later = λ h l. behind i refl h;
-      map-alike = map-kept q ∙ u .map-alike;
+      map-alike = map-after q ∙ u .map-alike;
       slot-is = u .slot-is;
     }
   where

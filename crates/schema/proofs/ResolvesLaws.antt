@@ -26,7 +26,7 @@ use Rattle.annotation.specs.Rule11.{ordered, isDecimal, decimalHolds}
 use Rattle.annotation.specs.Rule11 as eleven
 use Rattle.annotation.specs.declared.slot.Annotated.{Annotated}
 use Rattle.annotation.specs.declared.resolution.Kind.{Kind}
-use Rattle.annotation.proofs.PlacementLaws.{kind-logical}
+use Rattle.annotation.proofs.PlacementLaws.{kind-logical, readable}
 use Rattle.sheet.specs.Slot.{physical, converted as convertedOf, logical as logicalOf, parameterA, parameterB, scale, precision, numbersOf}
 use Rattle.tree.specs.Annotated.{annotated, kind, rule10, rule11}
 use Rattle.tree.specs.Tree.{SlotBytes, Tree, listing, size}
@@ -36,11 +36,6 @@ use Rattle.schema.specs.Rows.{isMapParent, rows}
 use Rattle.schema.specs.Roles.{ascent, isUnderMap}
 use Rattle.schema.specs.Demand.{kindIn, ResolvesTo}
 use Rattle.schema.proofs.NodeRowLaws.{node-row, row-kind}
-
--- the annotation that rule 10 lets stand: the logical type with its parameters, or the converted type's meaning with none
-readable : (valid : Bool) (says : Annotation) (code length : ℕ) → annotationOn (cond valid says Annotation.Unreadable) code length ≡ true → valid ≡ true
-readable true says code length e = refl
-readable false says code length e = absurd (true≢false (sym e))
 
 -- the kind of what spells a code and parameters
 spelled-kind : (says : Annotation) (n : Annotated) (code a b length : ℕ) → Spells says code a b → annotationOn says (n .physical) length ≡ true → (kindAs says n .kind ≡ code) × ((code ≡ logical.DECIMAL → ⊥) → (kindAs says n .p1 ≡ a) × (kindAs says n .p2 ≡ b))
