@@ -1,13 +1,12 @@
 -- Each sentence of "Single values" holds of the outcome of reading, both ways.
 use Prim.Native.Nat.{ℕ, _*_, _-_, _^_, _<_, _≤_}
-use mathlib.Core.Path.{_≡_, refl, sym, ap, _∙_}
-use mathlib.Core.Bool.{Bool, true, false, true≢false, false≢true, cond, not, _&&_, _||_}
-use mathlib.Core.List.{List, [], _∷_}
+use mathlib.Core.Path.{_≡_, refl, sym, _∙_}
+use mathlib.Core.Bool.{Bool, true, false, false≢true, cond, not, _&&_, _||_}
+use mathlib.Core.List.{List}
 use mathlib.Core.Logic.{_⊎_, inl, inr, _↔_}
-use mathlib.Core.Option.{some}
 use native.Mathlib.Omega.{arith}
 use borrow.Author.Tests.{eq-eqb, ne-eqb, eqb-true, eqb-false, lt-ltb, ltb-true, le-leb, leb-true}
-use lib.Dec.{T, leb, ltb, eqb}
+use lib.Dec.{leb, ltb, eqb}
 use lib.Ieee.{binary32, binary64, ofBits}
 use lib.IntN.{ℤ, pos, negℤ, natAbs}
 use lib.ListN.{length}
@@ -15,7 +14,7 @@ use lib.Signed.{leZ, ltZ, _≤ℤ_, _<ℤ_, leZ-yes, ltZ-yes}
 use Rattle.timestamp.specs.Units.{unitOf}
 use Rattle.laws.proofs.BoolLaws.{by-test, and-left, and-right, both-and, T-true}
 use Rattle.parquet.specs.Physical.{BOOLEAN, INT32, INT64, INT96, FLOAT, DOUBLE, BYTE-ARRAY, FIXED-LEN-BYTE-ARRAY}
-use Rattle.parquet.specs.Logical.{STRING, ENUM, DECIMAL, TIME, INTEGER, UNKNOWN, JSON}
+use Rattle.parquet.specs.Logical.{DECIMAL, TIME, INTEGER, UNKNOWN}
 use Rattle.decimal.specs.Precision.{isLength}
 use Rattle.decimal.specs.Number.{number}
 use Rattle.utf8.specs.Text.{Text}
@@ -28,9 +27,9 @@ use Rattle.column_type.proofs.LawfulLaws.{unlawful-exactly}
 use Rattle.column_type.proofs.PlacementLaws.{integer-whole, time-whole, time-unit}
 use Rattle.column.specs.Numbers.{little, signed}
 use Rattle.column.specs.Lengths.{mostBytes, widthOf, isWidth, isByteForm, isByteDecimal, lengthRight}
-use Rattle.column.specs.Annotations.{isWhole, isUnsigned, inBits, inSignedBits, inDay, inDigits, wholeKeeps, isText, bytesKeep, annotationPlace, keeps}
+use Rattle.column.specs.Annotations.{isUnsigned, inBits, inSignedBits, inDay, inDigits, wholeKeeps, isText, bytesKeep, annotationPlace, keeps}
 use Rattle.column.specs.Reading.{valueOf, checked, readOf}
-use Rattle.column.specs.Outcome.{Outcome, refused, given, outcomeOf, outcome}
+use Rattle.column.specs.Outcome.{refused, given, outcomeOf, outcome}
 use Rattle.column.specs.Promises.{Whole, ByteForm, RightLength, Held, InWidth, InDay}
 use Rattle.column.specs.declared.value.Read.the-variants as read
 use Rattle.column.specs.declared.value.Value.{Value}

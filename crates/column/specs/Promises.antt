@@ -9,7 +9,7 @@ use Rattle.column_type.specs.declared.types.ColumnType.{ColumnType}
 use Rattle.parquet.specs.Physical.{BOOLEAN, INT32, INT64, INT96, FLOAT, DOUBLE, BYTE-ARRAY, FIXED-LEN-BYTE-ARRAY}
 use Rattle.parquet.specs.Logical.{DECIMAL}
 use Rattle.column.specs.declared.value.Value.{Value}
-use Rattle.column.specs.Outcome.{Outcome, refused, given, outcome}
+use Rattle.column.specs.Outcome.{refused, given, outcome}
 
 -- a column of whole numbers, or of byte forms
 abbrev pub Whole : ColumnType → Type 0

@@ -1,18 +1,18 @@
 -- Each sentence of "Order" holds of `orderOf`, both ways.
-use Prim.Native.Nat.{ℕ, _%_, _*_, _<_, _≤_, _^_}
+use Prim.Native.Nat.{ℕ, _%_, _*_, _<_, _≤_}
 use mathlib.Core.Path.{_≡_, refl, sym, ap, ap₂, _∙_}
-use mathlib.Core.Bool.{Bool, true, false, false≢true, cond, not, _&&_, _||_}
+use mathlib.Core.Bool.{Bool, true, false, false≢true, cond, _&&_}
 use mathlib.Core.List.{List, [], _∷_}
 use mathlib.Core.Logic.{_⊎_, inl, inr, _↔_}
 use native.Mathlib.Omega.{arith}
-use borrow.Author.Tests.{eq-eqb, ne-eqb, eqb-true, lt-ltb, le-ltb, ltb-true, ltb-false}
-use lib.Dec.{leb, ltb, eqb}
-use lib.Ieee.{Format, binary32, binary64, hid, ones, top, nanBits}
+use borrow.Author.Tests.{ne-eqb, eqb-true, lt-ltb, le-ltb, ltb-true, ltb-false}
+use lib.Dec.{ltb, eqb}
+use lib.Ieee.{Format, binary32, binary64, hid, ones, top}
 use lib.Ieee.Bits.{nanBits-above}
-use lib.IntN.{ℤ, pos, negℤ}
-use lib.Signed.{ltZ, _<ℤ_}
+use lib.IntN.{ℤ, pos}
+use lib.Signed.{ltZ}
 use Rattle.laws.proofs.BoolLaws.{by-test}
-use Rattle.parquet.specs.Physical.{BOOLEAN, INT32, INT64, INT96, FLOAT, DOUBLE, BYTE-ARRAY, FIXED-LEN-BYTE-ARRAY}
+use Rattle.parquet.specs.Physical.{BOOLEAN, INT96, FLOAT, DOUBLE}
 use Rattle.parquet.specs.Converted.{INTERVAL}
 use Rattle.parquet.specs.Logical.{DECIMAL, INTEGER}
 use Rattle.decimal.specs.Number.{number}
@@ -20,14 +20,10 @@ use Rattle.column_type.specs.Lawful.{isLawful}
 use Rattle.column_type.specs.declared.types.ColumnType.{ColumnType}
 use Rattle.column.specs.Numbers.{little, signed}
 use Rattle.column.specs.Promises.{Whole, ByteForm}
-use Rattle.column.specs.Reading.{readOf}
-use Rattle.column.specs.declared.value.Read.{Read}
-use Rattle.column.specs.declared.value.Read.the-variants as read
-use Rattle.column.proofs.ReadingLaws.{reads}
 use Rattle.column_order.specs.Keys.{Key, whole, bytes, none, numberOf, floatKey, keyOf, wholeOrder, byteOrder, keyOrder}
-use Rattle.column_order.specs.Order.{hasOrder, unlessRefused, valuesOrder, orderOf}
+use Rattle.column_order.specs.Order.{hasOrder, orderOf}
 use Rattle.column_order.specs.Comparison.{Valid, turned}
-use Rattle.column_order.specs.Outcome.{Outcome, refused, given, outcomeOf, outcome}
+use Rattle.column_order.specs.Outcome.{refused, outcome}
 use Rattle.column_order.specs.Promises.{AsNumbers, Before, prefix, lower, further, AsBytes, bitsBelow, FLOAT-SIGN, FLOAT-INFINITY, DOUBLE-SIGN, DOUBLE-INFINITY, IsNan}
 use Rattle.column_order.specs.declared.answer.Order.{Order}
 use Rattle.column_order.specs.declared.answer.Order.the-variants.{Less, Equal, Greater, Unordered, Unlawful, NoOrder, WrongLength, BreaksAnnotation}

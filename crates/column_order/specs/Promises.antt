@@ -1,5 +1,5 @@
 -- The terms in which demand 2 says how the values of a column are ordered.
-use Prim.Native.Nat.{ℕ, _%_, _<_, _≤_, _^_}
+use Prim.Native.Nat.{ℕ, _%_, _<_, _^_}
 use mathlib.Core.Path.{_≡_}
 use mathlib.Core.Bool.{cond}
 use mathlib.Core.List.{List, [], _∷_}

@@ -1,7 +1,7 @@
 -- The slot of a lawful column type: its numbers fit, its codes are listed, and its row has the kind, p1 and p2 that it was made of.
 use Prim.Native.Nat.{ℕ, _<_}
 use mathlib.Core.Path.{_≡_, refl, sym, _∙_}
-use mathlib.Core.Bool.{Bool, true, false, true≢false, cond, and-eq-true-iff, or-true}
+use mathlib.Core.Bool.{true, false, true≢false, cond, and-eq-true-iff, or-true}
 use native.Mathlib.Decide.{ℕ-discrete}
 use native.Mathlib.Omega.{arith}
 use lib.Dec.{eqb}

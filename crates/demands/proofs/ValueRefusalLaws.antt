@@ -1,11 +1,11 @@
 -- What a call for values or timestamps ends with is the first of the paper's refusals that holds, or its result; in C too.
-use Prim.Native.Nat.{ℕ, _+_, _*_, _≤_, _^_}
-use mathlib.Core.Path.{_≡_, refl, sym, ap, _∙_}
+use Prim.Native.Nat.{ℕ, _*_}
+use mathlib.Core.Path.{_≡_, refl, ap, _∙_}
 use mathlib.Core.Bool.{Bool, true, false, cond, not, _&&_}
-use mathlib.Core.List.{List, [], _∷_, _++_}
+use mathlib.Core.List.{List, [], _∷_}
 use mathlib.Core.Option.{Option, none, some}
 use native.Mathlib.Omega.{arith}
-use borrow.Author.Tests.{eqb-true, eqb-false, leb-true, leb-false, lt-leb}
+use borrow.Author.Tests.{eqb-true, eqb-false, leb-true}
 use lib.Dec.{eqb, leb, ltb}
 use lib.IntN.{ℤ, pos}
 use lib.ListN.{length}
@@ -34,10 +34,10 @@ use Rattle.timestamp.specs.declared.fields.Fields.{Fields}
 use Rattle.c_api.specs.Answers as c_api
 use Rattle.c_api.specs.Answers.{Effect, within, left}
 use Rattle.c_api.specs.Values as c_values
-use Rattle.c_api.specs.Values.{caseOf, numbersOf, readEffect}
+use Rattle.c_api.specs.Values.{caseOf, numbersOf}
 use Rattle.c_api.specs.Timestamps as c_timestamps
 use Rattle.c_api.specs.Timestamps.{fieldNumbers, areFields, fieldsOf, decodeEffect, encodeEffect, Decoding}
-use Rattle.demands.specs.Refusals.{End, result, refusal, Ground, ground, first, readingGrounds, orderingGrounds, unknownUnit, ticks, encodingGrounds, cReadingGrounds, cDecodingGrounds, cEncodingGrounds}
+use Rattle.demands.specs.Refusals.{result, refusal, ground, first, readingGrounds, orderingGrounds, unknownUnit, ticks, encodingGrounds, cReadingGrounds, cDecodingGrounds, cEncodingGrounds}
 use Rattle.demands.specs.Ends.{readingEnd, orderingEnd, timestampEnd, cEnd}
 
 -- values ---------------------------------------------------------------------------------------------------------------------------

@@ -31,7 +31,7 @@ use Rattle.column.specs.Outcome as column
 use Rattle.column.specs.Reading.{valueOf}
 use Rattle.column_order.specs.Outcome as column_order
 use Rattle.column_order.specs.Outcome.{Relation}
-use Rattle.timestamp.specs.Units.{TimeUnit, unitOf}
+use Rattle.timestamp.specs.Units.{unitOf}
 use Rattle.timestamp.specs.Count.{countOf}
 use Rattle.timestamp.specs.Outcomes as timestamp
 use Rattle.timestamp.specs.Outcomes.{Outcome, Decodes}
@@ -39,7 +39,7 @@ use Rattle.timestamp.specs.declared.fields.Fields.{Fields}
 use Rattle.schema_text.specs.Rows.{rowsText, rowsTextOf, refusalLine, answerText}
 use Rattle.schema_text.specs.Making as text
 use Rattle.schema_text.specs.Making.{madeIn}
-use Rattle.c_api.specs.Answers.{Effect, refused, within, left}
+use Rattle.c_api.specs.Answers.{refused, within, left}
 use Rattle.c_api.specs.Values as c_values
 use Rattle.c_api.specs.Values.{caseOf, numbersOf}
 use Rattle.c_api.specs.Timestamps.{fieldNumbers, fieldsOf, decodeEffect, Decoding}

@@ -1,7 +1,7 @@
 -- What a node is to its fields, in terms of what stands above them, and that each role is given exactly where its sentence holds (`specs/Roles`).
 use Prim.Native.Nat.{ℕ, zero, suc, _<_}
 use mathlib.Core.Path.{_≡_, refl, sym, ap, _∙_, subst}
-use mathlib.Core.Bool.{Bool, true, false, true≢false, false≢true, cond, _&&_, _||_}
+use mathlib.Core.Bool.{Bool, true, false, true≢false, false≢true, _&&_}
 use mathlib.Core.List.{List, [], _∷_, _++_}
 use mathlib.Core.Logic.{_⊎_, inl, inr, _↔_}
 use native.Mathlib.Omega.{arith}
@@ -15,10 +15,10 @@ use Rattle.sheet.specs.Name.{sameBytes}
 use Rattle.sheet.specs.Slot.{physical, repetition, name}
 use Rattle.sheet.proofs.NameLaws.{sameBytes-equal, sameBytes-true}
 use Rattle.tree.specs.Annotated.{kind}
-use Rattle.tree.specs.Tree.{SlotBytes, Tree, Fields, node, empty, field}
-use Rattle.tree.specs.Rules.{isGroup, isRequiredOrOptional, underMap, isList, isMap, placeUnder, placeBelow, arrayName, tupleSuffix, namedElement, isRepeated, isElementGroup, holdsElement, listChild, listRun, listKept, rule12, keyValue, mapRun, mapKept, rule13, KeepsAt}
+use Rattle.tree.specs.Tree.{SlotBytes, Fields, node, empty, field}
+use Rattle.tree.specs.Rules.{isGroup, isRequiredOrOptional, underMap, isList, isMap, arrayName, tupleSuffix, namedElement, isRepeated, isElementGroup, listChild, listRun, listKept, rule12, keyValue, mapRun, mapKept, rule13, KeepsAt}
 use Rattle.tree.specs.declared.place.Place.{Place}
-use Rattle.schema.specs.Rows.{isMapParent, LIST-LAYER, KEY-VALUE-LAYER, listRole, ownRole, role, parentBy, parentOf, afterFirst}
+use Rattle.schema.specs.Rows.{isMapParent, LIST-LAYER, KEY-VALUE-LAYER, listRole, role, parentBy, parentOf, afterFirst}
 use Rattle.schema.specs.Roles.{slotOf, Standing, Ascent, isResolvedMap, HasKind, IsElementGroup, several, array, tuple, single, IsListLayer, IsElement, IsElementLayer, IsKeyValueLayer, IsKey, IsValue, HasLayerRole, list-layer, element, element-layer, key-value-layer, key, value, IsBareRepeated, IsField}
 use Rattle.schema.specs.declared.roles.Parent.{Parent}
 use Rattle.schema.specs.declared.roles.Parent.the-variants as parent

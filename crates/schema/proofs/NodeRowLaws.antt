@@ -14,7 +14,7 @@ use Rattle.tree.specs.Tree.{SlotBytes, Tree, Fields, node, empty, field, listin
 use Rattle.tree.specs.Rules.{underMap, placeBelow, KeepsAt, Keeps, KeepsAll}
 use Rattle.schema.specs.Rows.{isMapParent, row, parentOf, afterFirst, rowsFrom, runRowsFrom, rows, rowWidth, numberIn}
 use Rattle.schema.specs.Demand.{kindIn}
-use Rattle.schema.specs.Roles.{slotOf, Standing, Ascent, ascents, runAscents, ascent, HasKind}
+use Rattle.schema.specs.Roles.{slotOf, Ascent, ascents, runAscents, ascent, HasKind}
 use Rattle.tree.specs.declared.place.Place.{Place}
 use Rattle.tree.specs.declared.place.Place.the-variants.{Root}
 use Rattle.schema.specs.declared.roles.Parent.{Parent}

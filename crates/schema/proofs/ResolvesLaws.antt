@@ -27,7 +27,7 @@ use Rattle.annotation.specs.Rule11 as eleven
 use Rattle.annotation.specs.declared.slot.Annotated.{Annotated}
 use Rattle.annotation.specs.declared.resolution.Kind.{Kind}
 use Rattle.annotation.proofs.PlacementLaws.{kind-logical, readable}
-use Rattle.sheet.specs.Slot.{physical, converted as convertedOf, logical as logicalOf, parameterA, parameterB, scale, precision, numbersOf}
+use Rattle.sheet.specs.Slot.{physical, scale, precision, numbersOf}
 use Rattle.tree.specs.Annotated.{annotated, kind, rule10, rule11}
 use Rattle.tree.specs.Tree.{SlotBytes, Tree, listing, size}
 use Rattle.tree.specs.Rules.{underMap, Keeps}

@@ -7,18 +7,18 @@ use native.Mathlib.Omega.{arith}
 use borrow.Author.Tests.{ne-eqb, eqb-true, eqb-false}
 use lib.Dec.{eqb}
 use lib.ListN.{length, getD, drop}
-use Rattle.laws.proofs.BoolLaws.{by-test, or-rest}
+use Rattle.laws.proofs.BoolLaws.{by-test}
 use Rattle.parquet.specs.Physical.{GROUP}
 use Rattle.parquet.specs.Converted as converted
 use Rattle.parquet.specs.Logical as logical
 use Rattle.logical_type.specs.Parameters.{UNUSED}
 use Rattle.logical_type.specs.Spelling.{codeOf, aOf, bOf, statedOf}
-use Rattle.logical_type.specs.Forward.{forwardOf, imageOf}
+use Rattle.logical_type.specs.Forward.{imageOf}
 use Rattle.logical_type.specs.declared.types.LogicalType.{LogicalType}
 use Rattle.logical_type.specs.declared.types.Annotation.{Annotation}
 use Rattle.logical_type.proofs.SpellingLaws.{stated-spelled}
 use Rattle.annotation.specs.Meaning.{annotationOf}
-use Rattle.annotation.specs.Kinds.{PLAIN-LEAF, PLAIN-GROUP, bareKind, plainKind, kindAs, kindOf}
+use Rattle.annotation.specs.Kinds.{PLAIN-LEAF, PLAIN-GROUP, bareKind, kindAs, kindOf}
 use Rattle.annotation.specs.Rewriting.{writtenAs, writtenOf}
 use Rattle.annotation.specs.declared.slot.Annotated.{Annotated}
 use Rattle.annotation.specs.declared.resolution.Kind.{Kind}
@@ -29,7 +29,7 @@ use Rattle.sheet.specs.Slot.{childCountAt, physical, converted as convertedOf, 
 use Rattle.sheet.proofs.SlotLaws.{slotAt-length, slots-at}
 use Rattle.tree.specs.Annotated.{annotated, kind, rule10}
 use Rattle.tree.specs.Tree.{SlotBytes, Tree, listing, size}
-use Rattle.tree.specs.Rules.{underMap, isList, isMap, Keeps}
+use Rattle.tree.specs.Rules.{underMap, isList, isMap}
 use Rattle.tree.specs.Reading.{treeOf}
 use Rattle.tree.specs.Judgement.{judgement}
 use Rattle.tree.specs.declared.place.Place.the-variants.{Root}
@@ -38,7 +38,7 @@ use Rattle.tree.proofs.TreeOfLaws.{treeOf-listing}
 use Rattle.schema.specs.Rows.{KEY-VALUE-LAYER, rows, rowWidth, numberIn}
 use Rattle.schema.specs.Rewriting.{rewritten}
 use Rattle.schema.specs.Roles.{ascent, IsKeyValueLayer}
-use Rattle.schema.specs.Demand.{IsTreeOf, Sound, kindIn, ConvertedAlone, Bare, WithLogical, WrittenBack}
+use Rattle.schema.specs.Demand.{IsTreeOf, Sound, kindIn, Bare, WithLogical, WrittenBack}
 use Rattle.schema.proofs.DemandLaws.{sound-judgement, tree-accepted, size-is}
 use Rattle.schema.proofs.RepeatedFieldLaws.{no-list, no-map}
 use Rattle.schema.proofs.RewrittenSlotLaws.{rewrittenSlot, Holds, kept-written, holds-rewritten}

@@ -1,6 +1,6 @@
 -- The roles in terms of the tree: what document 01 asks of a node, and of what stands above it, for each of its numbers. `Rows.role` gives a node its
 -- number; that each number is given exactly where its sentence here holds is promised with demand 3.
-use Prim.Native.Nat.{ℕ, zero, suc, _<_}
+use Prim.Native.Nat.{ℕ, suc, _<_}
 use mathlib.Core.Path.{_≡_}
 use mathlib.Core.Bool.{Bool, false}
 use mathlib.Core.List.{List, [], _∷_, _++_}
