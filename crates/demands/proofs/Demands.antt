@@ -7,6 +7,8 @@ use Rattle.schema.proofs.RowKindLaws.{rows-kinds}
 use Rattle.schema.proofs.RewriteDemandLaws as rewriting
 use Rattle.schema.proofs.RowRoleLaws.{roles-exactly}
 use Rattle.schema.proofs.WrittenBackLaws.{written-back, key-value-bare}
+use Rattle.decimal.proofs.FitLaws.{fitOf-exactly}
+use Rattle.utf8.proofs.ValidLaws.{validUpTo-length}
 use Rattle.column.proofs.PromiseLaws as value
 use Rattle.column_order.proofs.PromiseLaws as ordered
 use Rattle.column_type.proofs.LawfulLaws.{lawful-exactly, unlawful-exactly}
@@ -130,6 +132,8 @@ demand2 =
             decimal = value.decimal-whole-held;
             decimal-bytes = value.decimal-bytes-held;
             text = value.text-held;
+            text-exactly = validUpTo-length;
+            fits-exactly = fitOf-exactly;
             unknown = value.unknown-refused;
             any-whole = value.any-whole;
             any-float = value.any-float;

@@ -45,7 +45,10 @@ use Rattle.column_order.specs.Outcome as order
 use Rattle.column_order.specs.Promises.{AsNumbers, AsBytes, bitsBelow, FLOAT-SIGN, FLOAT-INFINITY, DOUBLE-SIGN, DOUBLE-INFINITY, IsNan}
 use Rattle.column_order.specs.Comparison.{Valid, NotANumber, turned, atMost}
 use Rattle.column_order.specs.declared.answer.Order.the-variants.{Equal, Unordered}
+use Rattle.decimal.specs.Precision.{isLength}
 use Rattle.decimal.specs.Number.{number}
+use Rattle.decimal.specs.Fit.{fitOf}
+use Rattle.decimal.specs.declared.fit.Fit.the-variants.{Within}
 use Rattle.utf8.specs.Text.{Text}
 use Rattle.utf8.specs.Valid.{validUpTo}
 use Rattle.timestamp.specs.Units.{TimeUnit, ticksPerSecond}
@@ -111,6 +114,9 @@ pub record Values : Type 1 where
   pub decimal-bytes : (c : ColumnType) (bs : List ℕ) → isLawful c ≡ true → RightLength c (length bs) → c .kind ≡ logical.DECIMAL → ByteForm c → Held c bs (natAbs (number bs) < 10 ^ c .p1) (Bytes 0 (length bs)) 0
   -- "STRING, ENUM, JSON: UTF-8 (RFC 3629)": a run of the grammar's sequences; its 16 stands where they stop (document 02, R-6)
   pub text : (c : ColumnType) (bs : List ℕ) → isLawful c ≡ true → RightLength c (length bs) → isText (c .kind) ≡ true → Held c bs (Text bs) (Bytes 0 (length bs)) (validUpTo bs)
+  -- of `utf8::valid_up_to`: it stops at the end exactly of such a run; and of `decimal::fits_precision`, of byte forms of any length
+  pub text-exactly : (s : List ℕ) → (validUpTo s ≡ length s) ↔ Text s
+  pub fits-exactly : (bs : List ℕ) (precision : ℕ) → isLength (length bs) ≡ true → (fitOf bs precision ≡ Within) ↔ (natAbs (number bs) < 10 ^ precision)
   -- "UNKNOWN: no value, so 16"
   pub unknown : (c : ColumnType) (bs : List ℕ) → isLawful c ≡ true → RightLength c (length bs) → c .kind ≡ logical.UNKNOWN → read.outcome c bs ≡ read.refused 16 0
   -- "Others: any"; "a whole number, a FLOAT, a DOUBLE or, for INT96 and all byte forms, a stretch of bytes (start and length)"
