@@ -55,7 +55,7 @@ abbrev pub secondOf : Fields → ℤ
 secondOf f =
     dayNumber (f .year) (f .month) (f .day) *ℤ pos secondsPerDay +ℤ pos ((f .hour * minutesPerHour + f .minute) * secondsPerMinute + f .second)
 
--- the moment of fields: their second, but of a year at or beyond the limit, or that they form no date or time
+-- what the moment of fields tells: their second, or that no count reaches their year, or that they form no date or time
 abbrev pub IsMoment : Fields → Moment → Type 0
 IsMoment f (Moment.Second s) = (isFormed f ≡ true) × (s ≡ secondOf f)
 IsMoment f Moment.Far = (isFormed f ≡ true) × (yearsReached ≤ mag (f .year))

@@ -5,7 +5,7 @@ ghost use mathlib.Core.Bool.{true};
 ghost use Prim.Native.Nat.{_<_, _^_};
 ghost use lib.Signed.{mag};
 ghost use Rattle.timestamp.specs.Calendar.{isLeap, dayNumber, isDate};
-ghost use Rattle.timestamp.specs.Steps.{IsMonth};
+ghost use Rattle.timestamp.specs.Steps.{IsMonth, yearsReached};
 use crate::eras;
 use crate::eras::DAYS_PER_ERA;
 use crate::eras::EraDate;
@@ -68,7 +68,7 @@ pub(crate) fn date_of(day: i64) -> Date
 
 // The day number of a date.
 pub(crate) fn day_number(date: Date) -> i64
-    requires { ⌜ (mag (date .year) < 300000000) × (isDate (date .year) (date .month) (date .day) ≡ true) ⌝ }
+    requires { ⌜ (mag (date .year) < yearsReached) × (isDate (date .year) (date .month) (date .day) ≡ true) ⌝ }
     ensures { λ r. ⌜ (r ≡ dayNumber (date .year) (date .month) (date .day)) × (mag r < 2 ^ 43) ⌝ }
 {
     let era_date = EraDate {
