@@ -1,4 +1,4 @@
-//! Links the archive that `rt staticlib c_api` writes, and the peers in C and C++, compiled at -O3.
+//! Links the archive that `rt staticlib griffeljol` writes, and the peers in C and C++, compiled at -O3.
 //!
 //! Every function of each of them starts at a line of 64 bytes, and so do the functions in Rust (`.cargo/config.toml`). A short loop
 //! can take twice as long where it crosses a line, and without that, where it does would change with every link. The peers' loops
@@ -35,12 +35,12 @@ fn link_archive(out: &Path) {
     println!("cargo::rerun-if-env-changed={FOLDER}");
     let package = PathBuf::from(env::var_os("CARGO_MANIFEST_DIR").expect("cargo sets CARGO_MANIFEST_DIR"));
     let folder = env::var_os(FOLDER).map_or_else(|| package.join("../target/staticlib"), PathBuf::from);
-    let archive = folder.join("libc_api.a");
-    assert!(archive.is_file(), "there is no {}: rt staticlib c_api writes it", archive.display());
+    let archive = folder.join("libgriffeljol.a");
+    assert!(archive.is_file(), "there is no {}: rt staticlib griffeljol writes it", archive.display());
     println!("cargo::rerun-if-changed={}", archive.display());
-    let aligned = out.join("libc_api.a");
+    let aligned = out.join("libgriffeljol.a");
     run(Command::new("objcopy").args(["--set-section-alignment", ".text.*=64"]).arg(archive).arg(aligned));
-    println!("cargo::rustc-link-lib=static=c_api");
+    println!("cargo::rustc-link-lib=static=griffeljol");
 }
 
 /// Compiles a file of peers/ for the processor family and not for this machine, as the archive is.

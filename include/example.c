@@ -1,5 +1,5 @@
 /* Each function of griffeljol.h once, on the sheet in the file that is the argument. From the repository's root:
- *   cc -std=c99 -Iinclude include/example.c target/staticlib/libc_api.a -o example && ./example crates/schema_rows/stdin
+ *   cc -std=c99 -Iinclude include/example.c target/staticlib/libgriffeljol.a -o example && ./example crates/schema_rows/stdin
  */
 #include "griffeljol.h"
 

@@ -1,6 +1,6 @@
 /* griffeljol.h: the proved reader of Parquet schema sheets, for C99 and C++.
  *
- * Link the archive libc_api.a, which `rt staticlib c_api` proves and writes to target/staticlib; it links into x86-64 Linux
+ * Link the archive libgriffeljol.a, which `rt staticlib griffeljol` proves and writes to target/staticlib; it links into x86-64 Linux
  * programs. "Document 01" is the paper that defines the sheet, the rows and the refusals.
  *
  * Answers
@@ -19,7 +19,7 @@
  *   Nothing is allocated, kept or shared between calls, so any number of threads may call at a time.
  *
  * What is proved
- *   Each function is proved, for all bytes and numbers, to answer and to write what its contract in crates/c_api says. This
+ *   Each function is proved, for all bytes and numbers, to answer and to write what its contract in crates/griffeljol says. This
  *   header is not: no prover sees that these declarations are those of the archive, that a caller's pointers and lengths are
  *   valid, or that its compiler passes them as the archive takes them.
  */

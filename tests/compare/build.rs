@@ -1,4 +1,4 @@
-//! Links the archive that `rt staticlib c_api` writes, where GRIFFELJOL_LIB names its folder.
+//! Links the archive that `rt staticlib griffeljol` writes, where GRIFFELJOL_LIB names its folder.
 
 use std::path::Path;
 
@@ -9,11 +9,11 @@ fn main() {
         return;
     };
     let folder = Path::new(&folder);
-    let archive = folder.join("libc_api.a");
+    let archive = folder.join("libgriffeljol.a");
     assert!(folder.is_absolute(), "GRIFFELJOL_LIB must be an absolute path");
-    assert!(archive.exists(), "{} does not exist: rt staticlib c_api writes it", archive.display());
+    assert!(archive.exists(), "{} does not exist: rt staticlib griffeljol writes it", archive.display());
     println!("cargo::rerun-if-changed={}", archive.display());
     println!("cargo::rustc-link-search=native={}", folder.display());
-    println!("cargo::rustc-link-lib=static=c_api");
+    println!("cargo::rustc-link-lib=static=griffeljol");
     println!("cargo::rustc-cfg=linked");
 }

@@ -34,9 +34,9 @@ use Rattle.timestamp.specs.Units.{TimeUnit}
 use Rattle.timestamp.specs.Outcomes.{Outcome, given, Decodes}
 use Rattle.timestamp.specs.declared.fields.Fields.{Fields}
 use Rattle.timestamp.specs.Units.{unitOf}
-use Rattle.c_api.specs.Values.{reading}
-use Rattle.c_api.specs.Timestamps.{encoding}
-use Rattle.c_api.proofs.PromiseLaws.{promised}
+use Rattle.griffeljol.specs.Values.{reading}
+use Rattle.griffeljol.specs.Timestamps.{encoding}
+use Rattle.griffeljol.proofs.PromiseLaws.{promised}
 use Rattle.demands.proofs.RefusalLaws as sheets
 use Rattle.demands.proofs.ValueRefusalLaws as values
 use Rattle.demands.specs.Demand1.{Demand1}

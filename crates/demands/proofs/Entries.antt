@@ -83,18 +83,18 @@ use Rattle.schema_text.proofs.answer_text.Statement as schema-text-answer-text-
 use Rattle.schema_text.proofs.answer_text.Met as schema-text-answer-text-met
 use Rattle.schema_text.proofs.rows_text.Statement as schema-text-rows-text-stated
 use Rattle.schema_text.proofs.rows_text.Met as schema-text-rows-text-met
-use Rattle.c_api.proofs.griffeljol_resolve.Statement as griffeljol-resolve-stated
-use Rattle.c_api.proofs.griffeljol_resolve.Met as griffeljol-resolve-met
-use Rattle.c_api.proofs.griffeljol_rewrite.Statement as griffeljol-rewrite-stated
-use Rattle.c_api.proofs.griffeljol_rewrite.Met as griffeljol-rewrite-met
-use Rattle.c_api.proofs.griffeljol_read.Statement as griffeljol-read-stated
-use Rattle.c_api.proofs.griffeljol_read.Met as griffeljol-read-met
-use Rattle.c_api.proofs.griffeljol_order.Statement as griffeljol-order-stated
-use Rattle.c_api.proofs.griffeljol_order.Met as griffeljol-order-met
-use Rattle.c_api.proofs.griffeljol_decode.Statement as griffeljol-decode-stated
-use Rattle.c_api.proofs.griffeljol_decode.Met as griffeljol-decode-met
-use Rattle.c_api.proofs.griffeljol_encode.Statement as griffeljol-encode-stated
-use Rattle.c_api.proofs.griffeljol_encode.Met as griffeljol-encode-met
+use Rattle.griffeljol.proofs.griffeljol_resolve.Statement as griffeljol-resolve-stated
+use Rattle.griffeljol.proofs.griffeljol_resolve.Met as griffeljol-resolve-met
+use Rattle.griffeljol.proofs.griffeljol_rewrite.Statement as griffeljol-rewrite-stated
+use Rattle.griffeljol.proofs.griffeljol_rewrite.Met as griffeljol-rewrite-met
+use Rattle.griffeljol.proofs.griffeljol_read.Statement as griffeljol-read-stated
+use Rattle.griffeljol.proofs.griffeljol_read.Met as griffeljol-read-met
+use Rattle.griffeljol.proofs.griffeljol_order.Statement as griffeljol-order-stated
+use Rattle.griffeljol.proofs.griffeljol_order.Met as griffeljol-order-met
+use Rattle.griffeljol.proofs.griffeljol_decode.Statement as griffeljol-decode-stated
+use Rattle.griffeljol.proofs.griffeljol_decode.Met as griffeljol-decode-met
+use Rattle.griffeljol.proofs.griffeljol_encode.Statement as griffeljol-encode-stated
+use Rattle.griffeljol.proofs.griffeljol_encode.Met as griffeljol-encode-met
 
 -- a sheet's blocks, slots and names -----------------------------------------------------------------------------------------------
 

@@ -1,7 +1,7 @@
 -- Points on sheets of one block, and the example of four nodes, which the definitions compute.
 use Prim.Native.Nat.{ℕ, _*_, _-_, _/_, _%_}
 use mathlib.Core.Path.{_≡_, refl}
-use mathlib.Core.Bool.{true}
+use mathlib.Core.Bool.{Bool, true}
 use mathlib.Core.List.{List}
 use lib.ListN.{length, replicate}
 use Rattle.sheet.specs.Number.{numberAt, signed32}
@@ -30,7 +30,10 @@ use Rattle.annotation.specs.Rule10 as ten
 use Rattle.annotation.specs.Rule11 as eleven
 use Rattle.logical_type.specs.declared.types.TimeUnit.{TimeUnit}
 use Rattle.tree.specs.Annotated.{annotated, kind, rule9, rule10, rule11}
-use Rattle.tree.specs.Tree.{listing, count, size, depths}
+use Rattle.annotation.specs.declared.resolution.Kind.{Kind}
+use Rattle.tree.specs.declared.place.Place.{Place}
+use Rattle.tree.specs.declared.refusal.Verdict.{Verdict}
+use Rattle.tree.specs.Tree.{SlotBytes, Fields, listing, count, size, depths}
 use Rattle.tree.specs.Rules.{isList, isMap, placeBelow, isNought, lengthShape, decimalShape, shape, rule8, namedElement, isRepeated, isElementGroup, holdsElement, listChild, listRun, listKept, rule12, rule13}
 use Rattle.tree.specs.Faults.{broken, faults}
 use Rattle.schema.specs.Levels.{howMany}
@@ -43,9 +46,40 @@ use Rattle.schema.specs.declared.resolving.Resolved.{Resolved}
 use Rattle.demands.specs.Sheets.{sheetOf, rootSlot, leafSheet, exampleSheet, repeatedSheet}
 use Rattle.demands.specs.Requests.{repeatedRows, exampleRows}
 
--- `outcome`, with all that it is made of open: what names it on its line computes
+-- Each layer's definitions, open: what names a layer on its `unfolding` line computes through it.
+
+-- numbers, blocks, headers and checks
+block-layer : List ℕ → ℕ → Bool
+unfolding headerRight lengthRight fieldsRight totalRight blocksFor nodesIn blockCount blockAt blockNumber nodesHere version total totalOf numberAt signed32 checkRight check sumBelow weighted storedCheck
+block-layer = headerRight
+
+-- slots, their numbers, and whether they are sound
+slot-layer : List ℕ → ℕ → Bool
+unfolding slotRight slotSound codesListed listed physicalListed repetitionListed convertedListed logicalListed nameRight nameLengthRight reservedZero tailZero allZero slots slotsFrom slotAt slotStart reaches numbersOf physical repetition converted logical parameterA parameterB childCount typeLength scale precision nameLength name sameBytes
+slot-layer = slotRight
+
+-- what opening answers
+sheet-layer : List ℕ → sheet.Outcome
+unfolding sheet.outcome sheet.outcomeOf sheet.openOf sheet.atFirst firstWrong firstWrongFrom block-layer slot-layer
+sheet-layer = sheet.outcome
+
+-- what a slot's annotations say
+annotation-layer : Bool → List ℕ → Kind
+unfolding kind annotated kindOf annotationOf backwardOf statedOf namedOf unitOf validParameters natural
+annotation-layer = kind
+
+-- the rules of a node
+rule-layer : Place → SlotBytes → Fields → ℕ
+unfolding broken rule8 shape lengthShape decimalShape isNought rule9 rule10 rule11 rule12 rule13 isList isMap placeBelow listKept listRun listChild isElementGroup namedElement isRepeated holdsElement nine.rule9 ten.rule10 eleven.rule11 eleven.decimalHolds eleven.ordered eleven.physicalHolds annotation-layer
+rule-layer = broken
+
+-- the tree that the slots spell, and its judgement
+tree-layer : List ℕ → Verdict
+unfolding judgement judgedAs treeRefusal orElse leftOver missing openPlaces sum isNoPlace tooDeep deepness firstFault unlawful faults treeOf firstTree trees takeFields dropFields depths count sheet-layer rule-layer
+tree-layer = judgement
+
 opened : List ℕ → ℕ → Resolved
-unfolding outcome answer judgement judgedAs treeRefusal orElse leftOver missing openPlaces sum isNoPlace tooDeep deepness firstFault unlawful faults broken treeOf firstTree trees takeFields dropFields depths count sheet.outcome sheet.outcomeOf sheet.openOf sheet.atFirst firstWrong firstWrongFrom lengthRight headerRight fieldsRight totalRight blocksFor nodesIn blockCount blockAt blockNumber nodesHere version total totalOf checkRight check sumBelow weighted storedCheck slotRight slotSound codesListed listed physicalListed repetitionListed convertedListed logicalListed nameRight nameLengthRight reservedZero tailZero allZero slots slotsFrom slotAt slotStart reaches numbersOf numberAt signed32 physical repetition converted logical parameterA parameterB childCount typeLength scale precision nameLength name sameBytes rule8 shape lengthShape decimalShape isNought rule9 rule10 rule11 rule12 rule13 isList isMap placeBelow listKept listRun listChild isElementGroup namedElement isRepeated holdsElement kind annotated kindOf annotationOf backwardOf statedOf namedOf unitOf validParameters natural nine.rule9 ten.rule10 eleven.rule11 eleven.decimalHolds eleven.ordered eleven.physicalHolds sheetOf
+unfolding outcome answer sheetOf tree-layer
 opened = outcome
 
 -- "One root alone: accepted"

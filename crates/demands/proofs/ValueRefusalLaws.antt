@@ -31,12 +31,12 @@ use Rattle.timestamp.specs.Count.{isDateTime, countOf}
 use Rattle.timestamp.specs.Outcomes as timestamp
 use Rattle.timestamp.specs.Outcomes.{Outcome, Decodes, isSigned64, encodingIn}
 use Rattle.timestamp.specs.declared.fields.Fields.{Fields}
-use Rattle.c_api.specs.Answers as c_api
-use Rattle.c_api.specs.Answers.{Effect, within, left}
-use Rattle.c_api.specs.Values as c_values
-use Rattle.c_api.specs.Values.{caseOf, numbersOf}
-use Rattle.c_api.specs.Timestamps as c_timestamps
-use Rattle.c_api.specs.Timestamps.{fieldNumbers, areFields, fieldsOf, decodeEffect, encodeEffect, Decoding}
+use Rattle.griffeljol.specs.Answers as c_answers
+use Rattle.griffeljol.specs.Answers.{Effect, within, left}
+use Rattle.griffeljol.specs.Values as c_values
+use Rattle.griffeljol.specs.Values.{caseOf, numbersOf}
+use Rattle.griffeljol.specs.Timestamps as c_timestamps
+use Rattle.griffeljol.specs.Timestamps.{fieldNumbers, areFields, fieldsOf, decodeEffect, encodeEffect, Decoding}
 use Rattle.demands.specs.Refusals.{result, refusal, ground, first, readingGrounds, orderingGrounds, unknownUnit, ticks, encodingGrounds, cReadingGrounds, cDecodingGrounds, cEncodingGrounds}
 use Rattle.demands.specs.Ends.{readingEnd, orderingEnd, timestampEnd, cEnd}
 
@@ -155,7 +155,7 @@ in-day-first unit tick =
 -- the C interface ----------------------------------------------------------------------------------------------------------------------
 
 -- 14 behind what was asked for
-within-first : {A : Type 0} (lent value : ℕ) (numbers : List A) → cEnd (within lent (c_api.given value numbers)) ≡ first (ground 14 0 (ltb lent (length numbers)) ∷ []) (value, numbers)
+within-first : {A : Type 0} (lent value : ℕ) (numbers : List A) → cEnd (within lent (c_answers.given value numbers)) ≡ first (ground 14 0 (ltb lent (length numbers)) ∷ []) (value, numbers)
 unfolding first
 within-first lent value numbers = by-test (ltb lent (length numbers)) (λ e. rw e) (λ e. rw e)
 
@@ -213,8 +213,8 @@ c-encoding-first unit numbers lent =
     unit
 
 -- a refusal leaves what was lent
-pub refused-left : {A : Type 0} (e : Effect A) (lent : List A) (number place : ℕ) → e ≡ c_api.refused number place → left e lent ≡ lent
+pub refused-left : {A : Type 0} (e : Effect A) (lent : List A) (number place : ℕ) → e ≡ c_answers.refused number place → left e lent ≡ lent
 refused-left e lent number place h = rw h
 
-pub fields-left : (unit : ℕ) (count : ℤ) (lent held : List ℤ) (answered : ℕ) (o : Outcome Fields) (number place : ℕ) → Decoding unit count lent answered held → Decodes (unitOf unit) count o → within (length lent) (decodeEffect o) ≡ c_api.refused number place → held ≡ lent
+pub fields-left : (unit : ℕ) (count : ℤ) (lent held : List ℤ) (answered : ℕ) (o : Outcome Fields) (number place : ℕ) → Decoding unit count lent answered held → Decodes (unitOf unit) count o → within (length lent) (decodeEffect o) ≡ c_answers.refused number place → held ≡ lent
 fields-left unit count lent held answered o number place d p e = d .every-left o p ∙ refused-left (within (length lent) (decodeEffect o)) lent number place e

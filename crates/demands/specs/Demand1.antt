@@ -39,12 +39,12 @@ use Rattle.timestamp.specs.declared.fields.Fields.{Fields}
 use Rattle.schema_text.specs.Rows.{rowsText, rowsTextOf, refusalLine, answerText}
 use Rattle.schema_text.specs.Making as text
 use Rattle.schema_text.specs.Making.{madeIn}
-use Rattle.c_api.specs.Answers.{refused, within, left}
-use Rattle.c_api.specs.Values as c_values
-use Rattle.c_api.specs.Values.{caseOf, numbersOf}
-use Rattle.c_api.specs.Timestamps.{fieldNumbers, fieldsOf, decodeEffect, Decoding}
-use Rattle.c_api.specs.Timestamps as c_timestamps
-use Rattle.c_api.specs.Promises.{Promises}
+use Rattle.griffeljol.specs.Answers.{refused, within, left}
+use Rattle.griffeljol.specs.Values as c_values
+use Rattle.griffeljol.specs.Values.{caseOf, numbersOf}
+use Rattle.griffeljol.specs.Timestamps.{fieldNumbers, fieldsOf, decodeEffect, Decoding}
+use Rattle.griffeljol.specs.Timestamps as c_timestamps
+use Rattle.griffeljol.specs.Promises.{Promises}
 use Rattle.demands.specs.Refusals.{first, openingGrounds, judgingGrounds, resolvingGrounds, rewritingGrounds, slotGrounds, readingGrounds, orderingGrounds, unknownUnit, ticks, encodingGrounds, rowsTextGrounds, shortFor, cReadingGrounds, cDecodingGrounds, cEncodingGrounds}
 use Rattle.demands.specs.Ends.{openingEnd, judgingEnd, resolvingEnd, rewritingEnd, slotEnd, readingEnd, orderingEnd, timestampEnd, textEnd, cEnd}
 

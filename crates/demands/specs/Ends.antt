@@ -11,7 +11,7 @@ use Rattle.column_order.specs.Outcome as column_order
 use Rattle.column_order.specs.Outcome.{Relation}
 use Rattle.timestamp.specs.Outcomes as timestamp
 use Rattle.schema_text.specs.Making as text
-use Rattle.c_api.specs.Answers as c_api
+use Rattle.griffeljol.specs.Answers as c_answers
 use Rattle.demands.specs.Refusals.{End, result, refusal}
 
 -- opening hands out T
@@ -57,6 +57,6 @@ textEnd (text.given n) = result n
 textEnd (text.refused r) = refusal (r .number) (r .place)
 
 -- a C call's result is the value that it answers and what it writes
-abbrev pub cEnd : {A : Type 0} → c_api.Effect A → End (ℕ × List A)
-cEnd (c_api.given value numbers) = result (value, numbers)
-cEnd (c_api.refused number place) = refusal number place
+abbrev pub cEnd : {A : Type 0} → c_answers.Effect A → End (ℕ × List A)
+cEnd (c_answers.given value numbers) = result (value, numbers)
+cEnd (c_answers.refused number place) = refusal number place

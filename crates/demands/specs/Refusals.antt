@@ -31,7 +31,7 @@ use Rattle.timestamp.specs.Count.{isDateTime, countOf}
 use Rattle.timestamp.specs.Outcomes.{isSigned64}
 use Rattle.timestamp.specs.declared.fields.Fields.{Fields as DateTime}
 use Rattle.schema_text.specs.Rows.{rowsText}
-use Rattle.c_api.specs.Timestamps.{areFields, fieldsOf}
+use Rattle.griffeljol.specs.Timestamps.{areFields, fieldsOf}
 
 -- what a call ends with: "the result or one numbered refusal", which has a place
 pub data End (A : Type 0) : Type 0 where

@@ -35,31 +35,31 @@ element-many list layer fs h = rw (run-many fs h .3)
 module _ (b : List ℕ) (at : ℕ) (s : Numbers) (v : Visited b at s) (list : SlotBytes) where
   pub role-leaf : (s .physical ≡ physical.GROUP → ⊥) → 2 ≡ listRole list (slotAt b at) (fieldsAt b at)
   unfolding listRole
-  role-leaf n = rw (leaf b at s (v .claimed) (v .below) (v .numbers) n)
+  role-leaf n = rw (leaf b at s v n)
 
   module _ (g : s .physical ≡ physical.GROUP) where
     pub role-none : s .children ≡ 0 → 1 ≡ listRole list (slotAt b at) (fieldsAt b at)
     unfolding listRole
-    role-none q = rw (group b at s (v .claimed) (v .below) (v .numbers) g, element-none list (slotAt b at) (fieldsAt b at) (own-count b at s v ∙ q))
+    role-none q = rw (group b at s v g, element-none list (slotAt b at) (fieldsAt b at) (own-count b at s v ∙ q))
 
     pub role-many : (s .children ≡ 0 → ⊥) → (s .children ≡ 1 → ⊥) → 3 ≡ listRole list (slotAt b at) (fieldsAt b at)
     unfolding listRole
-    role-many p q = rw (group b at s (v .claimed) (v .below) (v .numbers) g, element-many list (slotAt b at) (fieldsAt b at) (omega (arith, own-count b at s v)))
+    role-many p q = rw (group b at s v g, element-many list (slotAt b at) (fieldsAt b at) (omega (arith, own-count b at s v)))
 
     module _ (q : s .children ≡ 1) where
       -- its one field
       one : fieldsAt b at ≡ field (node (slotAt b (suc at)) (fieldsAt b (suc at))) empty
-      one = only-field b at s (v .claimed) (v .below) (v .numbers) q
+      one = only-field b at s v q
 
       pub role-repeated : repetition (slotAt b (suc at)) ≡ REPEATED → 3 ≡ listRole list (slotAt b at) (fieldsAt b at)
       unfolding listRole
-      role-repeated r = rw (group b at s (v .claimed) (v .below) (v .numbers) g, one, element-repeated list (slotAt b at) (slotAt b (suc at)) (fieldsAt b (suc at)) (eq-eqb _ _ r))
+      role-repeated r = rw (group b at s v g, one, element-repeated list (slotAt b at) (slotAt b (suc at)) (fieldsAt b (suc at)) (eq-eqb _ _ r))
 
       module _ (r : repetition (slotAt b (suc at)) ≡ REPEATED → ⊥) where
         pub role-named : namedElement list (slotAt b at) ≡ true → 3 ≡ listRole list (slotAt b at) (fieldsAt b at)
         unfolding listRole
-        role-named n = rw (group b at s (v .claimed) (v .below) (v .numbers) g, one, element-named list (slotAt b at) (slotAt b (suc at)) (fieldsAt b (suc at)) (ne-eqb _ _ r), n)
+        role-named n = rw (group b at s v g, one, element-named list (slotAt b at) (slotAt b (suc at)) (fieldsAt b (suc at)) (ne-eqb _ _ r), n)
 
         pub role-held : namedElement list (slotAt b at) ≡ false → 1 ≡ listRole list (slotAt b at) (fieldsAt b at)
         unfolding listRole
-        role-held n = rw (group b at s (v .claimed) (v .below) (v .numbers) g, one, element-named list (slotAt b at) (slotAt b (suc at)) (fieldsAt b (suc at)) (ne-eqb _ _ r), n)
+        role-held n = rw (group b at s v g, one, element-named list (slotAt b at) (slotAt b (suc at)) (fieldsAt b (suc at)) (ne-eqb _ _ r), n)

@@ -129,133 +129,155 @@ pub keyValue-optional : (k v : SlotBytes) (ks vs : Fields) → eqb (repetition k
 unfolding keyValue
 keyValue-optional k v ks vs r = rw r
 
--- rule 12 at the child of a LIST, and rule 13 at the child of a MAP, by the numbers that are read there
-module _ (b : List ℕ) (layer : ℕ) (s : Numbers) (h : Claimed b) (l : layer < totalOf b) (e : s ≡ numbersOf (slotAt b layer)) where
-  abbrev fields : Fields
-  fields = fieldsAt b layer
-
-  count-is : count fields ≡ s .children
-  count-is = count-fieldsAt b layer h l ∙ sym (children-at b layer s e)
-
-  tree-is : treeAt (slots b) layer ≡ node (slotAt b layer) fields
-  tree-is = treeAt-slot b layer h l
-
-  single : (s .repetition ≡ REPEATED → ⊥) → eqb (repetition (slotAt b layer)) REPEATED ≡ false
-  single n = ne-eqb _ _ (λ q. n (repetition-at b layer s e ∙ q))
-
-  repeats : s .repetition ≡ REPEATED → eqb (repetition (slotAt b layer)) REPEATED ≡ true
-  repeats q = eq-eqb _ _ (sym (repetition-at b layer s e) ∙ q)
-
-  pub leaf : (s .physical ≡ physical.GROUP → ⊥) → isGroup (physical (slotAt b layer)) ≡ false
-  leaf n = ne-eqb _ _ (λ q. n (physical-at b layer s e ∙ q))
-
-  pub group : s .physical ≡ physical.GROUP → isGroup (physical (slotAt b layer)) ≡ true
-  group q = eq-eqb _ _ (sym (physical-at b layer s e) ∙ q)
-
-  -- the one field of a group that has one
-  pub only-field : s .children ≡ 1 → fields ≡ field (node (slotAt b (suc layer)) (fieldsAt b (suc layer))) empty
-  only-field q =
-      let claim : childCount (slotAt b layer) ≡ 1 = sym (children-at b layer s e) ∙ q in
-      fieldsAt-first b layer h l 0 claim
-      ∙ rw (treeAt-slot b (suc layer) h (first-below b layer h l 0 claim), runAt-zero)
-
-  module _ (list : SlotBytes) where
-    pub child-single : (s .repetition ≡ REPEATED → ⊥) → false ≡ listChild list (treeAt (slots b) layer)
-    child-single r = sym (rw tree-is (listChild-single list (slotAt b layer) fields (single r)))
-
-    module _ (r : s .repetition ≡ REPEATED) where
-      pub child-leaf : (s .physical ≡ physical.GROUP → ⊥) → true ≡ listChild list (treeAt (slots b) layer)
-      child-leaf g = sym (rw tree-is (listChild-leaf list (slotAt b layer) fields (repeats r) (leaf g)))
-
-      module _ (g : s .physical ≡ physical.GROUP) where
-        pub child-none : s .children ≡ 0 → false ≡ listChild list (treeAt (slots b) layer)
-        child-none q = sym (rw tree-is (listChild-none list (slotAt b layer) fields (repeats r) (group g) (count-is ∙ q)))
-
-        pub child-many : (s .children ≡ 0 → ⊥) → (s .children ≡ 1 → ⊥) → true ≡ listChild list (treeAt (slots b) layer)
-        child-many p q = sym (rw tree-is (listChild-many list (slotAt b layer) fields (repeats r) (group g) (omega (arith, count-is))))
-
-        module _ (q : s .children ≡ 1) where
-          pub child-repeated : repetition (slotAt b (suc layer)) ≡ REPEATED → true ≡ listChild list (treeAt (slots b) layer)
-          child-repeated n = sym (rw tree-is (listChild-repeated list (slotAt b layer) fields (repeats r) (group g) (slotAt b (suc layer)) (fieldsAt b (suc layer)) (only-field q) (eq-eqb _ _ n)))
-
-          pub child-held : isRequiredOrOptional (repetition (slotAt b (suc layer))) ≡ true → true ≡ listChild list (treeAt (slots b) layer)
-          child-held n = sym (rw tree-is (listChild-held list (slotAt b layer) fields (repeats r) (group g) (slotAt b (suc layer)) (fieldsAt b (suc layer)) (only-field q) n))
-
-          pub child-named : (repetition (slotAt b (suc layer)) ≡ REPEATED → ⊥) → isRequiredOrOptional (repetition (slotAt b (suc layer))) ≡ false → listChild list (treeAt (slots b) layer) ≡ namedElement list (slotAt b layer)
-          child-named n m = rw tree-is (listChild-named list (slotAt b layer) fields (repeats r) (group g) (slotAt b (suc layer)) (fieldsAt b (suc layer)) (only-field q) (ne-eqb _ _ n) m)
-
-  pub layer-single : (s .repetition ≡ REPEATED → ⊥) → false ≡ mapRun (field (treeAt (slots b) layer) empty)
-  layer-single r = sym (rw tree-is (mapRun-single (slotAt b layer) fields (single r)))
-
-  module _ (r : s .repetition ≡ REPEATED) where
-    pub layer-leaf : (s .physical ≡ physical.GROUP → ⊥) → false ≡ mapRun (field (treeAt (slots b) layer) empty)
-    layer-leaf g = sym (rw tree-is (mapRun-leaf (slotAt b layer) fields (repeats r) (leaf g)))
-
-    module _ (g : s .physical ≡ physical.GROUP) where
-      layer-group : mapRun (field (treeAt (slots b) layer) empty) ≡ keyValue fields
-      layer-group = rw tree-is (mapRun-group (slotAt b layer) fields (repeats r) (group g))
-
-      pub layer-none : s .children ≡ 0 → false ≡ mapRun (field (treeAt (slots b) layer) empty)
-      layer-none q = sym (layer-group ∙ keyValue-none fields (count-is ∙ q))
-
-      pub layer-many : 2 < s .children → false ≡ mapRun (field (treeAt (slots b) layer) empty)
-      layer-many q = sym (layer-group ∙ keyValue-many fields (omega (arith, count-is)))
-
-      -- a key alone
-      pub layer-key : s .children ≡ 1 → mapRun (field (treeAt (slots b) layer) empty) ≡ eqb (repetition (slotAt b (suc layer))) REQUIRED
-      layer-key q = layer-group ∙ rw (only-field q) (keyValue-key (slotAt b (suc layer)) (fieldsAt b (suc layer)))
-
-      module _ (q : s .children ≡ 2) where
-        claim : childCount (slotAt b layer) ≡ 2
-        claim = sym (children-at b layer s e) ∙ q
-
-        value : ℕ
-        value = suc layer + size (treeAt (slots b) (suc layer))
-
-        value-claimed : 1 ≤ count (trees (drop value (slots b)))
-        unfolding value
-        value-claimed = rest-claimed b layer h l 1 claim
-
-        value-last : lastOf layer (treeAt (slots b) layer) ≡ value
-        unfolding lastOf lastFrom value
-        value-last = rw (tree-is, fieldsAt-first b layer h l 1 claim, runAt-suc (slots b) value 0 (h .claims) value-claimed, runAt-zero)
-
-        value-below : value < totalOf b
-        value-below =
-            let p = size-positive (treeAt (slots b) value) in
-            omega (arith, h .total, runAt-end (slots b) value 0 (h .claims) value-claimed)
-
-        two-fields : fields ≡ field (node (slotAt b (suc layer)) (fieldsAt b (suc layer))) (field (node (slotAt b value) (fieldsAt b value)) empty)
-        unfolding value
-        two-fields =
-            fieldsAt-first b layer h l 1 claim
-            ∙ ap (λ (t : Tree). field t (runAt (slots b) value 1)) (treeAt-slot b (suc layer) h (first-below b layer h l 1 claim))
-            ∙ ap (field (node (slotAt b (suc layer)) (fieldsAt b (suc layer))))
-            (runAt-suc (slots b) value 0 (h .claims) value-claimed
-            ∙ rw (treeAt-slot b value h value-below, runAt-zero))
-
-        pub layer-optional : eqb (repetition (slotAt b (suc layer))) REQUIRED ≡ false → false ≡ mapRun (field (treeAt (slots b) layer) empty)
-        layer-optional k = sym (layer-group ∙ rw two-fields (keyValue-optional (slotAt b (suc layer)) (slotAt b value) (fieldsAt b (suc layer)) (fieldsAt b value) k))
-
-        pub layer-both : eqb (repetition (slotAt b (suc layer))) REQUIRED ≡ true → mapRun (field (treeAt (slots b) layer) empty) ≡ isRequiredOrOptional (repetition (slotAt b (lastOf layer (treeAt (slots b) layer))))
-        layer-both k =
-            layer-group
-            ∙ rw two-fields (keyValue-both (slotAt b (suc layer)) (slotAt b value) (fieldsAt b (suc layer)) (fieldsAt b value) k)
-            ∙ ap (λ (i : ℕ). isRequiredOrOptional (repetition (slotAt b i))) (sym value-last)
-
-      -- a key that is not required, alone or beside a value
-      pub layer-key-optional : (s .children ≡ 0 → ⊥) → s .children ≤ 2 → (repetition (slotAt b (suc layer)) ≡ REQUIRED → ⊥) → false ≡ mapRun (field (treeAt (slots b) layer) empty)
-      layer-key-optional p q k = on (eq-or-lt-of-le q)
-        where
-          on : (s .children ≡ 2) ⊎ (s .children < 2) → false ≡ mapRun (field (treeAt (slots b) layer) empty)
-          on (inl two) = layer-optional two (ne-eqb _ _ k)
-          on (inr less) = sym (layer-key (omega arith) ∙ ne-eqb _ _ k)
-
--- rules 12 and 13 at the LIST or the MAP itself, which has one child
+-- a node that is read, by its numbers
 module _ (b : List ℕ) (at : ℕ) (s : Numbers) (v : Visited b at s) where
   pub own-count : count (fieldsAt b at) ≡ s .children
   own-count = count-fieldsAt b at (v .claimed) (v .below) ∙ sym (children-at b at s (v .numbers))
 
+  tree-is : treeAt (slots b) at ≡ node (slotAt b at) (fieldsAt b at)
+  tree-is = treeAt-slot b at (v .claimed) (v .below)
+
+  single : (s .repetition ≡ REPEATED → ⊥) → eqb (repetition (slotAt b at)) REPEATED ≡ false
+  single n = ne-eqb _ _ (λ q. n (repetition-at b at s (v .numbers) ∙ q))
+
+  repeats : s .repetition ≡ REPEATED → eqb (repetition (slotAt b at)) REPEATED ≡ true
+  repeats q = eq-eqb _ _ (sym (repetition-at b at s (v .numbers)) ∙ q)
+
+  pub leaf : (s .physical ≡ physical.GROUP → ⊥) → isGroup (physical (slotAt b at)) ≡ false
+  leaf n = ne-eqb _ _ (λ q. n (physical-at b at s (v .numbers) ∙ q))
+
+  pub group : s .physical ≡ physical.GROUP → isGroup (physical (slotAt b at)) ≡ true
+  group q = eq-eqb _ _ (sym (physical-at b at s (v .numbers)) ∙ q)
+
+  -- the one field of a group that has one
+  pub only-field : s .children ≡ 1 → fieldsAt b at ≡ field (node (slotAt b (suc at)) (fieldsAt b (suc at))) empty
+  only-field q =
+      let claim : childCount (slotAt b at) ≡ 1 = sym (children-at b at s (v .numbers)) ∙ q in
+      fieldsAt-first b at (v .claimed) (v .below) 0 claim
+      ∙ rw (treeAt-slot b (suc at) (v .claimed) (first-below b at (v .claimed) (v .below) 0 claim), runAt-zero)
+
+-- rule 12 at the child of a LIST, and rule 13 at the child of a MAP: no repeated group
+module _ (b : List ℕ) (layer : ℕ) (s : Numbers) (v : Visited b layer s) where
+  pub child-single : (list : SlotBytes) → (s .repetition ≡ REPEATED → ⊥) → false ≡ listChild list (treeAt (slots b) layer)
+  child-single list r = sym (rw (tree-is b layer s v) (listChild-single list (slotAt b layer) (fieldsAt b layer) (single b layer s v r)))
+
+  pub child-leaf : (list : SlotBytes) → s .repetition ≡ REPEATED → (s .physical ≡ physical.GROUP → ⊥) → true ≡ listChild list (treeAt (slots b) layer)
+  child-leaf list r g = sym (rw (tree-is b layer s v) (listChild-leaf list (slotAt b layer) (fieldsAt b layer) (repeats b layer s v r) (leaf b layer s v g)))
+
+  pub layer-single : (s .repetition ≡ REPEATED → ⊥) → false ≡ mapRun (field (treeAt (slots b) layer) empty)
+  layer-single r = sym (rw (tree-is b layer s v) (mapRun-single (slotAt b layer) (fieldsAt b layer) (single b layer s v r)))
+
+  pub layer-leaf : s .repetition ≡ REPEATED → (s .physical ≡ physical.GROUP → ⊥) → false ≡ mapRun (field (treeAt (slots b) layer) empty)
+  layer-leaf r g = sym (rw (tree-is b layer s v) (mapRun-leaf (slotAt b layer) (fieldsAt b layer) (repeats b layer s v r) (leaf b layer s v g)))
+
+-- a repeated group, as it is read
+pub record RepeatedGroup (b : List ℕ) (layer : ℕ) (s : Numbers) : Type 0 where
+  pub visited : Visited b layer s
+  pub repeated : s .repetition ≡ REPEATED
+  pub grouped : s .physical ≡ physical.GROUP
+
+module _ (b : List ℕ) (layer : ℕ) (s : Numbers) (w : RepeatedGroup b layer s) where
+  abbrev fields : Fields
+  fields = fieldsAt b layer
+
+  h : Claimed b
+  h = w .visited .claimed
+
+  l : layer < totalOf b
+  l = w .visited .below
+
+  count-is : count fields ≡ s .children
+  count-is = own-count b layer s (w .visited)
+
+  tree-here : treeAt (slots b) layer ≡ node (slotAt b layer) fields
+  tree-here = tree-is b layer s (w .visited)
+
+  is-repeated : eqb (repetition (slotAt b layer)) REPEATED ≡ true
+  is-repeated = repeats b layer s (w .visited) (w .repeated)
+
+  is-group : isGroup (physical (slotAt b layer)) ≡ true
+  is-group = group b layer s (w .visited) (w .grouped)
+
+  -- rule 12
+  module _ (list : SlotBytes) where
+    pub child-none : s .children ≡ 0 → false ≡ listChild list (treeAt (slots b) layer)
+    child-none q = sym (rw tree-here (listChild-none list (slotAt b layer) fields is-repeated is-group (count-is ∙ q)))
+
+    pub child-many : (s .children ≡ 0 → ⊥) → (s .children ≡ 1 → ⊥) → true ≡ listChild list (treeAt (slots b) layer)
+    child-many p q = sym (rw tree-here (listChild-many list (slotAt b layer) fields is-repeated is-group (omega (arith, count-is))))
+
+    module _ (q : s .children ≡ 1) where
+      pub child-repeated : repetition (slotAt b (suc layer)) ≡ REPEATED → true ≡ listChild list (treeAt (slots b) layer)
+      child-repeated n = sym (rw tree-here (listChild-repeated list (slotAt b layer) fields is-repeated is-group (slotAt b (suc layer)) (fieldsAt b (suc layer)) (only-field b layer s (w .visited) q) (eq-eqb _ _ n)))
+
+      pub child-held : isRequiredOrOptional (repetition (slotAt b (suc layer))) ≡ true → true ≡ listChild list (treeAt (slots b) layer)
+      child-held n = sym (rw tree-here (listChild-held list (slotAt b layer) fields is-repeated is-group (slotAt b (suc layer)) (fieldsAt b (suc layer)) (only-field b layer s (w .visited) q) n))
+
+      pub child-named : (repetition (slotAt b (suc layer)) ≡ REPEATED → ⊥) → isRequiredOrOptional (repetition (slotAt b (suc layer))) ≡ false → listChild list (treeAt (slots b) layer) ≡ namedElement list (slotAt b layer)
+      child-named n m = rw tree-here (listChild-named list (slotAt b layer) fields is-repeated is-group (slotAt b (suc layer)) (fieldsAt b (suc layer)) (only-field b layer s (w .visited) q) (ne-eqb _ _ n) m)
+
+  -- rule 13
+  layer-group : mapRun (field (treeAt (slots b) layer) empty) ≡ keyValue fields
+  layer-group = rw tree-here (mapRun-group (slotAt b layer) fields is-repeated is-group)
+
+  pub layer-none : s .children ≡ 0 → false ≡ mapRun (field (treeAt (slots b) layer) empty)
+  layer-none q = sym (layer-group ∙ keyValue-none fields (count-is ∙ q))
+
+  pub layer-many : 2 < s .children → false ≡ mapRun (field (treeAt (slots b) layer) empty)
+  layer-many q = sym (layer-group ∙ keyValue-many fields (omega (arith, count-is)))
+
+  -- a key alone
+  pub layer-key : s .children ≡ 1 → mapRun (field (treeAt (slots b) layer) empty) ≡ eqb (repetition (slotAt b (suc layer))) REQUIRED
+  layer-key q = layer-group ∙ rw (only-field b layer s (w .visited) q) (keyValue-key (slotAt b (suc layer)) (fieldsAt b (suc layer)))
+
+  module _ (q : s .children ≡ 2) where
+    claim : childCount (slotAt b layer) ≡ 2
+    claim = sym (children-at b layer s (w .visited .numbers)) ∙ q
+
+    value : ℕ
+    value = suc layer + size (treeAt (slots b) (suc layer))
+
+    value-claimed : 1 ≤ count (trees (drop value (slots b)))
+    unfolding value
+    value-claimed = rest-claimed b layer h l 1 claim
+
+    value-last : lastOf layer (treeAt (slots b) layer) ≡ value
+    unfolding lastOf lastFrom value
+    value-last = rw (tree-here, fieldsAt-first b layer h l 1 claim, runAt-suc (slots b) value 0 (h .claims) value-claimed, runAt-zero)
+
+    value-below : value < totalOf b
+    value-below =
+        let p = size-positive (treeAt (slots b) value) in
+        omega (arith, h .total, runAt-end (slots b) value 0 (h .claims) value-claimed)
+
+    two-fields : fields ≡ field (node (slotAt b (suc layer)) (fieldsAt b (suc layer))) (field (node (slotAt b value) (fieldsAt b value)) empty)
+    unfolding value
+    two-fields =
+        fieldsAt-first b layer h l 1 claim
+        ∙ ap (λ (t : Tree). field t (runAt (slots b) value 1)) (treeAt-slot b (suc layer) h (first-below b layer h l 1 claim))
+        ∙ ap (field (node (slotAt b (suc layer)) (fieldsAt b (suc layer))))
+        (runAt-suc (slots b) value 0 (h .claims) value-claimed
+        ∙ rw (treeAt-slot b value h value-below, runAt-zero))
+
+    pub layer-optional : eqb (repetition (slotAt b (suc layer))) REQUIRED ≡ false → false ≡ mapRun (field (treeAt (slots b) layer) empty)
+    layer-optional k = sym (layer-group ∙ rw two-fields (keyValue-optional (slotAt b (suc layer)) (slotAt b value) (fieldsAt b (suc layer)) (fieldsAt b value) k))
+
+    pub layer-both : eqb (repetition (slotAt b (suc layer))) REQUIRED ≡ true → mapRun (field (treeAt (slots b) layer) empty) ≡ isRequiredOrOptional (repetition (slotAt b (lastOf layer (treeAt (slots b) layer))))
+    layer-both k =
+        layer-group
+        ∙ rw two-fields (keyValue-both (slotAt b (suc layer)) (slotAt b value) (fieldsAt b (suc layer)) (fieldsAt b value) k)
+        ∙ ap (λ (i : ℕ). isRequiredOrOptional (repetition (slotAt b i))) (sym value-last)
+
+  -- a key that is not required, alone or beside a value
+  pub layer-key-optional : (s .children ≡ 0 → ⊥) → s .children ≤ 2 → (repetition (slotAt b (suc layer)) ≡ REQUIRED → ⊥) → false ≡ mapRun (field (treeAt (slots b) layer) empty)
+  layer-key-optional p q k = on (eq-or-lt-of-le q)
+    where
+      on : (s .children ≡ 2) ⊎ (s .children < 2) → false ≡ mapRun (field (treeAt (slots b) layer) empty)
+      on (inl two) = layer-optional two (ne-eqb _ _ k)
+      on (inr less) = sym (layer-key (omega arith) ∙ ne-eqb _ _ k)
+
+-- rules 12 and 13 at the LIST or the MAP itself, which has one child
+module _ (b : List ℕ) (at : ℕ) (s : Numbers) (v : Visited b at s) where
   pub one-below : s .children ≡ 1 → at + 1 < totalOf b
   one-below q = omega (arith, first-below b at (v .claimed) (v .below) 0 (sym (children-at b at s (v .numbers)) ∙ q))
 
@@ -272,8 +294,8 @@ module _ (b : List ℕ) (at : ℕ) (s : Numbers) (v : Visited b at s) where
   not-one p none many q = on (eq-or-lt-of-le (zero-le {n = s .children}))
     where
       on : (0 ≡ s .children) ⊎ (0 < s .children) → p (fieldsAt b at) ≡ false
-      on (inl z) = none (fieldsAt b at) (own-count ∙ sym z)
-      on (inr m) = many (fieldsAt b at) (omega (arith, own-count))
+      on (inl z) = none (fieldsAt b at) (own-count b at s v ∙ sym z)
+      on (inr m) = many (fieldsAt b at) (omega (arith, own-count b at s v))
 
   pub list-neither : isRequiredOrOptional (s .repetition) ≡ false → false ≡ listKept (slotAt b at) (fieldsAt b at)
   unfolding listKept

@@ -4,6 +4,7 @@
 pub mod changes;
 pub mod columns;
 pub mod comparison;
+pub mod every;
 pub mod instants;
 pub mod lent;
 #[cfg(linked)]
@@ -72,4 +73,5 @@ pub fn hunt(wrong: &[(&str, &dyn Side)], most_rounds: u64) -> ExitCode {
 pub const IS_LINKED: bool = cfg!(linked);
 
 /// What is said where it is not.
-pub const NOT_LINKED: &str = "no library is linked: set GRIFFELJOL_LIB to the folder of libc_api.a, or give --itself";
+pub const NOT_LINKED: &str =
+    "no library is linked: set GRIFFELJOL_LIB to the folder of libgriffeljol.a, or give --itself";

@@ -62,8 +62,10 @@ second-read : (c : tie.After-within)
     leading (drop (a .at) (now (a .text))) ≡ cond (c .within .result) 2 0
 unfolding spells
 second-read c =
-    let a = c .before .before .before .before .before .before .args in
-    first-read (c .before .before .before)
+    let for-first-read = c .before .before .before in
+    let start = for-first-read .before .before .before in
+    let a = start .args in
+    first-read for-first-read
     ∙ ap (λ (t : Bool). cond t 2 0)
     (spells-at tail [] 0 (suc (a .at)) (suc (suc (a .at))) (now (a .text)) (c .within .result) (omega arith) refl (rw (← add-one (a .at)) (c .within .ensures)) ∙ and-true (c .within .result))
 

@@ -35,9 +35,11 @@ second-read : (c : tie.After-within)
     leading (drop (a .at) (now (a .text)))
     ≡ cond (c .within .result && spells (replicate (rest .tails) tail) (take (rest .tails) (drop (a .at + 2) (now (a .text))))) (rest .tails + 2) 0
 second-read c =
-    let a = c .before .before .before .before .before .before .before .before .args in
-    let rest = c .before .before .before .before .rest-after .result in
-    first-read (c .before .before .before .before)
+    let at-rest-after = c .before .before .before .before in
+    let start = at-rest-after .before .before .before .before in
+    let a = start .args in
+    let rest = at-rest-after .rest-after .result in
+    first-read at-rest-after
     ∙ ap (λ (t : Bool). cond t (rest .tails + 2) 0)
     (spells-at (rest .low to rest .high) (replicate (rest .tails) tail) (rest .tails) (a .at + 1) (a .at + 2) (now (a .text)) (c .within .result)
     (omega arith)
@@ -62,11 +64,13 @@ triple-at-requires c κs = search needs
 -- one octet of UTF8-tail comes after the second
 returns-2 : tie.Need-returns-2
 returns-2 c =
-    let a = c .before .before .before .before .before .before .args in
-    let rest = c .before .before .rest-after .result in
+    let at-rest-after = c .before .before in
+    let start = at-rest-after .before .before .before .before in
+    let a = start .args in
+    let rest = at-rest-after .rest-after .result in
     let after = drop (a .at + 1) (now (a .text)) in
     let one = ap (λ (n : ℕ). cond (spells (rest .low to rest .high ∷ replicate n tail) (take (suc n) after)) (n + 2) 0) (c .before .if2 .taken) in
-    c .triple-at .ensures ∙ sym (first-read (c .before .before) ∙ one)
+    c .triple-at .ensures ∙ sym (first-read at-rest-after ∙ one)
 
 sub-if3 : tie.Need-sub-if3
 sub-if3 c = search needs
@@ -76,10 +80,12 @@ add-if3 c = search needs
 
 returns-3 : tie.Need-returns-3
 returns-3 c =
-    let a = c .before .before .before .before .before .before .args in
-    let rest = c .before .before .rest-after .result in
+    let at-rest-after = c .before .before in
+    let start = at-rest-after .before .before .before .before in
+    let a = start .args in
+    let rest = at-rest-after .rest-after .result in
     sym
-    (first-read (c .before .before)
+    (first-read at-rest-after
     ∙ ap (λ (t : Bool). cond t (rest .tails + 2) 0)
     (spells-cut (rest .low to rest .high) (rest .tails) (drop (a .at + 1) (now (a .text))) (simp length-drop (omega arith))))
 
@@ -111,8 +117,10 @@ add-result c = search needs
 
 returns-6 : tie.Need-returns-6
 returns-6 c =
-    sym (second-read (c .before .before .before)
-    ∙ rw (← (c .before .tails-at .ensures), not-false (c .before .before .before .within .result) (c .before .before .if4 .left), not-false (c .before .tails-at .result) (c .if5 .left)))
+    let at-if4 = c .before .before in
+    let at-within = at-if4 .before in
+    sym (second-read at-within
+    ∙ rw (← (c .before .tails-at .ensures), not-false (at-within .within .result) (at-if4 .if4 .left), not-false (c .before .tails-at .result) (c .if5 .left)))
 
 pub sequence-at-spec : {M : Type 1} → statement M
 sequence-at-spec =

@@ -43,9 +43,11 @@ step : (c : tie.After-within Inv-loop μ-loop)
     spells (replicate (a .count) tail) (take (a .count) (drop (a .at) (now (a .text))))
     ≡ (c .within .result && spells (replicate (a .count - (i + 1)) tail) (take (a .count - (i + 1)) (drop (a .at + (i + 1)) (now (a .text)))))
 step c =
-    let a = c .before .before .before .before .before .args in
-    let i = c .before .before .before .loop .i in
-    c .before .before .before .loop .inv .1
+    let at-loop = c .before .before .before in
+    let start = at-loop .before .before in
+    let a = start .args in
+    let i = at-loop .loop .i in
+    at-loop .loop .inv .1
     ∙ spells-tails (a .count - i) (a .count - (i + 1)) (a .at + i) (a .at + (i + 1)) (now (a .text)) (c .within .result)
     (omega arith)
     (omega arith)

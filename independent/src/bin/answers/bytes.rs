@@ -8,18 +8,10 @@ impl<'a> Reader<'a> {
         Reader(bytes)
     }
 
-    pub fn is_empty(&self) -> bool {
-        self.0.is_empty()
-    }
-
     pub fn take(&mut self, length: usize) -> &'a [u8] {
         let (front, rest) = self.0.split_at(length);
         self.0 = rest;
         front
-    }
-
-    pub fn u8(&mut self) -> u8 {
-        self.take(1)[0]
     }
 
     pub fn u32(&mut self) -> u32 {

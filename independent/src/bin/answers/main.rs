@@ -5,10 +5,8 @@
 //! `answers --check REPOSITORY` makes all anew and compares it with what is stored there.
 #![forbid(unsafe_code)]
 
-mod annotation_vectors;
 mod bytes;
 mod column;
-mod decimal_vectors;
 mod nodes;
 mod plain_text;
 mod random;
@@ -18,7 +16,6 @@ mod schema_programs;
 mod sheet_slots;
 mod sheet_vectors;
 mod timestamp;
-mod utf8_vectors;
 mod wide;
 
 use std::io::{Read, Write};
@@ -56,12 +53,9 @@ const fn stored(
     Stored { name, place, questions, answers }
 }
 
-const ALL: [Stored; 10] = [
+const ALL: [Stored; 7] = [
     stored("sheet_vectors", PROGRAM, Some(sheet_vectors::input), sheet_vectors::answers),
     stored("sheet_slots", PROGRAM, Some(sheet_slots::input), sheet_slots::answers),
-    stored("utf8_vectors", PROGRAM, Some(utf8_vectors::input), utf8_vectors::answers),
-    stored("decimal_vectors", PROGRAM, None, decimal_vectors::answers),
-    stored("annotation_vectors", PROGRAM, None, annotation_vectors::answers),
     stored("schema_rows", PROGRAM, Some(schema_programs::input), schema_programs::rows),
     stored("schema_rewrite", PROGRAM, Some(schema_programs::input), schema_programs::rewritten),
     stored("schema", LIBRARY, Some(schema::input), schema::answers),

@@ -22,8 +22,9 @@ abbrev μ-loop : tie.MeasureT-loop
 -- in a turn at least one byte is left, so the others are seven at most
 room : (c : tie.In-loop Inv-loop μ-loop) → c .before .loop .n < 256 ^ 7
 room c =
-    let value = c .before .before .before .args .value .now in
-    lt-of-lt-of-le (c .before .loop .inv .2) (pow-le-pow-right (omega arith) {j = 7} (omega (arith, c .before .before .before .pre)))
+    let start = c .before .before .before in
+    let value = start .args .value .now in
+    lt-of-lt-of-le (c .before .loop .inv .2) (pow-le-pow-right (omega arith) {j = 7} (omega (arith, start .pre)))
 
 byte : (c : tie.After-wide Inv-loop μ-loop) → c .wide .result < 256
 byte c =
@@ -61,12 +62,13 @@ loop-less c = omega arith
 
 loop-again : tie.Need-loop-again Inv-loop μ-loop
 loop-again c =
-    let at-loop = c .before .before .before in
+    let at-loop-test = c .before .before in
+    let at-loop = at-loop-test .before in
     let value = at-loop .before .before .args .value .now in
     let at = at-loop .loop .at in (
       omega arith,
-      little-back value at (at-loop .loop .n) (c .wide .result) (c .before .before .loop-test .taken) (at-loop .loop .inv .0) (at-loop .loop .inv .1) (c .wide .ensures),
-      power-back (length value) at (at-loop .loop .n) (c .wide .result) (c .before .before .loop-test .taken) (at-loop .loop .inv .0) (at-loop .loop .inv .2) (byte c),
+      little-back value at (at-loop .loop .n) (c .wide .result) (at-loop-test .loop-test .taken) (at-loop .loop .inv .0) (at-loop .loop .inv .1) (c .wide .ensures),
+      power-back (length value) at (at-loop .loop .n) (c .wide .result) (at-loop-test .loop-test .taken) (at-loop .loop .inv .0) (at-loop .loop .inv .2) (byte c),
     )
 
 returns : tie.Need-returns Inv-loop μ-loop

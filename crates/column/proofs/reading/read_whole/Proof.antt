@@ -32,9 +32,11 @@ signed-requires c κs = search needs
 
 returns-3 : tie.Need-returns-3
 returns-3 c =
-    let s = c .before .before .before .before .before in
+    let at-is-unsigned = c .before .before in
+    let for-kept = at-is-unsigned .before in
+    let s = for-kept .before .before in
     let small = lt-of-lt-of-le (twos-mag-< (s .args .weight) (s .args .n) (s .pre .0)) (s .pre .1) in
-    rw (kept (c .before .before .before), sym (c .before .before .is-unsigned .ensures) ∙ c .before .if2 .left, read-back (c .signed .ensures) small)
+    rw (kept for-kept, sym (at-is-unsigned .is-unsigned .ensures) ∙ c .before .if2 .left, read-back (c .signed .ensures) small)
 
 pub read-whole-spec : {M : Type 1} → statement M
 read-whole-spec =

@@ -15,19 +15,27 @@ use Rattle.column_text.proofs.answers.put_read.Tie as tie
 returns : tie.Need-returns
 unfolding outcomeText
 returns c =
-    let made = c .before .before .before .before .before .make-value .ensures in
-    let text = made .1 .0 ∙ ap readText (sym (c .before .before .before .before .before .before .before .before .r .given .1)) in
-    let put = put-as _ _ text (c .before .before .put .ensures) in
+    let at-put = c .before .before in
+    let at-make-value = at-put .before .before .before in
+    let at-r = at-make-value .before .before .before in
+    let made = at-make-value .make-value .ensures in
+    let text = made .1 .0 ∙ ap readText (sym (at-r .r .given .1)) in
+    let put = put-as _ _ text (at-put .put .ensures) in
     (put .0, (put .1, omega (arith, made .0 .1, made .1 .1, ap length text)))
 
 returns-2 : tie.Need-returns-2
 returns-2 c =
-    let place = c .before .before .before .place in
-    let number = c .before .before .before .before .refusal in
-    let r = c .before .before .before .before .before .before .before .before .args .r in
+    let at-put-refusal = c .before .before in
+    let at-place = at-put-refusal .before in
+    let at-refusal = at-place .before in
+    let at-match = at-refusal .before .before in
+    let start = at-match .before .before in
+    let place = at-place .place in
+    let number = at-refusal .refusal in
+    let r = start .args .r in
     let text = ap₂ refusalText (number .ensures) (place .ensures) in
-    let read = read-refused r (c .before .before .before .before .before .before .match .keys2) in
-    let put = put-as _ _ (text ∙ sym read) (c .before .before .put-refusal .ensures) in
+    let read = read-refused r (at-match .match .keys2) in
+    let put = put-as _ _ (text ∙ sym read) (at-put-refusal .put-refusal .ensures) in
     (put .0, (put .1, omega (arith, ap length read, refused-most r (subst (Fits w64) (place .ensures) (record { fits = omega (arith, place .ok) })))))
 
 pub put-read-spec : {M : Type 1} → statement M

@@ -10,8 +10,9 @@ use Rattle.column_text.proofs.answers.read_line.Tie as tie
 
 returns : tie.Need-returns
 returns c =
-    let start = c .before .before .before .before .before in
-    let read = c .before .before .before .put-read .ensures in
+    let at-put-read = c .before .before .before in
+    let start = at-put-read .before .before in
+    let read = at-put-read .put-read .ensures in
     let text = holds-more (holds-none (start .args .out .now) 0 (omega arith)) (readText (start .args .r)) (omega (arith, read .1 .1)) (read .0, read .1 .0) in
     let line = holds-more text (LF ∷ []) (omega (arith, read .1 .1)) (c .put .ensures) in
     let made = holds-made line in

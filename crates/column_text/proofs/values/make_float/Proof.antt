@@ -21,19 +21,25 @@ held c = holds-more (holds-none (c .before .before .before .args .room .now) 0 (
 
 returns : tie.Need-returns
 returns c =
-    let nan = nan-text binary32 (c .before .before .before .before .before .before .before .args .x) (c .before .before .before .if1 .taken) in
-    made (holds-more (held (c .before .before .before .before)) (ascii "NaN") (omega arith) (c .put2 .ensures)) (ap (λ (t : List ℕ). ascii "float " ++ t) nan) (omega arith)
+    let at-if1 = c .before .before .before in
+    let for-held = at-if1 .before in
+    let start = for-held .before .before .before in
+    let nan = nan-text binary32 (start .args .x) (at-if1 .if1 .taken) in
+    made (holds-more (held for-held) (ascii "NaN") (omega arith) (c .put2 .ensures)) (ap (λ (t : List ℕ). ascii "float " ++ t) nan) (omega arith)
 
 float-to-bits : tie.Need-float-to-bits-put-hex32
 float-to-bits c = has-bits _ (c .before .if1 .left)
 
 returns-2 : tie.Need-returns-2
 returns-2 c =
-    let x = c .before .before .before .before .before .before .args .x in
+    let at-if1 = c .before .before in
+    let for-held = at-if1 .before in
+    let start = for-held .before .before .before in
+    let x = start .args .x in
     let bits = hexText 8 (toBits binary32 x) in
     let digits : length bits ≡ 8 = length-hex 8 (toBits binary32 x) in
-    let number = number-text binary32 x (c .before .before .if1 .left) in
-    made (holds-more (held (c .before .before .before)) bits (omega arith) (c .put-hex32 .ensures)) (ap (λ (t : List ℕ). ascii "float " ++ t) number) (omega arith)
+    let number = number-text binary32 x (at-if1 .if1 .left) in
+    made (holds-more (held for-held) bits (omega arith) (c .put-hex32 .ensures)) (ap (λ (t : List ℕ). ascii "float " ++ t) number) (omega arith)
 
 pub make-float-spec : {M : Type 1} → statement M
 make-float-spec =

@@ -21,18 +21,24 @@ returns c = made-as _ _ (ap valueText (sym (c .before .before .before .v .given 
 returns-2 : tie.Need-returns-2
 unfolding valueText
 returns-2 c =
-    let known = c .before .before .known-told2 .given .0 .1 in
-    let z = c .before .before .before .v2 .given .0 .0 in
+    let at-known-told2 = c .before .before in
+    let at-v2 = at-known-told2 .before in
+    let start = at-v2 .before .before in
+    let known = at-known-told2 .known-told2 .given .0 .1 in
+    let z = at-v2 .v2 .given .0 .0 in
     let most : length (signedText z) ≤ 20 = signed-most z (record { sfits = known }) in
     let put = put-as _ _ (ap signedText (toZ-ofZ w64 z (record { sfits = known }))) (c .put-signed .ensures) in
-    made (holds-more (holds-none (c .before .before .before .before .before .args .room .now) 0 (omega arith)) (signedText z) (omega arith) put) (ap valueText (sym (c .before .before .before .v2 .given .1))) (omega arith)
+    made (holds-more (holds-none (start .args .room .now) 0 (omega arith)) (signedText z) (omega arith) put) (ap valueText (sym (at-v2 .v2 .given .1))) (omega arith)
 
 returns-3 : tie.Need-returns-3
 unfolding valueText
 returns-3 c =
-    let n = c .before .before .before .v3 .given .0 .0 in
-    let most : length (decimalText n) ≤ 20 = decimal-most n (record { fits = c .before .before .known-told3 .given .0 .1 }) in
-    made (holds-more (holds-none (c .before .before .before .before .before .args .room .now) 0 (omega arith)) (decimalText n) (omega arith) (c .put-decimal .ensures)) (ap valueText (sym (c .before .before .before .v3 .given .1))) (omega arith)
+    let at-known-told3 = c .before .before in
+    let at-v3 = at-known-told3 .before in
+    let start = at-v3 .before .before in
+    let n = at-v3 .v3 .given .0 .0 in
+    let most : length (decimalText n) ≤ 20 = decimal-most n (record { fits = at-known-told3 .known-told3 .given .0 .1 }) in
+    made (holds-more (holds-none (start .args .room .now) 0 (omega arith)) (decimalText n) (omega arith) (c .put-decimal .ensures)) (ap valueText (sym (at-v3 .v3 .given .1))) (omega arith)
 
 returns-4 : tie.Need-returns-4
 unfolding valueText

@@ -18,10 +18,12 @@ slot-requires c κs =
 returns-2 : tie.Need-returns-2
 unfolding isLawful
 returns-2 c =
-    let at = c .before .before .before .before in
+    let at-length-right = c .before .before in
+    let at-is-leaf = at-length-right .before in
+    let at = at-is-leaf .before in
     rw (
-      c .before .before .before .is-leaf .ensures,
-      c .before .before .length-right .ensures,
+      at-is-leaf .is-leaf .ensures,
+      at-length-right .length-right .ensures,
       c .annotation-right .ensures ∙ ap annotationRight (c .before .slot .ensures),
       sym (at .before .fits-slot .ensures) ∙ not-false _ (at .if1 .left),
     )

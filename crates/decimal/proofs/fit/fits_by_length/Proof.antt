@@ -33,8 +33,10 @@ greatest-precision-requires-2 c κs = search needs
 
 returns-2 : tie.Need-returns-2
 returns-2 c =
-    let s = c .before .before .before .before .before .before in
-    sym (shorter-beyond (s .args .number .now) (s .args .precision) (s .pre .0) (bytes (c .before .before .before .before .before)) (s .pre .1) (c .before .before .if2 .taken)
+    let at-if2 = c .before .before in
+    let for-bytes = at-if2 .before .before .before in
+    let s = for-bytes .before in
+    sym (shorter-beyond (s .args .number .now) (s .args .precision) (s .pre .0) (bytes for-bytes) (s .pre .1) (at-if2 .if2 .taken)
     (subst (λ (g : ℕ). s .args .precision ≤ g) (c .before .greatest-precision2 .ensures) (c .if3 .taken)))
 
 fits-exactly-requires : tie.Need-fits-exactly-requires

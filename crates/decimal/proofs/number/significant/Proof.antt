@@ -26,7 +26,10 @@ whole bs at = take-all (length bs - at) (drop at bs) (le-of-eq (length-drop at b
 -- the sign of what comes after
 sign : (c : tie.After-sign-byte Inv-loop μ-loop)
     → c .sign-byte .result ≡ signByte (drop (c .before .before .before .before .loop .at + 1) (c .before .before .before .before .before .before .args .number .now))
-sign c = c .sign-byte .ensures ∙ ap signByte (whole (c .before .before .before .before .before .before .args .number .now) (c .before .before .before .before .loop .at + 1))
+sign c =
+    let at-loop = c .before .before .before .before in
+    let start = at-loop .before .before in
+    c .sign-byte .ensures ∙ ap signByte (whole (start .args .number .now) (at-loop .loop .at + 1))
 
 loop-holds : tie.Need-loop-holds Inv-loop μ-loop
 loop-holds c = (omega arith, refl)
@@ -63,10 +66,12 @@ part-result-end c = omega arith
 
 returns : tie.Need-returns Inv-loop μ-loop
 returns c =
-    let l = c .before .before .before .before .before .before in
+    let for-sign = c .before .before in
+    let at-loop-test = for-sign .before .before .before in
+    let l = at-loop-test .before in
     let bs = l .before .before .args .number .now in
     whole bs (l .loop .at)
-    ∙ sym (significant-stop bs (l .loop .at) (c .before .before .before .before .before .loop-test .taken) (λ e. c .before .if1 .taken (e ∙ sym (sign (c .before .before)))))
+    ∙ sym (significant-stop bs (l .loop .at) (at-loop-test .loop-test .taken) (λ e. c .before .if1 .taken (e ∙ sym (sign for-sign))))
     ∙ l .loop .inv .1
 
 loop-less : tie.Need-loop-less Inv-loop μ-loop
@@ -74,9 +79,10 @@ loop-less c = omega arith
 
 loop-again : tie.Need-loop-again Inv-loop μ-loop
 loop-again c =
-    let l = c .before .before .before .before .before in (
+    let at-loop-test = c .before .before .before .before in
+    let l = at-loop-test .before in (
       omega arith,
-      sym (significant-next _ (l .loop .at) (c .before .before .before .before .loop-test .taken) (c .if1 .left ∙ sign (c .before))) ∙ l .loop .inv .1,
+      sym (significant-next _ (l .loop .at) (at-loop-test .loop-test .taken) (c .if1 .left ∙ sign (c .before))) ∙ l .loop .inv .1,
     )
 
 sub-result-2 : tie.Need-sub-result-2 Inv-loop μ-loop

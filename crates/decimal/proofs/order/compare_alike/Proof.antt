@@ -58,17 +58,22 @@ extended-requires-2 c κs = omega arith
 
 returns : tie.Need-returns Inv-loop μ-loop
 returns c =
-    let l = c .before .before .before .before in
+    let at-extended = c .before .before in
+    let at-loop-test = at-extended .before in
+    let l = at-loop-test .before in
     sym (widened-less (sign-fits (l .before)) (alike-a (l .before)) (alike-b (l .before)) (l .loop .at)
-    (c .before .before .before .loop-test .taken) (l .loop .inv .1)
-    (subst₂ (λ (x y : ℕ). x < y) (c .before .before .extended .ensures) (c .before .extended2 .ensures) (c .if1 .taken)))
+    (at-loop-test .loop-test .taken) (l .loop .inv .1)
+    (subst₂ (λ (x y : ℕ). x < y) (at-extended .extended .ensures) (c .before .extended2 .ensures) (c .if1 .taken)))
 
 returns-2 : tie.Need-returns-2 Inv-loop μ-loop
 returns-2 c =
-    let l = c .before .before .before .before .before in
+    let at-extended2 = c .before .before in
+    let at-extended = at-extended2 .before in
+    let at-loop-test = at-extended .before in
+    let l = at-loop-test .before in
     sym (widened-greater (sign-fits (l .before)) (alike-a (l .before)) (alike-b (l .before)) (l .loop .at)
-    (c .before .before .before .before .loop-test .taken) (l .loop .inv .1)
-    (subst₂ (λ (x y : ℕ). x < y) (c .before .before .extended2 .ensures) (c .before .before .before .extended .ensures) (c .if2 .taken)))
+    (at-loop-test .loop-test .taken) (l .loop .inv .1)
+    (subst₂ (λ (x y : ℕ). x < y) (at-extended2 .extended2 .ensures) (at-extended .extended .ensures) (c .if2 .taken)))
 
 add-at : tie.Need-add-at Inv-loop μ-loop
 add-at c = omega arith
@@ -78,12 +83,15 @@ loop-less c = omega arith
 
 loop-again : tie.Need-loop-again Inv-loop μ-loop
 loop-again c =
-    let l = c .before .before .before .before .before in (
+    let at-extended2 = c .before .before in
+    let at-extended = at-extended2 .before in
+    let at-loop-test = at-extended .before in
+    let l = at-loop-test .before in (
       omega arith,
-      widened-next (alike-a (l .before)) (alike-b (l .before)) (l .loop .at) (c .before .before .before .before .loop-test .taken)
+      widened-next (alike-a (l .before)) (alike-b (l .before)) (l .loop .at) (at-loop-test .loop-test .taken)
           (l .loop .inv .1)
-          (sym (c .before .before .before .extended .ensures) ∙ le-antisymm (c .if2 .left) (c .before .if1 .left)
-          ∙ c .before .before .extended2 .ensures),
+          (sym (at-extended .extended .ensures) ∙ le-antisymm (c .if2 .left) (c .before .if1 .left)
+          ∙ at-extended2 .extended2 .ensures),
     )
 
 returns-3 : tie.Need-returns-3 Inv-loop μ-loop

@@ -29,13 +29,19 @@ is-below-requires-2 c κs = search needs
 
 returns-2 : tie.Need-returns-2
 returns-2 c =
-    let s = c .before .before .before .before .args in
-    subℕ-order (valueOf (s .v)) (valueOf (s .w)) (2 ^ 127) false true (below (c .before .before .before) false (c .before .before .if1 .left)) (above (c .before) true (c .if2 .taken))
+    let at-if1 = c .before .before in
+    let for-below = at-if1 .before in
+    let start = for-below .before in
+    let s = start .args in
+    subℕ-order (valueOf (s .v)) (valueOf (s .w)) (2 ^ 127) false true (below for-below false (at-if1 .if1 .left)) (above (c .before) true (c .if2 .taken))
 
 returns-3 : tie.Need-returns-3
 returns-3 c =
-    let s = c .before .before .before .before .args in
-    subℕ-order (valueOf (s .v)) (valueOf (s .w)) (2 ^ 127) false false (below (c .before .before .before) false (c .before .before .if1 .left)) (above (c .before) false (c .if2 .left))
+    let at-if1 = c .before .before in
+    let for-below = at-if1 .before in
+    let start = for-below .before in
+    let s = start .args in
+    subℕ-order (valueOf (s .v)) (valueOf (s .w)) (2 ^ 127) false false (below for-below false (at-if1 .if1 .left)) (above (c .before) false (c .if2 .left))
 
 pub compare-words-spec : {M : Type 1} → statement M
 compare-words-spec =

@@ -31,12 +31,14 @@ loop-less c = omega arith
 
 loop-again : tie.Need-loop-again Inv-loop μ-loop
 loop-again c =
-    let l = c .before .before .before .before .before .before in (
+    let at-scale = c .before .before in
+    let at-power-of-ten = at-scale .before in
+    let l = at-power-of-ten .before .before .before in (
       omega arith,
-      c .before .before .scale .kept .0 ∙ l .loop .inv .1,
-      c .before .before .scale .ensures
-          ∙ ap (λ (n : ℕ). unsigned (l .loop .bytes) * c .before .before .before .power-of-ten .result % 256 ^ n) (l .loop .inv .1)
-          ∙ power-more _ _ _ _ (l .before .before .args .exponent - l .loop .left) 16 _ (l .loop .inv .2) (c .before .before .before .power-of-ten .ensures) (omega arith),
+      at-scale .scale .kept .0 ∙ l .loop .inv .1,
+      at-scale .scale .ensures
+          ∙ ap (λ (n : ℕ). unsigned (l .loop .bytes) * at-power-of-ten .power-of-ten .result % 256 ^ n) (l .loop .inv .1)
+          ∙ power-more _ _ _ _ (l .before .before .args .exponent - l .loop .left) 16 _ (l .loop .inv .2) (at-power-of-ten .power-of-ten .ensures) (omega arith),
     )
 
 power-of-ten-requires-2 : tie.Need-power-of-ten-requires-2 Inv-loop μ-loop
@@ -50,10 +52,12 @@ same-length c = c .before .before .scale2 .kept .0 ∙ c .before .before .before
 
 returns : tie.Need-returns Inv-loop μ-loop
 returns c =
-    let l = c .before .before .before .before .before .before in
-    c .before .before .scale2 .ensures
-    ∙ ap (λ (n : ℕ). unsigned (l .loop .bytes) * c .before .before .before .power-of-ten2 .result % 256 ^ n) (l .loop .inv .1)
-    ∙ power-more _ _ _ _ (l .before .before .args .exponent - l .loop .left) (l .loop .left) _ (l .loop .inv .2) (c .before .before .before .power-of-ten2 .ensures) (omega arith)
+    let at-scale2 = c .before .before in
+    let at-power-of-ten2 = at-scale2 .before in
+    let l = at-power-of-ten2 .before .before .before in
+    at-scale2 .scale2 .ensures
+    ∙ ap (λ (n : ℕ). unsigned (l .loop .bytes) * at-power-of-ten2 .power-of-ten2 .result % 256 ^ n) (l .loop .inv .1)
+    ∙ power-more _ _ _ _ (l .before .before .args .exponent - l .loop .left) (l .loop .left) _ (l .loop .inv .2) (at-power-of-ten2 .power-of-ten2 .ensures) (omega arith)
 
 pub scale-by-power-spec : {M : Type 1} → statement M
 scale-by-power-spec =

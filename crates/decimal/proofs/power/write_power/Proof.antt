@@ -24,16 +24,19 @@ same-length c = search needs
 
 returns : tie.Need-returns
 returns c =
-    let a = c .before .before .before .before .before .before .before .before .before .args in
-    let unit = c .before .before .before .before .before .before .write-unit in
-    let power = c .before .before .scale-by-power in
+    let at-scale-by-power = c .before .before in
+    let at-write-unit = at-scale-by-power .before .before .before .before in
+    let start = at-write-unit .before .before .before in
+    let a = start .args in
+    let unit = at-write-unit .write-unit in
+    let power = at-scale-by-power .scale-by-power in
     let scaled : length (power .last .0) ≡ length (unit .last .0) = power .kept .0 in
     let whole : length (power .last .0) ≡ length (a .bytes .now) = scaled ∙ unit .kept .0 in
     number-scaled (a .negative) (power .last .0) (10 ^ a .exponent) (unsigned (unit .last .0))
     (Bytes-getD (power .last .0) (λ k. c .slice-known3 .given k .fits))
-    (subst (λ (n : ℕ). 1 ≤ n) (sym whole) (c .before .before .before .before .before .before .before .before .before .pre .0))
+    (subst (λ (n : ℕ). 1 ≤ n) (sym whole) (start .pre .0))
     (one-le-pow (a .exponent) 10 (omega arith))
-    (subst (λ (n : ℕ). 10 ^ a .exponent ≤ greatestNumber n) (sym whole) (c .before .before .before .before .before .before .before .before .before .pre .1))
+    (subst (λ (n : ℕ). 10 ^ a .exponent ≤ greatestNumber n) (sym whole) (start .pre .1))
     (unit .ensures ∙ ap (λ (n : ℕ). cond (a .negative) (256 ^ n - 1) 1) (sym whole))
     (power .ensures ∙ ap (λ (n : ℕ). unsigned (unit .last .0) * 10 ^ a .exponent % 256 ^ n) (sym scaled))
 

@@ -16,8 +16,11 @@ same-length c = search needs
 
 returns : tie.Need-returns
 returns c =
-    unsigned-all-set _ _ (c .before .before .fill .ensures)
-    ∙ sym (ap (λ (t : Bool). cond t (256 ^ length (c .before .before .before .before .before .before .args .bytes .now) - 1) 1) (c .before .before .before .before .if1 .taken))
+    let at-fill = c .before .before in
+    let at-if1 = at-fill .before .before in
+    let start = at-if1 .before .before in
+    unsigned-all-set _ _ (at-fill .fill .ensures)
+    ∙ sym (ap (λ (t : Bool). cond t (256 ^ length (start .args .bytes .now) - 1) 1) (at-if1 .if1 .taken))
 
 fill-requires-2 : tie.Need-fill-requires-2
 fill-requires-2 c κs = search needs
@@ -33,8 +36,11 @@ same-length-2 c = search needs
 
 returns-2 : tie.Need-returns-2
 returns-2 c =
-    unsigned-last-set _ _ (c .before .before .before .before .before .before .pre) (c .before .before .fill2 .ensures)
-    ∙ sym (ap (λ (t : Bool). cond t (256 ^ length (c .before .before .before .before .before .before .args .bytes .now) - 1) 1) (c .before .before .before .before .if1 .left))
+    let at-fill2 = c .before .before in
+    let at-if1 = at-fill2 .before .before in
+    let start = at-if1 .before .before in
+    unsigned-last-set _ _ (start .pre) (at-fill2 .fill2 .ensures)
+    ∙ sym (ap (λ (t : Bool). cond t (256 ^ length (start .args .bytes .now) - 1) 1) (at-if1 .if1 .left))
 
 pub write-unit-spec : {M : Type 1} → statement M
 write-unit-spec =

@@ -75,10 +75,13 @@ add-result-3 c = omega (arith, first c, second c, third c, fourth c)
 
 returns : tie.Need-returns
 unfolding fourBytes
-returns c = (
-  omega (arith, c .before .before .before .before .before .before .wide .ensures, c .before .before .before .before .wide2 .ensures, c .before .before .wide3 .ensures, c .wide4 .ensures),
-  omega (arith, first c, second c, third c, fourth c),
-)
+returns c =
+    let at-wide3 = c .before .before in
+    let at-wide2 = at-wide3 .before .before in
+    let at-wide = at-wide2 .before .before in (
+      omega (arith, at-wide .wide .ensures, at-wide2 .wide2 .ensures, at-wide3 .wide3 .ensures, c .wide4 .ensures),
+      omega (arith, first c, second c, third c, fourth c),
+    )
 
 pub half-spec : {M : Type 1} → statement M
 half-spec =

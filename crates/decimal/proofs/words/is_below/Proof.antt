@@ -11,11 +11,14 @@ returns c =
 
 returns-2 : tie.Need-returns-2
 returns-2 c =
-    let start = c .before .before .before .before .before in
+    let at-if1 = c .before .before in
+    let at-struct-known2 = at-if1 .before in
+    let at-struct-known = at-struct-known2 .before in
+    let start = at-struct-known .before in
     let s = start .args in
     words-differ (s .v .high) (s .w .high) (s .v .low) (s .w .low)
-    (omega (arith, c .before .before .before .before .struct-known .given))
-    (omega (arith, c .before .before .before .struct-known2 .given)) (c .before .before .if1 .left)
+    (omega (arith, at-struct-known .struct-known .given))
+    (omega (arith, at-struct-known2 .struct-known2 .given)) (at-if1 .if1 .left)
 
 pub is-below-spec : {M : Type 1} → statement M
 is-below-spec = tie.close (tie.spec returns returns-2)

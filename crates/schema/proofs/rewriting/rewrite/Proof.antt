@@ -1,12 +1,21 @@
 -- `schema::rewriting::rewrite` meets its contract: refused before anything is written, or the rewritten sheet in its stretch.
 use native.Mathlib.Omega.{arith}
-use mathlib.Core.Path.{sym, ap, _∙_}
+use mathlib.Core.Path.{_≡_, sym, ap, _∙_}
 use lib.ListN.{length-take, length-drop}
+use Rattle.tree.specs.Judgement.{judgementOf}
+use Rattle.tree.specs.declared.judgement.Judgement.{Judgement}
 use Rattle.schema.specs.declared.rewriting.Rewritten.{Rewritten}
 use Rattle.schema.proofs.RewriteLaws.{rewrite-refused, rewrite-kept, rewrite-short, rewrite-bytes, rewrite-written}
 use borrow.Author.Needs.{needs}
 use Rattle.schema.proofs.rewriting.rewrite.Statement.{statement}
 use Rattle.schema.proofs.rewriting.rewrite.Tie as tie
+
+-- the entry, and the number of nodes, where the sheet is judged to have one
+abbrev entry : tie.After-judgement2 → tie.Start
+entry c = c .before .before .before .before .before
+
+nodes : (c : tie.After-judgement2) → judgementOf (entry c .args .sheet .now) ≡ Judgement.Nodes (c .judgement2 .given .0 .0)
+nodes c = sym (c .before .before .judge .ensures) ∙ c .judgement2 .given .1
 
 judge-requires : tie.Need-judge-requires
 judge-requires c κs = search needs
@@ -22,9 +31,9 @@ short-output-requires c κs = search needs
 
 returns : tie.Need-returns
 returns c =
-    let start = c .before .before .before .before .before .before .before .before in
-    let nodes = sym (c .before .before .before .before .before .judge .ensures) ∙ c .before .before .before .judgement2 .given .1 in
-    let short = rewrite-short (start .args .sheet .now) (start .args .out .now) (start .args .start) _ nodes (omega (arith, c .before .if1 .taken)) in
+    let judged = c .before .before .before in
+    let start = entry judged in
+    let short = rewrite-short (start .args .sheet .now) (start .args .out .now) (start .args .start) _ (nodes judged) (omega (arith, c .before .if1 .taken)) in
     (ap Rewritten.Refused (c .short-output .ensures) ∙ sym short, sym (rewrite-kept _ _ _ _ short))
 
 sub-if2 : tie.Need-sub-if2
@@ -35,9 +44,9 @@ short-output-requires-2 c κs = search needs
 
 returns-2 : tie.Need-returns-2
 returns-2 c =
-    let start = c .before .before .before .before .before .before .before .before .before in
-    let nodes = sym (c .before .before .before .before .before .before .judge .ensures) ∙ c .before .before .before .before .judgement2 .given .1 in
-    let short = rewrite-short (start .args .sheet .now) (start .args .out .now) (start .args .start) _ nodes (omega (arith, c .before .if2 .taken)) in
+    let judged = c .before .before .before .before in
+    let start = entry judged in
+    let short = rewrite-short (start .args .sheet .now) (start .args .out .now) (start .args .start) _ (nodes judged) (omega (arith, c .before .if2 .taken)) in
     (ap Rewritten.Refused (c .short-output2 .ensures) ∙ sym short, sym (rewrite-kept _ _ _ _ short))
 
 add-end : tie.Need-add-end
@@ -53,14 +62,13 @@ part-write-sheet-end : tie.Need-part-write-sheet-end
 part-write-sheet-end c = search needs
 
 write-sheet-requires : tie.Need-write-sheet-requires
-write-sheet-requires c κs =
-    let nodes = sym (c .before .before .before .before .before .before .judge .ensures) ∙ c .before .before .before .before .judgement2 .given .1 in
-    (nodes, simp (length-take, length-drop) (omega arith))
+write-sheet-requires c κs = (nodes (c .before .before .before .before), simp (length-take, length-drop) (omega arith))
 
 returns-3 : tie.Need-returns-3
 returns-3 c =
-    let start = c .before .before .before .before .before .before in
-    let refused = rewrite-refused (start .args .sheet .now) (start .args .out .now) (start .args .start) _ (sym (c .before .before .before .judge .ensures) ∙ c .before .judgement .given .1) in
+    let at-judge = c .before .before .before in
+    let start = at-judge .before .before .before in
+    let refused = rewrite-refused (start .args .sheet .now) (start .args .out .now) (start .args .start) _ (sym (at-judge .judge .ensures) ∙ c .before .judgement .given .1) in
     (sym refused, sym (rewrite-kept _ _ _ _ refused))
 
 same-length : tie.Need-same-length
@@ -68,9 +76,9 @@ same-length c = search needs
 
 returns-4 : tie.Need-returns-4
 returns-4 c =
-    let start = c .before .before .before .before .before .before .before .before .before .before .before .before in
-    let nodes = sym (c .before .before .before .before .before .before .before .before .before .judge .ensures) ∙ c .before .before .before .before .before .before .before .judgement2 .given .1 in
-    (sym (rewrite-bytes (start .args .sheet .now) (start .args .out .now) (start .args .start) _ nodes (omega arith)), rewrite-written (start .args .sheet .now) (start .args .out .now) (start .args .start) _ nodes (omega arith) _ (c .before .before .write-sheet .ensures))
+    let judged = c .before .before .before .before .before .before .before in
+    let start = entry judged in
+    (sym (rewrite-bytes (start .args .sheet .now) (start .args .out .now) (start .args .start) _ (nodes judged) (omega arith)), rewrite-written (start .args .sheet .now) (start .args .out .now) (start .args .start) _ (nodes judged) (omega arith) _ (c .before .before .write-sheet .ensures))
 
 pub rewrite-spec : {M : Type 1} → statement M
 rewrite-spec =

@@ -15,9 +15,13 @@ use Rattle.schema.proofs.rewriting.write_node.Tie as tie
 returns : tie.Need-returns
 unfolding isWrittenMap annotated
 returns c =
-    let start = c .before .before .before .before .before .before .before .before .before .before in
-    let w = c .before .before .before .before .before .written-of .ensures ∙ ap (λ (n : Annotated). writtenOf n (start .args .under-map)) (c .before .before .before .before .before .before .annotated .ensures ∙ ap annotatedBy (c .before .before .before .before .before .before .before .slot-at .ensures)) in
-    (ap (λ (v : Written). eqb (v .logical) logical.MAP) w, c .before .before .before .write-annotation .ensures ∙ ap (λ (v : Written). withAnnotation (start .args .out .now) (start .args .node) (v .converted) (v .logical) (v .a) (v .b)) w)
+    let at-write-annotation = c .before .before .before in
+    let at-written-of = at-write-annotation .before .before in
+    let at-annotated = at-written-of .before in
+    let at-slot-at = at-annotated .before in
+    let start = at-slot-at .before .before .before in
+    let w = at-written-of .written-of .ensures ∙ ap (λ (n : Annotated). writtenOf n (start .args .under-map)) (at-annotated .annotated .ensures ∙ ap annotatedBy (at-slot-at .slot-at .ensures)) in
+    (ap (λ (v : Written). eqb (v .logical) logical.MAP) w, at-write-annotation .write-annotation .ensures ∙ ap (λ (v : Written). withAnnotation (start .args .out .now) (start .args .node) (v .converted) (v .logical) (v .a) (v .b)) w)
 
 pub write-node-spec : {M : Type 1} → statement M
 write-node-spec =

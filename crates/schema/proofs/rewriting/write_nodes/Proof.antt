@@ -26,9 +26,11 @@ loop-less c = omega (arith, c .before .before .before .before .loop-test .taken)
 
 loop-again : tie.Need-loop-again Inv-loop μ-loop
 loop-again c =
-    let loop = c .before .before .before .before .before in
-    let node = c .before .before .write-node in
-    written-next _ _ _ _ _ (loop .loop .inv) (omega (arith, c .before .before .before .before .loop-test .taken, loop .before .before .before .pre)) _ _ (node .ensures .1) (node .ensures .0) (node .kept .1 .0)
+    let at-write-node = c .before .before in
+    let at-loop-test = at-write-node .before .before in
+    let loop = at-loop-test .before in
+    let node = at-write-node .write-node in
+    written-next _ _ _ _ _ (loop .loop .inv) (omega (arith, at-loop-test .loop-test .taken, loop .before .before .before .pre)) _ _ (node .ensures .1) (node .ensures .0) (node .kept .1 .0)
 
 same-length : tie.Need-same-length Inv-loop μ-loop
 same-length c = c .before .loop .inv .long

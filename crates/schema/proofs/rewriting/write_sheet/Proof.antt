@@ -34,10 +34,13 @@ whole-copy source room copy e q =
 returns : tie.Need-returns
 unfolding rewritten
 returns c =
-    let start = c .before .before .before .before .before .before .before .before .before .before .before .before .before .before in
-    let copied = whole-copy (start .args .sheet .now) (start .args .out .now) _ (start .pre .1) (c .before .before .before .before .before .before .before .before .before .before .copy .ensures .1) in
-    c .before .before .renew-checks .ensures
-    ∙ ap renewed (c .before .before .before .before .before .before .write-nodes .ensures ∙ ap₂ (λ (l : List ℕ) (rs : List Rewriting). withRewritings l 0 rs) copied (order-accepted (start .args .sheet .now) _ (start .pre .0)))
+    let at-renew-checks = c .before .before in
+    let at-write-nodes = at-renew-checks .before .before .before .before in
+    let at-copy = at-write-nodes .before .before .before .before in
+    let start = at-copy .before .before .before .before in
+    let copied = whole-copy (start .args .sheet .now) (start .args .out .now) _ (start .pre .1) (at-copy .copy .ensures .1) in
+    at-renew-checks .renew-checks .ensures
+    ∙ ap renewed (at-write-nodes .write-nodes .ensures ∙ ap₂ (λ (l : List ℕ) (rs : List Rewriting). withRewritings l 0 rs) copied (order-accepted (start .args .sheet .now) _ (start .pre .0)))
 
 pub write-sheet-spec : {M : Type 1} → statement M
 write-sheet-spec =

@@ -130,10 +130,13 @@ write-run-loop-less t c = omega (arith, c .before .before .before .before .befor
 
 write-run-loop-again : (t : ℕ) → write-run-lts.Need-loop-again (write-run-calls t) (write-run-at t) write-run.Post write-run-Inv-loop write-run-μ-loop
 write-run-loop-again t c =
-    let start = c .before .before .before .before .before .before .before .before .before in
-    let loop = c .before .before .before .before .before .before .loop in
-    let tree = c .before .before .before .write-tree in
-    let some : loop .left ≡ 0 → ⊥ = λ e. omega (arith, c .before .before .before .before .before .loop-test .taken) in
+    let at-write-tree = c .before .before .before in
+    let at-loop-test = at-write-tree .before .before in
+    let at-loop = at-loop-test .before in
+    let start = at-loop .before .before .before in
+    let loop = at-loop .loop in
+    let tree = at-write-tree .write-tree in
+    let some : loop .left ≡ 0 → ⊥ = λ e. omega (arith, at-loop-test .loop-test .taken) in
     behind-next _ _ _ _ _ _ _ _ _ _ _ _ _ _ (loop .inv) (start .pre .1 .0) (start .pre .1 .1 .1 .1 .0) some _ _ _ (tree .ensures .0) (tree .ensures .1) (tree .kept .1 .0) (c .after-first .ensures)
 
 write-run-same-length : (t : ℕ) → write-run-lts.Need-same-length (write-run-calls t) (write-run-at t) write-run.Post write-run-Inv-loop write-run-μ-loop
@@ -145,6 +148,37 @@ write-run-returns t c = behind-end _ _ _ _ _ _ _ _ _ _ _ _ _ _ (c .before .loop 
 -- what a tree calls
 abbrev write-tree-calls : ℕ → write-tree-lts.Claims
 write-tree-calls t = (slot-at-reads.Asked, slot-at-reads.Learnt, annotated-reads.Asked, annotated-reads.Learnt, is-map-parent-reads.Asked, is-map-parent-reads.Learnt, resolved-kind-reads.Asked, resolved-kind-reads.Learnt, role-reads.Asked, role-reads.Learnt, in-definition-reads.Asked, in-definition-reads.Learnt, in-repetition-reads.Asked, in-repetition-reads.Learnt, type-length-reads.Asked, type-length-reads.Learnt, write-row-reads.Asked, write-row-reads.Learnt, write-fields-below t, write-fields.Post)
+
+-- in a tree: where its slot has been read, its levels are known, its row is known, and its fields are called for
+abbrev Read : ℕ → Type 0
+Read t = write-tree-lts.After-slot-at (write-tree-calls t) (write-tree-at t) write-tree.Post
+
+abbrev Levelled : ℕ → Type 0
+Levelled t = write-tree-lts.After-in-repetition (write-tree-calls t) (write-tree-at t) write-tree.Post
+
+abbrev Rowed : ℕ → Type 0
+Rowed t = write-tree-lts.After-struct-known2 (write-tree-calls t) (write-tree-at t) write-tree.Post
+
+abbrev Called : ℕ → Type 0
+Called t = write-tree-lts.After-struct-known3 (write-tree-calls t) (write-tree-at t) write-tree.Post
+
+abbrev entry : (t : ℕ) → Read t → write-tree-lts.Start (write-tree-calls t) (write-tree-at t) write-tree.Post
+entry t c = c .before .before .before
+
+abbrev read : (t : ℕ) → Levelled t → Read t
+read t c = c .before .before .before .before .before .before
+
+abbrev levelled : (t : ℕ) → Rowed t → Levelled t
+levelled t c = c .before .before .before .before
+
+abbrev rowed : (t : ℕ) → Called t → Rowed t
+rowed t c = c .before .before .before .before .before
+
+abbrev slot : (t : ℕ) → Called t → Read t
+slot t c = read t (levelled t (rowed t c))
+
+visited : (t : ℕ) (c : Read t) → Visited (entry t c .args .sheet .now) (entry t c .args .at) (c .slot-at .result)
+visited t c = record { claimed = entry t c .pre .1 .0; below = entry t c .pre .1 .1 .0; numbers = c .slot-at .ensures }
 
 write-tree-slot-at-requires : (t : ℕ) → write-tree-lts.Need-slot-at-requires (write-tree-calls t) (write-tree-at t) write-tree.Post
 write-tree-slot-at-requires t c κs = search needs
@@ -159,26 +193,27 @@ write-tree-resolved-kind-requires : (t : ℕ) → write-tree-lts.Need-resolved-k
 write-tree-resolved-kind-requires t c κs = search needs
 
 write-tree-role-requires : (t : ℕ) → write-tree-lts.Need-role-requires (write-tree-calls t) (write-tree-at t) write-tree.Post
-write-tree-role-requires t c κs = record { claimed = c .before .before .before .before .before .before .pre .1 .0; below = c .before .before .before .before .before .before .pre .1 .1 .0; numbers = c .before .before .before .slot-at .ensures }
+write-tree-role-requires t c κs = visited t (c .before .before .before)
 
 write-tree-in-definition-requires : (t : ℕ) → write-tree-lts.Need-in-definition-requires (write-tree-calls t) (write-tree-at t) write-tree.Post
 write-tree-in-definition-requires t c κs = search needs
 
 write-tree-add-own-definition : (t : ℕ) → write-tree-lts.Need-add-own-definition (write-tree-calls t) (write-tree-at t) write-tree.Post
 write-tree-add-own-definition t c =
-    let start = c .before .before .before .before .before .before .before .before in
-    omega (arith, start .pre .1 .1 .0, start .pre .1 .0 .most, start .pre .1 .1 .1 .1 .1 .0 .definition-most, c .in-definition .ensures, counted-most isOptionalOrRepeated (c .before .before .before .before .before .slot-at .result .repetition))
+    let slot = c .before .before .before .before .before in
+    let here = visited t slot in
+    omega (arith, here .below, here .claimed .most, entry t slot .pre .1 .1 .1 .1 .1 .0 .definition-most, c .in-definition .ensures, counted-most isOptionalOrRepeated (slot .slot-at .result .repetition))
 
 write-tree-in-repetition-requires : (t : ℕ) → write-tree-lts.Need-in-repetition-requires (write-tree-calls t) (write-tree-at t) write-tree.Post
 write-tree-in-repetition-requires t c κs = search needs
 
 write-tree-add-own-repetition : (t : ℕ) → write-tree-lts.Need-add-own-repetition (write-tree-calls t) (write-tree-at t) write-tree.Post
 write-tree-add-own-repetition t c =
-    let start = c .before .before .before .before .before .before .before .before .before in
-    omega (arith, start .pre .1 .1 .0, start .pre .1 .0 .most, start .pre .1 .1 .1 .1 .1 .0 .repetition-most, c .in-repetition .ensures, counted-most isRepeatedCode (c .before .before .before .before .before .before .slot-at .result .repetition))
+    let here = visited t (read t c) in
+    omega (arith, here .below, here .claimed .most, entry t (read t c) .pre .1 .1 .1 .1 .1 .0 .repetition-most, c .in-repetition .ensures, counted-most isRepeatedCode (read t c .slot-at .result .repetition))
 
 write-tree-mul-base : (t : ℕ) → write-tree-lts.Need-mul-base (write-tree-calls t) (write-tree-at t) write-tree.Post
-write-tree-mul-base t c = omega (arith, c .before .before .before .before .before .before .before .before .before .pre .1 .1 .0, c .before .before .before .before .before .before .before .before .before .pre .1 .0 .most)
+write-tree-mul-base t c = let here = visited t (read t c) in omega (arith, here .below, here .claimed .most)
 
 write-tree-cast-rows : (t : ℕ) → write-tree-lts.Need-cast-rows (write-tree-calls t) (write-tree-at t) write-tree.Post
 write-tree-cast-rows t c = search needs
@@ -190,78 +225,81 @@ write-tree-cast-t23 : (t : ℕ) → write-tree-lts.Need-cast-t23 (write-tree-cal
 write-tree-cast-t23 t c = search needs
 
 write-tree-cast-t24 : (t : ℕ) → write-tree-lts.Need-cast-t24 (write-tree-calls t) (write-tree-at t) write-tree.Post
-write-tree-cast-t24 t c = omega (arith, c .before .before .before .before .before .before .before .before .before .before .before .before .before .pre .1 .1 .1 .0, c .before .before .before .before .before .before .before .before .before .before .before .before .before .pre .1 .0 .most)
+write-tree-cast-t24 t c = let slot = read t (levelled t c) in omega (arith, entry t slot .pre .1 .1 .1 .0, visited t slot .claimed .most)
 
 write-tree-write-row-requires : (t : ℕ) → write-tree-lts.Need-write-row-requires (write-tree-calls t) (write-tree-at t) write-tree.Post
-write-tree-write-row-requires t c κs = row-fits _ _ _ _ (c .before .before .before .before .before .before .before .before .before .before .before .before .before .pre .1 .1 .0) (c .before .before .before .before .before .before .before .before .before .before .before .before .before .pre .1 .1 .1 .1 .0) refl
+write-tree-write-row-requires t c κs = let slot = read t (levelled t c) in row-fits _ _ _ _ (visited t slot .below) (entry t slot .pre .1 .1 .1 .1 .0) refl
 
 write-tree-add-write-fields : (t : ℕ) → write-tree-lts.Need-add-write-fields (write-tree-calls t) (write-tree-at t) write-tree.Post
-write-tree-add-write-fields t c = omega (arith, c .before .before .before .before .before .before .before .before .before .before .before .before .before .before .before .before .before .pre .1 .1 .0, c .before .before .before .before .before .before .before .before .before .before .before .before .before .before .before .before .before .pre .1 .0 .most)
+write-tree-add-write-fields t c = let here = visited t (read t (levelled t (c .before .before .before .before))) in omega (arith, here .below, here .claimed .most)
 
 write-tree-cast-write-fields : (t : ℕ) → write-tree-lts.Need-cast-write-fields (write-tree-calls t) (write-tree-at t) write-tree.Post
 write-tree-cast-write-fields t c = search needs
 
--- where a tree calls for its fields, what it started with
-abbrev write-tree-start : (t : ℕ) → write-tree-lts.After-struct-known3 (write-tree-calls t) (write-tree-at t) write-tree.Post → write-tree-lts.Start (write-tree-calls t) (write-tree-at t) write-tree.Post
-write-tree-start t c = c .before .before .before .before .before .before .before .before .before .before .before .before .before .before .before .before .before .before
-
 write-tree-sub-write-fields : (t : ℕ) → write-tree-lts.Need-sub-write-fields (write-tree-calls t) (write-tree-at t) write-tree.Post
 write-tree-sub-write-fields t c =
-    let start = write-tree-start t c in
+    let start = entry t (slot t c) in
     omega (arith, level-left (start .args .levels) _ (start .pre .1 .1 .1 .1 .1 .1 .1))
 
 write-tree-write-fields-requires : (t : ℕ) → write-tree-lts.Need-write-fields-requires (write-tree-calls t) (write-tree-at t) write-tree.Post
 write-tree-write-fields-requires t c κs =
-    let start = write-tree-start t c in
-    let s = c .before .before .before .before .before .before .before .before .before .before .before .before .before .before .before .slot-at in
-    let levels = levels-most (start .args .sheet .now) (start .args .at) (s .result) _ _ _ _ _ _ (c .before .before .before .before .before .before .before .before .before .before .in-definition .ensures) (c .before .before .before .before .before .before .before .before .before .in-repetition .ensures) refl refl _ (start .pre .1 .1 .1 .1 .1 .0) in
-    let visited : Visited (start .args .sheet .now) (start .args .at) (s .result) = record { claimed = start .pre .1 .0; below = start .pre .1 .1 .0; numbers = s .ensures } in
+    let start = entry t (slot t c) in
+    let here = visited t (slot t c) in
+    let level = levelled t (rowed t c) in
+    let levels = levels-most (start .args .sheet .now) (start .args .at) (slot t c .slot-at .result) _ _ _ _ _ _ (level .before .in-definition .ensures) (level .in-repetition .ensures) refl refl _ (start .pre .1 .1 .1 .1 .1 .0) in
     let deep = start .pre .1 .1 .1 .1 .1 .1 in
-    (fields-falls _ _ _ _ (start .pre .1 .1 .0) (level-left _ _ (deep .1)) (start .pre .0), (start .pre .1 .0, (children-claimed _ _ _ (s .ensures) (start .pre .1 .0) (start .pre .1 .1 .0), (start .pre .1 .1 .0, (long-enough _ _ _ (start .pre .1 .1 .1 .1 .0) (c .before .before .before .before .write-row .kept .0), (levels, (omega (arith, deep .0), fields-deep _ _ _ _ visited (deep .0) (deep .1))))))))
+    (fields-falls _ _ _ _ (here .below) (level-left _ _ (deep .1)) (start .pre .0), (here .claimed, (children-claimed _ _ _ (here .numbers) (here .claimed) (here .below), (here .below, (long-enough _ _ _ (start .pre .1 .1 .1 .1 .0) (c .before .before .before .before .write-row .kept .0), (levels, (omega (arith, deep .0), fields-deep _ _ _ _ here (deep .0) (deep .1))))))))
+
+-- from where the fields' rows are written: where they are called for, and where the node's own row is written
+abbrev Closed : ℕ → Type 0
+Closed t = write-tree-lts.After-slice-known3 (write-tree-calls t) (write-tree-at t) write-tree.Post
+
+abbrev called : (t : ℕ) → Closed t → Called t
+called t c = c .before .before .before
+
+abbrev written : (t : ℕ) → Closed t → write-tree-lts.After-write-row (write-tree-calls t) (write-tree-at t) write-tree.Post
+written t c = called t c .before .before .before .before
 
 write-tree-cast-rows-2 : (t : ℕ) → write-tree-lts.Need-cast-rows-2 (write-tree-calls t) (write-tree-at t) write-tree.Post
 write-tree-cast-rows-2 t c =
-    let start = write-tree-start t (c .before .before .before) in
-    let visited : Visited (start .args .sheet .now) (start .args .at) (c .before .before .before .before .before .before .before .before .before .before .before .before .before .before .before .before .before .before .slot-at .result) = record { claimed = start .pre .1 .0; below = start .pre .1 .1 .0; numbers = c .before .before .before .before .before .before .before .before .before .before .before .before .before .before .before .before .before .before .slot-at .ensures } in
-    let end = tree-end (start .args .sheet .now) (start .args .at) _ visited _ (c .before .before .write-fields .ensures .0) in
-    omega (arith, tree-within (start .args .sheet .now) (start .args .at) (start .pre .1 .0) (start .pre .1 .1 .0), start .pre .1 .0 .most, end)
+    let start = entry t (slot t (called t c)) in
+    let here = visited t (slot t (called t c)) in
+    let end = tree-end (start .args .sheet .now) (start .args .at) _ here _ (c .before .before .write-fields .ensures .0) in
+    omega (arith, tree-within (start .args .sheet .now) (start .args .at) (here .claimed) (here .below), here .claimed .most, end)
 
 write-tree-add-rows : (t : ℕ) → write-tree-lts.Need-add-rows (write-tree-calls t) (write-tree-at t) write-tree.Post
-write-tree-add-rows t c =
-    let start = write-tree-start t (c .before .before .before) in
-    omega (arith, start .pre .1 .1 .0, start .pre .1 .0 .most)
+write-tree-add-rows t c = let here = visited t (slot t (called t c)) in omega (arith, here .below, here .claimed .most)
 
 write-tree-mul-rows : (t : ℕ) → write-tree-lts.Need-mul-rows (write-tree-calls t) (write-tree-at t) write-tree.Post
-write-tree-mul-rows t c =
-    let start = write-tree-start t (c .before .before .before) in
-    omega (arith, start .pre .1 .1 .0, start .pre .1 .0 .most)
+write-tree-mul-rows t c = let here = visited t (slot t (called t c)) in omega (arith, here .below, here .claimed .most)
 
 write-tree-slice-write-rows : (t : ℕ) → write-tree-lts.Need-slice-write-rows (write-tree-calls t) (write-tree-at t) write-tree.Post
 write-tree-slice-write-rows t c =
-    let start = write-tree-start t (c .before .before .before) in
-    omega (arith, start .pre .1 .1 .0, start .pre .1 .1 .1 .1 .0, c .before .before .before .before .before .before .before .write-row .kept .0, c .before .before .write-fields .kept .1 .0)
+    let start = entry t (slot t (called t c)) in
+    omega (arith, start .pre .1 .1 .0, start .pre .1 .1 .1 .1 .0, written t c .write-row .kept .0, c .before .before .write-fields .kept .1 .0)
 
 write-tree-same-length : (t : ℕ) → write-tree-lts.Need-same-length (write-tree-calls t) (write-tree-at t) write-tree.Post
-write-tree-same-length t c = simp length-set (c .before .before .write-fields .kept .1 .0 ∙ c .before .before .before .before .before .before .before .write-row .kept .0)
+write-tree-same-length t c = simp length-set (c .before .before .write-fields .kept .1 .0 ∙ written t c .write-row .kept .0)
 
 write-tree-returns : (t : ℕ) → write-tree-lts.Need-returns (write-tree-calls t) (write-tree-at t) write-tree.Post
 unfolding rowNumbers
 write-tree-returns t c =
-    let start = write-tree-start t (c .before .before .before) in
-    let visited : Visited (start .args .sheet .now) (start .args .at) (c .before .before .before .before .before .before .before .before .before .before .before .before .before .before .before .before .before .before .slot-at .result) = record { claimed = start .pre .1 .0; below = start .pre .1 .1 .0; numbers = c .before .before .before .before .before .before .before .before .before .before .before .before .before .before .before .before .before .before .slot-at .ensures } in
+    let start = entry t (slot t (called t c)) in
+    let here = visited t (slot t (called t c)) in
     let run = c .before .before .write-fields in
-    let end = tree-end (start .args .sheet .now) (start .args .at) _ visited _ (run .ensures .0) in
+    let end = tree-end (start .args .sheet .now) (start .args .at) _ here _ (run .ensures .0) in
     let above = slotAt (start .args .sheet .now) (start .args .up) in
-    let numbers = c .before .before .before .before .before .before .before .before .before .before .before .before .before .before .before .before .before .annotated .ensures in
-    let map = c .before .before .before .before .before .before .before .before .before .before .before .before .before .before .before .before .is-map-parent .ensures in
-    let kind = c .before .before .before .before .before .before .before .before .before .before .before .before .before .before .before .resolved-kind .ensures in
-    let own = c .before .before .before .before .before .before .before .before .before .before .before .before .before .before .role .ensures in
-    let below = parent-is (start .args .sheet .now) (start .args .rows .now) (start .args .at) (start .args .up) _ (start .args .parent) above visited _ _ _ _ _ numbers map kind own refl in (
+    let level = levelled t (rowed t (called t c)) in
+    let own = level .before .before in
+    let numbers = own .before .before .before .annotated .ensures in
+    let map = own .before .before .is-map-parent .ensures in
+    let kind = own .before .resolved-kind .ensures in
+    let below = parent-is (start .args .sheet .now) (start .args .rows .now) (start .args .at) (start .args .up) _ (start .args .parent) above here _ _ _ _ _ numbers map kind (own .role .ensures) refl in (
       end,
       λ path g.
-          let levels = levels-below (start .args .sheet .now) (start .args .at) _ _ _ _ _ _ _ (c .before .before .before .before .before .before .before .before .before .before .before .before .before .in-definition .ensures) (c .before .before .before .before .before .before .before .before .before .before .before .before .in-repetition .ensures) refl refl visited path g in
-          let row = row-is (start .args .sheet .now) (start .args .rows .now) (start .args .at) (start .args .up) _ (start .args .parent) above visited path _ _ levels _ _ _ _ _ _ numbers map kind own end (c .before .before .before .before .before .before .before .before .before .type-length .ensures) in
-          tree-rows (start .args .sheet .now) (start .args .rows .now) (start .args .at) (start .args .up) _ (start .args .parent) above visited path (start .pre .1 .1 .1 .1 .0) _ below _ _ _ refl (c .before .before .before .before .before .before .before .write-row .ensures) (run .ensures .1 _ levels) _ _ row refl,
+          let levels = levels-below (start .args .sheet .now) (start .args .at) _ _ _ _ _ _ _ (level .before .in-definition .ensures) (level .in-repetition .ensures) refl refl here path g in
+          let row = row-is (start .args .sheet .now) (start .args .rows .now) (start .args .at) (start .args .up) _ (start .args .parent) above here path _ _ levels _ _ _ _ _ _ numbers map kind (own .role .ensures) end (rowed t (called t c) .before .type-length .ensures) in
+          tree-rows (start .args .sheet .now) (start .args .rows .now) (start .args .at) (start .args .up) _ (start .args .parent) above here path (start .pre .1 .1 .1 .1 .0) _ below _ _ _ refl (written t c .write-row .ensures) (run .ensures .1 _ levels) _ _ row refl,
     )
 
 pub +write-fields+write-run+write-tree-spec : {M : Type 1} → statement M

@@ -31,10 +31,12 @@ same-length c = search needs
 returns : tie.Need-returns
 unfolding answerText
 returns c =
-    let start = c .before .before .before .before .before .before .before .before .before in
-    let text = ap (λ (o : Resolved). answerText o (start .args .rows .now)) (sym (c .before .before .before .before .before .resolved .given .1)) in
-    let told = c .before .before .rows-text .ensures .0 ∙ ap (λ (t : Option (List ℕ)). made t (length (start .args .out .now))) text in
-    (told, (with-outcome _ _ _ told, (c .before .before .rows-text .ensures .1 .1 .0 ∙ ap (λ (t : Option (List ℕ)). madeIn t (start .args .out .now)) text, answer-rows-most _ _ _ (c .before .before .before .before .before .resolved .given .1) (c .before .before .rows-text .ensures .1 .1 .1))))
+    let at-rows-text = c .before .before in
+    let at-resolved = at-rows-text .before .before .before in
+    let start = at-resolved .before .before .before .before in
+    let text = ap (λ (o : Resolved). answerText o (start .args .rows .now)) (sym (at-resolved .resolved .given .1)) in
+    let told = at-rows-text .rows-text .ensures .0 ∙ ap (λ (t : Option (List ℕ)). made t (length (start .args .out .now))) text in
+    (told, (with-outcome _ _ _ told, (at-rows-text .rows-text .ensures .1 .1 .0 ∙ ap (λ (t : Option (List ℕ)). madeIn t (start .args .out .now)) text, answer-rows-most _ _ _ (at-resolved .resolved .given .1) (at-rows-text .rows-text .ensures .1 .1 .1))))
 
 same-length-2 : tie.Need-same-length-2
 same-length-2 c = search needs
@@ -42,10 +44,12 @@ same-length-2 c = search needs
 returns-2 : tie.Need-returns-2
 unfolding answerText
 returns-2 c =
-    let start = c .before .before .before .before .before .before .before .before .before in
-    let text = ap (λ (o : Resolved). answerText o (start .args .rows .now)) (sym (c .before .before .before .before .before .resolved2 .given .1)) in
-    let told = c .before .before .refusal-text .ensures .0 ∙ ap (λ (t : Option (List ℕ)). made t (length (start .args .out .now))) text in
-    (told, (with-outcome _ _ _ told, (c .before .before .refusal-text .ensures .1 .0 ∙ ap (λ (t : Option (List ℕ)). madeIn t (start .args .out .now)) text, answer-refusal-most _ _ _ (c .before .before .before .before .before .resolved2 .given .1) (c .before .before .refusal-text .ensures .1 .1))))
+    let at-refusal-text = c .before .before in
+    let at-resolved2 = at-refusal-text .before .before .before in
+    let start = at-resolved2 .before .before .before .before in
+    let text = ap (λ (o : Resolved). answerText o (start .args .rows .now)) (sym (at-resolved2 .resolved2 .given .1)) in
+    let told = at-refusal-text .refusal-text .ensures .0 ∙ ap (λ (t : Option (List ℕ)). made t (length (start .args .out .now))) text in
+    (told, (with-outcome _ _ _ told, (at-refusal-text .refusal-text .ensures .1 .0 ∙ ap (λ (t : Option (List ℕ)). madeIn t (start .args .out .now)) text, answer-refusal-most _ _ _ (at-resolved2 .resolved2 .given .1) (at-refusal-text .refusal-text .ensures .1 .1))))
 
 pub answer-text-spec : {M : Type 1} → statement M
 answer-text-spec =

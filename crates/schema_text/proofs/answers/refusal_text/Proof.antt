@@ -23,16 +23,20 @@ short c = refusal-most _ _ (record { fits = search needs }) (record { fits = sea
 
 most : (c : tie.After-struct-known) → length (refusalLine (c .before .before .before .args .refusal)) ≤ 53
 unfolding refusalLine
-most c = omega (arith, short c, length-append (refusalText (c .before .before .before .args .refusal .number) (c .before .before .before .args .refusal .place)) (LF ∷ []))
+most c =
+    let start = c .before .before .before in
+    omega (arith, short c, length-append (refusalText (start .args .refusal .number) (start .args .refusal .place)) (LF ∷ []))
 
 -- what the room holds
 held : (c : tie.After-put) → Holds (replicate 64 0) (c .put .last .0) 0 (c .put .result) (refusalLine (c .before .before .before .before .before .before .before .before .args .refusal))
 unfolding refusalLine
 held c =
-    let start = c .before .before .before .before .before .before .before .before in
+    let at-put-refusal = c .before .before .before .before in
+    let for-short = at-put-refusal .before in
+    let start = for-short .before .before .before in
     let refusal = start .args .refusal in
-    let most = short (c .before .before .before .before .before) in
-    let text = holds-more (holds-none (replicate 64 0) 0 (omega arith)) (refusalText (refusal .number) (refusal .place)) (omega (arith, most)) (c .before .before .before .before .put-refusal .ensures) in
+    let most = short for-short in
+    let text = holds-more (holds-none (replicate 64 0) 0 (omega arith)) (refusalText (refusal .number) (refusal .place)) (omega (arith, most)) (at-put-refusal .put-refusal .ensures) in
     holds-more text (LF ∷ []) (omega (arith, most)) (c .put .ensures)
 
 slice-aggregate-put-refusal : tie.Need-slice-aggregate-put-refusal
@@ -68,10 +72,13 @@ same-length c = search needs
 returns : tie.Need-returns
 unfolding madeIn
 returns c =
-    let text = holds-front (held (c .before .before .before .before .before .before .before)) in
-    let put = c .before .before .before .put2 .ensures in
-    let made = made-beyond _ _ _ _ _ refl (put .0 ∙ ap (positionAfter _ _) text) (put .1 ∙ ap (placedText _ _) text) (omega (arith, c .if1 .taken, c .before .before .before .put2 .kept .0)) in
-    (made .0, (made .1, most (c .before .before .before .before .before .before .before .before .before .before .before .before)))
+    let at-put2 = c .before .before .before in
+    let for-held = at-put2 .before .before .before .before in
+    let for-most = for-held .before .before .before .before .before in
+    let text = holds-front (held for-held) in
+    let put = at-put2 .put2 .ensures in
+    let made = made-beyond _ _ _ _ _ refl (put .0 ∙ ap (positionAfter _ _) text) (put .1 ∙ ap (placedText _ _) text) (omega (arith, c .if1 .taken, at-put2 .put2 .kept .0)) in
+    (made .0, (made .1, most for-most))
 
 same-length-2 : tie.Need-same-length-2
 same-length-2 c = search needs
@@ -79,10 +86,13 @@ same-length-2 c = search needs
 returns-2 : tie.Need-returns-2
 unfolding madeIn
 returns-2 c =
-    let text = holds-front (held (c .before .before .before .before .before .before .before)) in
-    let put = c .before .before .before .put2 .ensures in
-    let made = made-within _ _ _ _ _ refl (put .0 ∙ ap (positionAfter _ _) text) (put .1 ∙ ap (placedText _ _) text) (omega (arith, c .if1 .left, c .before .before .before .put2 .kept .0)) in
-    (made .0, (made .1, most (c .before .before .before .before .before .before .before .before .before .before .before .before)))
+    let at-put2 = c .before .before .before in
+    let for-held = at-put2 .before .before .before .before in
+    let for-most = for-held .before .before .before .before .before in
+    let text = holds-front (held for-held) in
+    let put = at-put2 .put2 .ensures in
+    let made = made-within _ _ _ _ _ refl (put .0 ∙ ap (positionAfter _ _) text) (put .1 ∙ ap (placedText _ _) text) (omega (arith, c .if1 .left, at-put2 .put2 .kept .0)) in
+    (made .0, (made .1, most for-most))
 
 pub refusal-text-spec : {M : Type 1} → statement M
 refusal-text-spec =

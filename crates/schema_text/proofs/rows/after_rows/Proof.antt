@@ -55,13 +55,14 @@ loop-less c = search needs
 
 loop-again : tie.Need-loop-again Inv-loop μ-loop
 loop-again c =
-    let start = c .before .before .before .before .before .before .before in
+    let at-loop = c .before .before .before in
+    let start = at-loop .before .before .before .before in
     let ns = start .args .rows .now in
-    let i = c .before .before .before .loop .i in
+    let i = at-loop .loop .i in
     let room = length (start .args .out .now) in (
       omega arith,
-      after-more room (start .args .at) (linesOf (cut i ns)) (numbersLine (rowAt i ns)) (c .before .before .before .loop .inv .1)
-          (c .after-line .ensures ∙ ap (λ (row : List ℕ). positionAfter room (c .before .before .before .loop .next) (numbersLine row)) (part-row i ns))
+      after-more room (start .args .at) (linesOf (cut i ns)) (numbersLine (rowAt i ns)) (at-loop .loop .inv .1)
+          (c .after-line .ensures ∙ ap (λ (row : List ℕ). positionAfter room (at-loop .loop .next) (numbersLine row)) (part-row i ns))
           ∙ ap (positionAfter room (start .args .at)) (sym (lines-suc i ns)),
     )
 

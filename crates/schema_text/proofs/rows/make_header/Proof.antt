@@ -18,11 +18,13 @@ use Rattle.schema_text.proofs.rows.make_header.Tie as tie
 held : (c : tie.After-put2) → Holds (c .before .before .before .before .before .before .before .before .args .room .now) (c .put2 .last .0) 0 (c .put2 .result) (headerText (c .before .before .before .before .before .before .before .before .args .total))
 unfolding headerText
 held c =
-    let start = c .before .before .before .before .before .before .before .before in
+    let at-put-decimal = c .before .before .before in
+    let at-put = at-put-decimal .before .before in
+    let start = at-put .before .before .before in
     let total = start .args .total in
     let most : length (decimalText total) ≤ 20 = decimal-most total (start .fits .total) in
-    let word = holds-more (holds-none (start .args .room .now) 0 (omega arith)) (ascii "nodes ") (omega arith) (c .before .before .before .before .before .put .ensures) in
-    let number = holds-more word (decimalText total) (omega arith) (c .before .before .before .put-decimal .ensures) in
+    let word = holds-more (holds-none (start .args .room .now) 0 (omega arith)) (ascii "nodes ") (omega arith) (at-put .put .ensures) in
+    let number = holds-more word (decimalText total) (omega arith) (at-put-decimal .put-decimal .ensures) in
     holds-more number (LF ∷ []) (simp length-append (omega arith)) (c .put2 .ensures)
 
 slice-aggregate-put : tie.Need-slice-aggregate-put

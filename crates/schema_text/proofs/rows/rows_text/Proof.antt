@@ -23,9 +23,11 @@ header c = c .make-header .ensures .0 .1 ∙ ap length (c .make-header .ensures 
 reached : (c : tie.After-after-rows) → c .after-rows .result ≡ positionAfter (length (c .before .before .before .before .before .before .before .before .before .args .out .now)) 0 (rowsText (c .before .before .before .before .before .before .before .before .before .args .total) (c .before .before .before .before .before .before .before .before .before .args .rows .now))
 unfolding rowsText
 reached c =
-    let start = c .before .before .before .before .before .before .before .before .before in
+    let at-after = c .before .before in
+    let for-header = at-after .before .before in
+    let start = for-header .before .before .before .before .before in
     after-more (length (start .args .out .now)) 0 (headerText (start .args .total)) (linesOf (cut (start .args .total) (start .args .rows .now)))
-    (c .before .before .after .ensures ∙ ap (positionPast (length (start .args .out .now)) 0) (header (c .before .before .before .before)))
+    (at-after .after .ensures ∙ ap (positionPast (length (start .args .out .now)) 0) (header for-header))
     (c .after-rows .ensures)
 
 -- what any text takes at most
@@ -51,11 +53,12 @@ same-length c = search needs
 
 returns-2 : tie.Need-returns-2
 returns-2 c =
-    let start = c .before .before .before .before .before .before .before .before .before .before in
+    let for-most = c .before .before .before .before .before .before .before .before .before in
+    let start = for-most .before in
     let enough = rows-enough (start .args .total) (start .args .rows .now) (omega arith) in
     let after = reached (c .before) in
     let made = made-beyond _ _ _ _ _ enough after (sym (placed-short _ _ _ (past-beyond _ _ _ _ after (c .if2 .taken)))) (c .if2 .taken) in
-    (made .0, (with-outcome _ _ _ (made .0), (made .1, most (c .before .before .before .before .before .before .before .before .before))))
+    (made .0, (with-outcome _ _ _ (made .0), (made .1, most for-most)))
 
 array-share-prefix-header : tie.Need-array-share-prefix-header
 array-share-prefix-header c = search needs
@@ -69,10 +72,12 @@ put-requires c κs = search needs
 write-rows-requires : tie.Need-write-rows-requires
 unfolding rowsText
 write-rows-requires c κs =
-    let start = c .before .before .before .before .before .before .before .before .before .before .before .before .before .before .before .before in
-    let at = c .before .before .before .before .before .before .before in
-    let whole = past-within _ _ _ _ (reached at) (c .before .before .before .before .before .before .if2 .left) in
-    (omega (arith, at .before .before .before .before .before .before .if1 .left), omega (arith, whole, c .before .before .before .before .before .before .if2 .left, length-append (headerText (start .args .total)) (linesOf (cut (start .args .total) (start .args .rows .now))), header (at .before .before .before .before), c .before .before .before .put .kept .0))
+    let at-put = c .before .before .before in
+    let at-if2 = at-put .before .before .before in
+    let at = at-if2 .before in
+    let start = at .before .before .before .before .before .before .before .before .before in
+    let whole = past-within _ _ _ _ (reached at) (at-if2 .if2 .left) in
+    (omega (arith, at .before .before .before .before .before .before .if1 .left), omega (arith, whole, at-if2 .if2 .left, length-append (headerText (start .args .total)) (linesOf (cut (start .args .total) (start .args .rows .now))), header (at .before .before .before .before), at-put .put .kept .0))
 
 same-length-2 : tie.Need-same-length-2
 same-length-2 c = search needs
@@ -80,19 +85,23 @@ same-length-2 c = search needs
 returns-3 : tie.Need-returns-3
 unfolding rowsText
 returns-3 c =
-    let start = c .before .before .before .before .before .before .before .before .before .before .before .before .before .before .before .before .before .before .before in
-    let at = c .before .before .before .before .before .before .before .before .before .before in
+    let at-write-rows = c .before .before in
+    let at-put = at-write-rows .before .before .before .before in
+    let at-if2 = at-put .before .before .before in
+    let at = at-if2 .before in
+    let for-most = at .before .before .before .before .before .before .before .before in
+    let start = for-most .before in
     let ns = start .args .rows .now in
     let total = start .args .total in
-    let within = c .before .before .before .before .before .before .before .before .before .if2 .left in
+    let within = at-if2 .if2 .left in
     let fits : length (headerText total) + length (linesOf (cut total ns)) ≤ length (start .args .out .now) = omega (arith, past-within _ _ _ _ (reached at) within, within, length-append (headerText total) (linesOf (cut total ns))) in
     let line = at .before .before .before .before .make-header .ensures .1 in
-    let put = c .before .before .before .before .before .before .put .ensures in
+    let put = at-put .put .ensures in
     let first = holds-more (holds-none (start .args .out .now) 0 (omega arith)) (headerText total) (omega arith) (put .0 ∙ ap (positionAfter _ _) line, put .1 ∙ ap (placedText _ _) line) in
-    let count : at .before .before .before .before .make-header .result ≡ c .before .before .before .before .before .before .put .result = omega (arith, header (at .before .before .before .before), first .end) in
-    let all = holds-more first (linesOf (cut total ns)) (omega arith) (refl, c .before .before .write-rows .ensures ∙ ap (λ (k : ℕ). placedText (c .before .before .before .before .before .before .put .last .0) k (linesOf (cut total ns))) count) in
+    let count : at .before .before .before .before .make-header .result ≡ at-put .put .result = omega (arith, header (at .before .before .before .before), first .end) in
+    let all = holds-more first (linesOf (cut total ns)) (omega arith) (refl, at-write-rows .write-rows .ensures ∙ ap (λ (k : ℕ). placedText (at-put .put .last .0) k (linesOf (cut total ns))) count) in
     let made = made-within _ _ _ _ _ (rows-enough total ns (omega (arith, at .before .before .before .before .before .before .if1 .left))) (reached at) (holds-placed all) within in
-    (made .0, (with-outcome _ _ _ (made .0), (made .1, most (c .before .before .before .before .before .before .before .before .before .before .before .before .before .before .before .before .before .before))))
+    (made .0, (with-outcome _ _ _ (made .0), (made .1, most for-most)))
 
 pub rows-text-spec : {M : Type 1} → statement M
 rows-text-spec =

@@ -50,15 +50,18 @@ loop-less c = search needs
 
 loop-again : tie.Need-loop-again Inv-loop μ-loop
 loop-again c =
-    let start = c .before .before .before .before .before .before .before .before .before in
+    let at-put-line = c .before .before in
+    let at-loop-test = at-put-line .before .before .before in
+    let at-loop = at-loop-test .before in
+    let start = at-loop .before .before .before in
     let ns = start .args .rows .now in
-    let i = c .before .before .before .before .before .before .loop .i in
-    let taken = c .before .before .before .before .before .loop-test .taken in
+    let i = at-loop .loop .i in
+    let taken = at-loop-test .loop-test .taken in
     let line = ap numbersLine (part-row i ns) in (
       omega arith,
       subst (Holds _ _ _ _) (sym (lines-suc i ns))
-          (holds-more (c .before .before .before .before .before .before .loop .inv .1) (numbersLine (rowAt i ns)) (omega (arith, start .pre .1, lines-longer i (start .args .total) ns taken))
-          (c .before .before .put-line .ensures .0 ∙ ap (positionAfter _ _) line, c .before .before .put-line .ensures .1 ∙ ap (placedText _ _) line)),
+          (holds-more (at-loop .loop .inv .1) (numbersLine (rowAt i ns)) (omega (arith, start .pre .1, lines-longer i (start .args .total) ns taken))
+          (at-put-line .put-line .ensures .0 ∙ ap (positionAfter _ _) line, at-put-line .put-line .ensures .1 ∙ ap (placedText _ _) line)),
     )
 
 same-length : tie.Need-same-length Inv-loop μ-loop

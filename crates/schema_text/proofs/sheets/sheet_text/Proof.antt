@@ -13,8 +13,9 @@ use Rattle.schema_text.proofs.sheets.sheet_text.Tie as tie
 -- what the two calls came to
 steps : (c : tie.After-answer-text) → Steps (c .before .before .before .before .before .before .before .args .sheet .now) (c .before .before .before .before .before .before .before .args .rows .now) (c .before .before .before .before .resolve .last .1 .0) (c .before .before .before .before .before .before .before .args .out .now) (c .answer-text .last .1 .1 .0) (c .before .before .before .before .resolve .result) (c .answer-text .result)
 steps c =
-    let start = c .before .before .before .before .before .before .before in
-    let resolve = c .before .before .before .before .resolve in
+    let at-resolve = c .before .before .before .before in
+    let start = at-resolve .before .before .before in
+    let resolve = at-resolve .resolve in
     record {
       places = omega (arith, start .good);
       room = omega (arith, start .good);

@@ -50,14 +50,19 @@ add-weigh : tie.Need-add-weigh Inv-loop μ-loop
 add-weigh c = omega arith
 
 weigh-requires : tie.Need-weigh-requires Inv-loop μ-loop
-weigh-requires c κs = (omega arith, omega (arith, c .before .before .before .before .before .pre .low (c .before .before .before .before .loop .j) (omega arith)))
+weigh-requires c κs =
+    let at-loop = c .before .before .before .before in
+    let start = at-loop .before in
+    (omega arith, omega (arith, start .pre .low (at-loop .loop .j) (omega arith)))
 
 add-weigh-2 : tie.Need-add-weigh-2 Inv-loop μ-loop
 add-weigh-2 c = omega arith
 
 weigh-requires-2 : tie.Need-weigh-requires-2 Inv-loop μ-loop
 weigh-requires-2 c κs =
-    (omega arith, c .before .before .before .before .before .before .pre .high (c .before .before .before .before .before .loop .j) (omega arith))
+    let at-loop = c .before .before .before .before .before in
+    let start = at-loop .before in
+    (omega arith, start .pre .high (at-loop .loop .j) (omega arith))
 
 add-sum : tie.Need-add-sum Inv-loop μ-loop
 add-sum c = omega arith

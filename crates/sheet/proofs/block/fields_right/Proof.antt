@@ -35,8 +35,11 @@ wide-requires c κs = search needs
 
 returns-2 : tie.Need-returns-2
 unfolding fieldsRight blockNumber version
-returns-2 c = simp
-    (agrees (c .before .before .before .before .number16 .ensures .0) (c .before .before .before .if1 .left), differs (c .before .wide .ensures .0) (c .if2 .taken))
+returns-2 c =
+    let at-if1 = c .before .before .before in
+    let at-number16 = at-if1 .before in
+    simp
+    (agrees (at-number16 .number16 .ensures .0) (at-if1 .if1 .left), differs (c .before .wide .ensures .0) (c .if2 .taken))
 
 number16-requires-2 : tie.Need-number16-requires-2
 number16-requires-2 c κs = search needs
@@ -46,11 +49,16 @@ cast-if3 c = search needs
 
 returns-3 : tie.Need-returns-3
 unfolding fieldsRight blockNumber version total
-returns-3 c = simp (
-  agrees (c .before .before .before .before .before .before .number16 .ensures .0) (c .before .before .before .before .before .if1 .left),
-  agrees (c .before .before .before .wide .ensures .0) (c .before .before .if2 .left),
-  differs (c .before .number162 .ensures .0) (c .if3 .taken),
-)
+returns-3 c =
+    let at-if2 = c .before .before in
+    let at-wide = at-if2 .before in
+    let at-if1 = at-wide .before .before in
+    let at-number16 = at-if1 .before in
+    simp (
+      agrees (at-number16 .number16 .ensures .0) (at-if1 .if1 .left),
+      agrees (at-wide .wide .ensures .0) (at-if2 .if2 .left),
+      differs (c .before .number162 .ensures .0) (c .if3 .taken),
+    )
 
 shared-slice-read-wide-2 : tie.Need-shared-slice-read-wide-2
 shared-slice-read-wide-2 c = search needs
@@ -66,10 +74,17 @@ nodes-in-requires c κs = search needs
 
 returns-4 : tie.Need-returns-4
 unfolding blockNumber version total nodesHere
-returns-4 c = ap₂ eqb (c .before .wide2 .ensures .0) (c .nodes-in .ensures)
-    ∙ sym (rest-right _ _ _ (agrees (c .before .before .before .before .before .before .before .before .before .number16 .ensures .0) (c .before .before .before .before .before .before .before .before .if1 .left))
-    (agrees (c .before .before .before .before .before .before .wide .ensures .0) (c .before .before .before .before .before .if2 .left))
-    (agrees (c .before .before .before .before .number162 .ensures .0) (c .before .before .before .if3 .left)))
+returns-4 c =
+    let at-if3 = c .before .before .before in
+    let at-number162 = at-if3 .before in
+    let at-if2 = at-number162 .before in
+    let at-wide = at-if2 .before in
+    let at-if1 = at-wide .before .before in
+    let at-number16 = at-if1 .before in
+    ap₂ eqb (c .before .wide2 .ensures .0) (c .nodes-in .ensures)
+    ∙ sym (rest-right _ _ _ (agrees (at-number16 .number16 .ensures .0) (at-if1 .if1 .left))
+    (agrees (at-wide .wide .ensures .0) (at-if2 .if2 .left))
+    (agrees (at-number162 .number162 .ensures .0) (at-if3 .if3 .left)))
 
 pub fields-right-spec : {M : Type 1} → statement M
 fields-right-spec =

@@ -14,8 +14,9 @@ use Rattle.sheet.proofs.block.header_right.Tie as tie
 fields : (c : tie.After-fields-right)
     → c .fields-right .result ≡ fieldsRight (totalOf (c .before .before .before .args .sheet .now)) (c .before .before .before .args .i) (blockAt (c .before .before .before .args .sheet .now) (c .before .before .before .args .i))
 fields c =
+    let start = c .before .before .before in
     c .fields-right .ensures
-    ∙ ap₂ (λ (t : ℕ) (block : List ℕ). fieldsRight t (c .before .before .before .args .i) block) (c .before .before .before .pre .1 .0)
+    ∙ ap₂ (λ (t : ℕ) (block : List ℕ). fieldsRight t (start .args .i) block) (start .pre .1 .0)
     (c .before .block-at .ensures .0)
 
 block-at-requires : tie.Need-block-at-requires
@@ -34,9 +35,12 @@ total-right-requires c κs = search needs
 returns-2 : tie.Need-returns-2
 unfolding headerRight
 returns-2 c =
-    simp (passed (fields (c .before .before .before)) (c .before .before .if1 .left), eq-eqb _ _ (c .before .if2 .taken))
+    let at-if1 = c .before .before in
+    let for-fields = at-if1 .before in
+    let start = for-fields .before .before .before in
+    simp (passed (fields for-fields) (at-if1 .if1 .left), eq-eqb _ _ (c .before .if2 .taken))
     (c .total-right .ensures
-    ∙ ap₂ totalRight (c .before .before .before .before .before .before .pre .1 .0) (c .before .before .before .before .before .before .pre .1 .1))
+    ∙ ap₂ totalRight (start .pre .1 .0) (start .pre .1 .1))
 
 returns-3 : tie.Need-returns-3
 unfolding headerRight

@@ -46,8 +46,10 @@ part-add-row-end c = omega arith
 
 add-row-requires : tie.Need-add-row-requires Inv-loop μ-loop
 add-row-requires c κs =
-    let block = c .before .before .before .before .before .before .before .before .args .block .now in
-    let loop = c .before .before .before .before .before .before .loop in
+    let at-loop = c .before .before .before .before .before .before in
+    let entry = at-loop .before .before in
+    let block = entry .args .block .now in
+    let loop = at-loop .loop in
     let start = rowSize * loop .row in
     let columns = loop .inv .1 in
     let off = loop .inv .2 in (
@@ -63,9 +65,12 @@ loop-less c = omega arith
 
 loop-again : tie.Need-loop-again Inv-loop μ-loop
 loop-again c =
-    let block = c .before .before .before .before .before .before .before .before .before .args .block .now in
-    let known = c .before .before .before .before .before .before .before .before .shared-slice-known .given in
-    let loop = c .before .before .before .before .before .before .before .loop in
+    let at-loop = c .before .before .before .before .before .before .before in
+    let at-shared-slice-known = at-loop .before in
+    let entry = at-shared-slice-known .before in
+    let block = entry .args .block .now in
+    let known = at-shared-slice-known .shared-slice-known .given in
+    let loop = at-loop .loop in
     let sums = c .add-row .last .1 .0 in
     let highs = c .add-row .last .1 .1 .0 in
     let off = c .add-row .last .1 .1 .1 .0 in
@@ -94,10 +99,13 @@ plain-sum-requires c κs = search needs
 weighed : (c : tie.After-plain-sum Inv-loop μ-loop)
     → c .before .before .before .behind-sum .result ≡ sumBelow (weighted (c .before .before .before .before .before .before .before .before .before .args .block .now)) blockSize + rowSize * c .plain-sum .result
 weighed c =
-    let block = c .before .before .before .before .before .before .before .before .before .args .block .now in
-    let loop = c .before .before .before .before .before .before .before .loop in
+    let at-behind-sum = c .before .before .before in
+    let at-loop = at-behind-sum .before .before .before .before in
+    let start = at-loop .before .before in
+    let block = start .args .block .now in
+    let loop = at-loop .loop in
     let all : rowSize * loop .row ≡ blockSize = omega arith in
-    c .before .before .before .behind-sum .ensures
+    at-behind-sum .behind-sum .ensures
     ∙ subst (λ (n : ℕ). Counted block n (loop .sums) (loop .highs) (loop .off) (loop .off-highs)) all (loop .inv .3)
     ∙ ap (λ (n : ℕ). sumBelow (weighted block) blockSize + rowSize * n) (sym (c .plain-sum .ensures .0))
 

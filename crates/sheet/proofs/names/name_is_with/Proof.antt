@@ -86,13 +86,15 @@ same-requires-2 c κs = search needs
 
 returns-4 : tie.Need-returns-4
 returns-4 c =
-    let names = c .before .before .before .before .before .before in
+    let at-if3 = c .before .before in
+    let at-same = at-if3 .before in
+    let names = at-same .before .before .before in
     let whole = names .before .before .name-of .result .now in
     let front = names .name-of2 .result .now in
     let suffix = names .before .before .before .before .before .args .suffix .now in
     c .same2 .ensures
     ∙ ap (λ (rest : List ℕ). sameBytes rest suffix) (take-rest whole (length front))
-    ∙ sym (front-right whole front suffix (passed (c .before .before .before .same .ensures) (c .before .before .if3 .left)))
+    ∙ sym (front-right whole front suffix (passed (at-same .same .ensures) (at-if3 .if3 .left)))
     ∙ named names
 
 pub name-is-with-spec : {M : Type 1} → statement M

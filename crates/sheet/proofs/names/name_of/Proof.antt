@@ -12,8 +12,9 @@ use Rattle.sheet.proofs.names.name_of.Tie as tie
 
 within : (c : tie.After-name-stretch) → c .name-stretch .result .start + c .name-stretch .result .len ≤ length (c .before .before .args .sheet .now)
 within c =
-    subst (λ (t : Stretch). t .start + t .len ≤ length (c .before .before .args .sheet .now)) (sym (c .name-stretch .ensures))
-    (stretchOf-within (c .before .before .args .sheet .now) (c .before .before .args .node))
+    let start = c .before .before in
+    subst (λ (t : Stretch). t .start + t .len ≤ length (start .args .sheet .now)) (sym (c .name-stretch .ensures))
+    (stretchOf-within (start .args .sheet .now) (start .args .node))
 
 name-stretch-requires : tie.Need-name-stretch-requires
 name-stretch-requires c κs = search needs

@@ -47,16 +47,20 @@ length-read : (c : tie.After-wide) (there : reaches (c .before .before .before .
     → c .wide .result ≡ nameLength (slotAt (c .before .before .before .before .before .before .args .sheet .now) (c .before .before .before .before .before .before .args .node))
 unfolding nameLength
 length-read c there =
-    let a = c .before .before .before .before .before .before .args in
+    let at-slot-start = c .before .before .before in
+    let start = at-slot-start .before .before .before in
+    let a = start .args in
     c .wide .ensures .0
-    ∙ ap (λ (at : ℕ). getD (a .sheet .now) (at + nameLengthAt) 0) (c .before .before .before .slot-start .ensures)
+    ∙ ap (λ (at : ℕ). getD (a .sheet .now) (at + nameLengthAt) 0) (at-slot-start .slot-start .ensures)
     ∙ sym (slotAt-byte (a .sheet .now) (a .node) nameLengthAt there (omega arith))
 
 returns-3 : tie.Need-returns-3
 returns-3 c =
-    let a = c .before .before .before .before .before .before .before .args in
+    let at-slot-start = c .before .before .before .before in
+    let start = at-slot-start .before .before .before in
+    let a = start .args in
     let there = reaches-true (a .sheet .now) (a .node) (omega arith) (omega arith) in
-    stretch-is (ap (λ (at : ℕ). at + nameAt) (c .before .before .before .before .slot-start .ensures)) (omega (arith, length-read (c .before) there))
+    stretch-is (ap (λ (at : ℕ). at + nameAt) (at-slot-start .slot-start .ensures)) (omega (arith, length-read (c .before) there))
     ∙ sym (stretchOf-there (a .sheet .now) (a .node) there)
 
 add-t7 : tie.Need-add-t7
@@ -64,9 +68,11 @@ add-t7 c = search needs
 
 returns-4 : tie.Need-returns-4
 returns-4 c =
-    let a = c .before .before .before .before .before .before .before .args in
+    let at-slot-start = c .before .before .before .before in
+    let start = at-slot-start .before .before .before in
+    let a = start .args in
     let there = reaches-true (a .sheet .now) (a .node) (omega arith) (omega arith) in
-    stretch-is (ap (λ (at : ℕ). at + nameAt) (c .before .before .before .before .slot-start .ensures)) (omega (arith, length-read (c .before) there))
+    stretch-is (ap (λ (at : ℕ). at + nameAt) (at-slot-start .slot-start .ensures)) (omega (arith, length-read (c .before) there))
     ∙ sym (stretchOf-there (a .sheet .now) (a .node) there)
 
 pub name-stretch-spec : {M : Type 1} → statement M

@@ -23,9 +23,10 @@ loop-holds c = (search needs, below-none _)
 
 slot-right-requires : tie.Need-slot-right-requires Inv-loop μ-loop
 slot-right-requires c κs =
-    let s = c .before .before .before .args .sheet .now in (
-      omega (arith, blockCount-most s (c .before .before .before .pre .0)),
-      (slotStart-within s (c .before .loop .k) (omega arith), c .before .before .before .pre .1 .1),
+    let start = c .before .before .before in
+    let s = start .args .sheet .now in (
+      omega (arith, blockCount-most s (start .pre .0)),
+      (slotStart-within s (c .before .loop .k) (omega arith), start .pre .1 .1),
     )
 
 returns : tie.Need-returns Inv-loop μ-loop

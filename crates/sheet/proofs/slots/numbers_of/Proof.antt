@@ -65,13 +65,20 @@ shared-slice-read-t20 c = search needs
 returns : tie.Need-returns
 unfolding numbersOf physical repetition converted logical parameterA parameterB childCount typeLength scale precision nameLength
 returns c =
-    let slot = c .before .before .before .before .before .before .before .before .before .before .before .before .before .before .before .args .slot .now in
-    let type-length : toZ w32 (ofZ w32 (c .before .before .before .before .before .before .before .before .before .before .before .before .signed32 .result)) ≡ typeLength slot =
-    field (c .before .before .before .before .before .before .before .before .before .before .before .before .signed32 .ok) (c .before .before .before .before .before .before .before .before .before .before .before .before .signed32 .ensures) (c .before .before .before .before .before .before .before .before .before .before .before .before .before .number32 .ensures) in
-    let scale-is : toZ w32 (ofZ w32 (c .before .before .before .before .before .before .before .before .before .before .signed322 .result)) ≡ scale slot =
-    field (c .before .before .before .before .before .before .before .before .before .before .signed322 .ok) (c .before .before .before .before .before .before .before .before .before .before .signed322 .ensures) (c .before .before .before .before .before .before .before .before .before .before .before .number322 .ensures) in
-    let precision-is : toZ w32 (ofZ w32 (c .before .before .before .before .before .before .before .before .signed323 .result)) ≡ precision slot =
-    field (c .before .before .before .before .before .before .before .before .signed323 .ok) (c .before .before .before .before .before .before .before .before .signed323 .ensures) (c .before .before .before .before .before .before .before .before .before .number323 .ensures) in
+    let at-signed323 = c .before .before .before .before .before .before .before .before in
+    let at-number323 = at-signed323 .before in
+    let at-signed322 = at-number323 .before in
+    let at-number322 = at-signed322 .before in
+    let at-signed32 = at-number322 .before in
+    let at-number32 = at-signed32 .before in
+    let start = at-number32 .before .before in
+    let slot = start .args .slot .now in
+    let type-length : toZ w32 (ofZ w32 (at-signed32 .signed32 .result)) ≡ typeLength slot =
+    field (at-signed32 .signed32 .ok) (at-signed32 .signed32 .ensures) (at-number32 .number32 .ensures) in
+    let scale-is : toZ w32 (ofZ w32 (at-signed322 .signed322 .result)) ≡ scale slot =
+    field (at-signed322 .signed322 .ok) (at-signed322 .signed322 .ensures) (at-number322 .number322 .ensures) in
+    let precision-is : toZ w32 (ofZ w32 (at-signed323 .signed323 .result)) ≡ precision slot =
+    field (at-signed323 .signed323 .ok) (at-signed323 .signed323 .ensures) (at-number323 .number323 .ensures) in
     λ i.
     record {
       physical = getD slot physicalAt 0;

@@ -46,9 +46,11 @@ numbers-of-requires c κs = search needs
 
 returns-3 : tie.Need-returns-3
 returns-3 c =
-    let a = c .before .before .before .before .before .before .args in
+    let at-slot-start = c .before .before .before in
+    let start = at-slot-start .before .before .before in
+    let a = start .args in
     let there = reaches-true (a .sheet .now) (a .node) (omega arith) (omega arith) in
-    c .numbers-of .ensures ∙ ap numbersOf (slotAt-slice (a .sheet .now) (a .node) _ (c .before .before .before .slot-start .ensures) there)
+    c .numbers-of .ensures ∙ ap numbersOf (slotAt-slice (a .sheet .now) (a .node) _ (at-slot-start .slot-start .ensures) there)
 
 pub slot-at-spec : {M : Type 1} → statement M
 slot-at-spec =

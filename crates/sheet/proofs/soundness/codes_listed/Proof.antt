@@ -24,8 +24,11 @@ listed-requires-2 c κs = search needs
 
 returns-2 : tie.Need-returns-2
 unfolding codesListed physicalListed physical repetitionListed repetition
-returns-2 c = simp
-    (passed (c .before .before .before .before .listed .ensures) (c .before .before .before .if1 .left), failed (c .before .listed2 .ensures) (c .if2 .taken))
+returns-2 c =
+    let at-if1 = c .before .before .before in
+    let at-listed = at-if1 .before in
+    simp
+    (passed (at-listed .listed .ensures) (at-if1 .if1 .left), failed (c .before .listed2 .ensures) (c .if2 .taken))
 
 shared-slice-read-listed-3 : tie.Need-shared-slice-read-listed-3
 shared-slice-read-listed-3 c = search needs
@@ -35,11 +38,16 @@ listed-requires-3 c κs = search needs
 
 returns-3 : tie.Need-returns-3
 unfolding codesListed physicalListed physical repetitionListed repetition convertedListed converted
-returns-3 c = simp (
-  passed (c .before .before .before .before .before .before .before .listed .ensures) (c .before .before .before .before .before .before .if1 .left),
-  passed (c .before .before .before .before .listed2 .ensures) (c .before .before .before .if2 .left),
-  failed (c .before .listed3 .ensures) (c .if3 .taken),
-)
+returns-3 c =
+    let at-if2 = c .before .before .before in
+    let at-listed2 = at-if2 .before in
+    let at-if1 = at-listed2 .before .before in
+    let at-listed = at-if1 .before in
+    simp (
+      passed (at-listed .listed .ensures) (at-if1 .if1 .left),
+      passed (at-listed2 .listed2 .ensures) (at-if2 .if2 .left),
+      failed (c .before .listed3 .ensures) (c .if3 .taken),
+    )
 
 shared-slice-read-logical-listed : tie.Need-shared-slice-read-logical-listed
 shared-slice-read-logical-listed c = search needs
@@ -49,11 +57,18 @@ logical-listed-requires c κs = search needs
 
 returns-4 : tie.Need-returns-4
 unfolding codesListed physicalListed physical repetitionListed repetition convertedListed converted logical
-returns-4 c = simp (
-  passed (c .before .before .before .before .before .before .before .before .before .listed .ensures) (c .before .before .before .before .before .before .before .before .if1 .left),
-  passed (c .before .before .before .before .before .before .listed2 .ensures) (c .before .before .before .before .before .if2 .left),
-  passed (c .before .before .before .listed3 .ensures) (c .before .before .if3 .left),
-)
+returns-4 c =
+    let at-if3 = c .before .before in
+    let at-listed3 = at-if3 .before in
+    let at-if2 = at-listed3 .before .before in
+    let at-listed2 = at-if2 .before in
+    let at-if1 = at-listed2 .before .before in
+    let at-listed = at-if1 .before in
+    simp (
+      passed (at-listed .listed .ensures) (at-if1 .if1 .left),
+      passed (at-listed2 .listed2 .ensures) (at-if2 .if2 .left),
+      passed (at-listed3 .listed3 .ensures) (at-if3 .if3 .left),
+    )
     (c .logical-listed .ensures)
 
 pub codes-listed-spec : {M : Type 1} → statement M

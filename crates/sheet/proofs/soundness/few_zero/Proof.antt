@@ -24,8 +24,10 @@ shared-slice-read-if1 c = omega arith
 
 returns : tie.Need-returns Inv-loop μ-loop
 returns c =
-    let loop = c .before .before .before .loop in
-    let a = c .before .before .before .before .args in
+    let at-loop = c .before .before .before in
+    let start = at-loop .before in
+    let loop = at-loop .loop in
+    let a = start .args in
     sym (fails-with _ _
     (λ whole. eq-eqb _ 0 (rest-zeros (a .slot .now) (a .from) (loop .i + 1) whole (loop .i) (omega arith) (omega arith)))
     (ne-eqb _ 0 (c .if1 .taken)))
@@ -38,8 +40,10 @@ loop-less c = omega arith
 
 loop-again : tie.Need-loop-again Inv-loop μ-loop
 loop-again c =
-    let loop = c .before .before .before .loop in
-    let a = c .before .before .before .before .args in
+    let at-loop = c .before .before .before in
+    let start = at-loop .before in
+    let loop = at-loop .loop in
+    let a = start .args in
     (omega arith, omega arith, zeros-more (a .slot .now) (a .from) (loop .i) (loop .inv .2) (c .if1 .left))
 
 returns-2 : tie.Need-returns-2 Inv-loop μ-loop

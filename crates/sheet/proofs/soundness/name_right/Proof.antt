@@ -72,8 +72,10 @@ zero-from-requires c κs = search needs
 returns-3 : tie.Need-returns-3
 unfolding tailZero
 returns-3 c =
-    let slot = c .before .before .before .before .before .args .slot .now in
-    let length : c .before .before .before .number32 .result ≡ nameLength slot = omega (arith, number-parts slot) in
+    let at-number32 = c .before .before .before in
+    let start = at-number32 .before .before in
+    let slot = start .args .slot .now in
+    let length : at-number32 .number32 .result ≡ nameLength slot = omega (arith, number-parts slot) in
     c .zero-from .ensures
     ∙ ap (λ (n : ℕ). allZero (drop (nameAt + n) slot)) length
     ∙ sym (number-listed slot (omega arith) (omega arith))

@@ -28,9 +28,11 @@ slot-sound-requires c κs = search needs
 
 returns : tie.Need-returns
 returns c =
-    let a = c .before .before .before .before .before .args in
-    let there = reaches-true (a .sheet .now) (a .k) (c .before .before .before .before .before .pre .0) (c .before .before .before .before .before .pre .1 .0) in
-    let slot = slotAt-slice (a .sheet .now) (a .k) _ (c .before .before .before .slot-start .ensures) there in
+    let at-slot-start = c .before .before .before in
+    let start = at-slot-start .before .before in
+    let a = start .args in
+    let there = reaches-true (a .sheet .now) (a .k) (start .pre .0) (start .pre .1 .0) in
+    let slot = slotAt-slice (a .sheet .now) (a .k) _ (at-slot-start .slot-start .ensures) there in
     c .slot-sound .ensures ∙ ap slotSound slot ∙ sym (slotRight-used (a .sheet .now) (a .k) (omega arith))
 
 slot-zero-requires : tie.Need-slot-zero-requires
@@ -38,9 +40,11 @@ slot-zero-requires c κs = search needs
 
 returns-2 : tie.Need-returns-2
 returns-2 c =
-    let a = c .before .before .before .before .before .args in
-    let there = reaches-true (a .sheet .now) (a .k) (c .before .before .before .before .before .pre .0) (c .before .before .before .before .before .pre .1 .0) in
-    let slot = slotAt-slice (a .sheet .now) (a .k) _ (c .before .before .before .slot-start .ensures) there in
+    let at-slot-start = c .before .before .before in
+    let start = at-slot-start .before .before in
+    let a = start .args in
+    let there = reaches-true (a .sheet .now) (a .k) (start .pre .0) (start .pre .1 .0) in
+    let slot = slotAt-slice (a .sheet .now) (a .k) _ (at-slot-start .slot-start .ensures) there in
     c .slot-zero .ensures ∙ ap allZero slot ∙ sym (slotRight-unused (a .sheet .now) (a .k) (omega arith))
 
 pub slot-right-spec : {M : Type 1} → statement M

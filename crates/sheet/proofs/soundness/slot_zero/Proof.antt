@@ -31,9 +31,13 @@ zero-from-requires c κs = search needs
 
 returns-3 : tie.Need-returns-3
 returns-3 c =
-    let slot = c .before .before .before .before .before .before .args .slot .now in
-    let first = stretch-zeros slot 0 pairSize (passed (c .before .before .before .before .pair-zero .ensures) (c .before .before .before .if1 .left)) in
-    let second = stretch-zeros slot 8 pairSize (passed (c .before .before .pair-zero2 .ensures) (c .before .if2 .left)) in
+    let at-pair-zero2 = c .before .before in
+    let at-if1 = at-pair-zero2 .before in
+    let at-pair-zero = at-if1 .before in
+    let start = at-pair-zero .before .before in
+    let slot = start .args .slot .now in
+    let first = stretch-zeros slot 0 pairSize (passed (at-pair-zero .pair-zero .ensures) (at-if1 .if1 .left)) in
+    let second = stretch-zeros slot 8 pairSize (passed (at-pair-zero2 .pair-zero2 .ensures) (c .before .if2 .left)) in
     c .zero-from .ensures ∙ same-test _ _
     (λ e. rest-true slot 0 (λ k l h. zeros-join slot first (omega arith) (zeros-join slot second (omega arith) (rest-zeros slot nameAt slotSize e)) k l (omega arith)))
     (λ whole. rest-true slot nameAt (λ k l h. rest-zeros slot 0 slotSize whole k (omega arith) (omega arith)))

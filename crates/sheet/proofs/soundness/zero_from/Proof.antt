@@ -32,10 +32,14 @@ returns-3 c =
 
 returns-4 : tie.Need-returns-4
 returns-4 c =
-    let a = c .before .before .before .before .before .before .before .args in
+    let at-pair-zero2 = c .before .before in
+    let at-if2 = at-pair-zero2 .before in
+    let at-pair-zero = at-if2 .before in
+    let start = at-pair-zero .before .before .before in
+    let a = start .args in
     let slot = a .slot .now in
-    let first = stretch-zeros slot (a .from) pairSize (passed (c .before .before .before .before .pair-zero .ensures) (c .before .before .before .if2 .left)) in
-    let last = stretch-zeros slot 56 pairSize (passed (c .before .before .pair-zero2 .ensures) (c .before .if3 .left)) in
+    let first = stretch-zeros slot (a .from) pairSize (passed (at-pair-zero .pair-zero .ensures) (at-if2 .if2 .left)) in
+    let last = stretch-zeros slot 56 pairSize (passed (at-pair-zero2 .pair-zero2 .ensures) (c .before .if3 .left)) in
     sym (rest-true slot (a .from) (λ k l h. zeros-join slot first (omega arith) last k l (omega arith)))
 
 pair-zero-requires-3 : tie.Need-pair-zero-requires-3
@@ -43,10 +47,15 @@ pair-zero-requires-3 c κs = search needs
 
 returns-5 : tie.Need-returns-5
 returns-5 c =
-    let a = c .before .before .before .before .before .before .before .before .args in
+    let at-if3 = c .before .before in
+    let at-pair-zero2 = at-if3 .before in
+    let at-if2 = at-pair-zero2 .before in
+    let at-pair-zero = at-if2 .before in
+    let start = at-pair-zero .before .before .before in
+    let a = start .args in
     let slot = a .slot .now in
-    let first = stretch-zeros slot (a .from) pairSize (passed (c .before .before .before .before .before .pair-zero .ensures) (c .before .before .before .before .if2 .left)) in
-    let last = stretch-zeros slot 56 pairSize (passed (c .before .before .before .pair-zero2 .ensures) (c .before .before .if3 .left)) in
+    let first = stretch-zeros slot (a .from) pairSize (passed (at-pair-zero .pair-zero .ensures) (at-if2 .if2 .left)) in
+    let last = stretch-zeros slot 56 pairSize (passed (at-pair-zero2 .pair-zero2 .ensures) (at-if3 .if3 .left)) in
     c .pair-zero3 .ensures ∙ same-test _ _
     (λ e. rest-true slot (a .from) (λ k l h. zeros-join slot first (omega arith) (zeros-join slot (stretch-zeros slot 40 pairSize e) (omega arith) last) k l (omega arith)))
     (rest-stretch slot (a .from) 40 pairSize (omega arith))

@@ -23,20 +23,29 @@ returns-2 c =
 returns-3 : tie.Need-returns-3
 unfolding openedText
 returns-3 c =
-    let told = sym (c .before .before .before .before .before .opened .given .1) in
-    put-opened-as _ _ told (c .before .before .put-refusal2 .ensures) (refusal-most 2 _ (record { fits = omega arith }) (record { fits = omega (arith, c .before .before .before .before .known-told .given) }))
+    let at-put-refusal2 = c .before .before in
+    let at-known-told = at-put-refusal2 .before .before in
+    let at-opened = at-known-told .before in
+    let told = sym (at-opened .opened .given .1) in
+    put-opened-as _ _ told (at-put-refusal2 .put-refusal2 .ensures) (refusal-most 2 _ (record { fits = omega arith }) (record { fits = omega (arith, at-known-told .known-told .given) }))
 
 returns-4 : tie.Need-returns-4
 unfolding openedText
 returns-4 c =
-    let told = sym (c .before .before .before .before .before .opened2 .given .1) in
-    put-opened-as _ _ told (c .before .before .put-refusal3 .ensures) (refusal-most 3 _ (record { fits = omega arith }) (record { fits = omega (arith, c .before .before .before .before .known-told2 .given) }))
+    let at-put-refusal3 = c .before .before in
+    let at-known-told2 = at-put-refusal3 .before .before in
+    let at-opened2 = at-known-told2 .before in
+    let told = sym (at-opened2 .opened2 .given .1) in
+    put-opened-as _ _ told (at-put-refusal3 .put-refusal3 .ensures) (refusal-most 3 _ (record { fits = omega arith }) (record { fits = omega (arith, at-known-told2 .known-told2 .given) }))
 
 returns-5 : tie.Need-returns-5
 unfolding openedText
 returns-5 c =
-    let told = sym (c .before .before .before .before .before .opened3 .given .1) in
-    put-opened-as _ _ told (c .before .before .put-refusal4 .ensures) (refusal-most 4 _ (record { fits = omega arith }) (record { fits = omega (arith, c .before .before .before .before .known-told3 .given) }))
+    let at-put-refusal4 = c .before .before in
+    let at-known-told3 = at-put-refusal4 .before .before in
+    let at-opened3 = at-known-told3 .before in
+    let told = sym (at-opened3 .opened3 .given .1) in
+    put-opened-as _ _ told (at-put-refusal4 .put-refusal4 .ensures) (refusal-most 4 _ (record { fits = omega arith }) (record { fits = omega (arith, at-known-told3 .known-told3 .given) }))
 
 pub put-opened-spec : {M : Type 1} → statement M
 put-opened-spec =

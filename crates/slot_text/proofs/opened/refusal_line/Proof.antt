@@ -21,16 +21,20 @@ held c =
 returns : tie.Need-returns
 unfolding refusalLine
 returns c =
+    let start = c .before .before .before in
     let text = held (c .before) in
-    let back = subst (λ (k : ℕ). drop k (c .before .put-opened .last .0) ≡ drop k (c .before .before .before .args .out .now)) (c .if1 .taken) (holds-back text) in
-    ((omega arith, refl), (line-none (openedText (c .before .before .before .args .opened)) (omega (arith, text .end, c .if1 .taken)), back))
+    let back = subst (λ (k : ℕ). drop k (c .before .put-opened .last .0) ≡ drop k (start .args .out .now)) (c .if1 .taken) (holds-back text) in
+    ((omega arith, refl), (line-none (openedText (start .args .opened)) (omega (arith, text .end, c .if1 .taken)), back))
 
 returns-2 : tie.Need-returns-2
 unfolding refusalLine
 returns-2 c =
-    let text = held (c .before .before .before .before) in
-    let short = c .before .before .before .before .put-opened .ensures .1 .1 in
-    let line = subst (Holds _ _ 0 _) (line-some (openedText (c .before .before .before .before .before .before .args .opened)) (omega (arith, text .end, c .before .before .before .if1 .left))) (holds-more text (LF ∷ []) (omega (arith, short)) (c .put .ensures)) in
+    let at-if1 = c .before .before .before in
+    let at-put-opened = at-if1 .before in
+    let start = at-put-opened .before .before in
+    let text = held at-put-opened in
+    let short = at-put-opened .put-opened .ensures .1 .1 in
+    let line = subst (Holds _ _ 0 _) (line-some (openedText (start .args .opened)) (omega (arith, text .end, at-if1 .if1 .left))) (holds-more text (LF ∷ []) (omega (arith, short)) (c .put .ensures)) in
     let made = holds-made line in
     (made .0, (made .1, holds-back line))
 

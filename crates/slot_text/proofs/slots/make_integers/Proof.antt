@@ -40,15 +40,18 @@ loop-holds c =
 
 loop-again : tie.Need-loop-again Inv-loop μ-loop
 loop-again c =
-    let zs = c .before .before .before .before .before .before .before .before .before .before .before .args .numbers .now in
-    let i = c .before .before .before .before .before .before .before .loop .i in
-    let inv = c .before .before .before .before .before .before .before .loop .inv in
+    let at-put = c .before .before .before in
+    let at-loop = at-put .before .before .before .before in
+    let start = at-loop .before .before .before .before in
+    let zs = start .args .numbers .now in
+    let i = at-loop .loop .i in
+    let inv = at-loop .loop .inv in
     let z = getD zs i (pos 0) in
     let fits : SFits w64 z = record { sfits = c .before .put-signed-arg4 .given } in
     let most : length (signedText z) ≤ 20 = signed-most z fits in
     let later = integers-later zs i (inv .0) (omega arith) in
     let longer : length (integersText (take i zs)) + 1 + length (signedText z) ≡ length (integersText (take (suc i) zs)) = sym (simp length-append) ∙ ap length later in
-    let space = holds-more (inv .2) (ascii " ") (omega (arith, inv)) (c .before .before .before .put .ensures) in
+    let space = holds-more (inv .2) (ascii " ") (omega (arith, inv)) (at-put .put .ensures) in
     let number = holds-more space (signedText z) (simp length-append (omega (arith, inv))) (put-as _ _ (ap signedText (toZ-ofZ w64 z fits)) (c .put-signed2 .ensures)) in
     let next = sym (add-one i) in (
       omega arith,

@@ -40,9 +40,12 @@ cast-name-length c = record { sfits = omega (arith, c .struct-known11 .given) }
 
 returns : tie.Need-returns
 returns c =
-    let made = c .before .before .before .before .before .make-integers .ensures in
-    let read = slot-read _ (numbers (c .before .before .before .before .before .before .before .before .before)) in
-    let put = put-as _ _ (made .1 .0 ∙ read) (c .before .before .put .ensures) in
+    let at-put = c .before .before in
+    let at-make-integers = at-put .before .before .before in
+    let for-numbers = at-make-integers .before .before .before .before in
+    let made = at-make-integers .make-integers .ensures in
+    let read = slot-read _ (numbers for-numbers) in
+    let put = put-as _ _ (made .1 .0 ∙ read) (at-put .put .ensures) in
     (put .0, (put .1, omega (arith, made .1 .1, ap length read)))
 
 pub put-slot-spec : {M : Type 1} → statement M

@@ -20,12 +20,14 @@ start c = c .before .before .before .before .before .before .before .before .bef
 held : (c : tie.After-put-decimal2) → Holds (replicate 41 0) (c .put-decimal2 .last .0) 0 (c .put-decimal2 .result) (stretchText (start c .args .stretch))
 unfolding stretchText
 held c =
+    let at-put = c .before .before .before in
+    let at-put-decimal = at-put .before .before .before .before in
     let first = decimalText (start c .args .stretch .start) in
     let second = decimalText (start c .args .stretch .len) in
     let most : length first ≤ 20 = decimal-most _ (record { fits = search needs }) in
     let most′ : length second ≤ 20 = decimal-most _ (record { fits = search needs }) in
-    let started = holds-more (holds-none (replicate 41 0) 0 (omega arith)) first (omega arith) (c .before .before .before .before .before .before .before .put-decimal .ensures) in
-    let space = holds-more started (ascii " ") (simp length-append (omega arith)) (c .before .before .before .put .ensures) in
+    let started = holds-more (holds-none (replicate 41 0) 0 (omega arith)) first (omega arith) (at-put-decimal .put-decimal .ensures) in
+    let space = holds-more started (ascii " ") (simp length-append (omega arith)) (at-put .put .ensures) in
     holds-more space second (simp length-append (omega arith)) (c .put-decimal2 .ensures)
 
 array-share-prefix-room : tie.Need-array-share-prefix-room

@@ -13,11 +13,14 @@ use Rattle.slot_text.proofs.slots.slot_line.Tie as tie
 held : (c : tie.After-put2) → Holds (c .before .before .before .before .before .before .before .before .before .before .args .out .now) (c .put2 .last .0) 0 (c .put2 .result) (slotLine (c .before .before .before .before .before .before .before .before .before .before .args .slot) (c .before .before .before .before .before .before .before .before .before .before .args .name))
 unfolding slotLine
 held c =
-    let start = c .before .before .before .before .before .before .before .before .before .before in
-    let slot = c .before .before .before .before .before .before .before .before .put-slot .ensures in
-    let name = c .before .before .before .put-stretch .ensures in
+    let at-put-stretch = c .before .before .before in
+    let at-put = at-put-stretch .before .before in
+    let at-put-slot = at-put .before .before .before in
+    let start = at-put-slot .before .before in
+    let slot = at-put-slot .put-slot .ensures in
+    let name = at-put-stretch .put-stretch .ensures in
     let numbers = holds-more (holds-none (start .args .out .now) 0 (omega arith)) (slotText (start .args .slot)) (omega (arith, slot .1 .1)) (slot .0, slot .1 .0) in
-    let space = holds-more numbers (ascii " ") (omega (arith, slot .1 .1)) (c .before .before .before .before .before .put .ensures) in
+    let space = holds-more numbers (ascii " ") (omega (arith, slot .1 .1)) (at-put .put .ensures) in
     let stretch = holds-more space (stretchText (start .args .name)) (simp length-append (omega (arith, slot .1 .1, name .1 .1))) (name .0, name .1 .0) in
     holds-more stretch (LF ∷ []) (simp length-append (omega (arith, slot .1 .1, name .1 .1))) (c .put2 .ensures)
 

@@ -52,14 +52,17 @@ loop-less c = search needs
 
 loop-again : tie.Need-loop-again Inv-loop μ-loop
 loop-again c =
-    let start = c .before .before .before .before .before .before .before .before .before in
+    let at-wide = c .before .before in
+    let at-loop-test = at-wide .before .before in
+    let at-loop = at-loop-test .before in
+    let start = at-loop .before .before .before .before in
     let room = length (start .args .out .now) in
     let ns = start .args .numbers .now in
-    let i = c .before .before .before .before .before .loop .i in
-    let taken = c .before .before .before .before .loop-test .taken in
-    let n : c .before .item-length .result ≡ length (item i (getD ns i 0)) = c .before .item-length .ensures ∙ ap (λ (n : ℕ). length (item i n)) (c .before .before .wide .ensures) in (
+    let i = at-loop .loop .i in
+    let taken = at-loop-test .loop-test .taken in
+    let n : c .before .item-length .result ≡ length (item i (getD ns i 0)) = c .before .item-length .ensures ∙ ap (λ (n : ℕ). length (item i n)) (at-wide .wide .ensures) in (
       omega arith,
-      after-more _ _ (spaced (map decimalText (take i ns))) (item i (getD ns i 0)) (c .before .before .before .before .before .loop .inv .1) (c .after2 .ensures ∙ ap (positionPast room _) n)
+      after-more _ _ (spaced (map decimalText (take i ns))) (item i (getD ns i 0)) (at-loop .loop .inv .1) (c .after2 .ensures ∙ ap (positionPast room _) n)
           ∙ ap (positionAfter room (start .args .at)) (sym (spaced-suc ns i taken) ∙ ap (λ (k : ℕ). spaced (map decimalText (take k ns))) (sym (add-one i))),
     )
 
@@ -68,10 +71,11 @@ after-requires-3 c κs = search needs
 
 returns : tie.Need-returns Inv-loop μ-loop
 returns c =
-    let start = c .before .before .before .before .before .before in
+    let at-loop = c .before .before in
+    let start = at-loop .before .before .before .before in
     let ns = start .args .numbers .now in
-    let i = c .before .before .loop .i in
-    after-more _ _ (spaced (map decimalText (take i ns))) (LF ∷ []) (c .before .before .loop .inv .1) (c .after3 .ensures)
+    let i = at-loop .loop .i in
+    after-more _ _ (spaced (map decimalText (take i ns))) (LF ∷ []) (at-loop .loop .inv .1) (c .after3 .ensures)
     ∙ ap (positionAfter (length (start .args .out .now)) (start .args .at)) (line-end ns i (omega arith))
 
 pub after-line-spec : {M : Type 1} → statement M

@@ -14,8 +14,10 @@ same-length c = search needs
 
 returns : tie.Need-returns
 returns c =
-    let text = sym (item-first _ _ (c .before .before .before .before .if1 .taken)) in
-    (c .before .before .put-decimal .ensures .0 ∙ ap (positionAfter _ _) text, c .before .before .put-decimal .ensures .1 ∙ ap (placedText _ _) text)
+    let at-put-decimal = c .before .before in
+    let at-if1 = at-put-decimal .before .before in
+    let text = sym (item-first _ _ (at-if1 .if1 .taken)) in
+    (at-put-decimal .put-decimal .ensures .0 ∙ ap (positionAfter _ _) text, at-put-decimal .put-decimal .ensures .1 ∙ ap (placedText _ _) text)
 
 put-behind-requires : tie.Need-put-behind-requires
 put-behind-requires c κs = search needs
@@ -25,8 +27,10 @@ same-length-2 c = search needs
 
 returns-2 : tie.Need-returns-2
 returns-2 c =
-    let text = sym (item-later _ _ (c .before .before .before .before .if1 .left)) in
-    (c .before .before .put-behind .ensures .0 ∙ ap (positionAfter _ _) text, c .before .before .put-behind .ensures .1 ∙ ap (placedText _ _) text)
+    let at-put-behind = c .before .before in
+    let at-if1 = at-put-behind .before .before in
+    let text = sym (item-later _ _ (at-if1 .if1 .left)) in
+    (at-put-behind .put-behind .ensures .0 ∙ ap (positionAfter _ _) text, at-put-behind .put-behind .ensures .1 ∙ ap (placedText _ _) text)
 
 pub put-item-spec : {M : Type 1} → statement M
 put-item-spec =

@@ -46,15 +46,19 @@ loop-less c = search needs
 
 loop-again : tie.Need-loop-again Inv-loop μ-loop
 loop-again c =
-    let start = c .before .before .before .before .before .before .before .before .before .before in
+    let at-put-item = c .before .before in
+    let at-wide = at-put-item .before in
+    let at-loop-test = at-wide .before .before .before in
+    let at-loop = at-loop-test .before in
+    let start = at-loop .before .before .before in
     let ns = start .args .numbers .now in
-    let i = c .before .before .before .before .before .before .before .loop .i in
-    let taken = c .before .before .before .before .before .before .loop-test .taken in
-    let n : item i (c .before .before .before .wide .result) ≡ item i (getD ns i 0) = ap (item i) (c .before .before .before .wide .ensures) in (
+    let i = at-loop .loop .i in
+    let taken = at-loop-test .loop-test .taken in
+    let n : item i (at-wide .wide .result) ≡ item i (getD ns i 0) = ap (item i) (at-wide .wide .ensures) in (
       omega arith,
       subst (Holds _ _ _ _) (sym (spaced-suc ns i taken) ∙ ap (λ (k : ℕ). spaced (map decimalText (take k ns))) (sym (add-one i)))
-          (holds-more (c .before .before .before .before .before .before .before .loop .inv .1) (item i (getD ns i 0)) (omega (arith, start .pre, line-longer ns i taken))
-          (c .before .before .put-item .ensures .0 ∙ ap (positionAfter _ _) n, c .before .before .put-item .ensures .1 ∙ ap (placedText _ _) n)),
+          (holds-more (at-loop .loop .inv .1) (item i (getD ns i 0)) (omega (arith, start .pre, line-longer ns i taken))
+          (at-put-item .put-item .ensures .0 ∙ ap (positionAfter _ _) n, at-put-item .put-item .ensures .1 ∙ ap (placedText _ _) n)),
     )
 
 slice-aggregate-put : tie.Need-slice-aggregate-put Inv-loop μ-loop
@@ -68,11 +72,14 @@ same-length c = c .before .before .put .kept .0 ∙ holds-length (c .before .bef
 
 returns : tie.Need-returns Inv-loop μ-loop
 returns c =
-    let start = c .before .before .before .before .before .before .before .before .before in
+    let at-put = c .before .before in
+    let at-loop-test = at-put .before .before .before in
+    let at-loop = at-loop-test .before in
+    let start = at-loop .before .before .before in
     let ns = start .args .numbers .now in
-    let i = c .before .before .before .before .before .before .loop .i in
-    let line = line-end ns i (omega (arith, c .before .before .before .before .before .before .loop .inv .0, c .before .before .before .before .before .loop-test .left)) in
-    holds-placed (holds-more (c .before .before .before .before .before .before .loop .inv .1) (LF ∷ []) (omega (arith, start .pre, ap length line, length-append (spaced (map decimalText (take i ns))) (LF ∷ []))) (c .before .before .put .ensures))
+    let i = at-loop .loop .i in
+    let line = line-end ns i (omega (arith, at-loop .loop .inv .0, at-loop-test .loop-test .left)) in
+    holds-placed (holds-more (at-loop .loop .inv .1) (LF ∷ []) (omega (arith, start .pre, ap length line, length-append (spaced (map decimalText (take i ns))) (LF ∷ []))) (at-put .put .ensures))
     ∙ ap (placedText _ _) line
 
 pub write-line-spec : {M : Type 1} → statement M

@@ -43,8 +43,10 @@ same-length c = search needs
 
 returns : tie.Need-returns
 returns c =
-    let text = holds-front (held (c .before .before .before .before .before .before)) in
-    (c .before .before .put .ensures .0 ∙ ap (positionAfter _ _) text, c .before .before .put .ensures .1 ∙ ap (placedText _ _) text)
+    let at-put = c .before .before in
+    let for-held = at-put .before .before .before .before in
+    let text = holds-front (held for-held) in
+    (at-put .put .ensures .0 ∙ ap (positionAfter _ _) text, at-put .put .ensures .1 ∙ ap (placedText _ _) text)
 
 pub put-behind-spec : {M : Type 1} → statement M
 put-behind-spec =

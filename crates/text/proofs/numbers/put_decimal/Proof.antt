@@ -23,9 +23,11 @@ same-length c = search needs
 
 returns : tie.Need-returns
 returns c =
-    let written = c .before .before .before .before .before .decimal .ensures .1 in
+    let at-put = c .before .before in
+    let at-decimal = at-put .before .before .before in
+    let written = at-decimal .decimal .ensures .1 in
     let text = fewest-decimal _ _ (written .0) (written .1) in
-    (c .before .before .put .ensures .0 ∙ ap (positionAfter _ _) text, c .before .before .put .ensures .1 ∙ ap (placedText _ _) text)
+    (at-put .put .ensures .0 ∙ ap (positionAfter _ _) text, at-put .put .ensures .1 ∙ ap (placedText _ _) text)
 
 pub put-decimal-spec : {M : Type 1} → statement M
 put-decimal-spec =

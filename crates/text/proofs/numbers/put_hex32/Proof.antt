@@ -24,10 +24,12 @@ same-length c = search needs
 
 returns : tie.Need-returns
 returns c =
-    let start = c .before .before .before .before .before .before .before .before in
-    let written = c .before .before .before .before .before .hex .ensures .1 in
+    let at-put = c .before .before in
+    let at-hex = at-put .before .before .before in
+    let start = at-hex .before .before .before in
+    let written = at-hex .hex .ensures .1 in
     let text = fewest-hex 8 _ _ (omega (arith, start .fits .bits)) (written .0) (written .1) in
-    (c .before .before .put .ensures .0 ∙ ap (positionAfter _ _) text, c .before .before .put .ensures .1 ∙ ap (placedText _ _) text)
+    (at-put .put .ensures .0 ∙ ap (positionAfter _ _) text, at-put .put .ensures .1 ∙ ap (placedText _ _) text)
 
 pub put-hex32-spec : {M : Type 1} → statement M
 put-hex32-spec =

@@ -44,11 +44,12 @@ same-length c = search needs
 returns : tie.Need-returns
 unfolding signedText
 returns c =
-    let at = c .before .before .before in
+    let at-put-behind = c .before .before in
+    let at = at-put-behind .before in
     let start = at .before .before .before in
     let negative = sign-told (start .fits .z) (below-zero (toZ w64 (ofZ w64 (start .args .z)))) (at .before .if1 .taken) in
     let text = ap (λ (n : ℕ). MINUS ∷ decimalText n) (ap (λ (z : ℤ). natAbs z + 1) (read-back (difference at) (start .fits .z .sfits)) ∙ add-one _) ∙ sym (ap signedText (negative-is (start .args .z) negative)) in
-    (c .before .before .put-behind .ensures .0 ∙ ap (positionAfter _ _) text, c .before .before .put-behind .ensures .1 ∙ ap (placedText _ _) text)
+    (at-put-behind .put-behind .ensures .0 ∙ ap (positionAfter _ _) text, at-put-behind .put-behind .ensures .1 ∙ ap (placedText _ _) text)
 
 cast-put-decimal : tie.Need-cast-put-decimal
 cast-put-decimal c =
@@ -64,10 +65,12 @@ same-length-2 c = search needs
 returns-2 : tie.Need-returns-2
 unfolding signedText
 returns-2 c =
-    let start = c .before .before .before .before .before .before in
-    let nonnegative = sign-told (start .fits .z) (below-zero (toZ w64 (ofZ w64 (start .args .z)))) (c .before .before .before .before .if1 .left) in
+    let at-put-decimal = c .before .before in
+    let at-if1 = at-put-decimal .before .before in
+    let start = at-if1 .before .before in
+    let nonnegative = sign-told (start .fits .z) (below-zero (toZ w64 (ofZ w64 (start .args .z)))) (at-if1 .if1 .left) in
     let text = ap (λ (z : ℤ). decimalText (natAbs z)) (nonnegative-read (start .fits .z) nonnegative) ∙ sym (ap signedText (nonnegative-is (start .args .z) nonnegative)) in
-    (c .before .before .put-decimal .ensures .0 ∙ ap (positionAfter _ _) text, c .before .before .put-decimal .ensures .1 ∙ ap (placedText _ _) text)
+    (at-put-decimal .put-decimal .ensures .0 ∙ ap (positionAfter _ _) text, at-put-decimal .put-decimal .ensures .1 ∙ ap (placedText _ _) text)
 
 pub put-signed-spec : {M : Type 1} → statement M
 put-signed-spec =

@@ -29,9 +29,12 @@ same-length c = search needs
 
 returns : tie.Need-returns
 returns c =
-    let past = c .before .before .before .before .before .after .ensures in
-    let within = c .before .before .before .before .if1 .taken in
-    (past, copied-placed _ _ _ _ _ (past-within _ _ _ _ past within) within (c .before .before .copy .ensures .1))
+    let at-copy = c .before .before in
+    let at-if1 = at-copy .before .before in
+    let at-after = at-if1 .before in
+    let past = at-after .after .ensures in
+    let within = at-if1 .if1 .taken in
+    (past, copied-placed _ _ _ _ _ (past-within _ _ _ _ past within) within (at-copy .copy .ensures .1))
 
 same-length-2 : tie.Need-same-length-2
 same-length-2 c = search needs

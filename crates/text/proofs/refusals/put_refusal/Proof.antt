@@ -21,13 +21,16 @@ start c = c .before .before .before .before .before .before .before .before .bef
 held : (c : tie.After-put-decimal2) → Holds (replicate 64 0) (c .put-decimal2 .last .0) 0 (c .put-decimal2 .result) (refusalText (start c .args .number) (start c .args .place))
 unfolding refusalText
 held c =
+    let at-put2 = c .before .before .before in
+    let at-put-decimal = at-put2 .before .before .before .before in
+    let at-put = at-put-decimal .before .before .before in
     let number = start c .args .number in
     let place = start c .args .place in
     let most : length (decimalText number) ≤ 20 = decimal-most number (start c .fits .number) in
     let most′ : length (decimalText place) ≤ 20 = decimal-most place (start c .fits .place) in
-    let word = holds-more (holds-none (replicate 64 0) 0 (omega arith)) (ascii "refused ") (omega arith) (c .before .before .before .before .before .before .before .before .before .before .put .ensures) in
-    let numbered = holds-more word (decimalText number) (omega arith) (c .before .before .before .before .before .before .before .put-decimal .ensures) in
-    let preposition = holds-more numbered (ascii " at ") (simp length-append (omega arith)) (c .before .before .before .put2 .ensures) in
+    let word = holds-more (holds-none (replicate 64 0) 0 (omega arith)) (ascii "refused ") (omega arith) (at-put .put .ensures) in
+    let numbered = holds-more word (decimalText number) (omega arith) (at-put-decimal .put-decimal .ensures) in
+    let preposition = holds-more numbered (ascii " at ") (simp length-append (omega arith)) (at-put2 .put2 .ensures) in
     holds-more preposition (decimalText place) (simp length-append (omega arith)) (c .put-decimal2 .ensures)
 
 slice-aggregate-put : tie.Need-slice-aggregate-put
@@ -74,8 +77,10 @@ same-length c = search needs
 
 returns : tie.Need-returns
 returns c =
-    let text = holds-front (held (c .before .before .before .before .before .before)) in
-    (c .before .before .put3 .ensures .0 ∙ ap (positionAfter _ _) text, c .before .before .put3 .ensures .1 ∙ ap (placedText _ _) text)
+    let at-put3 = c .before .before in
+    let for-held = at-put3 .before .before .before .before in
+    let text = holds-front (held for-held) in
+    (at-put3 .put3 .ensures .0 ∙ ap (positionAfter _ _) text, at-put3 .put3 .ensures .1 ∙ ap (placedText _ _) text)
 
 pub put-refusal-spec : {M : Type 1} → statement M
 put-refusal-spec =

@@ -22,12 +22,14 @@ time-of-requires c κs = search needs
 returns : tie.Need-returns
 unfolding isDateTime countOf
 returns c count p =
-    let date = c .before .before .date-of .result in
-    let made = c .before .before .date-of .ensures in
+    let at-date-of = c .before .before in
+    let at-struct-told = at-date-of .before in
+    let s = at-struct-told .before in
+    let date = at-date-of .date-of .result in
+    let made = at-date-of .date-of .ensures in
     let time = c .before .time-of .ensures in
-    let s = c .before .before .before .before in
     let year = toZ-ofZ w64 (date .year) (record { sfits = c .struct-told2 .given .0 .1 }) in
-    let day = toZ-ofZ w64 (s .args .division .day) (record { sfits = c .before .before .before .struct-told .given .0 .1 }) in (
+    let day = toZ-ofZ w64 (s .args .division .day) (record { sfits = at-struct-told .struct-told .given .0 .1 }) in (
       _,
       refl,
       record {

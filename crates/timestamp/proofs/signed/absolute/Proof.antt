@@ -18,22 +18,27 @@ folded-requires c κs = search needs
 
 add-result : tie.Need-add-result
 add-result c =
-    omega (arith, c .before .before .before .fits .x .sfits, folded-told (c .before .before .before .fits .x) (c .folded .ensures))
+    let start = c .before .before .before in
+    omega (arith, start .fits .x .sfits, folded-told (start .fits .x) (c .folded .ensures))
 
 returns : tie.Need-returns
 returns c =
-    let x = c .before .before .before .args .x in
-    let fits = c .before .before .before .fits .x in
-    add-one (c .folded .result) ∙ ap suc (folded-told fits (c .folded .ensures)) ∙ ap natAbs (sym (negative-is x (sign-told fits (c .before .before .is-negative .ensures) (c .before .if1 .taken))))
+    let at-is-negative = c .before .before in
+    let start = at-is-negative .before in
+    let x = start .args .x in
+    let fits = start .fits .x in
+    add-one (c .folded .result) ∙ ap suc (folded-told fits (c .folded .ensures)) ∙ ap natAbs (sym (negative-is x (sign-told fits (at-is-negative .is-negative .ensures) (c .before .if1 .taken))))
 
 folded-requires-2 : tie.Need-folded-requires-2
 folded-requires-2 c κs = search needs
 
 returns-2 : tie.Need-returns-2
 returns-2 c =
-    let x = c .before .before .before .args .x in
-    let fits = c .before .before .before .fits .x in
-    folded-told fits (c .folded2 .ensures) ∙ ap natAbs (sym (nonnegative-is x (sign-told fits (c .before .before .is-negative .ensures) (c .before .if1 .left))))
+    let at-is-negative = c .before .before in
+    let start = at-is-negative .before in
+    let x = start .args .x in
+    let fits = start .fits .x in
+    folded-told fits (c .folded2 .ensures) ∙ ap natAbs (sym (nonnegative-is x (sign-told fits (at-is-negative .is-negative .ensures) (c .before .if1 .left))))
 
 pub absolute-spec : {M : Type 1} → statement M
 absolute-spec =

@@ -14,8 +14,10 @@ returns c = to12-shape _ _ _ _ (c .before .before .before .pre .0) (sym (c .befo
 
 returns-2 : tie.Need-returns-2
 returns-2 c =
-    let start = c .before .before .before .before .before in
-    let kept = sym (c .before .before .before .shape-kept .ensures) ∙ not-false _ (c .before .before .if1 .left) in
+    let at-if1 = c .before .before in
+    let at-shape-kept = at-if1 .before in
+    let start = at-shape-kept .before .before in
+    let kept = sym (at-shape-kept .shape-kept .ensures) ∙ not-false _ (at-if1 .if1 .left) in
     to12-refused _ _ _ _ (start .pre .0) kept _ 0 (start .pre .1 .0) (c .if2 .taken)
 
 list-broken-requires : tie.Need-list-broken-requires
@@ -23,8 +25,10 @@ list-broken-requires c κs = search needs
 
 returns-3 : tie.Need-returns-3
 returns-3 c =
-    let start = c .before .before .before .before .before .before in
-    let kept = sym (c .before .before .before .before .shape-kept .ensures) ∙ not-false _ (c .before .before .before .if1 .left) in
+    let at-if1 = c .before .before .before in
+    let at-shape-kept = at-if1 .before in
+    let start = at-shape-kept .before .before in
+    let kept = sym (at-shape-kept .shape-kept .ensures) ∙ not-false _ (at-if1 .if1 .left) in
     c .list-broken .ensures ∙ to12-resolved _ _ _ _ (start .pre .0) kept _ _ (start .pre .1 .0) (c .before .if2 .left) (start .pre .1 .1)
 
 pub broken-to-12-spec : {M : Type 1} → statement M

@@ -23,14 +23,20 @@ map-kept-requires c κs = search needs
 returns-3 : tie.Need-returns-3
 unfolding brokenWith13
 returns-3 c =
-    let under = sym (c .before .before .before .under-map .ensures) ∙ not-false _ (c .before .before .if2 .left) in
-    sym (rw (c .before .before .before .before .if1 .left, under, sym (c .before .map-kept .ensures) ∙ c .if3 .taken))
+    let at-if2 = c .before .before in
+    let at-under-map = at-if2 .before in
+    let at-if1 = at-under-map .before in
+    let under = sym (at-under-map .under-map .ensures) ∙ not-false _ (at-if2 .if2 .left) in
+    sym (rw (at-if1 .if1 .left, under, sym (c .before .map-kept .ensures) ∙ c .if3 .taken))
 
 returns-4 : tie.Need-returns-4
 unfolding brokenWith13
 returns-4 c =
-    let under = sym (c .before .before .before .under-map .ensures) ∙ not-false _ (c .before .before .if2 .left) in
-    sym (rw (c .before .before .before .before .if1 .left, under, sym (c .before .map-kept .ensures) ∙ c .if3 .left))
+    let at-if2 = c .before .before in
+    let at-under-map = at-if2 .before in
+    let at-if1 = at-under-map .before in
+    let under = sym (at-under-map .under-map .ensures) ∙ not-false _ (at-if2 .if2 .left) in
+    sym (rw (at-if1 .if1 .left, under, sym (c .before .map-kept .ensures) ∙ c .if3 .left))
 
 pub broken-with-13-spec : {M : Type 1} → statement M
 broken-with-13-spec =

@@ -45,7 +45,9 @@ refused-requires-4 c κs = search needs
 returns : tie.Need-returns
 unfolding judgementOf
 returns c =
-    let o = sym (c .before .before .before .before .before .open .ensures .0) ∙ c .before .before .before .opened .given .1 in
+    let at-opened = c .before .before .before in
+    let at-open = at-opened .before .before in
+    let o = sym (at-open .open .ensures .0) ∙ at-opened .opened .given .1 in
     c .nodes-or .ensures
     ∙ rw (judgement-nodes _ _ o, ← nodes-total _ _ o, ← c .before .judge-slots .ensures)
 

@@ -16,7 +16,10 @@ enum-told : tie.Need-enum-told
 enum-told c = search needs
 
 judge-root-requires : tie.Need-judge-root-requires
-judge-root-requires c κs = (places-claimed _ _ (c .before .before .before .before .pre) (sym (c .before .before .places-filled .ensures) ∙ c .enum-told .given .1), nodes-some _ _ (c .before .before .before .before .pre))
+judge-root-requires c κs =
+    let at-places-filled = c .before .before in
+    let start = at-places-filled .before .before in
+    (places-claimed _ _ (start .pre) (sym (at-places-filled .places-filled .ensures) ∙ c .enum-told .given .1), nodes-some _ _ (start .pre))
 
 returns : tie.Need-returns
 unfolding orElse

@@ -10,6 +10,9 @@ use Rattle.sheet.specs.Slot.{slotAt}
 use Rattle.annotation.specs.Outcome.{resolutionOf, refusalOf}
 use Rattle.annotation.specs.Rewriting.{writtenOf}
 use Rattle.annotation.specs.declared.slot.Annotated.{Annotated}
+use Rattle.tree.specs.Rules.{underMap, placeBelow}
+use Rattle.tree.specs.Faults.{broken}
+use Rattle.tree.specs.Annotated.{annotatedBy}
 use Rattle.tree.specs.Steps.{Visited, fieldsAt, firstOf, faultFrom}
 use Rattle.tree.specs.declared.judging.TreeJudged.{TreeJudged}
 use Rattle.tree.proofs.JudgingSteps.{Judging, judging-start, judging-end, judging-deep, judging-next, run-empty, tree-deep, tree-inner, tree-run-deep, tree-judged, remaining, tree-falls, run-falls, fields-falls}
@@ -120,9 +123,11 @@ judge-run-enum-known-tree t c = search needs
 
 judge-run-returns : (t : ℕ) → judge-run-lts.Need-returns (judge-run-calls t) (judge-run-at t) judge-run.Post judge-run-Inv-loop judge-run-μ-loop
 judge-run-returns t c =
-    let loop = c .before .before .before .before .before in
-    let some : loop .loop .left ≡ 0 → ⊥ = λ e. omega (arith, c .before .before .before .before .loop-test .taken) in
-    judging-deep _ _ _ _ _ _ _ _ _ _ (loop .loop .inv) (loop .before .before .pre .1 .0) some _ (sym (c .before .before .before .judge-tree .ensures) ∙ c .before .tree .given .1)
+    let at-judge-tree = c .before .before .before in
+    let at-loop-test = at-judge-tree .before in
+    let loop = at-loop-test .before in
+    let some : loop .loop .left ≡ 0 → ⊥ = λ e. omega (arith, at-loop-test .loop-test .taken) in
+    judging-deep _ _ _ _ _ _ _ _ _ _ (loop .loop .inv) (loop .before .before .pre .1 .0) some _ (sym (at-judge-tree .judge-tree .ensures) ∙ c .before .tree .given .1)
 
 judge-run-enum-known-tree-2 : (t : ℕ) → judge-run-lts.Need-enum-known-tree-2 (judge-run-calls t) (judge-run-at t) judge-run.Post judge-run-Inv-loop judge-run-μ-loop
 judge-run-enum-known-tree-2 t c = search needs
@@ -138,9 +143,12 @@ judge-run-loop-less t c = omega (arith, c .before .before .before .before .befor
 
 judge-run-loop-again : (t : ℕ) → judge-run-lts.Need-loop-again (judge-run-calls t) (judge-run-at t) judge-run.Post judge-run-Inv-loop judge-run-μ-loop
 judge-run-loop-again t c =
-    let loop = c .before .before .before .before .before .before in
-    let some : loop .loop .left ≡ 0 → ⊥ = λ e. omega (arith, c .before .before .before .before .before .loop-test .taken) in
-    judging-next _ _ _ _ _ _ _ _ _ _ (loop .loop .inv) (loop .before .before .pre .1 .0) some _ _ _ _ (sym (c .before .before .before .before .judge-tree .ensures) ∙ c .before .before .tree2 .given .1) (c .first-of .ensures)
+    let at-tree2 = c .before .before in
+    let at-judge-tree = at-tree2 .before .before in
+    let at-loop-test = at-judge-tree .before in
+    let loop = at-loop-test .before in
+    let some : loop .loop .left ≡ 0 → ⊥ = λ e. omega (arith, at-loop-test .loop-test .taken) in
+    judging-next _ _ _ _ _ _ _ _ _ _ (loop .loop .inv) (loop .before .before .pre .1 .0) some _ _ _ _ (sym (at-judge-tree .judge-tree .ensures) ∙ at-tree2 .tree2 .given .1) (c .first-of .ensures)
 
 judge-run-returns-2 : (t : ℕ) → judge-run-lts.Need-returns-2 (judge-run-calls t) (judge-run-at t) judge-run.Post judge-run-Inv-loop judge-run-μ-loop
 judge-run-returns-2 t c = judging-end _ _ _ _ _ _ _ _ _ _ (c .before .loop .inv) (omega (arith, c .loop-test .left))
@@ -148,6 +156,34 @@ judge-run-returns-2 t c = judging-end _ _ _ _ _ _ _ _ _ _ (c .before .loop .inv)
 -- what a tree calls
 abbrev judge-tree-calls : ℕ → judge-tree-lts.Claims
 judge-tree-calls t = (slot-at-reads.Asked, slot-at-reads.Learnt, annotated-reads.Asked, annotated-reads.Learnt, under-map-reads.Asked, under-map-reads.Learnt, judge-reads.Asked, judge-reads.Learnt, place-under-reads.Asked, place-under-reads.Learnt, broken-to-12-reads.Asked, broken-to-12-reads.Learnt, judge-fields-below t, judge-fields.Post, broken-with-13-reads.Asked, broken-with-13-reads.Learnt, own-first-reads.Asked, own-first-reads.Learnt)
+
+-- in a tree: where its slot has been read, where the place of its fields is known, and where these are judged
+abbrev Read : ℕ → Type 0
+Read t = judge-tree-lts.After-slot-at (judge-tree-calls t) (judge-tree-at t) judge-tree.Post
+
+abbrev Placed : ℕ → Type 0
+Placed t = judge-tree-lts.After-place-under (judge-tree-calls t) (judge-tree-at t) judge-tree.Post
+
+abbrev Ran : ℕ → Type 0
+Ran t = judge-tree-lts.After-judge-fields (judge-tree-calls t) (judge-tree-at t) judge-tree.Post
+
+abbrev entry : (t : ℕ) → Read t → judge-tree-lts.Start (judge-tree-calls t) (judge-tree-at t) judge-tree.Post
+entry t c = c .before .before .before
+
+abbrev read : (t : ℕ) → Placed t → Read t
+read t c = c .before .before .before .before
+
+abbrev placed : (t : ℕ) → Ran t → Placed t
+placed t c = c .before .before .before
+
+visited : (t : ℕ) (c : Read t) → Visited (entry t c .args .sheet .now) (entry t c .args .at) (c .slot-at .result)
+visited t c = record { claimed = entry t c .pre .1 .0; below = entry t c .pre .1 .1 .0; numbers = c .slot-at .ensures }
+
+logical-told : (t : ℕ) (c : Placed t) → c .before .judge .result .logical ≡ writtenOf (annotatedBy (read t c .slot-at .result)) (underMap (entry t (read t c) .args .place)) .logical
+logical-told t c = c .before .judge .ensures .1 ∙ ap₂ (λ (n : Annotated) (u : Bool). writtenOf n u .logical) (c .before .before .before .annotated .ensures) (c .before .before .under-map .ensures)
+
+place-told : (t : ℕ) (c : Placed t) → c .place-under .result ≡ placeBelow (entry t (read t c) .args .place) (slotAt (entry t (read t c) .args .sheet .now) (entry t (read t c) .args .at))
+place-told t c = c .place-under .ensures ∙ placeBelow-is _ _ _ (entry t (read t c) .args .place) (visited t (read t c)) _ (logical-told t c)
 
 judge-tree-returns : (t : ℕ) → judge-tree-lts.Need-returns (judge-tree-calls t) (judge-tree-at t) judge-tree.Post
 judge-tree-returns t c = tree-deep _ _ _ _ (c .if1 .taken)
@@ -169,25 +205,24 @@ judge-tree-place-under-requires t c κs = search needs
 
 judge-tree-broken-to-12-requires : (t : ℕ) → judge-tree-lts.Need-broken-to-12-requires (judge-tree-calls t) (judge-tree-at t) judge-tree.Post
 judge-tree-broken-to-12-requires t c κs =
-    let start = c .before .before .before .before .before .before .before in
     let refusal = c .before .judge .ensures .0 ∙ ap₂ (λ (n : Annotated) (u : Bool). refusalOf (resolutionOf n u)) (c .before .before .before .annotated .ensures) (c .before .before .under-map .ensures) in
-    let logical = c .before .judge .ensures .1 ∙ ap₂ (λ (n : Annotated) (u : Bool). writtenOf n u .logical) (c .before .before .before .annotated .ensures) (c .before .before .under-map .ensures) in
-    (record { claimed = start .pre .1 .0; below = start .pre .1 .1 .0; numbers = c .before .before .before .before .slot-at .ensures }, (refusal, logical))
+    (visited t (read t c), (refusal, logical-told t c))
 
 judge-tree-add-judge-fields : (t : ℕ) → judge-tree-lts.Need-add-judge-fields (judge-tree-calls t) (judge-tree-at t) judge-tree.Post
-judge-tree-add-judge-fields t c = omega (arith, c .before .before .before .before .before .before .before .before .pre .1 .1 .0, c .before .before .before .before .before .before .before .before .pre .1 .0 .most)
+judge-tree-add-judge-fields t c = let here = visited t (read t (c .before)) in omega (arith, here .below, here .claimed .most)
 
 judge-tree-cast-judge-fields : (t : ℕ) → judge-tree-lts.Need-cast-judge-fields (judge-tree-calls t) (judge-tree-at t) judge-tree.Post
 judge-tree-cast-judge-fields t c = search needs
 
 judge-tree-sub-judge-fields : (t : ℕ) → judge-tree-lts.Need-sub-judge-fields (judge-tree-calls t) (judge-tree-at t) judge-tree.Post
-judge-tree-sub-judge-fields t c = omega (arith, c .before .before .before .before .before .before .before .if1 .left)
+judge-tree-sub-judge-fields t c = omega (arith, read t (c .before .before) .before .if1 .left)
 
 judge-tree-judge-fields-requires : (t : ℕ) → judge-tree-lts.Need-judge-fields-requires (judge-tree-calls t) (judge-tree-at t) judge-tree.Post
 judge-tree-judge-fields-requires t c κs =
-    let start = c .before .before .before .before .before .before .before .before .before in
-    let visited : Visited (start .args .sheet .now) (start .args .at) (c .before .before .before .before .before .before .slot-at .result) = record { claimed = start .pre .1 .0; below = start .pre .1 .1 .0; numbers = c .before .before .before .before .before .before .slot-at .ensures } in
-    (fields-falls _ _ _ _ (start .pre .1 .1 .0) (c .before .before .before .before .before .before .before .if1 .left) (start .pre .0), (start .pre .1 .0, (children-claimed _ _ _ (visited .numbers) (visited .claimed) (visited .below), omega (arith, start .pre .1 .1 .1))))
+    let slot = read t (c .before .before) in
+    let here = visited t slot in
+    let start = entry t slot in
+    (fields-falls _ _ _ _ (here .below) (slot .before .if1 .left) (start .pre .0), (here .claimed, (children-claimed _ _ _ (here .numbers) (here .claimed) (here .below), omega (arith, start .pre .1 .1 .1))))
 
 judge-tree-enum-known-run : (t : ℕ) → judge-tree-lts.Need-enum-known-run (judge-tree-calls t) (judge-tree-at t) judge-tree.Post
 judge-tree-enum-known-run t c = search needs
@@ -197,39 +232,43 @@ judge-tree-enum-known-run-2 t c = search needs
 
 judge-tree-broken-with-13-requires : (t : ℕ) → judge-tree-lts.Need-broken-with-13-requires (judge-tree-calls t) (judge-tree-at t) judge-tree.Post
 judge-tree-broken-with-13-requires t c κs =
-    let start = c .before .before .before .before .before .before .before .before .before .before .before .before .before in
-    let visited : Visited (start .args .sheet .now) (start .args .at) (c .before .before .before .before .before .before .before .before .before .before .slot-at .result) = record { claimed = start .pre .1 .0; below = start .pre .1 .1 .0; numbers = c .before .before .before .before .before .before .before .before .before .before .slot-at .ensures } in
-    let logical = c .before .before .before .before .before .before .before .judge .ensures .1 ∙ ap₂ (λ (n : Annotated) (u : Bool). writtenOf n u .logical) (c .before .before .before .before .before .before .before .before .before .annotated .ensures) (c .before .before .before .before .before .before .before .before .under-map .ensures) in
-    let below = c .before .before .before .before .before .before .place-under .ensures ∙ placeBelow-is _ _ _ (start .args .place) visited _ logical in
-    (start .pre .1 .0, (start .pre .1 .1 .0, tree-inner _ _ _ visited _ _ _ below (c .before .before .before .before .before .before .before .before .before .before .before .if1 .left) (start .pre .1 .1 .1) _ (c .before .before .before .judge-fields .ensures) _ _ _ _ (c .before .run2 .given .1)))
+    let ran = c .before .before .before in
+    let slot = read t (placed t ran) in
+    let here = visited t slot in
+    (here .claimed, (here .below, tree-inner _ _ _ here _ _ _ (place-told t (placed t ran)) (slot .before .if1 .left) (entry t slot .pre .1 .1 .1) _ (ran .judge-fields .ensures) _ _ _ _ (c .before .run2 .given .1)))
+
+-- where a node's own rules are judged, once its fields are
+abbrev Owned : ℕ → Type 0
+Owned t = judge-tree-lts.After-broken-with-13 (judge-tree-calls t) (judge-tree-at t) judge-tree.Post
+
+abbrev ran : (t : ℕ) → Owned t → Ran t
+ran t c = c .before .before .before .before
+
+abbrev start-of : (t : ℕ) → Owned t → judge-tree-lts.Start (judge-tree-calls t) (judge-tree-at t) judge-tree.Post
+start-of t c = entry t (read t (placed t (ran t c)))
+
+own-told : (t : ℕ) (c : Owned t) → c .broken-with-13 .result ≡ broken (start-of t c .args .place) (slotAt (start-of t c .args .sheet .now) (start-of t c .args .at)) (fieldsAt (start-of t c .args .sheet .now) (start-of t c .args .at))
+own-told t c = own-is _ _ _ _ _ _ (ran t c .before .before .broken-to-12 .ensures) (place-told t (placed t (ran t c))) (c .broken-with-13 .ensures)
 
 judge-tree-own-first-requires : (t : ℕ) → judge-tree-lts.Need-own-first-requires (judge-tree-calls t) (judge-tree-at t) judge-tree.Post
 judge-tree-own-first-requires t c κs =
-    let start = c .before .before .before .before .before .before .before .before .before .before .before .before .before .before in
-    let visited : Visited (start .args .sheet .now) (start .args .at) (c .before .before .before .before .before .before .before .before .before .before .before .slot-at .result) = record { claimed = start .pre .1 .0; below = start .pre .1 .1 .0; numbers = c .before .before .before .before .before .before .before .before .before .before .before .slot-at .ensures } in
-    let logical = c .before .before .before .before .before .before .before .before .judge .ensures .1 ∙ ap₂ (λ (n : Annotated) (u : Bool). writtenOf n u .logical) (c .before .before .before .before .before .before .before .before .before .before .annotated .ensures) (c .before .before .before .before .before .before .before .before .before .under-map .ensures) in
-    let below = c .before .before .before .before .before .before .before .place-under .ensures ∙ placeBelow-is _ _ _ (start .args .place) visited _ logical in
-    let own = own-is _ _ _ _ _ _ (c .before .before .before .before .before .before .broken-to-12 .ensures) below (c .broken-with-13 .ensures) in
-    (omega (arith, own, broken-most (start .args .place) (slotAt (start .args .sheet .now) (start .args .at)) (fieldsAt (start .args .sheet .now) (start .args .at))), omega (arith, visited .below, visited .claimed .most))
+    let start = start-of t c in
+    let here = visited t (read t (placed t (ran t c))) in
+    (omega (arith, own-told t c, broken-most (start .args .place) (slotAt (start .args .sheet .now) (start .args .at)) (fieldsAt (start .args .sheet .now) (start .args .at))), omega (arith, here .below, here .claimed .most))
 
 judge-tree-returns-2 : (t : ℕ) → judge-tree-lts.Need-returns-2 (judge-tree-calls t) (judge-tree-at t) judge-tree.Post
 judge-tree-returns-2 t c =
-    let start = c .before .before .before .before .before .before .before .before .before .before .before .before .before in
-    let visited : Visited (start .args .sheet .now) (start .args .at) (c .before .before .before .before .before .before .before .before .before .before .slot-at .result) = record { claimed = start .pre .1 .0; below = start .pre .1 .1 .0; numbers = c .before .before .before .before .before .before .before .before .before .before .slot-at .ensures } in
-    let logical = c .before .before .before .before .before .before .before .judge .ensures .1 ∙ ap₂ (λ (n : Annotated) (u : Bool). writtenOf n u .logical) (c .before .before .before .before .before .before .before .before .before .annotated .ensures) (c .before .before .before .before .before .before .before .before .under-map .ensures) in
-    let below = c .before .before .before .before .before .before .place-under .ensures ∙ placeBelow-is _ _ _ (start .args .place) visited _ logical in
-    tree-run-deep _ _ _ visited _ _ _ below (c .before .before .before .before .before .before .before .before .before .before .before .if1 .left) (start .pre .1 .1 .1) _ (c .before .before .before .judge-fields .ensures) _ (c .before .run .given .1)
+    let ran = c .before .before .before in
+    let slot = read t (placed t ran) in
+    tree-run-deep _ _ _ (visited t slot) _ _ _ (place-told t (placed t ran)) (slot .before .if1 .left) (entry t slot .pre .1 .1 .1) _ (ran .judge-fields .ensures) _ (c .before .run .given .1)
 
 judge-tree-returns-3 : (t : ℕ) → judge-tree-lts.Need-returns-3 (judge-tree-calls t) (judge-tree-at t) judge-tree.Post
 judge-tree-returns-3 t c =
-    let start = c .before .before .before .before .before .before .before .before .before .before .before .before .before .before .before in
-    let visited : Visited (start .args .sheet .now) (start .args .at) (c .before .before .before .before .before .before .before .before .before .before .before .before .slot-at .result) = record { claimed = start .pre .1 .0; below = start .pre .1 .1 .0; numbers = c .before .before .before .before .before .before .before .before .before .before .before .before .slot-at .ensures } in
-    let logical = c .before .before .before .before .before .before .before .before .before .judge .ensures .1 ∙ ap₂ (λ (n : Annotated) (u : Bool). writtenOf n u .logical) (c .before .before .before .before .before .before .before .before .before .before .before .annotated .ensures) (c .before .before .before .before .before .before .before .before .before .before .under-map .ensures) in
-    let below = c .before .before .before .before .before .before .before .before .place-under .ensures ∙ placeBelow-is _ _ _ (start .args .place) visited _ logical in
-    let own = own-is _ _ _ _ _ _ (c .before .before .before .before .before .before .before .broken-to-12 .ensures) below (c .before .broken-with-13 .ensures) in
-    let run = c .before .before .before .run2 .given in
-    ap (TreeJudged.Judged (run .0 .0) (run .0 .1 .0)) (c .own-first .ensures ∙ ap (λ (n : ℕ). firstOf (faultFrom (start .args .at) (n ∷ [])) (run .0 .1 .1 .1 .0)) own)
-    ∙ sym (tree-judged _ _ _ visited _ _ _ below (c .before .before .before .before .before .before .before .before .before .before .before .before .before .if1 .left) (start .pre .1 .1 .1) _ (c .before .before .before .before .before .judge-fields .ensures) _ _ _ _ (run .1))
+    let owned = c .before in
+    let slot = read t (placed t (ran t owned)) in
+    let run = owned .before .before .run2 .given in
+    ap (TreeJudged.Judged (run .0 .0) (run .0 .1 .0)) (c .own-first .ensures ∙ ap (λ (n : ℕ). firstOf (faultFrom (entry t slot .args .at) (n ∷ [])) (run .0 .1 .1 .1 .0)) (own-told t owned))
+    ∙ sym (tree-judged _ _ _ (visited t slot) _ _ _ (place-told t (placed t (ran t owned))) (slot .before .if1 .left) (entry t slot .pre .1 .1 .1) _ (ran t owned .judge-fields .ensures) _ _ _ _ (run .1))
 
 pub +judge-fields+judge-run+judge-tree-spec : {M : Type 1} → statement M
 +judge-fields+judge-run+judge-tree-spec =

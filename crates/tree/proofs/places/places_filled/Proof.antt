@@ -31,22 +31,35 @@ cast-open : tie.Need-cast-open Inv-loop μ-loop
 cast-open c = search needs
 
 add-open : tie.Need-add-open Inv-loop μ-loop
-add-open c = omega (arith, c .before .before .before .before .loop .inv .few, c .before .before .before .before .loop .inv .within, c .before .before .before .before .before .before .pre .0, c .before .before .before .before .before .before .pre .1, c .struct-known .given)
+add-open c =
+    let at-loop = c .before .before .before .before in
+    let start = at-loop .before .before in
+    omega (arith, at-loop .loop .inv .few, at-loop .loop .inv .within, start .pre .0, start .pre .1, c .struct-known .given)
 
 add-node : tie.Need-add-node Inv-loop μ-loop
-add-node c = omega (arith, c .before .before .before .loop-test .taken, c .before .before .before .before .before .before .pre .1)
+add-node c =
+    let at-loop-test = c .before .before .before in
+    let start = at-loop-test .before .before .before in
+    omega (arith, at-loop-test .loop-test .taken, start .pre .1)
 
 loop-less : tie.Need-loop-less Inv-loop μ-loop
 loop-less c = search needs
 
 loop-again : tie.Need-loop-again Inv-loop μ-loop
-loop-again c = counted-next _ _ _ (c .before .before .before .before .loop .inv) _ (omega (arith, c .before .before .before .before .before .before .pre .0)) (c .before .before .if1 .left) (c .before .slot-at .ensures) (omega (arith, c .struct-known .given))
+loop-again c =
+    let at-if1 = c .before .before in
+    let at-loop = at-if1 .before .before in
+    let start = at-loop .before .before in
+    counted-next _ _ _ (at-loop .loop .inv) _ (omega (arith, start .pre .0)) (at-if1 .if1 .left) (c .before .slot-at .ensures) (omega (arith, c .struct-known .given))
 
 returns-2 : tie.Need-returns-2 Inv-loop μ-loop
 returns-2 c = counted-filled _ _ _ (c .before .before .loop .inv) (omega (arith, c .before .before .before .before .pre .0)) (c .if2 .taken)
 
 returns-3 : tie.Need-returns-3 Inv-loop μ-loop
-returns-3 c = ap (λ (n : ℕ). Refused (refusal 5 n)) (c .before .before .before .before .pre .0) ∙ counted-missing _ _ _ (c .before .before .loop .inv) (omega (arith, c .before .before .before .before .pre .0)) (c .if2 .left)
+returns-3 c =
+    let at-loop = c .before .before in
+    let start = at-loop .before .before in
+    ap (λ (n : ℕ). Refused (refusal 5 n)) (start .pre .0) ∙ counted-missing _ _ _ (at-loop .loop .inv) (omega (arith, start .pre .0)) (c .if2 .left)
 
 pub places-filled-spec : {M : Type 1} → statement M
 places-filled-spec =

@@ -19,10 +19,16 @@ add-list-child : tie.Need-add-list-child
 add-list-child c = search needs
 
 list-child-requires : tie.Need-list-child-requires
-list-child-requires c κs = (c .before .before .before .before .before .pre .claimed, one-below _ _ _ (c .before .before .before .before .before .pre) (c .if2 .left))
+list-child-requires c κs =
+    let start = c .before .before .before .before .before in
+    (start .pre .claimed, one-below _ _ _ (start .pre) (c .if2 .left))
 
 returns-3 : tie.Need-returns-3
-returns-3 c = c .list-child .ensures ∙ sym (list-one _ _ _ (c .before .before .before .before .before .before .pre) (sym (c .before .before .before .before .required-or-optional .ensures) ∙ not-false _ (c .before .before .before .if1 .left)) (c .before .if2 .left))
+returns-3 c =
+    let at-if1 = c .before .before .before in
+    let at-required-or-optional = at-if1 .before in
+    let start = at-required-or-optional .before .before in
+    c .list-child .ensures ∙ sym (list-one _ _ _ (start .pre) (sym (at-required-or-optional .required-or-optional .ensures) ∙ not-false _ (at-if1 .if1 .left)) (c .before .if2 .left))
 
 pub list-kept-spec : {M : Type 1} → statement M
 list-kept-spec =

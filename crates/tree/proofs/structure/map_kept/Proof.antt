@@ -21,8 +21,9 @@ returns c =
 
 returns-2 : tie.Need-returns-2
 returns-2 c =
-    let start = c .before .before .before .before .before .before in
-    let visited : Visited _ _ _ = record { claimed = start .pre .0; below = start .pre .1 .0; numbers = c .before .before .before .before .slot-at .ensures } in
+    let at-slot-at = c .before .before .before .before in
+    let start = at-slot-at .before .before in
+    let visited : Visited _ _ _ = record { claimed = start .pre .0; below = start .pre .1 .0; numbers = at-slot-at .slot-at .ensures } in
     map-not-one _ _ _ visited (c .if2 .taken)
 
 add-map-child : tie.Need-add-map-child
@@ -30,15 +31,19 @@ add-map-child c = search needs
 
 map-child-requires : tie.Need-map-child-requires
 map-child-requires c κs =
-    let start = c .before .before .before .before .before .before in
-    let visited : Visited _ _ _ = record { claimed = start .pre .0; below = start .pre .1 .0; numbers = c .before .before .before .before .slot-at .ensures } in
+    let at-slot-at = c .before .before .before .before in
+    let start = at-slot-at .before .before in
+    let visited : Visited _ _ _ = record { claimed = start .pre .0; below = start .pre .1 .0; numbers = at-slot-at .slot-at .ensures } in
     (start .pre .0, (one-below _ _ _ visited (c .if2 .left), start .pre .1 .1 ∙ map-inner _ _ _ visited (c .if2 .left)))
 
 returns-3 : tie.Need-returns-3
 returns-3 c =
-    let start = c .before .before .before .before .before .before .before in
-    let visited : Visited _ _ _ = record { claimed = start .pre .0; below = start .pre .1 .0; numbers = c .before .before .before .before .before .slot-at .ensures } in
-    c .map-child .ensures ∙ sym (map-one _ _ _ visited (sym (c .before .before .before .before .required-or-optional .ensures) ∙ not-false _ (c .before .before .before .if1 .left)) (c .before .if2 .left))
+    let at-if1 = c .before .before .before in
+    let at-required-or-optional = at-if1 .before in
+    let at-slot-at = at-required-or-optional .before in
+    let start = at-slot-at .before .before in
+    let visited : Visited _ _ _ = record { claimed = start .pre .0; below = start .pre .1 .0; numbers = at-slot-at .slot-at .ensures } in
+    c .map-child .ensures ∙ sym (map-one _ _ _ visited (sym (at-required-or-optional .required-or-optional .ensures) ∙ not-false _ (at-if1 .if1 .left)) (c .before .if2 .left))
 
 pub map-kept-spec : {M : Type 1} → statement M
 map-kept-spec =

@@ -59,10 +59,13 @@ add-result-3 c = search needs
 
 returns : tie.Need-returns
 returns c =
-    let start = c .before .before .before .before .before .before .before .before in
-    let first = c .before .before .before .before .before .before .wide .ensures in
-    let second = c .before .before .before .before .wide2 .ensures in
-    let third = c .before .before .wide3 .ensures in
+    let at-wide3 = c .before .before in
+    let at-wide2 = at-wide3 .before .before in
+    let at-wide = at-wide2 .before .before in
+    let start = at-wide .before .before in
+    let first = at-wide .wide .ensures in
+    let second = at-wide2 .wide2 .ensures in
+    let third = at-wide3 .wide3 .ensures in
     let fourth = c .wide4 .ensures in (
       omega (arith, first .1, second .1, third .1, fourth .1),
       rw (first .0, second .0, third .0, fourth .0)

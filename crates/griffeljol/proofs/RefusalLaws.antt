@@ -1,0 +1,230 @@
+-- Every refusal of a sheet has a number of 1 to 13, or 14 for an output, and a place of at most 896; T is at most 896, and a sheet has at most 65,536 bytes.
+use Prim.Native.Nat.{ℕ, zero, suc, _+_, _*_, _≤_, _<_}
+use mathlib.Core.Path.{_≡_, refl, ap}
+use mathlib.Core.Bool.{Bool, true, false, cond, not}
+use mathlib.Core.List.{List, [], _∷_, map}
+use native.Mathlib.Omega.{arith}
+use borrow.Author.Tests.{ltb-true}
+use lib.Dec.{ltb, leb}
+use lib.ListN.{length, length-append, length-map}
+use Rattle.sheet.specs.Block.{mostBytes, mostNodes, slotsInBlock, blockCount, totalOf}
+use Rattle.sheet.specs.Check.{checkRight}
+use Rattle.sheet.specs.Header.{lengthRight, headerRight}
+use Rattle.sheet.specs.First.{firstWrong}
+use Rattle.sheet.specs.Opening.{atFirst, openOf}
+use Rattle.sheet.specs.Slot.{slots}
+use Rattle.sheet.specs.Sound.{slotRight}
+use Rattle.sheet.specs.declared.opening.Opened.{Opened}
+use Rattle.sheet.proofs.BlockLaws.{blocks-within}
+use Rattle.sheet.proofs.HeaderLaws.{lengthRight-most}
+use Rattle.sheet.proofs.OpeningLaws.{openOf-blocks, openOf-total, openOf-most, openOf-slots-length}
+use Rattle.tree.specs.Annotated.{rule9, rule10, rule11}
+use Rattle.tree.specs.Tree.{SlotBytes, Tree, Fields, node, empty, field, listing, listings, size, depths, mostDepth}
+use Rattle.tree.specs.Rules.{underMap, placeBelow, rule8, rule12, rule13}
+use Rattle.tree.specs.Faults.{broken, faults, runFaults}
+use Rattle.tree.specs.Reading.{trees, firstTree, treeOf}
+use Rattle.tree.specs.OpenPlaces.{openPlaces, isNoPlace}
+use Rattle.tree.specs.Judgement.{refusal, orElse, firstFault, deepness, leftOver, missing, tooDeep, unlawful, treeRefusal, judgement}
+use Rattle.tree.specs.declared.place.Place.{Place}
+use Rattle.tree.specs.declared.place.Place.the-variants.{Root}
+use Rattle.tree.specs.declared.refusal.Refusal.{Refusal}
+use Rattle.tree.specs.declared.refusal.Verdict.{Verdict}
+use Rattle.tree.specs.declared.refusal.Verdict.the-variants.{Lawful, Refused}
+use Rattle.tree.proofs.TreeLaws.{listings-trees}
+use Rattle.tree.proofs.JudgingLaws.{length-depths, length-faults}
+use Rattle.tree.proofs.JudgementLaws.{judgement-nodes, judgement-length, judgement-check, judgement-header, judgement-slot, lawful-opened}
+use Rattle.schema.specs.Rows.{rowWidth}
+use Rattle.schema.specs.Outcome.{shortOutput, answer, outcome}
+use Rattle.schema.specs.Rewriting.{fits, rewriteAnswer, rewriteOutcome}
+use Rattle.schema.specs.declared.resolving.Resolved.{Resolved}
+use Rattle.griffeljol.specs.Promises.{Bounded, ResolvedBounded, RewrittenBounded}
+use Rattle.griffeljol.proofs.MostLaws.{AtMost, atMost-append, atMost-map, cond-most}
+
+-- a verdict whose refusal, if it is one, is within these
+abbrev pub VerdictBounded : ℕ → ℕ → Verdict → Type 0
+VerdictBounded number place Lawful = Unit {0}
+VerdictBounded number place (Refused r) = Bounded number place r
+
+-- ---- refusals 5 to 13
+
+module _ (number place : ℕ) where
+  orElse-bounded : (v w : Verdict) → VerdictBounded number place v → VerdictBounded number place w → VerdictBounded number place (orElse v w)
+  unfolding orElse
+  orElse-bounded Lawful w a b = b
+  orElse-bounded (Refused r) w a b = a
+
+  -- a fault's place lies in the list
+  firstFault-bounded : (ns : List ℕ) (k : ℕ) → AtMost number ns → k + length ns ≤ suc place → VerdictBounded number place (firstFault k ns)
+  unfolding firstFault
+  firstFault-bounded [] k a h = tt
+  firstFault-bounded (zero ∷ ns) k a h = firstFault-bounded ns (suc k) (a .1) (omega arith)
+  firstFault-bounded (suc n ∷ ns) k a h = record { some-number = omega arith; most-number = a .0; most-place = omega arith }
+
+-- the rules are 8 to 13
+broken-most : (p : Place) (s : SlotBytes) (fs : Fields) → broken p s fs ≤ 13
+unfolding broken
+broken-most p s fs =
+    cond-most 13 (rule8 p s fs) _ 8
+    (cond-most 13 (rule9 s) _ 9
+    (cond-most 13 (rule10 (underMap p) s) _ 10
+    (cond-most 13 (rule11 (underMap p) s) _ 11
+    (cond-most 13 (rule12 p s fs) _ 12
+    (cond-most 13 (rule13 p s fs) 0 13 (omega arith) (omega arith))
+    (omega arith)) (omega arith)) (omega arith)) (omega arith)) (omega arith)
+
+mutual
+  unfolding faults
+
+  faults-most : (t : Tree) (p : Place) → AtMost 13 (faults p t)
+  faults-most (node s fs) p = (broken-most p s fs, runFaults-most fs (placeBelow p s))
+
+  runFaults-most : (fs : Fields) (p : Place) → AtMost 13 (runFaults p fs)
+  runFaults-most empty p = tt
+  runFaults-most (field t fs) p = atMost-append 13 (faults p t) (runFaults p fs) (faults-most t p) (runFaults-most fs p)
+
+deepness-most : (d : ℕ) → deepness d ≤ 13
+unfolding deepness
+deepness-most d = cond-most 13 (leb d mostDepth) 0 7 (omega arith) (omega arith)
+
+-- the first tree of a run has at most one node more than the run, where the run is empty
+first-size : (fs : Fields) → size (firstTree fs) ≤ suc (length (listings fs))
+unfolding size firstTree listing
+first-size empty = omega arith
+first-size (field t fs) = omega (arith, length-append (listing t) (listings fs))
+
+module _ (ss : List SlotBytes) (place : ℕ) (most : length ss ≤ place) where
+  size-most : size (treeOf ss) ≤ suc place
+  unfolding treeOf
+  size-most = omega (arith, first-size (trees ss), ap length (listings-trees ss))
+
+  leftOver-bounded : VerdictBounded 13 place (leftOver ss)
+  unfolding leftOver
+  leftOver-bounded = on (ltb k (length ss)) refl
+    where
+      k : ℕ
+      k = firstWrong (λ (j : ℕ). not (isNoPlace (openPlaces ss j))) (length ss)
+
+      on : (b : Bool) → ltb k (length ss) ≡ b → VerdictBounded 13 place (cond b (Refused (refusal 6 k)) Lawful)
+      on true e = record { some-number = omega arith; most-number = omega arith; most-place = omega (arith, ltb-true k (length ss) e) }
+      on false e = tt
+
+  missing-bounded : VerdictBounded 13 place (missing ss)
+  unfolding missing
+  missing-bounded = on (isNoPlace (openPlaces ss (length ss)))
+    where
+      on : (b : Bool) → VerdictBounded 13 place (cond b Lawful (Refused (refusal 5 (length ss))))
+      on true = tt
+      on false = record { some-number = omega arith; most-number = omega arith; most-place = most }
+
+  tooDeep-bounded : VerdictBounded 13 place (tooDeep (treeOf ss))
+  unfolding tooDeep
+  tooDeep-bounded =
+      firstFault-bounded 13 place (map deepness (depths 0 (treeOf ss))) 0
+      (atMost-map 13 deepness (depths 0 (treeOf ss)) deepness-most)
+      (omega (arith, size-most, length-map (depths 0 (treeOf ss)) deepness, length-depths (treeOf ss) 0))
+
+  unlawful-bounded : VerdictBounded 13 place (unlawful (treeOf ss))
+  unfolding unlawful
+  unlawful-bounded =
+      firstFault-bounded 13 place (faults Root (treeOf ss)) 0 (faults-most (treeOf ss) Root) (omega (arith, size-most, length-faults (treeOf ss) Root))
+
+  treeRefusal-bounded : VerdictBounded 13 place (treeRefusal ss)
+  unfolding treeRefusal
+  treeRefusal-bounded =
+      orElse-bounded 13 place (leftOver ss) _ leftOver-bounded
+      (orElse-bounded 13 place (missing ss) _ missing-bounded
+      (orElse-bounded 13 place (tooDeep (treeOf ss)) _ tooDeep-bounded unlawful-bounded))
+
+-- ---- refusals 1 to 4
+
+-- the place of a refusal to open is at most this
+abbrev PlacedBelow : ℕ → Opened → Type 0
+PlacedBelow place (Opened.Nodes t) = Unit {0}
+PlacedBelow place Opened.BadLength = Unit {0}
+PlacedBelow place (Opened.BadCheck k) = k ≤ place
+PlacedBelow place (Opened.BadHeader k) = k ≤ place
+PlacedBelow place (Opened.BadSlot k) = k ≤ place
+
+atFirst-placed : (right : ℕ → Bool) (n : ℕ) (refusal-at : ℕ → Opened) (next : Opened)
+    → ((i : ℕ) → i < n → PlacedBelow mostNodes (refusal-at i))
+    → PlacedBelow mostNodes next
+    → PlacedBelow mostNodes (atFirst right n refusal-at next)
+unfolding atFirst
+atFirst-placed right n refusal-at next each rest = on (ltb (firstWrong right n) n) refl
+  where
+    on : (b : Bool) → ltb (firstWrong right n) n ≡ b → PlacedBelow mostNodes (cond b (refusal-at (firstWrong right n)) next)
+    on true e = each (firstWrong right n) (ltb-true (firstWrong right n) n e)
+    on false e = rest
+
+openOf-placed : (sheet : List ℕ) → PlacedBelow mostNodes (openOf sheet)
+unfolding openOf
+openOf-placed sheet = on (lengthRight (length sheet)) refl
+  where
+    on : (b : Bool)
+        → lengthRight (length sheet) ≡ b
+        → PlacedBelow mostNodes
+        (cond b
+        (atFirst (checkRight sheet) (blockCount sheet) Opened.BadCheck
+        (atFirst (headerRight sheet) (blockCount sheet) Opened.BadHeader
+        (atFirst (slotRight sheet) (slotsInBlock * blockCount sheet) Opened.BadSlot
+        (Opened.Nodes (totalOf sheet)))))
+        Opened.BadLength)
+    on false e = tt
+    on true e =
+        let most : slotsInBlock * blockCount sheet ≤ mostNodes = omega (arith, lengthRight-most (length sheet) e, blocks-within sheet) in
+        atFirst-placed (checkRight sheet) (blockCount sheet) Opened.BadCheck _ (λ i h. omega arith)
+        (atFirst-placed (headerRight sheet) (blockCount sheet) Opened.BadHeader _ (λ i h. omega arith)
+        (atFirst-placed (slotRight sheet) (slotsInBlock * blockCount sheet) Opened.BadSlot _ (λ i h. omega arith) tt))
+
+-- ---- what judging, resolving and rewriting answer
+
+-- of refusals 1 to 13
+pub judgement-bounded : (sheet : List ℕ) → VerdictBounded 13 mostNodes (judgement sheet)
+judgement-bounded sheet = on (openOf sheet) refl (openOf-placed sheet)
+  where
+    on : (o : Opened) → openOf sheet ≡ o → PlacedBelow mostNodes o → VerdictBounded 13 mostNodes (judgement sheet)
+    on (Opened.Nodes t) e p =
+        rw (judgement-nodes sheet t e) (treeRefusal-bounded (slots sheet) mostNodes (omega (arith, openOf-slots-length sheet t e, openOf-most sheet t e)))
+    on Opened.BadLength e p = rw (judgement-length sheet e) (record { some-number = omega arith; most-number = omega arith; most-place = omega arith })
+    on (Opened.BadCheck k) e p = rw (judgement-check sheet k e) (record { some-number = omega arith; most-number = omega arith; most-place = p })
+    on (Opened.BadHeader k) e p = rw (judgement-header sheet k e) (record { some-number = omega arith; most-number = omega arith; most-place = p })
+    on (Opened.BadSlot k) e p = rw (judgement-slot sheet k e) (record { some-number = omega arith; most-number = omega arith; most-place = p })
+
+module _ (sheet : List ℕ) (lawful : judgement sheet ≡ Lawful) where
+  opens : (t : ℕ) × (openOf sheet ≡ Opened.Nodes t)
+  opens = lawful-opened sheet lawful
+
+  lawful-total : totalOf sheet ≤ mostNodes
+  lawful-total = omega (arith, openOf-total sheet (opens .0) (opens .1), openOf-most sheet (opens .0) (opens .1))
+
+  lawful-length : length sheet ≤ mostBytes
+  lawful-length = lengthRight-most (length sheet) (openOf-blocks sheet (opens .0) (opens .1) .length-right)
+
+widened : (r : Refusal) → Bounded 13 mostNodes r → Bounded 14 mostNodes r
+widened r w = record { some-number = w .some-number; most-number = omega (arith, w .most-number); most-place = w .most-place }
+
+short : Bounded 14 mostNodes shortOutput
+short = record { some-number = omega arith; most-number = omega arith; most-place = omega arith }
+
+answer-bounded : (v : Verdict) (t lent : ℕ) → VerdictBounded 13 mostNodes v → (v ≡ Lawful → t ≤ mostNodes) → ResolvedBounded (answer v t lent)
+unfolding answer
+answer-bounded (Refused r) t lent b most = widened r b
+answer-bounded Lawful t lent b most = on (ltb lent (rowWidth * t))
+  where
+    on : (b : Bool) → ResolvedBounded (cond b (Resolved.Refused shortOutput) (Resolved.Rows t))
+    on true = short
+    on false = most refl
+
+pub resolved-bounded : (sheet : List ℕ) (lent : ℕ) → ResolvedBounded (outcome sheet lent)
+unfolding outcome
+resolved-bounded sheet lent = answer-bounded (judgement sheet) (totalOf sheet) lent (judgement-bounded sheet) (lawful-total sheet)
+
+rewriteAnswer-bounded : (v : Verdict) (enough : Bool) (n : ℕ) → VerdictBounded 13 mostNodes v → (v ≡ Lawful → n ≤ mostBytes) → RewrittenBounded (rewriteAnswer v enough n)
+unfolding rewriteAnswer
+rewriteAnswer-bounded (Refused r) enough n b most = widened r b
+rewriteAnswer-bounded Lawful true n b most = most refl
+rewriteAnswer-bounded Lawful false n b most = short
+
+pub rewritten-bounded : (sheet : List ℕ) (lent start : ℕ) → RewrittenBounded (rewriteOutcome sheet lent start)
+unfolding rewriteOutcome
+rewritten-bounded sheet lent start = rewriteAnswer-bounded (judgement sheet) (fits sheet lent start) (length sheet) (judgement-bounded sheet) (lawful-length sheet)

@@ -1,0 +1,293 @@
+//! Every case of what has few: codes beside codes, lengths beside precisions, octets beside octets.
+
+use independent::codes::physical::{BOOLEAN, BYTE_ARRAY, DOUBLE, FIXED, FLOAT, GROUP, INT32, INT64, INT96};
+use independent::codes::{converted, logical, repetition};
+use independent::decimal::{greatest_precision, MAX_LENGTH};
+use independent::{refusal, sheet, ROW_WIDTH};
+
+use crate::columns::Column;
+use crate::comparison::{broken, Comparison, Difference};
+use crate::sheets::assemble;
+use crate::side::{refusal_of, shown, value_of};
+use crate::trees::Slot;
+
+#[path = "../../../independent/src/bin/answers/wide.rs"]
+mod wide;
+
+/// Physical types with a type length; 8 is in no list.
+const COLUMNS: [(u8, i32); 11] = [
+    (BOOLEAN, 0),
+    (INT32, 0),
+    (INT64, 0),
+    (INT96, 0),
+    (FLOAT, 0),
+    (DOUBLE, 0),
+    (BYTE_ARRAY, 0),
+    (FIXED, 12),
+    (FIXED, 16),
+    (8, 0),
+    (GROUP, 0),
+];
+
+/// Parameters that some logical type takes, and some that none does.
+const PARAMETERS: [(u8, u8); 19] = [
+    (0, 0),
+    (1, 0),
+    (0, 1),
+    (1, 1),
+    (2, 0),
+    (2, 1),
+    (3, 0),
+    (3, 1),
+    (4, 1),
+    (1, 2),
+    (8, 0),
+    (8, 1),
+    (16, 0),
+    (16, 1),
+    (32, 0),
+    (32, 1),
+    (64, 0),
+    (64, 1),
+    (65, 0),
+];
+
+/// Compares both sides on all of it.
+pub fn run(comparison: &mut Comparison) -> Result<(), Difference> {
+    codes(comparison)?;
+    lengths(comparison)?;
+    digits(comparison)?;
+    precisions(comparison)?;
+    decimals(comparison)?;
+    octets(comparison)?;
+    plain_texts(comparison)
+}
+
+/// A node of a sheet: its codes and parameters, its numbers, and how many children it has.
+#[derive(Clone, Copy)]
+struct Node {
+    physical: u8,
+    repetition: u8,
+    converted: u8,
+    logical: u8,
+    parameters: (u8, u8),
+    type_length: i32,
+    scale: i32,
+    precision: i32,
+    children: u16,
+}
+
+const PLAIN: Node = Node {
+    physical: INT32,
+    repetition: repetition::REQUIRED,
+    converted: converted::NONE,
+    logical: logical::NONE,
+    parameters: (0, 0),
+    type_length: 0,
+    scale: 0,
+    precision: 0,
+    children: 0,
+};
+
+const ROOT: Node = Node { physical: GROUP, repetition: repetition::NONE, children: 1, ..PLAIN };
+
+impl Node {
+    fn slot(&self) -> Slot {
+        let mut slot = [0; sheet::SLOT];
+        let (a, b) = self.parameters;
+        slot[..6].copy_from_slice(&[self.physical, self.repetition, self.converted, self.logical, a, b]);
+        slot[6..8].copy_from_slice(&self.children.to_le_bytes());
+        for (at, number) in [8, 12, 16].into_iter().zip([self.type_length, self.scale, self.precision]) {
+            slot[at..at + 4].copy_from_slice(&number.to_le_bytes());
+        }
+        slot[20] = 1;
+        slot[24] = b'n';
+        slot
+    }
+}
+
+/// Resolves and rewrites the sheet of these nodes.
+fn judged(comparison: &mut Comparison, nodes: &[Node]) -> Result<(), Difference> {
+    let sheet = assemble(&nodes.iter().map(Node::slot).collect::<Vec<_>>());
+    comparison.resolve(&sheet, ROW_WIDTH * nodes.len())?;
+    comparison.rewrite(&sheet, sheet.len(), 0)?;
+    Ok(())
+}
+
+/// Every converted code and one outside the list, beside every logical code and two outside it, with every parameter and on every physical
+/// type; on a group also as the one child of a MAP.
+fn codes(comparison: &mut Comparison) -> Result<(), Difference> {
+    let layer = Node { physical: GROUP, repetition: repetition::REPEATED, children: 1, ..PLAIN };
+    let map = Node { physical: GROUP, logical: logical::MAP, children: 1, ..PLAIN };
+    for converted in (0..=22).chain([converted::NONE]) {
+        for logical in 0..=15 {
+            for parameters in PARAMETERS {
+                for (physical, type_length) in COLUMNS {
+                    let node =
+                        Node { physical, converted, logical, parameters, type_length, scale: 2, precision: 5, ..PLAIN };
+                    if physical == GROUP {
+                        // A group has neither length nor digits.
+                        let node = Node { scale: 0, precision: 0, children: 1, ..node };
+                        judged(comparison, &[ROOT, node, layer, PLAIN])?;
+                        judged(comparison, &[ROOT, map, Node { repetition: repetition::REPEATED, ..node }, PLAIN])?;
+                        continue;
+                    }
+                    judged(comparison, &[ROOT, node])?;
+                    judged(comparison, &[ROOT, Node { scale: 0, precision: 0, ..node }])?;
+                }
+            }
+        }
+    }
+    Ok(())
+}
+
+/// UUID, INTERVAL, DECIMAL and no annotation on FIXED of each length about those that they take.
+fn lengths(comparison: &mut Comparison) -> Result<(), Difference> {
+    for type_length in (-2..=260).chain([i32::MIN, i32::MAX]) {
+        let plain = Node { physical: FIXED, type_length, ..PLAIN };
+        let uuid = Node { logical: logical::UUID, ..plain };
+        let interval = Node { converted: converted::INTERVAL, ..plain };
+        let decimal = Node { logical: logical::DECIMAL, precision: 2, ..plain };
+        for node in [plain, uuid, interval, decimal] {
+            judged(comparison, &[ROOT, node])?;
+        }
+    }
+    Ok(())
+}
+
+/// Precisions and scales of a DECIMAL at their bounds, on each physical type that takes one.
+fn digits(comparison: &mut Comparison) -> Result<(), Difference> {
+    let fixed = [1, 2, 4, 8, 16, 256, 257].map(|length| (FIXED, length));
+    for (physical, type_length) in [(INT32, 0), (INT64, 0), (BYTE_ARRAY, 0)].into_iter().chain(fixed) {
+        for precision in [i32::MIN, -1, 0, 1, 2, 3, 4, 5, 9, 10, 18, 19, 38, 39, 616, 617, i32::MAX] {
+            for scale in [i32::MIN, -1, 0, 1, 2, 3, 9, 18, 38, 616, i32::MAX] {
+                let by_converted =
+                    Node { physical, type_length, converted: converted::DECIMAL, precision, scale, ..PLAIN };
+                judged(comparison, &[ROOT, by_converted])?;
+                let by_logical = Node { converted: converted::NONE, logical: logical::DECIMAL, ..by_converted };
+                judged(comparison, &[ROOT, by_logical])?;
+            }
+        }
+    }
+    Ok(())
+}
+
+/// Each length of FIXED with each precision up to one that no length takes.
+fn precisions(comparison: &mut Comparison) -> Result<(), Difference> {
+    for type_length in 0..260 {
+        for precision in 0..=617 {
+            let node = Node { physical: FIXED, type_length, logical: logical::DECIMAL, precision, ..PLAIN };
+            let sheet = assemble(&[ROOT.slot(), node.slot()]);
+            comparison.resolve(&sheet, 2 * ROW_WIDTH)?;
+        }
+    }
+    Ok(())
+}
+
+/// For each length the numbers about its greatest power of ten, its greatest number, and -x and -x - 1 of each: read in precisions about the
+/// greatest, in so many bytes and with sign bytes before them, and ordered against one another and against those of other lengths.
+fn decimals(comparison: &mut Comparison) -> Result<(), Difference> {
+    for length in 1..=MAX_LENGTH {
+        let most = greatest_precision(length).expect("a length of the table");
+        let numbers = about(length, most);
+        let cut = |at: usize, bytes: usize| &numbers[at % numbers.len()][2 * MAX_LENGTH - bytes..];
+        for at in 0..numbers.len() {
+            for before in [0, 1, 255, MAX_LENGTH - length] {
+                let bytes = length + before;
+                for precision in [most - 1, most, most + 1] {
+                    comparison.read([6, 0, 5, precision, 0], cut(at, bytes), 2)?;
+                    comparison.read([7, bytes as u32, 5, precision, 0], cut(at, bytes), 2)?;
+                }
+                let widest = [6, 0, 5, i32::MAX as u32, 0];
+                comparison.order(widest, cut(at, bytes), cut(at, length))?;
+                comparison.order(widest, cut(at, bytes), cut(at + 1, length))?;
+            }
+            for other in [1, 2, 4, 8, 16, 32, 64, 128, 256] {
+                comparison.order([6, 0, 5, i32::MAX as u32, 0], cut(at, length), cut(at + 3, other))?;
+            }
+        }
+    }
+    Ok(())
+}
+
+/// In twice as many bytes as the longest number has.
+fn about(length: usize, most: u32) -> Vec<Vec<u8>> {
+    const WIDE: usize = 2 * MAX_LENGTH;
+    let power = wide::power_of_ten(most, WIDE);
+    let mut greatest = vec![0; WIDE];
+    greatest[WIDE - length..].fill(0xFF);
+    greatest[WIDE - length] = 0x7F;
+    let mut numbers: Vec<Vec<u8>> = (-2..=1).map(|small| wide::plus(power.clone(), small)).collect();
+    numbers.push(greatest);
+    let below = numbers.iter().flat_map(|number| [wide::negated(number), wide::turned(number)]);
+    numbers.extend(below.collect::<Vec<_>>());
+    numbers
+}
+
+/// Every octet alone, every two, and behind every first octet of several and every second one the octets about the bounds of a tail; each
+/// first, in the middle and last, among ASCII and among letters.
+fn octets(comparison: &mut Comparison) -> Result<(), Difference> {
+    const TAILS: [u8; 6] = [0x00, 0x7F, 0x80, 0xBF, 0xC0, 0xFF];
+    for first in 0..=255 {
+        placed(comparison, &[first])?;
+        for second in 0..=255 {
+            text(comparison, &[first, second])?;
+            if first < 0xC0 {
+                continue;
+            }
+            placed(comparison, &[first, second])?;
+            for third in TAILS {
+                text(comparison, &[first, second, third])?;
+                for fourth in TAILS {
+                    placed(comparison, &[first, second, third, fourth])?;
+                }
+            }
+        }
+    }
+    Ok(())
+}
+
+fn placed(comparison: &mut Comparison, octets: &[u8]) -> Result<(), Difference> {
+    text(comparison, octets)?;
+    for (before, after) in [("a", "z"), ("é漢", "𝄞ö")] {
+        let (before, after) = (before.as_bytes(), after.as_bytes());
+        for parts in [[&[], octets, after], [before, octets, after], [before, octets, &[]]] {
+            text(comparison, &parts.concat())?;
+        }
+    }
+    Ok(())
+}
+
+/// Texts below 128 of each length that is taken by one, by eight, by 32 and by 64, with some left over, and with each other octet or letter
+/// at each place.
+fn plain_texts(comparison: &mut Comparison) -> Result<(), Difference> {
+    for length in 0..=160 {
+        let plain: Vec<u8> = (0..length).map(|at| ((0x21 + 37 * at) % 0x80) as u8).collect();
+        text(comparison, &plain)?;
+        for place in 0..length {
+            for other in [&[0x80][..], &[0xFF], &[0xC2], "é".as_bytes(), "漢".as_bytes(), "𝄞".as_bytes()] {
+                let mut bytes = plain.clone();
+                bytes.splice(place..(place + other.len()).min(length), other.iter().copied());
+                text(comparison, &bytes)?;
+            }
+        }
+    }
+    Ok(())
+}
+
+/// Reads a STRING; it is refused where Rust's own check of UTF-8 stops, and taken where that takes it.
+fn text(comparison: &mut Comparison, bytes: &[u8]) -> Result<(), Difference> {
+    const STRING: Column = [6, 0, 1, 0, 0];
+    let answer = comparison.read(STRING, bytes, 2)?;
+    let stop = match refusal_of(answer) {
+        0 => bytes.len(),
+        refusal::VALUE => value_of(answer) as usize,
+        _ => usize::MAX,
+    };
+    let by_rust = std::str::from_utf8(bytes).map_or_else(|fault| fault.valid_up_to(), str::len);
+    if stop == by_rust {
+        Ok(())
+    } else {
+        Err(broken("read", format!("{}, but Rust's check stops at {by_rust}", shown(answer)), bytes))
+    }
+}
