@@ -1,20 +1,19 @@
 -- Points on sheets of one block, and the example of four nodes, which the definitions compute.
-use Prim.Native.Nat.{ℕ, _*_, _-_, _/_, _%_}
+use Prim.Native.Nat.{ℕ, _*_}
 use mathlib.Core.Path.{_≡_, refl}
 use mathlib.Core.Bool.{Bool, true}
 use mathlib.Core.List.{List}
-use lib.ListN.{length, replicate}
+use lib.ListN.{replicate}
 use Rattle.sheet.specs.Number.{numberAt, signed32}
-use Rattle.sheet.specs.Block.{firstSlotAt, checkAt, slotSize, versionNow, blockCount, blockAt, blockNumber, nodesHere, version, total, storedCheck, totalOf}
+use Rattle.sheet.specs.Block.{blockCount, blockAt, blockNumber, nodesHere, version, total, storedCheck, totalOf}
 use Rattle.sheet.specs.Check.{sumBelow, weighted, check, checkRight}
-use Rattle.sheet.specs.Slot.{nameAt, physical, repetition, converted, logical, parameterA, parameterB, childCount, typeLength, scale, precision, nameLength, name, numbersOf, slotStart, reaches, slotAt, slotsFrom, slots}
+use Rattle.sheet.specs.Slot.{physical, repetition, converted, logical, parameterA, parameterB, childCount, typeLength, scale, precision, nameLength, name, numbersOf, slotStart, reaches, slotAt, slotsFrom, slots}
 use Rattle.sheet.specs.Sound.{listed, physicalListed, repetitionListed, convertedListed, logicalListed, nameLengthRight, allZero, reservedZero, tailZero, codesListed, nameRight, slotSound, slotRight}
 use Rattle.sheet.specs.Header.{lengthRight, blocksFor, nodesIn, totalRight, fieldsRight, headerRight}
 use Rattle.sheet.specs.First.{firstWrongFrom, firstWrong}
 use Rattle.sheet.specs.Name.{sameBytes}
 use Rattle.sheet.specs.Opening as sheet
 use Rattle.decimal.specs.Precision.{greatestPrecision, greatest}
-use Rattle.parquet.specs.Repetition.{REQUIRED, OPTIONAL, REPEATED}
 use Rattle.parquet.specs.Repetition as repetition
 use Rattle.parquet.specs.Physical as physical
 use Rattle.parquet.specs.Converted as converted

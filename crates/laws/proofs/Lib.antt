@@ -2,3 +2,4 @@
 pub mod BoolLaws
 pub mod DifferenceLaws
 pub mod SignedLaws
+pub mod StretchLaws

@@ -1,1 +1,2 @@
-// Laws about truth values, tests and differences of numbers that several crates cite. There is no code here: `proofs/` has them.
+// Definitions and laws that several crates cite, about truth values, differences of numbers and stretches of lists. There is no code here:
+// `specs/` and `proofs/` have them.

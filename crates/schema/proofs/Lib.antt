@@ -2,7 +2,7 @@
 pub mod LevelsLaws
 pub mod DepthLaws
 pub mod RowsLaws
-pub mod PlacingLaws
+pub mod RowNumberLaws
 pub mod ResolvingLaws
 pub mod DemandLaws
 pub mod RolesLaws

@@ -1,5 +1,5 @@
 -- A sheet resolved, by what judging answers.
-use Prim.Native.Nat.{ℕ, _+_, _*_, _≤_, _<_}
+use Prim.Native.Nat.{ℕ, _*_, _≤_, _<_}
 use mathlib.Core.Path.{_≡_, refl, sym, ap, _∙_}
 use mathlib.Core.List.{List, [], _++_, append-nil}
 use native.Mathlib.Omega.{arith}
@@ -14,7 +14,7 @@ use Rattle.tree.specs.Reading.{treeOf}
 use Rattle.tree.specs.Judgement.{refusal, judgementOf}
 use Rattle.schema.specs.Outcome.{answer, outcome, written}
 use Rattle.tree.specs.Steps.{treeAt, runAt}
-use Rattle.schema.specs.Steps.{placed}
+use Rattle.laws.specs.Stretches.{stretched}
 use Rattle.schema.specs.declared.roles.Parent.{Parent}
 use Rattle.tree.specs.declared.refusal.Refusal.{Refusal}
 use Rattle.tree.specs.declared.judgement.Judgement.{Judgement}
@@ -52,12 +52,12 @@ module _ (b : List ℕ) where
     unfolding runRowsFrom
     root-rows = rw (root-alone b (judged-claimed b n e) (judged-some b n e)) (append-nil (rowsFrom 0 0 Parent.Other (slotAt b 0) [] (treeAt (slots b) 0)))
 
-    pub written-rows : (lent r : List ℕ) → rowWidth * n ≤ length lent → r ≡ placed lent (rowWidth * 0) (runRowsFrom 0 0 Parent.Other (slotAt b 0) [] (runAt (slots b) 0 1)) → r ≡ written (outcome b (length lent)) b lent
-    unfolding written placed rows
+    pub written-rows : (lent r : List ℕ) → rowWidth * n ≤ length lent → r ≡ stretched lent (rowWidth * 0) (runRowsFrom 0 0 Parent.Other (slotAt b 0) [] (runAt (slots b) 0 1)) → r ≡ written (outcome b (length lent)) b lent
+    unfolding written stretched rows
     written-rows lent r h q =
         q
-        ∙ ap (placed lent (rowWidth * 0)) root-rows
-        ∙ ap (λ (t : Tree). placed lent (rowWidth * 0) (rowsFrom 0 0 Parent.Other (slotAt b 0) [] t)) (treeAt-zero (slots b))
-        ∙ ap (placed lent (rowWidth * 0)) (other-above (treeOf (slots b)) (slotAt b 0) [])
+        ∙ ap (stretched lent (rowWidth * 0)) root-rows
+        ∙ ap (λ (t : Tree). stretched lent (rowWidth * 0) (rowsFrom 0 0 Parent.Other (slotAt b 0) [] t)) (treeAt-zero (slots b))
+        ∙ ap (stretched lent (rowWidth * 0)) (other-above (treeOf (slots b)) (slotAt b 0) [])
         ∙ ap (λ (k : ℕ). rows (treeOf (slots b)) ++ drop k lent) (zero-add _ ∙ length-rowsFrom (treeOf (slots b)) 0 0 Parent.Other [] [] ∙ ap (λ (k : ℕ). rowWidth * k) (tree-size b n e))
         ∙ sym (rw (resolve-rows lent h))

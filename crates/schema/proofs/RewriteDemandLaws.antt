@@ -28,7 +28,8 @@ use Rattle.schema.specs.Rows.{rows}
 use Rattle.tree.specs.Reading.{treeOf}
 use Rattle.tree.specs.Judgement.{judgement}
 use Rattle.schema.specs.Outcome.{outcome, written}
-use Rattle.schema.specs.Rewriting.{rewritings, withRewriting, withRewritings, rewritten, fits, rewriteAnswer, rewriteOutcome, stretched, rewriteWritten}
+use Rattle.laws.specs.Stretches.{stretched}
+use Rattle.schema.specs.Rewriting.{rewritings, withRewriting, withRewritings, rewritten, fits, rewriteAnswer, rewriteOutcome, rewriteWritten}
 use Rattle.schema.specs.Demand.{IsTreeOf, EnoughOutput, Accepted, EnoughRoom, AcceptedRewriting, Copied}
 use Rattle.tree.specs.declared.place.Place.the-variants.{Root}
 use Rattle.tree.specs.declared.refusal.Refusal.{Refusal}

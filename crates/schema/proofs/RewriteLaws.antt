@@ -11,7 +11,8 @@ use borrow.Rule.Slice.PartMut.{putMid, post-is}
 use lib.ListN.{length, take, drop}
 use Rattle.tree.specs.Judgement.{judgement, judgementOf}
 use Rattle.schema.specs.Outcome.{shortOutput}
-use Rattle.schema.specs.Rewriting.{rewritten, fits, rewriteAnswer, rewriteOutcome, stretched, rewriteWritten}
+use Rattle.laws.specs.Stretches.{stretched}
+use Rattle.schema.specs.Rewriting.{rewritten, fits, rewriteAnswer, rewriteOutcome, rewriteWritten}
 use Rattle.tree.specs.declared.refusal.Refusal.{Refusal}
 use Rattle.tree.specs.declared.refusal.Verdict.{Verdict}
 use Rattle.tree.specs.declared.judgement.Judgement.{Judgement}

@@ -20,21 +20,22 @@ use Rattle.tree.specs.Tree.{SlotBytes, Tree, Fields, node, count, size, runDept
 use Rattle.tree.specs.Reading.{trees}
 use Rattle.schema.specs.Rows.{isMapParent, role, parentBy, parentOf, afterFirst, row, rowsFrom, runRowsFrom, rowWidth}
 use Rattle.tree.specs.Steps.{Claimed, Visited, treeAt, runAt, fieldsAt, sizes, depthAt}
-use Rattle.schema.specs.Steps.{HasLevels, NoneTooDeep, placed}
+use Rattle.schema.specs.Steps.{HasLevels, NoneTooDeep}
 use Rattle.schema.specs.declared.roles.Parent.{Parent}
 use Rattle.tree.proofs.StandingLaws.{runAt-zero, size-node}
 use Rattle.tree.proofs.VisitLaws.{treeAt-slot, run-at, run-below, next-after, next-claimed, run-split, run-end, run-end-empty, tree-within}
 use Rattle.schema.proofs.DepthLaws.{rest-deep}
-use Rattle.schema.proofs.PlacingLaws.{placed-empty, placed-after, placed-set}
+use Rattle.laws.specs.Stretches.{stretched}
+use Rattle.laws.proofs.StretchLaws.{stretched-none, stretched-stretched, stretched-set}
 use Rattle.schema.proofs.RowsLaws.{length-rowsFrom, length-runRowsFrom}
 
 module _ (b l : List ℕ) (at n up : ℕ) (p : Parent) (above : SlotBytes) (path : List Tree) where
-  pub run-rows-empty : n ≡ 0 → l ≡ placed l (rowWidth * at) (runRowsFrom at up p above path (runAt (slots b) at n))
+  pub run-rows-empty : n ≡ 0 → l ≡ stretched l (rowWidth * at) (runRowsFrom at up p above path (runAt (slots b) at n))
   unfolding runRowsFrom
-  run-rows-empty e = sym (rw (e, runAt-zero) (placed-empty l (rowWidth * at)))
+  run-rows-empty e = sym (rw (e, runAt-zero) (stretched-none l (rowWidth * at)))
 
   module _ (h : Claimed b) (k : n ≡ 0 → ⊥) (c : n ≤ count (trees (drop at (slots b)))) (next : ℕ) (e : next ≡ at + size (treeAt (slots b) at)) where
-    module _ (f : rowWidth * totalOf b ≤ length l) (below : at < totalOf b) (m : List ℕ) (w : m ≡ placed l (rowWidth * at) (rowsFrom at up p above path (treeAt (slots b) at))) where
+    module _ (f : rowWidth * totalOf b ≤ length l) (below : at < totalOf b) (m : List ℕ) (w : m ≡ stretched l (rowWidth * at) (rowsFrom at up p above path (treeAt (slots b) at))) where
       first : List ℕ
       first = rowsFrom at up p above path (treeAt (slots b) at)
 
@@ -46,16 +47,16 @@ module _ (b l : List ℕ) (at n up : ℕ) (p : Parent) (above : SlotBytes) (path
       unfolding first
       next-base = omega (arith, e, length-rowsFrom (treeAt (slots b) at) at up p above path)
 
-      pub run-rows : (q : Parent) (r : List ℕ) → q ≡ afterFirst p → r ≡ placed m (rowWidth * next) (runRowsFrom next up q above path (runAt (slots b) next (n - 1))) → r ≡ placed l (rowWidth * at) (runRowsFrom at up p above path (runAt (slots b) at n))
+      pub run-rows : (q : Parent) (r : List ℕ) → q ≡ afterFirst p → r ≡ stretched m (rowWidth * next) (runRowsFrom next up q above path (runAt (slots b) next (n - 1))) → r ≡ stretched l (rowWidth * at) (runRowsFrom at up p above path (runAt (slots b) at n))
       unfolding runRowsFrom first
       run-rows q r u v =
           v
-          ∙ ap (λ (i : ℕ). placed m i (runRowsFrom next up q above path (runAt (slots b) next (n - 1)))) next-base
-          ∙ ap (λ (x : List ℕ). placed x (rowWidth * at + length first) (runRowsFrom next up q above path (runAt (slots b) next (n - 1)))) w
-          ∙ placed-after l (rowWidth * at) first (runRowsFrom next up q above path (runAt (slots b) next (n - 1))) first-fits
-          ∙ ap (λ (x : Parent). placed l (rowWidth * at) (first ++ runRowsFrom next up x above path (runAt (slots b) next (n - 1)))) u
-          ∙ ap (λ (i : ℕ). placed l (rowWidth * at) (first ++ runRowsFrom i up (afterFirst p) above path (runAt (slots b) next (n - 1)))) e
-          ∙ ap (λ (fs : Fields). placed l (rowWidth * at) (runRowsFrom at up p above path fs)) (sym (run-split b at n h k c next e))
+          ∙ ap (λ (i : ℕ). stretched m i (runRowsFrom next up q above path (runAt (slots b) next (n - 1)))) next-base
+          ∙ ap (λ (x : List ℕ). stretched x (rowWidth * at + length first) (runRowsFrom next up q above path (runAt (slots b) next (n - 1)))) w
+          ∙ stretched-stretched l (rowWidth * at) first (runRowsFrom next up q above path (runAt (slots b) next (n - 1))) first-fits
+          ∙ ap (λ (x : Parent). stretched l (rowWidth * at) (first ++ runRowsFrom next up x above path (runAt (slots b) next (n - 1)))) u
+          ∙ ap (λ (i : ℕ). stretched l (rowWidth * at) (first ++ runRowsFrom i up (afterFirst p) above path (runAt (slots b) next (n - 1)))) e
+          ∙ ap (λ (fs : Fields). stretched l (rowWidth * at) (runRowsFrom at up p above path fs)) (sym (run-split b at n h k c next e))
 
 -- the rows of a run written up to one of its fields: with those of the others they are the run's, whatever path has the levels that they stand below
 pub record Behind (b lent : List ℕ) (start n l up : ℕ) (p : Parent) (above : SlotBytes) (d r : ℕ) (rows : List ℕ) (at left : ℕ) (q : Parent) : Type 0 where
@@ -64,20 +65,20 @@ pub record Behind (b lent : List ℕ) (start n l up : ℕ) (p : Parent) (above :
   pub deep : NoneTooDeep (runDepths (depthAt l) (runAt (slots b) at left))
   pub long : length rows ≡ length lent
   pub ended : start + sizes (runAt (slots b) start n) ≡ at + sizes (runAt (slots b) at left)
-  pub found : (path : List Tree) → HasLevels path d r → placed lent (rowWidth * start) (runRowsFrom start up p above path (runAt (slots b) start n)) ≡ placed rows (rowWidth * at) (runRowsFrom at up q above path (runAt (slots b) at left))
+  pub found : (path : List Tree) → HasLevels path d r → stretched lent (rowWidth * start) (runRowsFrom start up p above path (runAt (slots b) start n)) ≡ stretched rows (rowWidth * at) (runRowsFrom at up q above path (runAt (slots b) at left))
 
 pub behind-start : (b lent : List ℕ) (start n l up : ℕ) (p : Parent) (above : SlotBytes) (d r : ℕ) → n ≤ count (trees (drop start (slots b))) → NoneTooDeep (runDepths (depthAt l) (runAt (slots b) start n)) → Behind b lent start n l up p above d r lent start n p
 behind-start b lent start n l up p above d r c g =
     record { reached = le-refl start; claimed = c; deep = g; long = refl; ended = refl; found = λ path g. refl }
 
 module _ (b lent : List ℕ) (start n l up : ℕ) (p : Parent) (above : SlotBytes) (d r : ℕ) (rows : List ℕ) (at left : ℕ) (q : Parent) (i : Behind b lent start n l up p above d r rows at left q) where
-  pub behind-end : left ≡ 0 → (at ≡ start + sizes (runAt (slots b) start n)) × ((path : List Tree) → HasLevels path d r → rows ≡ placed lent (rowWidth * start) (runRowsFrom start up p above path (runAt (slots b) start n)))
+  pub behind-end : left ≡ 0 → (at ≡ start + sizes (runAt (slots b) start n)) × ((path : List Tree) → HasLevels path d r → rows ≡ stretched lent (rowWidth * start) (runRowsFrom start up p above path (runAt (slots b) start n)))
   behind-end e = (
     run-end-empty b at left e ∙ sym (i .ended),
     (λ path h. run-rows-empty b rows at left up q above path e ∙ sym (i .found path h)),
   )
 
-  pub behind-next : Claimed b → rowWidth * totalOf b ≤ length lent → (left ≡ 0 → ⊥) → (next : ℕ) (m : List ℕ) (o : Parent) → next ≡ at + size (treeAt (slots b) at) → ((path : List Tree) → HasLevels path d r → m ≡ placed rows (rowWidth * at) (rowsFrom at up q above path (treeAt (slots b) at))) → length m ≡ length rows → o ≡ afterFirst q → Behind b lent start n l up p above d r m next (left - 1) o
+  pub behind-next : Claimed b → rowWidth * totalOf b ≤ length lent → (left ≡ 0 → ⊥) → (next : ℕ) (m : List ℕ) (o : Parent) → next ≡ at + size (treeAt (slots b) at) → ((path : List Tree) → HasLevels path d r → m ≡ stretched rows (rowWidth * at) (rowsFrom at up q above path (treeAt (slots b) at))) → length m ≡ length rows → o ≡ afterFirst q → Behind b lent start n l up p above d r m next (left - 1) o
   behind-next h f k next m o e w long u =
       let below = run-below b at left h k (i .claimed) in
       let room : rowWidth * totalOf b ≤ length rows = omega (arith, i .long) in
@@ -87,7 +88,7 @@ module _ (b lent : List ℕ) (start n l up : ℕ) (p : Parent) (above : SlotByte
         deep = rest-deep b at left l h k (i .claimed) (i .deep) next e;
         long = long ∙ i .long;
         ended = i .ended ∙ run-end b at left h k (i .claimed) next e;
-        found = λ path g. i .found path g ∙ sym (run-rows b rows at left up q above path h k (i .claimed) next e room below m (w path g) o (placed m (rowWidth * next) (runRowsFrom next up o above path (runAt (slots b) next (left - 1)))) u refl);
+        found = λ path g. i .found path g ∙ sym (run-rows b rows at left up q above path h k (i .claimed) next e room below m (w path g) o (stretched m (rowWidth * next) (runRowsFrom next up o above path (runAt (slots b) next (left - 1)))) u refl);
       }
 
 module _ (b l : List ℕ) (at up : ℕ) (s : Numbers) (p : Parent) (above : SlotBytes) (v : Visited b at s) where
@@ -104,13 +105,13 @@ module _ (b l : List ℕ) (at up : ℕ) (s : Numbers) (p : Parent) (above : Slot
       rw (g .definition-is, g .repetition-is, t, c, a, w, o, v .numbers, e, treeAt-slot b at (v .claimed) (v .below))
 
   -- its rows: its own, whose end is not known until its run is written, and those of its run
-  module _ (path : List Tree) (f : rowWidth * totalOf b ≤ length l) (q : Parent) (w : q ≡ parentOf p above (slotAt b at) (fieldsAt b at)) (ns k m : List ℕ) (g : length ns ≡ rowWidth) (u : k ≡ placed l (rowWidth * at) ns) (e : m ≡ placed k (rowWidth * (at + 1)) (runRowsFrom (at + 1) at q (slotAt b at) (node (slotAt b at) (fieldsAt b at) ∷ path) (runAt (slots b) (at + 1) (s .children)))) where
+  module _ (path : List Tree) (f : rowWidth * totalOf b ≤ length l) (q : Parent) (w : q ≡ parentOf p above (slotAt b at) (fieldsAt b at)) (ns k m : List ℕ) (g : length ns ≡ rowWidth) (u : k ≡ stretched l (rowWidth * at) ns) (e : m ≡ stretched k (rowWidth * (at + 1)) (runRowsFrom (at + 1) at q (slotAt b at) (node (slotAt b at) (fieldsAt b at) ∷ path) (runAt (slots b) (at + 1) (s .children)))) where
     rest : List ℕ
     rest = runRowsFrom (suc at) at (parentOf p above (slotAt b at) (fieldsAt b at)) (slotAt b at) (node (slotAt b at) (fieldsAt b at) ∷ path) (fieldsAt b at)
 
-    rest-is : m ≡ placed k (rowWidth * (at + 1)) rest
+    rest-is : m ≡ stretched k (rowWidth * (at + 1)) rest
     unfolding rest
-    rest-is = e ∙ ap (placed k (rowWidth * (at + 1))) (rw (run-at b at s (v .numbers), w, add-one))
+    rest-is = e ∙ ap (stretched k (rowWidth * (at + 1))) (rw (run-at b at s (v .numbers), w, add-one))
 
     end-within : suc at + sizes (fieldsAt b at) ≤ totalOf b
     end-within =
@@ -120,22 +121,22 @@ module _ (b l : List ℕ) (at up : ℕ) (s : Numbers) (p : Parent) (above : Slot
     unfolding rest sizes
     both-fit = omega (arith, g, length-append ns rest, length-runRowsFrom (fieldsAt b at) (suc at) at (parentOf p above (slotAt b at) (fieldsAt b at)) (slotAt b at) (node (slotAt b at) (fieldsAt b at) ∷ path), end-within)
 
-    both-placed : m ≡ placed l (rowWidth * at) (ns ++ rest)
-    both-placed =
+    both-stretched : m ≡ stretched l (rowWidth * at) (ns ++ rest)
+    both-stretched =
         let base : rowWidth * (at + 1) ≡ rowWidth * at + length ns = omega (arith, g) in
         rest-is
-        ∙ ap (λ (z : List ℕ). placed z (rowWidth * (at + 1)) rest) u
-        ∙ ap (λ (i : ℕ). placed (placed l (rowWidth * at) ns) i rest) base
-        ∙ placed-after l (rowWidth * at) ns rest (omega (arith, both-fit, length-append ns rest))
+        ∙ ap (λ (z : List ℕ). stretched z (rowWidth * (at + 1)) rest) u
+        ∙ ap (λ (i : ℕ). stretched (stretched l (rowWidth * at) ns) i rest) base
+        ∙ stretched-stretched l (rowWidth * at) ns rest (omega (arith, both-fit, length-append ns rest))
 
-    pub tree-rows : (next : ℕ) (r : List ℕ) → set ns 7 next ≡ row at up p above path (slotAt b at) (fieldsAt b at) → r ≡ set m (rowWidth * at + 7) next → r ≡ placed l (rowWidth * at) (rowsFrom at up p above path (treeAt (slots b) at))
+    pub tree-rows : (next : ℕ) (r : List ℕ) → set ns 7 next ≡ row at up p above path (slotAt b at) (fieldsAt b at) → r ≡ set m (rowWidth * at + 7) next → r ≡ stretched l (rowWidth * at) (rowsFrom at up p above path (treeAt (slots b) at))
     unfolding rowsFrom rest
     tree-rows next r x y =
         y
-        ∙ ap (λ (z : List ℕ). set z (rowWidth * at + 7) next) both-placed
-        ∙ placed-set l (rowWidth * at) (ns ++ rest) 7 next both-fit (omega (arith, g, length-append ns rest))
-        ∙ ap (placed l (rowWidth * at)) (set-append-left ns rest 7 next (omega (arith, g)) ∙ ap (λ (z : List ℕ). z ++ rest) x)
-        ∙ ap (λ (t : Tree). placed l (rowWidth * at) (rowsFrom at up p above path t)) (sym (treeAt-slot b at (v .claimed) (v .below)))
+        ∙ ap (λ (z : List ℕ). set z (rowWidth * at + 7) next) both-stretched
+        ∙ stretched-set l (rowWidth * at) (ns ++ rest) 7 next both-fit (omega (arith, g, length-append ns rest))
+        ∙ ap (stretched l (rowWidth * at)) (set-append-left ns rest 7 next (omega (arith, g)) ∙ ap (λ (z : List ℕ). z ++ rest) x)
+        ∙ ap (λ (t : Tree). stretched l (rowWidth * at) (rowsFrom at up p above path t)) (sym (treeAt-slot b at (v .claimed) (v .below)))
 
 -- room for the rows, in what is as long as it was
 pub long-enough : (total m l : ℕ) → rowWidth * total ≤ l → m ≡ l → rowWidth * total ≤ m

@@ -3,7 +3,8 @@ use Prim.Native.Nat.{ℕ, suc, _+_}
 use mathlib.Core.Bool.{Bool, cond}
 use mathlib.Core.List.{List, [], _∷_, _++_}
 use lib.Dec.{leb}
-use lib.ListN.{length, take, drop}
+use lib.ListN.{length}
+use Rattle.laws.specs.Stretches.{stretched}
 use Rattle.sheet.specs.Check.{renewed}
 use Rattle.sheet.specs.Slot.{slots, withAnnotation}
 use Rattle.annotation.specs.Rewriting.{rewritingOf}
@@ -60,11 +61,7 @@ rewriteAnswer Verdict.Lawful enough n = cond enough (Rewritten.Bytes n) (Rewritt
 unfoldable pub rewriteOutcome : List ℕ → ℕ → ℕ → Rewritten
 rewriteOutcome bytes lent start = rewriteAnswer (judgement bytes) (fits bytes lent start) (length bytes)
 
--- a list of bytes with others from a start on: "bytes before and after stay"
-unfoldable pub stretched : List ℕ → ℕ → List ℕ → List ℕ
-stretched lent start bytes = take start lent ++ bytes ++ drop (start + length bytes) lent
-
--- what the lent bytes hold afterwards
+-- what the lent bytes hold afterwards: "bytes before and after stay"
 unfoldable pub rewriteWritten : Rewritten → List ℕ → List ℕ → ℕ → List ℕ
 rewriteWritten (Rewritten.Refused r) bytes lent start = lent
 rewriteWritten (Rewritten.Bytes n) bytes lent start = stretched lent start (rewritten bytes)

@@ -1,8 +1,8 @@
 -- What the steps of writing rows and of rewriting answer, which the contracts of private functions cite. Nothing here is a promise to a caller.
-use Prim.Native.Nat.{ℕ, _+_, _≤_}
+use Prim.Native.Nat.{ℕ, _≤_}
 use mathlib.Core.Path.{_≡_}
-use mathlib.Core.List.{List, [], _∷_, _++_}
-use lib.ListN.{length, getD, take, drop}
+use mathlib.Core.List.{List, [], _∷_}
+use lib.ListN.{getD}
 use mathlib.Core.Bool.{Bool}
 use lib.Dec.{eqb}
 use Rattle.parquet.specs.Logical as logical
@@ -12,10 +12,6 @@ use Rattle.tree.specs.Annotated.{annotated}
 use Rattle.tree.specs.Tree.{SlotBytes, Tree, mostDepth}
 use Rattle.schema.specs.Levels.{definitionLevel, repetitionLevel}
 use Rattle.schema.specs.declared.rows.Row.{Row}
-
--- a list with some numbers in place of those from i on
-unfoldable pub placed : List ℕ → ℕ → List ℕ → List ℕ
-placed l i vs = take i l ++ vs ++ drop (i + length vs) l
 
 -- a row's numbers in their order
 unfoldable pub rowNumbers : Row → List ℕ

@@ -9,7 +9,8 @@ ghost use Rattle.tree.specs.Tree.{Tree, count as Tree·count, size, depths, run
 ghost use Rattle.schema.specs.Rows.{rowWidth, rowsFrom, runRowsFrom, parentBy};
 ghost use Rattle.tree.specs.Reading.{trees};
 ghost use Rattle.tree.specs.Steps.{Claimed, treeAt, runAt, sizes, depthAt};
-ghost use Rattle.schema.specs.Steps.{HasLevels, LevelsAtMost, NoneTooDeep, placed, rowNumbers};
+ghost use Rattle.laws.specs.Stretches.{stretched};
+ghost use Rattle.schema.specs.Steps.{HasLevels, LevelsAtMost, NoneTooDeep, rowNumbers};
 use crate::levels::in_definition;
 use crate::levels::in_repetition;
 use crate::roles::Parent;
@@ -61,7 +62,7 @@ pub(crate) fn write_run(
     requires { ⌜ levels ≤ suc mostDepth ⌝ }
     requires { ⌜ NoneTooDeep (runDepths (depthAt levels) (runAt (slots (now sheet)) start count)) ⌝ }
     ensures { λ r. ⌜ r ≡ start + sizes (runAt (slots (now (sheet .entry))) start count) ⌝ }
-    ensures { λ _. ⌜ ((path : List Tree) → HasLevels path «definition_level» «repetition_level» → now (rows .exit) ≡ placed (now (rows .entry)) (rowWidth * start) (runRowsFrom start up parent (slotAt (now (sheet .entry)) up) path (runAt (slots (now (sheet .entry))) start count))) ⌝ }
+    ensures { λ _. ⌜ ((path : List Tree) → HasLevels path «definition_level» «repetition_level» → now (rows .exit) ≡ stretched (now (rows .entry)) (rowWidth * start) (runRowsFrom start up parent (slotAt (now (sheet .entry)) up) path (runAt (slots (now (sheet .entry))) start count))) ⌝ }
 {
     let mut at = start;
     let mut left = count;
@@ -103,7 +104,7 @@ fn write_tree(
     requires { ⌜ levels ≤ suc mostDepth ⌝ }
     requires { ⌜ NoneTooDeep (depths (depthAt levels) (treeAt (slots (now sheet)) at)) ⌝ }
     ensures { λ r. ⌜ r ≡ at + size (treeAt (slots (now (sheet .entry))) at) ⌝ }
-    ensures { λ _. ⌜ ((path : List Tree) → HasLevels path «definition_level» «repetition_level» → now (rows .exit) ≡ placed (now (rows .entry)) (rowWidth * at) (rowsFrom at up parent (slotAt (now (sheet .entry)) up) path (treeAt (slots (now (sheet .entry))) at))) ⌝ }
+    ensures { λ _. ⌜ ((path : List Tree) → HasLevels path «definition_level» «repetition_level» → now (rows .exit) ≡ stretched (now (rows .entry)) (rowWidth * at) (rowsFrom at up parent (slotAt (now (sheet .entry)) up) path (treeAt (slots (now (sheet .entry))) at))) ⌝ }
 {
     let s = sheet::slot_at(sheet, at);
     let n = annotated(s);
@@ -168,7 +169,7 @@ fn write_fields(
     requires { ⌜ levels ≤ suc mostDepth ⌝ }
     requires { ⌜ NoneTooDeep (runDepths (depthAt levels) (runAt (slots (now sheet)) at count)) ⌝ }
     ensures { λ r. ⌜ r ≡ at + sizes (runAt (slots (now (sheet .entry))) at count) ⌝ }
-    ensures { λ _. ⌜ ((path : List Tree) → HasLevels path «definition_level» «repetition_level» → now (rows .exit) ≡ placed (now (rows .entry)) (rowWidth * at) (runRowsFrom at up (parentBy kind own) (slotAt (now (sheet .entry)) up) path (runAt (slots (now (sheet .entry))) at count))) ⌝ }
+    ensures { λ _. ⌜ ((path : List Tree) → HasLevels path «definition_level» «repetition_level» → now (rows .exit) ≡ stretched (now (rows .entry)) (rowWidth * at) (runRowsFrom at up (parentBy kind own) (slotAt (now (sheet .entry)) up) path (runAt (slots (now (sheet .entry))) at count))) ⌝ }
 {
     if count == 0 {
         return at;
@@ -189,7 +190,7 @@ fn write_fields(
 // Writes a row's numbers from base on.
 fn write_row(rows: &mut [u32], base: usize, row: Row)
     requires { ⌜ base + rowWidth ≤ length (now rows) ⌝ }
-    ensures { λ _. ⌜ now (rows .exit) ≡ placed (now (rows .entry)) base (rowNumbers row) ⌝ }
+    ensures { λ _. ⌜ now (rows .exit) ≡ stretched (now (rows .entry)) base (rowNumbers row) ⌝ }
 {
     rows[base] = row.physical;
     rows[base + 1] = row.type_length;

@@ -3,14 +3,16 @@
 use Prim.Native.Nat.{ℕ, suc, _+_, _-_, _≤_, _<_}
 use mathlib.Core.List.{List, [], _∷_, _++_, append-assoc, append-nil}
 use mathlib.Core.Path.{_≡_, refl, sym, ap, _∙_}
-use native.Mathlib.Nat.{add-assoc, add-zero}
+use native.Mathlib.Nat.{add-assoc}
 use native.Mathlib.Omega.{arith}
-use lib.ListN.{length, take, drop, length-append, length-take, length-drop, take-append-drop, drop-of-length-le}
-use lib.Seq.{take-length, length-take-le, take-at, drop-at, drop-drop}
+use lib.ListN.{length, take, drop, length-append, length-take, take-append-drop, drop-of-length-le}
+use lib.Seq.{take-length, length-take-le, take-at, drop-at}
 use borrow.Author.Tests.{le-leb, lt-leb}
 use borrow.Rule.Slice.PartMut.{putMid, post-is}
 use Rattle.laws.proofs.DifferenceLaws.{below?}
-use Rattle.text.specs.Placing.{positionPast, positionAfter, stored, placedText}
+use Rattle.laws.specs.Stretches.{stretched}
+use Rattle.laws.proofs.StretchLaws.{length-stretched, stretched-stretched, stretched-none}
+use Rattle.text.specs.Placing.{positionPast, positionAfter, placedText}
 
 -- the position past so many bytes, by whether they fit
 pub past-fits : (room at count : ℕ) → at + count ≤ room → positionPast room at count ≡ at + count
@@ -35,7 +37,7 @@ past-beyond room at count next e h =
     (λ enough. absurd (omega (arith, past-fits room at count enough)))
 
 -- what lent bytes hold, by whether the text fits
-pub placed-fits : (lent : List ℕ) (at : ℕ) (text : List ℕ) → at + length text ≤ length lent → placedText lent at text ≡ stored lent at text
+pub placed-fits : (lent : List ℕ) (at : ℕ) (text : List ℕ) → at + length text ≤ length lent → placedText lent at text ≡ stretched lent at text
 unfolding placedText
 placed-fits lent at text h = rw (le-leb (at + length text) (length lent) h)
 
@@ -72,30 +74,11 @@ pub put-as : (lent : List ℕ) (at : ℕ) {next : ℕ} {held us vs : List ℕ} �
     → (next ≡ positionAfter (length lent) at us) × (held ≡ placedText lent at us) → (next ≡ positionAfter (length lent) at vs) × (held ≡ placedText lent at vs)
 put-as lent at e put = (put .0 ∙ ap (positionAfter (length lent) at) e, put .1 ∙ ap (placedText lent at) e)
 
--- storing keeps the number of the bytes
-pub length-stored : (lent : List ℕ) (at : ℕ) (text : List ℕ) → at + length text ≤ length lent → length (stored lent at text) ≡ length lent
-unfolding stored
-length-stored lent at text h = simp (length-append, length-take, length-drop) (omega arith)
-
--- a text stored after another
-pub stored-stored : (lent : List ℕ) (at : ℕ) (us vs : List ℕ) → at + length us ≤ length lent → stored (stored lent at us) (at + length us) vs ≡ stored lent at (us ++ vs)
-unfolding stored
-stored-stored lent at us vs h =
-    let front : length (take at lent ++ us) ≡ at + length us = length-append (take at lent) us ∙ ap (λ (k : ℕ). k + length us) (length-take-le at lent (omega arith)) in
-    let rest : drop (at + length us + length vs) (take at lent ++ us ++ drop (at + length us) lent) ≡ drop (at + length (us ++ vs)) lent =
-    sym (drop-drop (length vs) (at + length us) (take at lent ++ us ++ drop (at + length us) lent))
-    ∙ ap (drop (length vs)) (drop-at (take at lent ++ us) (drop (at + length us) lent) (at + length us) front)
-    ∙ drop-drop (length vs) (at + length us) lent
-    ∙ ap (λ (k : ℕ). drop k lent) (add-assoc at (length us) (length vs) ∙ ap (λ (k : ℕ). at + k) (sym (length-append us vs))) in
-    ap (λ (x : List ℕ). x ++ vs ++ drop (at + length us + length vs) (take at lent ++ us ++ drop (at + length us) lent)) (take-at (take at lent ++ us) (drop (at + length us) lent) (at + length us) front)
-    ∙ ap (λ (x : List ℕ). take at lent ++ us ++ vs ++ x) rest
-    ∙ ap (λ (x : List ℕ). x ++ drop (at + length (us ++ vs)) lent) (append-assoc (take at lent) us vs)
-
 -- a text copied into the part of the bytes that it takes
 pub copied-placed : (lent : List ℕ) (at next : ℕ) (text part : List ℕ) → next ≡ at + length text → next ≤ length lent
     → part ≡ take (length text) text ++ drop (length text) (take (next - at) (drop at lent))
     → putMid at (next - at) lent part ≡ placedText lent at text
-unfolding stored
+unfolding stretched
 copied-placed lent at next text part e h q =
     let whole : part ≡ text =
     q ∙ rw (take-length text, drop-of-length-le (take (next - at) (drop at lent)) {i = length text} (simp length-take (omega arith))) (append-nil text) in
@@ -107,20 +90,19 @@ copied-placed lent at next text part e h q =
 pub record Holds (lent held : List ℕ) (at next : ℕ) (text : List ℕ) : Type 0 where
   pub enough : at + length text ≤ length lent
   pub end : next ≡ at + length text
-  pub bytes : held ≡ stored lent at text
+  pub bytes : held ≡ stretched lent at text
 
 pub holds-none : (lent : List ℕ) (at : ℕ) → at ≤ length lent → Holds lent lent at at []
-unfolding stored
 holds-none lent at h =
     record {
       enough = omega arith;
       end = omega arith;
-      bytes = sym (rw (append-nil, add-zero) (take-append-drop at lent));
+      bytes = sym (stretched-none lent at);
     }
 
 module _ {lent held : List ℕ} {at next : ℕ} {text : List ℕ} (holds : Holds lent held at next text) where
   pub holds-length : length held ≡ length lent
-  holds-length = ap length (holds .bytes) ∙ length-stored lent at text (holds .enough)
+  holds-length = ap length (holds .bytes) ∙ length-stretched lent at text (holds .enough)
 
   -- a further text that fits
   pub holds-more : {held′ : List ℕ} {next′ : ℕ} (more : List ℕ) → at + (length text + length more) ≤ length lent
@@ -134,9 +116,9 @@ module _ {lent held : List ℕ} {at next : ℕ} {text : List ℕ} (holds : Holds
         bytes =
             put .1
             ∙ placed-fits held next more here
-            ∙ ap (λ (k : ℕ). stored held k more) (holds .end)
-            ∙ ap (λ (l : List ℕ). stored l (at + length text) more) (holds .bytes)
-            ∙ stored-stored lent at text more (holds .enough);
+            ∙ ap (λ (k : ℕ). stretched held k more) (holds .end)
+            ∙ ap (λ (l : List ℕ). stretched l (at + length text) more) (holds .bytes)
+            ∙ stretched-stretched lent at text more (holds .enough);
       }
 
   -- what is held is the text placed
@@ -148,7 +130,7 @@ module _ {lent held : List ℕ} {at next : ℕ} {text : List ℕ} (holds : Holds
 
 -- bytes that hold a text from the first on begin with it
 pub holds-front : {lent held : List ℕ} {next : ℕ} {text : List ℕ} → Holds lent held 0 next text → take next held ≡ text
-unfolding stored
+unfolding stretched
 holds-front {lent} {held} {next} {text} holds =
     ap (take next) (holds .bytes) ∙ take-at text (drop (0 + length text) lent) next (omega (arith, holds .end))
 
@@ -163,7 +145,7 @@ holds-made {lent} {held} {next} holds =
 
 -- and hold it among what they hold now
 pub holds-again : {lent held : List ℕ} {next : ℕ} {text : List ℕ} → Holds lent held 0 next text → Holds held held 0 next text
-unfolding stored
+unfolding stretched
 holds-again {lent} {held} {next} {text} holds =
     record {
       enough = omega (arith, holds .enough, holds-length holds);
@@ -172,12 +154,12 @@ holds-again {lent} {held} {next} {text} holds =
     }
 
 pub holds-first : (byte : ℕ) (rest : List ℕ) → Holds (byte ∷ rest) (byte ∷ rest) 0 1 (byte ∷ [])
-unfolding stored
+unfolding stretched
 holds-first byte rest = record { enough = omega arith; end = refl; bytes = refl }
 
 -- and end as they did
 pub holds-back : {lent held : List ℕ} {next : ℕ} {text : List ℕ} → Holds lent held 0 next text → drop next held ≡ drop next lent
-unfolding stored
+unfolding stretched
 holds-back {lent} {held} {next} {text} holds =
     let end : length text ≡ next = omega (arith, holds .end) in
     ap (drop next) (holds .bytes) ∙ drop-at text (drop (0 + length text) lent) next end ∙ ap (λ (k : ℕ). drop k lent) (sym (holds .end))

@@ -1,9 +1,10 @@
 -- A text stored in lent bytes from a position on, where it fits.
 use Prim.Native.Nat.{ℕ, suc, _+_}
 use mathlib.Core.Bool.{Bool, cond}
-use mathlib.Core.List.{List, _++_}
+use mathlib.Core.List.{List}
 use lib.Dec.{leb}
-use lib.ListN.{length, take, drop}
+use lib.ListN.{length}
+use Rattle.laws.specs.Stretches.{stretched}
 
 -- so many bytes fit from a position on into a room of so many
 abbrev pub fits : ℕ → ℕ → ℕ → Bool
@@ -17,10 +18,6 @@ positionPast room at count = cond (fits room at count) (at + count) (suc room)
 abbrev pub positionAfter : ℕ → ℕ → List ℕ → ℕ
 positionAfter room at text = positionPast room at (length text)
 
--- lent bytes with a text in place of those from a position on
-unfoldable pub stored : List ℕ → ℕ → List ℕ → List ℕ
-stored lent at text = take at lent ++ text ++ drop (at + length text) lent
-
 -- what lent bytes hold once a text was to be stored: nothing is written where it does not fit
 unfoldable pub placedText : List ℕ → ℕ → List ℕ → List ℕ
-placedText lent at text = cond (fits (length lent) at (length text)) (stored lent at text) lent
+placedText lent at text = cond (fits (length lent) at (length text)) (stretched lent at text) lent

@@ -11,7 +11,7 @@ use borrow.Author.Tests.{eq-eqb, ne-eqb}
 use lib.ListN.{drop}
 use lib.Dec.{eqb}
 use Rattle.sheet.specs.Block.{totalOf}
-use Rattle.sheet.specs.Slot.{physical, repetition, childCount, slots, slotAt, numbersOf}
+use Rattle.sheet.specs.Slot.{physical, repetition, childCount, slots, slotAt}
 use Rattle.sheet.specs.declared.slots.Slot.{Slot as Numbers}
 use Rattle.parquet.specs.Repetition.{REQUIRED, REPEATED}
 use Rattle.parquet.specs.Physical as physical

@@ -1,5 +1,5 @@
 -- `schema::rows::write_row` meets its contract.
-use Rattle.schema.proofs.PlacingLaws.{eleven-placed}
+use Rattle.schema.proofs.RowNumberLaws.{eleven-stretched}
 use Rattle.schema.specs.Steps.{rowNumbers}
 use lib.ListN.{length-set}
 use native.Mathlib.Omega.{arith}
@@ -108,7 +108,7 @@ same-length c = simp length-set
 
 returns : tie.Need-returns
 unfolding rowNumbers
-returns c = eleven-placed _ _ _ _ _ _ _ _ _ _ _ _ _ (c .pre)
+returns c = eleven-stretched _ _ _ _ _ _ _ _ _ _ _ _ _ (c .pre)
 
 pub write-row-spec : {M : Type 1} → statement M
 write-row-spec =

@@ -1,0 +1,2 @@
+-- Definitions that speak of no crate's own subject.
+pub mod Stretches
