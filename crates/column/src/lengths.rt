@@ -5,7 +5,7 @@ use crate::codes;
 use column_type::ColumnType;
 
 // The most bytes that a value has.
-const MOST_BYTES: usize = 65_536;
+pub const MOST_BYTES: usize = 65_536;
 
 const BOOLEAN_BYTES: usize = 1;
 

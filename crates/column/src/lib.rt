@@ -15,6 +15,7 @@ pub mod reading;
 // A value that was read, and what reading answers.
 pub mod value;
 
+pub use lengths::MOST_BYTES;
 pub use reading::read;
 pub use reading::read_both;
 pub use value::Both;

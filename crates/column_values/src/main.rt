@@ -1,13 +1,11 @@
 // Reads one value of a column. The arguments are the five numbers of its column type, and standard input is the value.
 ghost use mathlib.Core.Path.{_≡_};
+use column::MOST_BYTES;
 use column_text::LINE_ROOM;
 use column_type::ColumnType;
 use libc::STDERR_FILENO;
 use libc::STDIN_FILENO;
 use libc::STDOUT_FILENO;
-
-// The most bytes that a value has.
-const MOST_BYTES: usize = 65536;
 
 // The program's name, and the numbers of a column type.
 const ARGUMENTS: usize = 6;

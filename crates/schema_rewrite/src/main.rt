@@ -3,12 +3,8 @@ use libc::STDIN_FILENO;
 use libc::STDOUT_FILENO;
 use schema::Refusal;
 use schema::Rewritten;
-
-// The most bytes that a sheet has.
-const MOST_BYTES: usize = 65536;
-
-// Room for any refusal's line: two numbers of 64 bits, the words before them and the line's end.
-const REFUSAL_ROOM: usize = 53;
+use sheet::MOST_BYTES;
+use text::REFUSAL_ROOM;
 
 // Reads to the end of the input, or to the first byte past the most: what is longer is refused for its length.
 fn main() {

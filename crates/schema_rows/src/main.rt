@@ -3,9 +3,7 @@ use libc::STDIN_FILENO;
 use libc::STDOUT_FILENO;
 use schema_text::MOST_NUMBERS;
 use schema_text::MOST_TEXT_BYTES;
-
-// The most bytes that a sheet has.
-const MOST_BYTES: usize = 65536;
+use sheet::MOST_BYTES;
 
 // Reads to the end of the input, or to the first byte past the most: what is longer is refused for its length.
 fn main() {

@@ -10,9 +10,7 @@ use crate::rows::Made;
 use crate::rows::rows_text;
 use schema::Refusal;
 use schema::Resolved;
-
-// Room for the line of a refusal.
-const REFUSAL_ROOM: usize = 64;
+use text::REFUSAL_ROOM;
 
 // Makes the text of the rows, whose numbers are lent, or of the refusal. Where the numbers are too few or the buffer is too short,
 // nothing is written.

@@ -5,7 +5,8 @@ pub(crate) const SLOTS_IN_BLOCK: usize = 7;
 
 pub(crate) const SLOT_SIZE: usize = 72;
 
-pub(crate) const MOST_BYTES: usize = 65536;
+// The most bytes that a sheet has.
+pub const MOST_BYTES: usize = 65536;
 
 pub(crate) const MOST_NODES: usize = 896;
 

@@ -8,6 +8,7 @@ mod names; // names.rt: a node's name, and names compared
 mod opening; // opening.rt: a sheet's nodes, or the refusal
 mod writing; // writing.rt: other annotations in a slot, and the checks
 
+pub use layout::MOST_BYTES;
 pub use names::Stretch;
 pub use names::name_is;
 pub use names::name_is_with;

@@ -5,13 +5,11 @@ ghost use Rattle.sheet.specs.Opening.{openOf};
 ghost use Rattle.sheet_reader.specs.declared.stepping.Step.the-variants.{End};
 use libc::STDIN_FILENO;
 use libc::STDOUT_FILENO;
+use sheet::MOST_BYTES;
 use sheet::Opened;
 use sheet_reader::Step;
 use slot_text::LINE_ROOM;
-use slot_text::REFUSAL_ROOM;
-
-// The most bytes that a sheet has.
-const MOST_BYTES: usize = 65536;
+use text::REFUSAL_ROOM;
 
 // Reads to the end of the input, or to the first byte past the most: what is longer is refused for its length. Of an opened sheet no
 // refusal is printed.

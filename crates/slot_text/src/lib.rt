@@ -5,7 +5,6 @@
 mod opened; // opened.rt: what opening answers
 mod slots; // slots.rt: a slot's numbers, and where its name stands
 
-pub use opened::REFUSAL_ROOM;
 pub use opened::put_opened;
 pub use opened::refusal_line;
 pub use slots::LINE_ROOM;

@@ -6,6 +6,7 @@ ghost use Rattle.io.specs.Counts.{Counts};
 ghost use Rattle.text.specs.Placing.{positionAfter, placedText};
 ghost use Rattle.slot_text.specs.Opened.{openedText, refusalLine, mostOpenedBytes};
 use sheet::Opened;
+use text::REFUSAL_ROOM;
 
 // Document 01's numbers of the refusals.
 const BAD_LENGTH: u64 = 1;
@@ -15,9 +16,6 @@ const BAD_CHECK: u64 = 2;
 const BAD_HEADER: u64 = 3;
 
 const BAD_SLOT: u64 = 4;
-
-// Room for any refusal's line: two numbers of 64 bits, the words before them and the line's end.
-pub const REFUSAL_ROOM: usize = 53;
 
 // Makes the line of a refusal at the start of a room, and answers how many bytes it takes: none of an opened sheet.
 pub fn refusal_line(opened: Opened, out: &mut [u8; REFUSAL_ROOM]) -> usize

@@ -15,4 +15,5 @@ pub use numbers::put_hex64;
 pub use numbers::put_signed;
 pub use placing::after;
 pub use placing::put;
+pub use refusals::REFUSAL_ROOM;
 pub use refusals::put_refusal;

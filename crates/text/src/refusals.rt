@@ -6,15 +6,15 @@ ghost use Rattle.text.specs.Placing.{positionAfter, placedText};
 use crate::numbers::put_decimal;
 use crate::placing::put;
 
-// Room for two numbers of 64 bits and the words before them.
-const ROOM: usize = 64;
+// Room for any refusal's line: two numbers of 64 bits, the words before them and the line's end.
+pub const REFUSAL_ROOM: usize = 53;
 
 // Stores `refused N at P`.
 pub fn put_refusal(out: &mut [u8], at: usize, number: u64, place: u64) -> usize
     ensures { λ r. ⌜ r ≡ positionAfter (length (now (out .entry))) at (refusalText number place) ⌝ }
     ensures { λ _. ⌜ now (out .exit) ≡ placedText (now (out .entry)) at (refusalText number place) ⌝ }
 {
-    let mut text = [0u8; ROOM];
+    let mut text = [0u8; REFUSAL_ROOM];
     let word = put(&mut text, 0, b"refused ");
     let numbered = put_decimal(&mut text, word, number);
     let preposition = put(&mut text, numbered, b" at ");
