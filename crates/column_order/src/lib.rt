@@ -4,20 +4,14 @@
 pub mod answer;
 // The order of two decimals in bytes.
 mod decimals;
-// The order of two DOUBLEs.
-mod doubles;
-// The order of two FLOATs.
-mod floats;
 // Ordering two values.
 pub mod ordering;
+// The order of two whole numbers, of two floats and of two runs of bytes.
+mod pairs;
 // The refusals of the two values.
 mod refusals;
-// The order of two stretches of bytes.
-mod stretches;
 // The order of two read values, by their cases.
 mod values;
-// The order of two whole numbers.
-mod wholes;
 
 pub use answer::Order;
 pub use answer::fault;

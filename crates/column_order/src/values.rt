@@ -4,11 +4,11 @@ ghost use Prim.Native.Nat.{_+_, _≤_};
 ghost use lib.ListN.{length};
 ghost use Rattle.column_order.specs.Values.{flag, truthOrder, signedOrder, unsignedOrder, singleOrder, doubleOrder, stretchEnd, bytesOrder};
 use crate::answer::Order;
-use crate::doubles::order_doubles;
-use crate::floats::order_floats;
-use crate::stretches::order_bytes;
-use crate::wholes::order_numbers;
-use crate::wholes::order_signed;
+use crate::pairs::order_bytes;
+use crate::pairs::order_doubles;
+use crate::pairs::order_floats;
+use crate::pairs::order_numbers;
+use crate::pairs::order_signed;
 use column::Value;
 
 // A truth value against any value.

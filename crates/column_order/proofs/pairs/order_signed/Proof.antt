@@ -1,4 +1,4 @@
--- `column_order::wholes::order_signed` meets its contract.
+-- `column_order::pairs::order_signed` meets its contract.
 -- Assumes nothing.
 use mathlib.Core.Path.{_≡_, sym, ap₂, _∙_}
 use lib.Signed.{ltZ}
@@ -6,14 +6,14 @@ use mir.Syntax.{w64}
 use mir.Val.{toZ, ofZ}
 use mir.ValLaws.{toZ-ofZ}
 use Rattle.column_order.specs.Keys.{wholeOrder}
-use Rattle.column_order.proofs.wholes.order_signed.Statement.{statement}
-use Rattle.column_order.proofs.wholes.order_signed.Tie as tie
+use Rattle.column_order.proofs.pairs.order_signed.Statement.{statement}
+use Rattle.column_order.proofs.pairs.order_signed.Tie as tie
 
-forth : (c : tie.Start) → ltZ (toZ w64 (ofZ w64 (c .args .x))) (toZ w64 (ofZ w64 (c .args .y))) ≡ ltZ (c .args .x) (c .args .y)
-forth c = ap₂ ltZ (toZ-ofZ w64 (c .args .x) (c .fits .x)) (toZ-ofZ w64 (c .args .y) (c .fits .y))
+forth : (c : tie.Start) → ltZ (toZ w64 (ofZ w64 (c .args .i))) (toZ w64 (ofZ w64 (c .args .j))) ≡ ltZ (c .args .i) (c .args .j)
+forth c = ap₂ ltZ (toZ-ofZ w64 (c .args .i) (c .fits .i)) (toZ-ofZ w64 (c .args .j) (c .fits .j))
 
-back : (c : tie.Start) → ltZ (toZ w64 (ofZ w64 (c .args .y))) (toZ w64 (ofZ w64 (c .args .x))) ≡ ltZ (c .args .y) (c .args .x)
-back c = ap₂ ltZ (toZ-ofZ w64 (c .args .y) (c .fits .y)) (toZ-ofZ w64 (c .args .x) (c .fits .x))
+back : (c : tie.Start) → ltZ (toZ w64 (ofZ w64 (c .args .j))) (toZ w64 (ofZ w64 (c .args .i))) ≡ ltZ (c .args .j) (c .args .i)
+back c = ap₂ ltZ (toZ-ofZ w64 (c .args .j) (c .fits .j)) (toZ-ofZ w64 (c .args .i) (c .fits .i))
 
 returns : tie.Need-returns
 unfolding wholeOrder

@@ -1,4 +1,4 @@
--- `column_order::stretches::order_bytes` meets its contract. The invariant: from `at` on the bytes are ordered as the wholes are.
+-- `column_order::pairs::order_bytes` meets its contract. The invariant: from `at` on the bytes are ordered as the wholes are.
 -- Assumes nothing.
 use mathlib.Core.Path.{refl, sym, _∙_}
 use mathlib.Core.Path.{_≡_}
@@ -8,8 +8,8 @@ use native.Mathlib.Numerals.{add-one}
 use lib.ListN.{length, drop}
 use Rattle.column_order.specs.Keys.{byteOrder}
 use Rattle.column_order.proofs.ByteLaws.{byteOrder-longer, byteOrder-shorter, byteOrder-ended, byteOrder-<, byteOrder->, byteOrder-same}
-use Rattle.column_order.proofs.stretches.order_bytes.Statement.{statement}
-use Rattle.column_order.proofs.stretches.order_bytes.Tie as tie
+use Rattle.column_order.proofs.pairs.order_bytes.Statement.{statement}
+use Rattle.column_order.proofs.pairs.order_bytes.Tie as tie
 
 abbrev Inv-loop : tie.InvT-loop
 Inv-loop a b at₀ at = (at ≤ length a) × (at ≤ length b) × (byteOrder (drop at a) (drop at b) ≡ byteOrder a b)

@@ -1,9 +1,9 @@
--- `column_order::wholes::order_numbers` meets its contract.
+-- `column_order::pairs::order_numbers` meets its contract.
 -- Assumes nothing.
 use borrow.Author.Tests.{lt-ltb, le-ltb}
 use Rattle.column_order.specs.Keys.{wholeOrder}
-use Rattle.column_order.proofs.wholes.order_numbers.Statement.{statement}
-use Rattle.column_order.proofs.wholes.order_numbers.Tie as tie
+use Rattle.column_order.proofs.pairs.order_numbers.Statement.{statement}
+use Rattle.column_order.proofs.pairs.order_numbers.Tie as tie
 
 returns : tie.Need-returns
 unfolding wholeOrder

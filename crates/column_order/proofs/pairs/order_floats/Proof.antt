@@ -1,8 +1,8 @@
--- `column_order::doubles::order_doubles` meets its contract.
+-- `column_order::pairs::order_floats` meets its contract.
 -- Assumes nothing.
 use Rattle.column_order.specs.Values.{floatOrder}
-use Rattle.column_order.proofs.doubles.order_doubles.Statement.{statement}
-use Rattle.column_order.proofs.doubles.order_doubles.Tie as tie
+use Rattle.column_order.proofs.pairs.order_floats.Statement.{statement}
+use Rattle.column_order.proofs.pairs.order_floats.Tie as tie
 
 returns : tie.Need-returns
 unfolding floatOrder
@@ -20,5 +20,5 @@ returns-4 : tie.Need-returns-4
 unfolding floatOrder
 returns-4 c = rw (c .before .before .if1 .left, c .before .if2 .left, c .if3 .left)
 
-pub order-doubles-spec : {M : Type 1} → statement M
-order-doubles-spec = tie.close (tie.spec returns returns-2 returns-3 returns-4)
+pub order-floats-spec : {M : Type 1} → statement M
+order-floats-spec = tie.close (tie.spec returns returns-2 returns-3 returns-4)
