@@ -28,7 +28,7 @@ most c =
     omega (arith, short c, length-append (refusalText (start .args .refusal .number) (start .args .refusal .place)) (LF ∷ []))
 
 -- what the room holds
-held : (c : tie.After-put) → Holds (replicate 64 0) (c .put .last .0) 0 (c .put .result) (refusalLine (c .before .before .before .before .before .before .before .before .args .refusal))
+held : (c : tie.After-put) → Holds (replicate 53 0) (c .put .last .0) 0 (c .put .result) (refusalLine (c .before .before .before .before .before .before .before .before .args .refusal))
 unfolding refusalLine
 held c =
     let at-put-refusal = c .before .before .before .before in
@@ -36,7 +36,7 @@ held c =
     let start = for-short .before .before .before in
     let refusal = start .args .refusal in
     let most = short for-short in
-    let text = holds-more (holds-none (replicate 64 0) 0 (omega arith)) (refusalText (refusal .number) (refusal .place)) (omega (arith, most)) (at-put-refusal .put-refusal .ensures) in
+    let text = holds-more (holds-none (replicate 53 0) 0 (omega arith)) (refusalText (refusal .number) (refusal .place)) (omega (arith, most)) (at-put-refusal .put-refusal .ensures) in
     holds-more text (LF ∷ []) (omega (arith, most)) (c .put .ensures)
 
 slice-aggregate-put-refusal : tie.Need-slice-aggregate-put-refusal

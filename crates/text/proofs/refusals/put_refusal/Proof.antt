@@ -18,7 +18,7 @@ abbrev start : tie.After-put-decimal2 → tie.Start
 start c = c .before .before .before .before .before .before .before .before .before .before .before .before .before .before
 
 -- what the room holds
-held : (c : tie.After-put-decimal2) → Holds (replicate 64 0) (c .put-decimal2 .last .0) 0 (c .put-decimal2 .result) (refusalText (start c .args .number) (start c .args .place))
+held : (c : tie.After-put-decimal2) → Holds (replicate 53 0) (c .put-decimal2 .last .0) 0 (c .put-decimal2 .result) (refusalText (start c .args .number) (start c .args .place))
 unfolding refusalText
 held c =
     let at-put2 = c .before .before .before in
@@ -28,7 +28,7 @@ held c =
     let place = start c .args .place in
     let most : length (decimalText number) ≤ 20 = decimal-most number (start c .fits .number) in
     let most′ : length (decimalText place) ≤ 20 = decimal-most place (start c .fits .place) in
-    let word = holds-more (holds-none (replicate 64 0) 0 (omega arith)) (ascii "refused ") (omega arith) (at-put .put .ensures) in
+    let word = holds-more (holds-none (replicate 53 0) 0 (omega arith)) (ascii "refused ") (omega arith) (at-put .put .ensures) in
     let numbered = holds-more word (decimalText number) (omega arith) (at-put-decimal .put-decimal .ensures) in
     let preposition = holds-more numbered (ascii " at ") (simp length-append (omega arith)) (at-put2 .put2 .ensures) in
     holds-more preposition (decimalText place) (simp length-append (omega arith)) (c .put-decimal2 .ensures)
