@@ -1,19 +1,11 @@
 // Single values: one value of a column, checked for refusals 20, 15 and 16 and read.
-
-// Which values keep the annotation of their column.
-mod annotations;
-// The codes of a column type.
-pub mod codes;
-// The floats of bit patterns.
-mod floats;
-// The lengths that values have.
-mod lengths;
-// The numbers that bytes stand for.
-mod numbers;
-// Reading a value.
-pub mod reading;
-// A value that was read, and what reading answers.
-pub mod value;
+mod annotations; // annotations.rt: which values keep the annotation of their column
+pub mod codes; // codes.rt: the codes of a column type
+mod floats; // floats.rt: the floats of bit patterns
+mod lengths; // lengths.rt: the lengths that values have
+mod numbers; // numbers.rt: the numbers that bytes stand for
+pub mod reading; // reading.rt: reading a value
+pub mod value; // value.rt: a value that was read, and what reading answers
 
 pub use lengths::MOST_BYTES;
 pub use reading::read;

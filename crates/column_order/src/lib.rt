@@ -1,17 +1,10 @@
 // The order of two single values of a column, by refusals 20 and 17 and those of the values.
-
-// What ordering answers.
-pub mod answer;
-// The order of two decimals in bytes.
-mod decimals;
-// Ordering two values.
-pub mod ordering;
-// The order of two whole numbers, of two floats and of two runs of bytes.
-mod pairs;
-// The refusals of the two values.
-mod refusals;
-// The order of two read values, by their cases.
-mod values;
+pub mod answer; // answer.rt: what ordering answers
+mod decimals; // decimals.rt: the order of two decimals in bytes
+pub mod ordering; // ordering.rt: ordering two values
+mod pairs; // pairs.rt: the order of two whole numbers, of two floats and of two runs of bytes
+mod refusals; // refusals.rt: the refusals of the two values
+mod values; // values.rt: the order of two read values, by their cases
 
 pub use answer::Order;
 pub use answer::fault;

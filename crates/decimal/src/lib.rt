@@ -1,19 +1,11 @@
 // Decimals: whole numbers as big-endian two's complement of 1 to 256 bytes.
-
-// Whether |number| < 10^precision.
-mod fit;
-// The sign of a number, and the bytes that it needs.
-mod number;
-// The order of two numbers of any two lengths.
-mod order;
-// Powers of ten, as bytes.
-mod power;
-// The lengths, and the greatest precision of each.
-mod precision;
-// Numbers of up to 16 bytes, as two words.
-mod words;
-// The order of two numbers held to a precision.
-mod within;
+mod fit; // fit.rt: whether |number| < 10^precision
+mod number; // number.rt: the sign of a number, and the bytes that it needs
+mod order; // order.rt: the order of two numbers of any two lengths
+mod power; // power.rt: powers of ten, as bytes
+mod precision; // precision.rt: the lengths, and the greatest precision of each
+mod words; // words.rt: numbers of up to 16 bytes, as two words
+mod within; // within.rt: the order of two numbers held to a precision
 
 pub use fit::Fit;
 pub use fit::fits_precision;

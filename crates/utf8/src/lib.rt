@@ -8,7 +8,7 @@ ghost use Rattle.utf8.specs.Sequence.{_to_, tail, inside, spells};
 ghost use Rattle.utf8.specs.Valid.{leading, validUpTo, Stops};
 ghost use Rattle.utf8.specs.Steps.{Passes, NoLetter};
 
-mod ascii;
+mod ascii; // ascii.rt: runs of octets below 128
 
 // Where whole sequences, read from the start of `text`, stop: at its length where all of it is UTF-8, and otherwise at the first byte
 // that no whole sequence has.
