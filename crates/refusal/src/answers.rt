@@ -1,0 +1,25 @@
+// A refusal, and the answers that several crates give.
+
+// A refusal: its number, and the block, node or byte that it names, or 0 where it names none.
+pub struct Refusal {
+    pub number: u32,
+    pub place: usize,
+}
+
+// A refusal of one of two things that were handed in together: 1 or 2, and 0 for neither.
+pub struct Fault {
+    pub side: u8,
+    pub refusal: Refusal,
+}
+
+// Whether anything is refused.
+pub enum Verdict {
+    Lawful,
+    Refused(Refusal),
+}
+
+// How many there are of what was asked for, nodes or bytes, or the refusal.
+pub enum Counted {
+    Count(usize),
+    Refused(Refusal),
+}

@@ -1,0 +1,8 @@
+// What every entry answers where it gives no result: a numbered refusal and its place. Each number stands once here, and once in `specs/`.
+pub mod numbers; // numbers.rt: the refusals' numbers
+mod answers; // answers.rt: a refusal, and the answers that several crates give
+
+pub use answers::Counted;
+pub use answers::Fault;
+pub use answers::Refusal;
+pub use answers::Verdict;
