@@ -11,8 +11,9 @@ use Rattle.sheet.specs.Slot.{physical, repetition, converted, logical, n
 use Rattle.sheet.specs.Sound.{listed, physicalListed, repetitionListed, convertedListed, logicalListed, nameLengthRight, allZero, reservedZero, tailZero, codesListed, nameRight, slotSound, slotRight}
 use Rattle.sheet.specs.Header.{lengthRight, blocksFor, nodesIn, totalRight, fieldsRight, headerRight}
 use Rattle.sheet.specs.First.{firstWrongFrom, firstWrong}
-use Rattle.sheet.specs.Opening.{atFirst, openOf, outcomeOf, outcome, refused}
-use Rattle.sheet.specs.declared.opening.Opened.the-variants.{Nodes}
+use Rattle.sheet.specs.Opening.{atFirst, openOf, outcomeOf, outcome}
+use Rattle.refusal.specs.Outcome.{refused, refusal}
+use Rattle.refusal.specs.declared.answers.Counted.{Counted}
 
 -- "Byte 509 equal to 255, all others zero, gives 64,529"
 check-last-byte : check (set (replicate blockSize 0) 509 255) ≡ 64529
@@ -30,12 +31,12 @@ rootSheet =
     ++ (221 ∷ 37 ∷ [])
 
 -- "One root alone" is a sound sheet
-open-root : openOf rootSheet ≡ Nodes 1
+open-root : openOf rootSheet ≡ Counted.Count 1
 unfolding rootSheet openOf lengthRight atFirst firstWrong firstWrongFrom blockCount blockAt checkRight check storedCheck sumBelow weighted numberAt headerRight fieldsRight blockNumber version total totalOf nodesHere nodesIn totalRight blocksFor slotRight slotAt reaches slotStart slotSound codesListed nameRight physicalListed repetitionListed convertedListed logicalListed listed physical repetition converted logical nameLength nameLengthRight reservedZero tailZero allZero
 open-root = refl
 
 -- no bytes are refusal 1 at 0
-outcome-none : outcome [] ≡ refused 1 0
+outcome-none : outcome [] ≡ refused (refusal 1 0)
 unfolding outcome outcomeOf openOf lengthRight
 outcome-none = refl
 

@@ -19,103 +19,96 @@ use Rattle.sheet.proofs.FirstLaws.{firstWrong-none, firstWrong-all}
 use Rattle.sheet.proofs.SlotLaws.{slots-length}
 use Rattle.sheet.proofs.SoundLaws.{slotRight-used}
 use Rattle.sheet.proofs.HeaderLaws.{lengthRight-least, blockCount-least, totalRight-least, totalRight-most, totalRight-within}
-use Rattle.sheet.specs.declared.opening.Opened.{Opened}
-use Rattle.sheet.specs.declared.opening.Opened.the-variants.{Nodes, BadLength, BadCheck, BadHeader, BadSlot}
+use Rattle.refusal.specs.Numbers.{SHEET-LENGTH, BLOCK-CHECK, BLOCK-HEADER, SLOT}
+use Rattle.refusal.specs.Outcome.{refusal, unplaced}
+use Rattle.refusal.specs.declared.answers.Refusal.{Refusal}
+use Rattle.refusal.specs.declared.answers.Counted.{Counted}
 
-module _ (right : ℕ → Bool) (n : ℕ) (refusal : ℕ → Opened) (next : Opened) where
+module _ (right : ℕ → Bool) (n number : ℕ) (next : Counted) where
   -- a first place that is wrong is refused
-  pub atFirst-at : {i : ℕ} → i ≡ firstWrong right n → i < n → atFirst right n refusal next ≡ refusal i
+  pub atFirst-at : {i : ℕ} → i ≡ firstWrong right n → i < n → atFirst right n number next ≡ Counted.Refused (refusal number i)
   unfolding atFirst
   atFirst-at {i} e h = rw (← e, lt-ltb i n h)
 
   -- where there is none, what follows is the answer
-  pub atFirst-none : {i : ℕ} → i ≡ firstWrong right n → n ≤ i → atFirst right n refusal next ≡ next
+  pub atFirst-none : {i : ℕ} → i ≡ firstWrong right n → n ≤ i → atFirst right n number next ≡ next
   unfolding atFirst
   atFirst-none {i} e h = rw (← e, le-ltb i n h)
 
 -- a wrong length is refused first
-pub openOf-length : (sheet : List ℕ) → lengthRight (length sheet) ≡ false → openOf sheet ≡ BadLength
+pub openOf-length : (sheet : List ℕ) → lengthRight (length sheet) ≡ false → openOf sheet ≡ Counted.Refused (unplaced SHEET-LENGTH)
 unfolding openOf
 openOf-length sheet e = rw e
 
 module _ (sheet : List ℕ) (right : lengthRight (length sheet) ≡ true) {check : ℕ} (check-is : check ≡ firstWrong (checkRight sheet) (blockCount sheet)) where
   -- then a wrong check
-  pub openOf-check : check < blockCount sheet → openOf sheet ≡ BadCheck check
+  pub openOf-check : check < blockCount sheet → openOf sheet ≡ Counted.Refused (refusal BLOCK-CHECK check)
   unfolding openOf
   openOf-check h = rw right (atFirst-at _ _ _ _ check-is h)
 
   module _ (checks : blockCount sheet ≤ check) {header : ℕ} (header-is : header ≡ firstWrong (headerRight sheet) (blockCount sheet)) where
     -- then a wrong header
-    pub openOf-header : header < blockCount sheet → openOf sheet ≡ BadHeader header
+    pub openOf-header : header < blockCount sheet → openOf sheet ≡ Counted.Refused (refusal BLOCK-HEADER header)
     unfolding openOf
     openOf-header h = rw right (atFirst-none _ _ _ _ check-is checks ∙ atFirst-at _ _ _ _ header-is h)
 
     module _ (headers : blockCount sheet ≤ header) {slot : ℕ} (slot-is : slot ≡ firstWrong (slotRight sheet) (slotsInBlock * blockCount sheet)) where
       -- then a wrong slot
-      pub openOf-slot : slot < slotsInBlock * blockCount sheet → openOf sheet ≡ BadSlot slot
+      pub openOf-slot : slot < slotsInBlock * blockCount sheet → openOf sheet ≡ Counted.Refused (refusal SLOT slot)
       unfolding openOf
       openOf-slot h =
           rw right (atFirst-none _ _ _ _ check-is checks ∙ atFirst-none _ _ _ _ header-is headers ∙ atFirst-at _ _ _ _ slot-is h)
 
       -- and a sheet with nothing wrong has its nodes
-      pub openOf-nodes : slotsInBlock * blockCount sheet ≤ slot → openOf sheet ≡ Nodes (totalOf sheet)
+      pub openOf-nodes : slotsInBlock * blockCount sheet ≤ slot → openOf sheet ≡ Counted.Count (totalOf sheet)
       unfolding openOf
       openOf-nodes h =
           rw right (atFirst-none _ _ _ _ check-is checks ∙ atFirst-none _ _ _ _ header-is headers ∙ atFirst-none _ _ _ _ slot-is h)
 
+-- a refusal is no number of nodes
+pub refused-other : (r : Refusal) (t : ℕ) → Counted.Refused r ≡ Counted.Count t → ⊥
+refused-other r t e = let z : _≡_ {A = ℕ} 0 1 = cc in omega arith
+
 -- an answer of nodes comes past every test
-atFirst-nodes : (right : ℕ → Bool) (n : ℕ) (refusal : ℕ → Opened) (next : Opened) (t : ℕ)
-    → ((i : ℕ) → refusal i ≡ Nodes t → ⊥)
-    → atFirst right n refusal next ≡ Nodes t
-    → ((k : ℕ) → k < n → right k ≡ true) × (next ≡ Nodes t)
-atFirst-nodes right n refusal next t other e = cases (decLe n (firstWrong right n))
+atFirst-nodes : (right : ℕ → Bool) (n number : ℕ) (next : Counted) (t : ℕ)
+    → atFirst right n number next ≡ Counted.Count t
+    → ((k : ℕ) → k < n → right k ≡ true) × (next ≡ Counted.Count t)
+atFirst-nodes right n number next t e = cases (decLe n (firstWrong right n))
   where
-    cases : Dec (n ≤ firstWrong right n) → ((k : ℕ) → k < n → right k ≡ true) × (next ≡ Nodes t)
-    cases (yes h) = (firstWrong-all right n h, sym (atFirst-none right n refusal next refl h) ∙ e)
-    cases (no h) = absurd (other (firstWrong right n) (sym (atFirst-at right n refusal next refl (omega arith)) ∙ e))
+    cases : Dec (n ≤ firstWrong right n) → ((k : ℕ) → k < n → right k ≡ true) × (next ≡ Counted.Count t)
+    cases (yes h) = (firstWrong-all right n h, sym (atFirst-none right n number next refl h) ∙ e)
+    cases (no h) = absurd (refused-other (refusal number (firstWrong right n)) t (sym (atFirst-at right n number next refl (omega arith)) ∙ e))
 
-check-other : (t i : ℕ) → BadCheck i ≡ Nodes t → ⊥
-check-other t i e = let z : _≡_ {A = ℕ} 0 1 = cc in omega arith
-
-header-other : (t i : ℕ) → BadHeader i ≡ Nodes t → ⊥
-header-other t i e = let z : _≡_ {A = ℕ} 0 1 = cc in omega arith
-
-slot-other : (t i : ℕ) → BadSlot i ≡ Nodes t → ⊥
-slot-other t i e = let z : _≡_ {A = ℕ} 0 1 = cc in omega arith
-
-length-other : (t : ℕ) → BadLength ≡ Nodes t → ⊥
-length-other t e = let z : _≡_ {A = ℕ} 0 1 = cc in omega arith
-
-module _ (sheet : List ℕ) (t : ℕ) (opened : openOf sheet ≡ Nodes t) where
+module _ (sheet : List ℕ) (t : ℕ) (opened : openOf sheet ≡ Counted.Count t) where
   -- a sheet that opens has a right length
   openOf-length-right : lengthRight (length sheet) ≡ true
   openOf-length-right = cases (lengthRight (length sheet)) refl
     where
       cases : (b : Bool) → lengthRight (length sheet) ≡ b → lengthRight (length sheet) ≡ true
       cases true e = e
-      cases false e = absurd (length-other t (sym (openOf-length sheet e) ∙ opened))
+      cases false e = absurd (refused-other (unplaced SHEET-LENGTH) t (sym (openOf-length sheet e) ∙ opened))
 
-  past-length : atFirst (checkRight sheet) (blockCount sheet) BadCheck
-      (atFirst (headerRight sheet) (blockCount sheet) BadHeader
-      (atFirst (slotRight sheet) (slotsInBlock * blockCount sheet) BadSlot
-      (Nodes (totalOf sheet))))
-      ≡ Nodes t
+  past-length : atFirst (checkRight sheet) (blockCount sheet) BLOCK-CHECK
+      (atFirst (headerRight sheet) (blockCount sheet) BLOCK-HEADER
+      (atFirst (slotRight sheet) (slotsInBlock * blockCount sheet) SLOT
+      (Counted.Count (totalOf sheet))))
+      ≡ Counted.Count t
   unfolding openOf
   past-length = rw openOf-length-right at opened
 
   past-checks : ((i : ℕ) → i < blockCount sheet → checkRight sheet i ≡ true)
-      × (atFirst (headerRight sheet) (blockCount sheet) BadHeader
-      (atFirst (slotRight sheet) (slotsInBlock * blockCount sheet) BadSlot
-      (Nodes (totalOf sheet)))
-      ≡ Nodes t)
-  past-checks = atFirst-nodes _ _ _ _ t (check-other t) past-length
+      × (atFirst (headerRight sheet) (blockCount sheet) BLOCK-HEADER
+      (atFirst (slotRight sheet) (slotsInBlock * blockCount sheet) SLOT
+      (Counted.Count (totalOf sheet)))
+      ≡ Counted.Count t)
+  past-checks = atFirst-nodes _ _ _ _ t past-length
 
   past-headers : ((i : ℕ) → i < blockCount sheet → headerRight sheet i ≡ true)
-      × (atFirst (slotRight sheet) (slotsInBlock * blockCount sheet) BadSlot (Nodes (totalOf sheet)) ≡ Nodes t)
-  past-headers = atFirst-nodes _ _ _ _ t (header-other t) (past-checks .1)
+      × (atFirst (slotRight sheet) (slotsInBlock * blockCount sheet) SLOT (Counted.Count (totalOf sheet)) ≡ Counted.Count t)
+  past-headers = atFirst-nodes _ _ _ _ t (past-checks .1)
 
-  past-slots : ((k : ℕ) → k < slotsInBlock * blockCount sheet → slotRight sheet k ≡ true) × (Nodes (totalOf sheet) ≡ Nodes t)
-  past-slots = atFirst-nodes _ _ _ _ t (slot-other t) (past-headers .1)
+  past-slots : ((k : ℕ) → k < slotsInBlock * blockCount sheet → slotRight sheet k ≡ true) × (Counted.Count (totalOf sheet) ≡ Counted.Count t)
+  past-slots = atFirst-nodes _ _ _ _ t (past-headers .1)
 
   -- a sheet that opens has sound blocks
   pub openOf-blocks : BlocksSound sheet
@@ -158,13 +151,13 @@ module _ (sheet : List ℕ) (t : ℕ) (opened : openOf sheet ≡ Nodes t) where
       sym (slotRight-used sheet k (omega (arith, openOf-total))) ∙ past-slots .0 k (omega (arith, openOf-within))
 
 -- a sheet of sound blocks and slots opens
-pub openOf-accepts : (sheet : List ℕ) → BlocksSound sheet → SlotsSound sheet → openOf sheet ≡ Nodes (totalOf sheet)
+pub openOf-accepts : (sheet : List ℕ) → BlocksSound sheet → SlotsSound sheet → openOf sheet ≡ Counted.Count (totalOf sheet)
 openOf-accepts sheet blocks slots-sound =
     openOf-nodes sheet (blocks .length-right) refl (le-of-eq (sym (firstWrong-none _ _ (blocks .checks-right))))
     refl (le-of-eq (sym (firstWrong-none _ _ (blocks .headers-right))))
     refl (le-of-eq (sym (firstWrong-none _ _ (slots-sound .slots-right))))
 
 -- an answer that opening gives has the sheet's outcome
-pub with-outcome : (sheet : List ℕ) (r : Opened) → r ≡ openOf sheet → (r ≡ openOf sheet) × (outcomeOf sheet r ≡ outcome sheet)
+pub with-outcome : (sheet : List ℕ) (r : Counted) → r ≡ openOf sheet → (r ≡ openOf sheet) × (outcomeOf sheet r ≡ outcome sheet)
 unfolding outcome
 with-outcome sheet r e = (e, ap (outcomeOf sheet) e)

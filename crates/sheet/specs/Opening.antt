@@ -5,28 +5,29 @@ use mathlib.Core.Bool.{Bool, true, cond}
 use mathlib.Core.List.{List}
 use lib.Dec.{ltb}
 use lib.ListN.{length}
+use Rattle.refusal.specs.Numbers.{SHEET-LENGTH, BLOCK-CHECK, BLOCK-HEADER, SLOT}
+use Rattle.refusal.specs.Outcome.{Outcome, given, refused, refusal, unplaced}
+use Rattle.refusal.specs.declared.answers.Counted.{Counted}
 use Rattle.sheet.specs.Block.{slotsInBlock, blockCount, totalOf}
 use Rattle.sheet.specs.Check.{checkRight}
 use Rattle.sheet.specs.Slot.{slots}
 use Rattle.sheet.specs.Sound.{slotRight}
 use Rattle.sheet.specs.Header.{lengthRight, headerRight}
 use Rattle.sheet.specs.First.{firstWrong}
-use Rattle.sheet.specs.declared.opening.Opened.{Opened}
-use Rattle.sheet.specs.declared.opening.Opened.the-variants.{Nodes, BadLength, BadCheck, BadHeader, BadSlot}
 
--- the refusal at the first of n places where the test fails, or what follows where it fails at none
-unfoldable pub atFirst : (ℕ → Bool) → ℕ → (ℕ → Opened) → Opened → Opened
-atFirst right n refusal next = cond (ltb (firstWrong right n) n) (refusal (firstWrong right n)) next
+-- the refusal of that number at the first of n places where the test fails, or what follows where it fails at none
+unfoldable pub atFirst : (ℕ → Bool) → ℕ → ℕ → Counted → Counted
+atFirst right n number next = cond (ltb (firstWrong right n) n) (Counted.Refused (refusal number (firstWrong right n))) next
 
 -- the answer for any bytes: each refusal is judged over the whole sheet before the next
-unfoldable pub openOf : List ℕ → Opened
+unfoldable pub openOf : List ℕ → Counted
 openOf sheet =
     cond (lengthRight (length sheet))
-    (atFirst (checkRight sheet) (blockCount sheet) BadCheck
-    (atFirst (headerRight sheet) (blockCount sheet) BadHeader
-    (atFirst (slotRight sheet) (slotsInBlock * blockCount sheet) BadSlot
-    (Nodes (totalOf sheet)))))
-    BadLength
+    (atFirst (checkRight sheet) (blockCount sheet) BLOCK-CHECK
+    (atFirst (headerRight sheet) (blockCount sheet) BLOCK-HEADER
+    (atFirst (slotRight sheet) (slotsInBlock * blockCount sheet) SLOT
+    (Counted.Count (totalOf sheet)))))
+    (Counted.Refused (unplaced SHEET-LENGTH))
 
 -- "blocks are sound where refusals 1 to 3 don't hold"
 pub record BlocksSound (sheet : List ℕ) : Type 0 where
@@ -38,19 +39,16 @@ pub record BlocksSound (sheet : List ℕ) : Type 0 where
 pub record SlotsSound (sheet : List ℕ) : Type 0 where
   pub slots-right : (k : ℕ) → k < slotsInBlock * blockCount sheet → slotRight sheet k ≡ true
 
--- the paper's outcome: T with the used slots, or a refusal's number and place
-pub data Outcome : Type 0 where
-  accepted : ℕ → List (List ℕ) → Outcome
-  refused : ℕ → ℕ → Outcome
+-- what an opened sheet has: T, and the used slots
+pub record Nodes : Type 0 where
+  pub total : ℕ
+  pub used : List (List ℕ)
 
--- each answer's number and values
-unfoldable pub outcomeOf : List ℕ → Opened → Outcome
-outcomeOf sheet (Nodes t) = accepted t (slots sheet)
-outcomeOf sheet BadLength = refused 1 0
-outcomeOf sheet (BadCheck block) = refused 2 block
-outcomeOf sheet (BadHeader block) = refused 3 block
-outcomeOf sheet (BadSlot node) = refused 4 node
+-- what each answer stands for
+unfoldable pub outcomeOf : List ℕ → Counted → Outcome Nodes
+outcomeOf sheet (Counted.Count t) = given (record { total = t; used = slots sheet })
+outcomeOf sheet (Counted.Refused r) = refused r
 
 -- the outcome of any list of bytes
-unfoldable pub outcome : List ℕ → Outcome
+unfoldable pub outcome : List ℕ → Outcome Nodes
 outcome sheet = outcomeOf sheet (openOf sheet)

@@ -13,7 +13,6 @@ pub use names::Stretch;
 pub use names::name_is;
 pub use names::name_is_with;
 pub use names::name_stretch;
-pub use opening::Opened;
 pub use opening::open;
 pub use slots::Slot;
 pub use slots::slot_at;

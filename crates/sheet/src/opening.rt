@@ -13,45 +13,46 @@ use crate::block::header_right;
 use crate::block::total_of;
 use crate::layout;
 use crate::soundness::slot_right;
-
-// What opening finds.
-pub enum Opened {
-    // A sheet of so many nodes.
-    Nodes(usize),
-    // The length is 0, not a multiple of 512, or over 65,536.
-    BadLength,
-    // The first block whose check differs.
-    BadCheck(usize),
-    // The first block whose header is wrong.
-    BadHeader(usize),
-    // The first node whose slot is wrong, or the first unused slot that is not zero.
-    BadSlot(usize),
-}
+use refusal::Counted;
+use refusal::Refusal;
+use refusal::numbers;
 
 // The number of nodes of a sheet, or the first refusal that holds of it.
-pub fn open(sheet: &[u8]) -> Opened
+pub fn open(sheet: &[u8]) -> Counted
     ensures { λ r. ⌜ r ≡ openOf (now (sheet .entry)) ⌝ }
     ensures { λ r. ⌜ outcomeOf (now (sheet .entry)) r ≡ outcome (now (sheet .entry)) ⌝ }
 {
     if !length_right(sheet.len()) {
-        return Opened::BadLength;
+        return Counted::Refused(Refusal {
+            number: numbers::SHEET_LENGTH,
+            place: 0,
+        });
     }
     let blocks = sheet.len() / layout::BLOCK_SIZE;
     let check = first_bad_check(sheet, blocks);
     if check < blocks {
-        return Opened::BadCheck(check);
+        return Counted::Refused(Refusal {
+            number: numbers::BLOCK_CHECK,
+            place: check,
+        });
     }
     let total = total_of(sheet);
     let header = first_bad_header(sheet, blocks, total);
     if header < blocks {
-        return Opened::BadHeader(header);
+        return Counted::Refused(Refusal {
+            number: numbers::BLOCK_HEADER,
+            place: header,
+        });
     }
     let slots = layout::SLOTS_IN_BLOCK * blocks;
     let slot = first_bad_slot(sheet, slots, total);
     if slot < slots {
-        return Opened::BadSlot(slot);
+        return Counted::Refused(Refusal {
+            number: numbers::SLOT,
+            place: slot,
+        });
     }
-    Opened::Nodes(total)
+    Counted::Count(total)
 }
 
 fn length_right(n: usize) -> bool

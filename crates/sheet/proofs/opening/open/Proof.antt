@@ -6,7 +6,7 @@ use lib.ListN.{length}
 use native.Mathlib.Omega.{arith}
 use Rattle.sheet.specs.Block.{blockCount}
 use Rattle.sheet.specs.Header.{lengthRight}
-use Rattle.sheet.specs.declared.opening.Opened.the-variants.{Nodes}
+use Rattle.refusal.specs.declared.answers.Counted.{Counted}
 use Rattle.sheet.proofs.TestLaws.{failed, passed}
 use Rattle.sheet.proofs.HeaderLaws.{lengthRight-least, lengthRight-most}
 use Rattle.sheet.proofs.OpeningLaws.{openOf-length, openOf-check, openOf-header, openOf-slot, openOf-nodes, with-outcome}
@@ -66,7 +66,7 @@ unfolding blockCount
 returns-5 c =
     let headers = c .before .before in
     let checks = headers .before .before .before in
-    with-outcome _ _ (ap Nodes (headers .before .before .total-of .ensures)
+    with-outcome _ _ (ap Counted.Count (headers .before .before .total-of .ensures)
     ∙ sym (openOf-nodes _ (length-is-right (checks .before .before)) (checks .before .first-bad-check .ensures) (checks .if2 .left)
     (headers .before .first-bad-header .ensures) (headers .if3 .left)
     (c .before .first-bad-slot .ensures) (c .if4 .left)))
