@@ -7,18 +7,18 @@ use native.Mathlib.Omega.{arith}
 use borrow.Author.Tests.{ltb-false}
 use lib.Dec.{ltb}
 use lib.ListN.{length, drop}
+use Rattle.refusal.specs.Outcome.{shortOutput}
 use Rattle.sheet.specs.Block.{totalOf}
 use Rattle.sheet.specs.Opening as sheet
-use Rattle.sheet.specs.declared.opening.Opened.the-variants.{Nodes}
+use Rattle.refusal.specs.declared.answers.Counted.{Counted}
 use Rattle.sheet.proofs.OpeningLaws.{openOf-blocks, openOf-slots}
 use Rattle.tree.specs.Tree.{Tree}
 use Rattle.schema.specs.Rows.{rowWidth, rows}
 use Rattle.tree.specs.Judgement.{judgement}
-use Rattle.schema.specs.Outcome.{shortOutput, answer, outcome, written}
+use Rattle.schema.specs.Outcome.{answer, outcome, written}
 use Rattle.schema.specs.Demand.{IsTreeOf, Sound, EnoughOutput, Accepted}
-use Rattle.tree.specs.declared.refusal.Verdict.{Verdict}
-use Rattle.tree.specs.declared.refusal.Verdict.the-variants.{Lawful, Refused}
-use Rattle.schema.specs.declared.resolving.Resolved.{Resolved}
+use Rattle.refusal.specs.declared.answers.Verdict.{Verdict}
+use Rattle.refusal.specs.declared.answers.Verdict.the-variants.{Lawful, Refused}
 use Rattle.schema.proofs.DemandLaws.{accepted-no-refusal, accepted-exactly, rows-are}
 use Rattle.tree.proofs.JudgementLaws.{lawful-opened}
 
@@ -28,17 +28,17 @@ unfolding Accepted answer
 answer-enough (Refused r) t lent a = absurd a
 answer-enough Lawful t lent a = enough (ltb lent (rowWidth * t)) refl a
   where
-    enough : (b : Bool) → ltb lent (rowWidth * t) ≡ b → Accepted (cond b (Resolved.Refused shortOutput) (Resolved.Rows t)) → rowWidth * t ≤ lent
+    enough : (b : Bool) → ltb lent (rowWidth * t) ≡ b → Accepted (cond b (Counted.Refused shortOutput) (Counted.Count t)) → rowWidth * t ≤ lent
     enough true e q = absurd q
     enough false e q = ltb-false lent (rowWidth * t) e
 
 -- the rows that are answered are T
-answer-rows : (v : Verdict) (t lent n : ℕ) → answer v t lent ≡ Resolved.Rows n → t ≡ n
+answer-rows : (v : Verdict) (t lent n : ℕ) → answer v t lent ≡ Counted.Count n → t ≡ n
 unfolding answer
 answer-rows (Refused r) t lent n e = absurd (let z : _≡_ {A = ℕ} 0 1 = cc in omega arith)
 answer-rows Lawful t lent n e = by-test (ltb lent (rowWidth * t)) e
   where
-    by-test : (b : Bool) → cond b (Resolved.Refused shortOutput) (Resolved.Rows t) ≡ Resolved.Rows n → t ≡ n
+    by-test : (b : Bool) → cond b (Counted.Refused shortOutput) (Counted.Count t) ≡ Counted.Count n → t ≡ n
     by-test true q = absurd (let z : _≡_ {A = ℕ} 0 1 = cc in omega arith)
     by-test false q = cc
 
@@ -66,7 +66,7 @@ accepted-rows bytes lent a =
     (tree .0, tree .1, rows-are bytes lent (tree .0) sound enough (tree .1))
 
 -- as many numbers are lent as the rows that are answered take
-pub rows-fit : (bytes : List ℕ) (lent n : ℕ) → outcome bytes lent ≡ Resolved.Rows n → rowWidth * n ≤ lent
+pub rows-fit : (bytes : List ℕ) (lent n : ℕ) → outcome bytes lent ≡ Counted.Count n → rowWidth * n ≤ lent
 unfolding outcome Accepted EnoughOutput
 rows-fit bytes lent n e =
     let enough = accepted-enough bytes lent (subst Accepted (sym e) tt) in

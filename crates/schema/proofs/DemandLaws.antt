@@ -2,25 +2,25 @@
 use Prim.Native.Nat.{ℕ, _*_, _≤_}
 use mathlib.Core.Path.{_≡_, refl, sym, ap, _∙_, subst}
 use mathlib.Core.Logic.{_↔_}
-use Rattle.tree.specs.declared.refusal.Verdict.{Verdict}
-use Rattle.tree.specs.declared.refusal.Verdict.the-variants.{Lawful, Refused}
+use Rattle.refusal.specs.Outcome.{refusal}
+use Rattle.refusal.specs.declared.answers.Verdict.{Verdict}
+use Rattle.refusal.specs.declared.answers.Verdict.the-variants.{Lawful, Refused}
 use mathlib.Core.List.{List, [], _++_}
 use borrow.Author.Tests.{le-ltb}
 use lib.ListN.{length, drop}
 use Rattle.sheet.specs.Block.{totalOf}
 use Rattle.sheet.specs.Opening as sheet
 use Rattle.sheet.specs.Slot.{slots}
-use Rattle.sheet.specs.declared.opening.Opened.the-variants.{Nodes}
+use Rattle.refusal.specs.declared.answers.Counted.{Counted}
 use Rattle.sheet.proofs.OpeningLaws.{openOf-accepts, openOf-blocks, openOf-slots}
 use Rattle.sheet.proofs.SlotLaws.{slots-length}
 use Rattle.tree.specs.Tree.{Tree, size}
 use Rattle.schema.specs.Rows.{rows, rowWidth}
 use Rattle.tree.specs.Reading.{treeOf}
-use Rattle.tree.specs.Judgement.{refusal, treeRefusal, judgedAs, judgement}
+use Rattle.tree.specs.Judgement.{treeRefusal, judgedAs, judgement}
 use Rattle.schema.specs.Outcome.{answer, outcome, written}
 use Rattle.schema.specs.Demand.{IsTreeOf, Sound, EnoughOutput, Accepted}
-use Rattle.tree.specs.declared.refusal.Refusal.{Refusal}
-use Rattle.schema.specs.declared.resolving.Resolved.{Resolved}
+use Rattle.refusal.specs.declared.answers.Refusal.{Refusal}
 use Rattle.schema.specs.declared.roles.Parent.the-variants.{Other}
 use Rattle.schema.proofs.RowsLaws.{length-rowsFrom}
 use Rattle.tree.proofs.TreeOfLaws.{treeOf-listing, fills-listing, fills-claims, accepted-fills}
@@ -62,12 +62,12 @@ unfolding Accepted answer
 accepted-no-refusal Lawful t lent a = refl
 accepted-no-refusal (Refused r) t lent a = absurd a
 
-pub no-refusal-rows : (r : Verdict) (t lent : ℕ) → r ≡ Lawful → rowWidth * t ≤ lent → answer r t lent ≡ Resolved.Rows t
+pub no-refusal-rows : (r : Verdict) (t lent : ℕ) → r ≡ Lawful → rowWidth * t ≤ lent → answer r t lent ≡ Counted.Count t
 unfolding answer
 no-refusal-rows r t lent e h = rw (e, le-ltb lent (rowWidth * t) h)
 
 -- where a sheet has a tree and output is enough, the answer is its T rows
-pub tree-rows : (bytes : List ℕ) (lent : ℕ) (t : Tree) → Sound bytes → EnoughOutput bytes lent → IsTreeOf bytes t → outcome bytes lent ≡ Resolved.Rows (totalOf bytes)
+pub tree-rows : (bytes : List ℕ) (lent : ℕ) (t : Tree) → Sound bytes → EnoughOutput bytes lent → IsTreeOf bytes t → outcome bytes lent ≡ Counted.Count (totalOf bytes)
 unfolding outcome EnoughOutput
 tree-rows bytes lent t s n h =
     no-refusal-rows (judgement bytes) (totalOf bytes) lent (sound-judgement bytes s ∙ tree-accepted bytes t h) n
@@ -91,12 +91,12 @@ rows-are bytes lent t s n h =
     rw (tree-rows bytes (length lent) t s n h, treeOf-listing t (slots bytes) (h .claims) (h .lists))
 
 -- what judging refuses, resolving refuses so, whatever is lent
-pub refused-resolving : (bytes : List ℕ) (lent : ℕ) (r : Refusal) → judgement bytes ≡ Refused r → outcome bytes lent ≡ Resolved.Refused r
+pub refused-resolving : (bytes : List ℕ) (lent : ℕ) (r : Refusal) → judgement bytes ≡ Refused r → outcome bytes lent ≡ Counted.Refused r
 unfolding outcome answer
 refused-resolving bytes lent r e = rw e
 
 -- a refusal changes nothing
-pub refused-unchanged : (bytes lent : List ℕ) (r : Refusal) → outcome bytes (length lent) ≡ Resolved.Refused r → written (outcome bytes (length lent)) bytes lent ≡ lent
+pub refused-unchanged : (bytes lent : List ℕ) (r : Refusal) → outcome bytes (length lent) ≡ Counted.Refused r → written (outcome bytes (length lent)) bytes lent ≡ lent
 unfolding written
 refused-unchanged bytes lent r e = rw e
 

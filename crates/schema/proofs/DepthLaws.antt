@@ -10,7 +10,7 @@ use Rattle.tree.specs.Tree.{SlotBytes, Tree, Fields, node, count, size, depths,
 use Rattle.tree.specs.Reading.{trees}
 use Rattle.tree.specs.Judgement.{judgementOf}
 use Rattle.tree.specs.Steps.{Claimed, Visited, treeAt, runAt, fieldsAt, depthAt}
-use Rattle.tree.specs.declared.judgement.Judgement.{Judgement}
+use Rattle.refusal.specs.declared.answers.Counted.{Counted}
 use Rattle.tree.proofs.StandingLaws.{treeAt-zero}
 use Rattle.tree.proofs.VisitLaws.{treeAt-slot, run-at, run-split, root-alone}
 use Rattle.tree.proofs.JudgementLaws.{judged-some, judged-claimed, judged-deep}
@@ -60,6 +60,6 @@ module _ (b : List ℕ) (at n l : ℕ) (h : Claimed b) (k : n ≡ 0 → ⊥) (c 
   rest-deep next e = none-behind (depths (depthAt l) (treeAt (slots b) at)) _ (run-deep next e)
 
 -- no node of a lawful sheet is too deep, where all levels are left at its root
-pub root-deep : (b : List ℕ) (n : ℕ) → judgementOf b ≡ Judgement.Nodes n → NoneTooDeep (runDepths (depthAt (suc mostDepth)) (runAt (slots b) 0 1))
+pub root-deep : (b : List ℕ) (n : ℕ) → judgementOf b ≡ Counted.Count n → NoneTooDeep (runDepths (depthAt (suc mostDepth)) (runAt (slots b) 0 1))
 unfolding NoneTooDeep AtMostDeep runDepths depthAt
 root-deep b n e = rw (root-alone b (judged-claimed b n e) (judged-some b n e), append-nil, treeAt-zero) (judged-deep b n e)

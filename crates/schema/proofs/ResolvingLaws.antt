@@ -6,19 +6,19 @@ use native.Mathlib.Omega.{arith}
 use native.Mathlib.Nat.{zero-add}
 use borrow.Author.Tests.{lt-ltb, le-ltb}
 use lib.ListN.{length, drop}
+use Rattle.refusal.specs.Outcome.{refusal}
 use Rattle.sheet.specs.Block.{totalOf}
 use Rattle.sheet.specs.Slot.{slots, slotAt}
 use Rattle.tree.specs.Tree.{SlotBytes, Tree, node}
 use Rattle.schema.specs.Rows.{rowsFrom, runRowsFrom, row, parentOf, role, rows, rowWidth}
 use Rattle.tree.specs.Reading.{treeOf}
-use Rattle.tree.specs.Judgement.{refusal, judgementOf}
+use Rattle.tree.specs.Judgement.{judgementOf}
 use Rattle.schema.specs.Outcome.{answer, outcome, written}
 use Rattle.tree.specs.Steps.{treeAt, runAt}
 use Rattle.laws.specs.Stretches.{stretched}
 use Rattle.schema.specs.declared.roles.Parent.{Parent}
-use Rattle.tree.specs.declared.refusal.Refusal.{Refusal}
-use Rattle.tree.specs.declared.judgement.Judgement.{Judgement}
-use Rattle.schema.specs.declared.resolving.Resolved.{Resolved}
+use Rattle.refusal.specs.declared.answers.Refusal.{Refusal}
+use Rattle.refusal.specs.declared.answers.Counted.{Counted}
 use Rattle.tree.proofs.JudgementLaws.{judged-refused, judged-lawful, judged-total, judged-some, judged-claimed, tree-size}
 use Rattle.tree.proofs.VisitLaws.{root-alone}
 use Rattle.tree.proofs.StandingLaws.{treeAt-zero}
@@ -30,22 +30,22 @@ unfolding rowsFrom row parentOf role
 other-above (node s fs) a b = refl
 
 module _ (b : List ℕ) where
-  pub resolve-refused : (r : Refusal) (lent : List ℕ) → judgementOf b ≡ Judgement.Refused r → outcome b (length lent) ≡ Resolved.Refused r
+  pub resolve-refused : (r : Refusal) (lent : List ℕ) → judgementOf b ≡ Counted.Refused r → outcome b (length lent) ≡ Counted.Refused r
   unfolding outcome answer
   resolve-refused r lent e = rw (judged-refused b r e)
 
-  pub written-refused : (r : Refusal) (lent : List ℕ) → outcome b (length lent) ≡ Resolved.Refused r → lent ≡ written (outcome b (length lent)) b lent
+  pub written-refused : (r : Refusal) (lent : List ℕ) → outcome b (length lent) ≡ Counted.Refused r → lent ≡ written (outcome b (length lent)) b lent
   unfolding written
   written-refused r lent e = rw e
 
-  module _ (n : ℕ) (e : judgementOf b ≡ Judgement.Nodes n) where
-    pub resolve-short : (lent : List ℕ) → length lent < rowWidth * n → outcome b (length lent) ≡ Resolved.Refused (refusal 14 0)
+  module _ (n : ℕ) (e : judgementOf b ≡ Counted.Count n) where
+    pub resolve-short : (lent : List ℕ) → length lent < rowWidth * n → outcome b (length lent) ≡ Counted.Refused (refusal 14 0)
     unfolding outcome answer
     resolve-short lent h = rw (judged-lawful b n e .0, lt-ltb (length lent) (rowWidth * totalOf b) (omega (arith, judged-total b n e)))
 
-    pub resolve-rows : (lent : List ℕ) → rowWidth * n ≤ length lent → outcome b (length lent) ≡ Resolved.Rows n
+    pub resolve-rows : (lent : List ℕ) → rowWidth * n ≤ length lent → outcome b (length lent) ≡ Counted.Count n
     unfolding outcome answer
-    resolve-rows lent h = rw (judged-lawful b n e .0, le-ltb (length lent) (rowWidth * totalOf b) (omega (arith, judged-total b n e))) (ap Resolved.Rows (sym (judged-total b n e)))
+    resolve-rows lent h = rw (judged-lawful b n e .0, le-ltb (length lent) (rowWidth * totalOf b) (omega (arith, judged-total b n e))) (ap Counted.Count (sym (judged-total b n e)))
 
     -- the run of the one tree
     root-rows : runRowsFrom 0 0 Parent.Other (slotAt b 0) [] (runAt (slots b) 0 1) ≡ rowsFrom 0 0 Parent.Other (slotAt b 0) [] (treeAt (slots b) 0)

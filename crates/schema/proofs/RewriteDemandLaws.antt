@@ -15,7 +15,7 @@ use Rattle.sheet.specs.Check.{renewed}
 use Rattle.sheet.specs.Slot.{reaches, slotAt, slotsFrom, slots}
 use Rattle.sheet.specs.Sound.{slotSound, slotRight, allZero}
 use Rattle.sheet.specs.Opening as sheet
-use Rattle.sheet.specs.declared.opening.Opened.{Opened}
+use Rattle.refusal.specs.declared.answers.Counted.{Counted}
 use Rattle.sheet.proofs.BlockLaws.{blockCount-same}
 use Rattle.sheet.proofs.CopyLaws.{totalOf-same, headerRight-same, slotAt-renewed}
 use Rattle.sheet.proofs.OpeningLaws.{openOf-blocks, openOf-slots, openOf-total, openOf-most, openOf-within, openOf-sound}
@@ -32,10 +32,8 @@ use Rattle.laws.specs.Stretches.{stretched}
 use Rattle.schema.specs.Rewriting.{rewritings, withRewriting, withRewritings, rewritten, fits, rewriteAnswer, rewriteOutcome, rewriteWritten}
 use Rattle.schema.specs.Demand.{IsTreeOf, EnoughOutput, Accepted, EnoughRoom, AcceptedRewriting, Copied}
 use Rattle.tree.specs.declared.place.Place.the-variants.{Root}
-use Rattle.tree.specs.declared.refusal.Refusal.{Refusal}
-use Rattle.tree.specs.declared.refusal.Verdict.{Verdict}
-use Rattle.schema.specs.declared.resolving.Resolved.{Resolved}
-use Rattle.schema.specs.declared.rewriting.Rewritten.{Rewritten}
+use Rattle.refusal.specs.declared.answers.Refusal.{Refusal}
+use Rattle.refusal.specs.declared.answers.Verdict.{Verdict}
 use Rattle.tree.proofs.TreeOfLaws.{treeOf-listing}
 use Rattle.schema.proofs.DemandLaws.{tree-accepted, accepted-tree, sound-judgement, accepted-no-refusal, no-refusal-rows}
 use Rattle.tree.proofs.JudgementLaws.{judgement-nodes, lawful-opened}
@@ -52,7 +50,7 @@ module _ (b : List ℕ) (lawful : judgement b ≡ Verdict.Lawful) where
   abbrev rs : List Rewriting
   rs = rewritings Root (treeOf (slots b))
 
-  opened : (n : ℕ) × (sheet.openOf b ≡ Opened.Nodes n)
+  opened : (n : ℕ) × (sheet.openOf b ≡ Counted.Count n)
   opened = lawful-opened b lawful
 
   -- the sheet's tree
@@ -157,11 +155,11 @@ module _ (b : List ℕ) (lawful : judgement b ≡ Verdict.Lawful) where
   -- and writes the same rows
   pub rewritten-rows : (lent : List ℕ) → written (outcome (rewritten b) (length lent)) (rewritten b) lent ≡ written (outcome b (length lent)) b lent
   unfolding written
-  rewritten-rows lent = ap (λ (r : Resolved). written r (rewritten b) lent) (rewritten-outcome (length lent)) ∙ same (outcome b (length lent))
+  rewritten-rows lent = ap (λ (r : Counted). written r (rewritten b) lent) (rewritten-outcome (length lent)) ∙ same (outcome b (length lent))
     where
-      same : (r : Resolved) → written r (rewritten b) lent ≡ written r b lent
-      same (Resolved.Refused r) = refl
-      same (Resolved.Rows n) = rw rows-are
+      same : (r : Counted) → written r (rewritten b) lent ≡ written r b lent
+      same (Counted.Refused r) = refl
+      same (Counted.Count n) = rw rows-are
 
   -- rewriting it again changes no byte
   pub rewritten-rewritten : rewritten (rewritten b) ≡ rewritten b
@@ -200,7 +198,7 @@ unfolding AcceptedRewriting rewriteAnswer
 lawful-accepted v enough n e f = rw (e, f) tt
 
 -- what judging refuses, rewriting refuses so, whatever is lent
-pub refused-rewriting : (b : List ℕ) (lent start : ℕ) (r : Refusal) → judgement b ≡ Verdict.Refused r → rewriteOutcome b lent start ≡ Rewritten.Refused r
+pub refused-rewriting : (b : List ℕ) (lent start : ℕ) (r : Refusal) → judgement b ≡ Verdict.Refused r → rewriteOutcome b lent start ≡ Counted.Refused r
 unfolding rewriteOutcome rewriteAnswer
 refused-rewriting b lent start r e = rw e
 

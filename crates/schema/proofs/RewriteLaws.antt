@@ -9,36 +9,35 @@ use borrow.Author.Tests.{le-leb, lt-leb, leb-true}
 use lib.Dec.{leb}
 use borrow.Rule.Slice.PartMut.{putMid, post-is}
 use lib.ListN.{length, take, drop}
+use Rattle.refusal.specs.Outcome.{shortOutput}
 use Rattle.tree.specs.Judgement.{judgement, judgementOf}
-use Rattle.schema.specs.Outcome.{shortOutput}
 use Rattle.laws.specs.Stretches.{stretched}
 use Rattle.schema.specs.Rewriting.{rewritten, fits, rewriteAnswer, rewriteOutcome, rewriteWritten}
-use Rattle.tree.specs.declared.refusal.Refusal.{Refusal}
-use Rattle.tree.specs.declared.refusal.Verdict.{Verdict}
-use Rattle.tree.specs.declared.judgement.Judgement.{Judgement}
-use Rattle.schema.specs.declared.rewriting.Rewritten.{Rewritten}
+use Rattle.refusal.specs.declared.answers.Refusal.{Refusal}
+use Rattle.refusal.specs.declared.answers.Verdict.{Verdict}
+use Rattle.refusal.specs.declared.answers.Counted.{Counted}
 use Rattle.schema.proofs.RewrittenLaws.{length-rewritten}
 use Rattle.tree.proofs.JudgementLaws.{judged-refused, judged-lawful}
 
 module _ (b lent : List ℕ) (start : ℕ) where
   -- a refused sheet
-  pub rewrite-refused : (r : Refusal) → judgementOf b ≡ Judgement.Refused r → rewriteOutcome b (length lent) start ≡ Rewritten.Refused r
+  pub rewrite-refused : (r : Refusal) → judgementOf b ≡ Counted.Refused r → rewriteOutcome b (length lent) start ≡ Counted.Refused r
   unfolding rewriteOutcome rewriteAnswer
   rewrite-refused r e = rw (judged-refused b r e)
 
   -- a refusal changes nothing
-  pub rewrite-kept : (r : Refusal) → rewriteOutcome b (length lent) start ≡ Rewritten.Refused r → rewriteWritten (rewriteOutcome b (length lent) start) b lent start ≡ lent
+  pub rewrite-kept : (r : Refusal) → rewriteOutcome b (length lent) start ≡ Counted.Refused r → rewriteWritten (rewriteOutcome b (length lent) start) b lent start ≡ lent
   unfolding rewriteWritten
   rewrite-kept r e = rw e
 
-  module _ (n : ℕ) (e : judgementOf b ≡ Judgement.Nodes n) where
+  module _ (n : ℕ) (e : judgementOf b ≡ Counted.Count n) where
     -- an output that is not enough
-    pub rewrite-short : length lent < start + length b → rewriteOutcome b (length lent) start ≡ Rewritten.Refused shortOutput
+    pub rewrite-short : length lent < start + length b → rewriteOutcome b (length lent) start ≡ Counted.Refused shortOutput
     unfolding rewriteOutcome rewriteAnswer
     rewrite-short h = rw (judged-lawful b n e .0, lt-leb (start + length b) (length lent) h)
 
     -- and one that is
-    pub rewrite-bytes : start + length b ≤ length lent → rewriteOutcome b (length lent) start ≡ Rewritten.Bytes (length b)
+    pub rewrite-bytes : start + length b ≤ length lent → rewriteOutcome b (length lent) start ≡ Counted.Count (length b)
     unfolding rewriteOutcome rewriteAnswer
     rewrite-bytes h = rw (judged-lawful b n e .0, le-leb (start + length b) (length lent) h)
 
@@ -51,11 +50,11 @@ module _ (b lent : List ℕ) (start : ℕ) where
         ∙ sym (rw (rewrite-bytes h, length-rewritten b, e))
 
 -- bytes are answered only where they fit from the start on
-pub bytes-fit : (b : List ℕ) (lent start n : ℕ) → rewriteOutcome b lent start ≡ Rewritten.Bytes n → start + n ≤ lent
+pub bytes-fit : (b : List ℕ) (lent start n : ℕ) → rewriteOutcome b lent start ≡ Counted.Count n → start + n ≤ lent
 unfolding rewriteOutcome rewriteAnswer
 bytes-fit b lent start n e = by-verdict (judgement b) (fits b lent start) refl e
   where
-    by-verdict : (v : Verdict) (enough : Bool) → leb (start + length b) lent ≡ enough → rewriteAnswer v enough (length b) ≡ Rewritten.Bytes n → start + n ≤ lent
+    by-verdict : (v : Verdict) (enough : Bool) → leb (start + length b) lent ≡ enough → rewriteAnswer v enough (length b) ≡ Counted.Count n → start + n ≤ lent
     by-verdict (Verdict.Refused r) enough f q = absurd (let z : _≡_ {A = ℕ} 0 1 = cc in omega arith)
     by-verdict Verdict.Lawful false f q = absurd (let z : _≡_ {A = ℕ} 0 1 = cc in omega arith)
     by-verdict Verdict.Lawful true f q = let same : length b ≡ n = cc in omega (arith, leb-true (start + length b) lent f)

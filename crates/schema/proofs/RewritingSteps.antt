@@ -23,7 +23,7 @@ use Rattle.tree.specs.Steps.{sizes}
 use Rattle.tree.specs.declared.place.Place.{Place}
 use Rattle.tree.specs.declared.place.Place.the-variants.{Root}
 use Rattle.tree.specs.Judgement.{judgementOf}
-use Rattle.tree.specs.declared.judgement.Judgement.{Judgement}
+use Rattle.refusal.specs.declared.answers.Counted.{Counted}
 use Rattle.tree.proofs.StandingLaws.{sizes-field, size-node}
 use Rattle.tree.proofs.NodeLaws.{under-below}
 use Rattle.tree.proofs.JudgementLaws.{judged-keeps, judged-listing}
@@ -102,7 +102,7 @@ mutual
   order-run (field t (field u fs)) p rest true e a k = absurd a
 
 -- of an accepted sheet it is what is rewritten of its tree
-pub order-accepted : (b : List ℕ) (n : ℕ) → judgementOf b ≡ Judgement.Nodes n → writtenInOrder false (slots b) ≡ rewritings Root (treeOf (slots b))
+pub order-accepted : (b : List ℕ) (n : ℕ) → judgementOf b ≡ Counted.Count n → writtenInOrder false (slots b) ≡ rewritings Root (treeOf (slots b))
 unfolding writtenInOrder
 order-accepted b n e =
     ap (writtenInOrder false) (sym (append-nil (listing (treeOf (slots b))) ∙ judged-listing b n e))

@@ -33,7 +33,7 @@ use Rattle.tree.specs.Rules.{underMap, isList, isMap}
 use Rattle.tree.specs.Reading.{treeOf}
 use Rattle.tree.specs.Judgement.{judgement}
 use Rattle.tree.specs.declared.place.Place.the-variants.{Root}
-use Rattle.tree.specs.declared.refusal.Verdict.{Verdict}
+use Rattle.refusal.specs.declared.answers.Verdict.{Verdict}
 use Rattle.tree.proofs.TreeOfLaws.{treeOf-listing}
 use Rattle.schema.specs.Rows.{KEY-VALUE-LAYER, rows, rowWidth, numberIn}
 use Rattle.schema.specs.Rewriting.{rewritten}

@@ -23,8 +23,7 @@ use Rattle.tree.specs.Tree.{SlotBytes, Tree, AtMostDeep, Claims, listing, mostD
 use Rattle.tree.specs.Rules.{Keeps}
 use Rattle.schema.specs.Rows.{rowWidth, numberIn}
 use Rattle.tree.specs.declared.place.Place.the-variants.{Root}
-use Rattle.schema.specs.declared.resolving.Resolved.{Resolved}
-use Rattle.schema.specs.declared.rewriting.Rewritten.{Rewritten}
+use Rattle.refusal.specs.declared.answers.Counted.{Counted}
 
 -- a tree of a sheet: at most 32 deep, it keeps every rule, claims its children rightly and lists the sheet's nodes
 pub record IsTreeOf (bytes : List ℕ) (t : Tree) : Type 0 where
@@ -43,17 +42,17 @@ unfoldable pub EnoughOutput : List ℕ → ℕ → Type 0
 EnoughOutput bytes lent = rowWidth * totalOf bytes ≤ lent
 
 -- accepted: an answer with rows and no refusal
-unfoldable pub Accepted : Resolved → Type 0
-Accepted (Resolved.Rows t) = Unit {0}
-Accepted (Resolved.Refused r) = ⊥
+unfoldable pub Accepted : Counted → Type 0
+Accepted (Counted.Count t) = Unit {0}
+Accepted (Counted.Refused r) = ⊥
 
 -- "rewriting accepts the same sheets where its own output is enough"
 unfoldable pub EnoughRoom : List ℕ → ℕ → ℕ → Type 0
 EnoughRoom bytes lent start = start + length bytes ≤ lent
 
-unfoldable pub AcceptedRewriting : Rewritten → Type 0
-AcceptedRewriting (Rewritten.Bytes n) = Unit {0}
-AcceptedRewriting (Rewritten.Refused r) = ⊥
+unfoldable pub AcceptedRewriting : Counted → Type 0
+AcceptedRewriting (Counted.Count n) = Unit {0}
+AcceptedRewriting (Counted.Refused r) = ⊥
 
 -- a slot has every field of another but its annotations: "All else .. is copied"
 pub record Copied (copy s : SlotBytes) : Type 0 where

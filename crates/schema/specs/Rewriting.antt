@@ -4,6 +4,7 @@ use mathlib.Core.Bool.{Bool, cond}
 use mathlib.Core.List.{List, [], _∷_, _++_}
 use lib.Dec.{leb}
 use lib.ListN.{length}
+use Rattle.refusal.specs.Outcome.{shortOutput}
 use Rattle.laws.specs.Stretches.{stretched}
 use Rattle.sheet.specs.Check.{renewed}
 use Rattle.sheet.specs.Slot.{slots, withAnnotation}
@@ -14,11 +15,10 @@ use Rattle.tree.specs.Tree.{SlotBytes, Tree, Fields, node, empty, field}
 use Rattle.tree.specs.Rules.{underMap, placeBelow}
 use Rattle.tree.specs.Reading.{treeOf}
 use Rattle.tree.specs.Judgement.{judgement}
-use Rattle.schema.specs.Outcome.{shortOutput}
 use Rattle.tree.specs.declared.place.Place.{Place}
 use Rattle.tree.specs.declared.place.Place.the-variants.{Root}
-use Rattle.tree.specs.declared.refusal.Verdict.{Verdict}
-use Rattle.schema.specs.declared.rewriting.Rewritten.{Rewritten}
+use Rattle.refusal.specs.declared.answers.Verdict.{Verdict}
+use Rattle.refusal.specs.declared.answers.Counted.{Counted}
 
 -- what is rewritten of a node, its parent a resolved MAP or not: "every resolved logical annotation with its parameters and its forward image;
 -- INTERVAL keeps converted alone; a key_value layer has none"
@@ -53,15 +53,15 @@ abbrev pub fits : List ℕ → ℕ → ℕ → Bool
 fits bytes lent start = leb (start + length bytes) lent
 
 -- "14 last": the number of bytes written, where the output is enough
-unfoldable pub rewriteAnswer : Verdict → Bool → ℕ → Rewritten
-rewriteAnswer (Verdict.Refused r) enough n = Rewritten.Refused r
-rewriteAnswer Verdict.Lawful enough n = cond enough (Rewritten.Bytes n) (Rewritten.Refused shortOutput)
+unfoldable pub rewriteAnswer : Verdict → Bool → ℕ → Counted
+rewriteAnswer (Verdict.Refused r) enough n = Counted.Refused r
+rewriteAnswer Verdict.Lawful enough n = cond enough (Counted.Count n) (Counted.Refused shortOutput)
 
 -- what rewriting answers for any bytes, any number of lent bytes and any start: refusals 1 to 13 as for resolving
-unfoldable pub rewriteOutcome : List ℕ → ℕ → ℕ → Rewritten
+unfoldable pub rewriteOutcome : List ℕ → ℕ → ℕ → Counted
 rewriteOutcome bytes lent start = rewriteAnswer (judgement bytes) (fits bytes lent start) (length bytes)
 
 -- what the lent bytes hold afterwards: "bytes before and after stay"
-unfoldable pub rewriteWritten : Rewritten → List ℕ → List ℕ → ℕ → List ℕ
-rewriteWritten (Rewritten.Refused r) bytes lent start = lent
-rewriteWritten (Rewritten.Bytes n) bytes lent start = stretched lent start (rewritten bytes)
+unfoldable pub rewriteWritten : Counted → List ℕ → List ℕ → ℕ → List ℕ
+rewriteWritten (Counted.Refused r) bytes lent start = lent
+rewriteWritten (Counted.Count n) bytes lent start = stretched lent start (rewritten bytes)

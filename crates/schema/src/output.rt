@@ -1,7 +1,7 @@
 // The refusal of an output that is not enough.
 ghost use mathlib.Core.Path.{_≡_};
-ghost use Rattle.schema.specs.Outcome.{shortOutput};
-use tree::Refusal;
+ghost use Rattle.refusal.specs.Outcome.{shortOutput};
+use refusal::Refusal;
 
 const SHORT_OUTPUT: u32 = 14;
 

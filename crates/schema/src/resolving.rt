@@ -7,9 +7,9 @@ use crate::output::short_output;
 use crate::roles::Parent;
 use crate::rows::ROW_WIDTH;
 use crate::rows::write_run;
-use tree::Judgement;
+use refusal::Counted;
+use refusal::Refusal;
 use tree::LEVELS;
-use tree::Refusal;
 use tree::judge;
 
 // What resolving answers: the number of nodes, whose rows are written, or the refusal.
@@ -20,19 +20,19 @@ pub enum Resolved {
 
 // Judges a sheet and writes its rows, eleven numbers for each node in listing order. Where the sheet is refused or fewer numbers
 // are lent than its rows need, nothing is written.
-pub fn resolve(sheet: &[u8], rows: &mut [u32]) -> Resolved
+pub fn resolve(sheet: &[u8], rows: &mut [u32]) -> Counted
     ensures { λ r. ⌜ r ≡ outcome (now (sheet .entry)) (length (now (rows .entry))) ⌝ }
     ensures { λ _. ⌜ now (rows .exit) ≡ written (outcome (now (sheet .entry)) (length (now (rows .entry)))) (now (sheet .entry)) (now (rows .entry)) ⌝ }
 {
     let judgement = judge(sheet);
     match judgement {
-        Judgement::Refused(r) => Resolved::Refused(r),
-        Judgement::Nodes(total) => {
+        Counted::Refused(r) => Counted::Refused(r),
+        Counted::Count(total) => {
             if rows.len() < ROW_WIDTH * total {
-                return Resolved::Refused(short_output());
+                return Counted::Refused(short_output());
             }
             write_run(sheet, rows, 0, 1, LEVELS, 0, Parent::Other, 0, 0);
-            Resolved::Rows(total)
+            Counted::Count(total)
         }
     }
 }

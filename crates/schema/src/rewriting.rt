@@ -12,8 +12,8 @@ ghost use Rattle.schema.specs.Rewriting.{withRewriting, withRewritings, 
 ghost use Rattle.schema.specs.Steps.{isWrittenMap, writtenInOrder};
 use crate::output::short_output;
 use parquet::logical;
-use tree::Judgement;
-use tree::Refusal;
+use refusal::Counted;
+use refusal::Refusal;
 use tree::annotated;
 use tree::judge;
 
@@ -25,30 +25,30 @@ pub enum Rewritten {
 
 // Judges a sheet and writes it, with both annotations at every node, into the output from start on. Where the sheet is refused,
 // the start lies beyond the output's end or the sheet does not fit behind it, nothing is written.
-pub fn rewrite(sheet: &[u8], out: &mut [u8], start: usize) -> Rewritten
+pub fn rewrite(sheet: &[u8], out: &mut [u8], start: usize) -> Counted
     ensures { λ r. ⌜ r ≡ rewriteOutcome (now (sheet .entry)) (length (now (out .entry))) start ⌝ }
     ensures { λ _. ⌜ now (out .exit) ≡ rewriteWritten (rewriteOutcome (now (sheet .entry)) (length (now (out .entry))) start) (now (sheet .entry)) (now (out .entry)) start ⌝ }
 {
     let judgement = judge(sheet);
     match judgement {
-        Judgement::Refused(r) => Rewritten::Refused(r),
-        Judgement::Nodes(total) => {
+        Counted::Refused(r) => Counted::Refused(r),
+        Counted::Count(total) => {
             if out.len() < start {
-                return Rewritten::Refused(short_output());
+                return Counted::Refused(short_output());
             }
             if out.len() - start < sheet.len() {
-                return Rewritten::Refused(short_output());
+                return Counted::Refused(short_output());
             }
             let end = start + sheet.len();
             write_sheet(sheet, &mut out[start..end], total);
-            Rewritten::Bytes(sheet.len())
+            Counted::Count(sheet.len())
         }
     }
 }
 
 // Writes the rewritten sheet, which has so many nodes, into an output of its length.
 fn write_sheet(sheet: &[u8], out: &mut [u8], total: usize)
-    requires { ⌜ judgementOf (now sheet) ≡ Judgement.Nodes total ⌝ }
+    requires { ⌜ judgementOf (now sheet) ≡ Counted.Count total ⌝ }
     requires { ⌜ length (now out) ≡ length (now sheet) ⌝ }
     ensures { λ _. ⌜ now (out .exit) ≡ rewritten (now (sheet .entry)) ⌝ }
 {

@@ -8,12 +8,13 @@ use native.Mathlib.Nat.{eq-or-lt-of-le}
 use native.Mathlib.Numerals.{add-one}
 use lib.IntN.{pos}
 use lib.ListN.{length, getD}
+use Rattle.refusal.specs.Outcome.{refusal}
 use Rattle.sheet.specs.Block.{totalOf}
 use Rattle.sheet.specs.Slot.{slots, slotAt, childCount, numbersOf}
 use Rattle.sheet.specs.declared.slots.Slot.{Slot as Numbers}
 use Rattle.tree.specs.OpenPlaces.{openPlaces}
-use Rattle.tree.specs.Judgement.{orElse, refusal, leftOver, missing}
-use Rattle.tree.specs.declared.refusal.Verdict.the-variants.{Lawful, Refused}
+use Rattle.tree.specs.Judgement.{orElse, leftOver, missing}
+use Rattle.refusal.specs.declared.answers.Verdict.the-variants.{Lawful, Refused}
 use Rattle.tree.proofs.OpenPlacesLaws.{Open}
 use Rattle.tree.proofs.PlacesLaws.{openPlaces-zero, openPlaces-suc, leftOver-none, leftOver-at, missing-none, missing-some}
 use Rattle.sheet.proofs.SlotLaws.{slots-at, slots-length}

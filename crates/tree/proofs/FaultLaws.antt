@@ -2,8 +2,9 @@
 use Prim.Native.Nat.{ℕ, zero, suc, _+_, _≤_}
 use mathlib.Core.Path.{_≡_, refl, sym, _∙_}
 use mathlib.Core.Bool.{Bool, true, false, cond}
-use Rattle.tree.specs.declared.refusal.Verdict.{Verdict}
-use Rattle.tree.specs.declared.refusal.Verdict.the-variants.{Lawful, Refused}
+use Rattle.refusal.specs.Outcome.{refusal}
+use Rattle.refusal.specs.declared.answers.Verdict.{Verdict}
+use Rattle.refusal.specs.declared.answers.Verdict.the-variants.{Lawful, Refused}
 use mathlib.Core.List.{List, [], _∷_, _++_, map}
 use native.Mathlib.Omega.{arith}
 use native.Mathlib.Nat.{add-zero, add-suc, suc-add}
@@ -14,10 +15,10 @@ use Rattle.tree.specs.Annotated.{rule9, rule10, rule11}
 use Rattle.tree.specs.Tree.{SlotBytes, Tree, Fields, node, empty, field, depths, AtMostDeep, mostDepth}
 use Rattle.tree.specs.Rules.{rule8, rule12, rule13, underMap, placeBelow, KeepsAt, Keeps, KeepsAll}
 use Rattle.tree.specs.Faults.{broken, faults, runFaults}
-use Rattle.tree.specs.Judgement.{orElse, firstFault, refusal, deepness, tooDeep, unlawful}
+use Rattle.tree.specs.Judgement.{orElse, firstFault, deepness, tooDeep, unlawful}
 use Rattle.tree.specs.declared.place.Place.{Place}
 use Rattle.tree.specs.declared.place.Place.the-variants.{Root}
-use Rattle.tree.specs.declared.refusal.Refusal.{Refusal}
+use Rattle.refusal.specs.declared.answers.Refusal.{Refusal}
 
 pub firstFault-append : (k : ℕ) (ms ns : List ℕ) → firstFault k (ms ++ ns) ≡ orElse (firstFault k ms) (firstFault (k + length ms) ns)
 unfolding firstFault orElse

@@ -7,23 +7,23 @@ use native.Mathlib.Omega.{arith}
 use lib.Dec.{leb}
 use lib.ListN.{length}
 use borrow.Author.Tests.{ne-eqb}
+use Rattle.refusal.specs.Outcome.{refusal}
 use Rattle.sheet.specs.Block.{totalOf, mostNodes}
 use Rattle.sheet.specs.Opening as sheet
 use Rattle.sheet.specs.Slot.{slots}
-use Rattle.sheet.specs.declared.opening.Opened.{Opened}
+use Rattle.refusal.specs.declared.answers.Counted.{Counted}
 use Rattle.sheet.proofs.OpeningLaws.{openOf-total, openOf-least, openOf-most}
 use Rattle.tree.specs.Tree.{SlotBytes, Tree, empty, listing, size, depths, AtMostDeep, mostDepth}
 use Rattle.tree.specs.Rules.{Keeps}
 use Rattle.tree.specs.Faults.{faults}
 use Rattle.tree.specs.Reading.{treeOf}
-use Rattle.tree.specs.Judgement.{orElse, refusal, leftOver, missing, firstFault, deepness, tooDeep, unlawful, treeRefusal, judgedAs, judgement, judgedNodes, judgementOf}
+use Rattle.tree.specs.Judgement.{orElse, leftOver, missing, firstFault, deepness, tooDeep, unlawful, treeRefusal, judgedAs, judgement, judgedNodes, judgementOf}
 use Rattle.tree.specs.Steps.{Claimed, treeAt, runAt, lastOf, ruleWeight, faultFrom, firstOf, verdictOf, treeOrDeep, judgedTree, judgedOn, judgedRun, depthAt}
 use Rattle.tree.specs.declared.place.Place.{Place}
-use Rattle.tree.specs.declared.refusal.Refusal.{Refusal}
-use Rattle.tree.specs.declared.refusal.Verdict.{Verdict}
+use Rattle.refusal.specs.declared.answers.Refusal.{Refusal}
+use Rattle.refusal.specs.declared.answers.Verdict.{Verdict}
 use Rattle.tree.specs.declared.judging.TreeJudged.{TreeJudged}
 use Rattle.tree.specs.declared.judging.RunJudged.{RunJudged}
-use Rattle.tree.specs.declared.judgement.Judgement.{Judgement}
 use Rattle.tree.proofs.FaultLaws.{none-orElse, orElse-assoc, none-atMostDeep, none-keeps}
 use Rattle.tree.proofs.OpenPlacesLaws.{fills-trees}
 use Rattle.tree.proofs.TreeOfLaws.{accepted-fills, fills-listing}
@@ -123,7 +123,7 @@ unfolding treeRefusal
 treeRefusal-places ss = sym (orElse-assoc (leftOver ss) (missing ss) (orElse (tooDeep (treeOf ss)) (unlawful (treeOf ss))))
 
 -- a sheet that neither 5 nor 6 refuses claims rightly
-module _ (b : List ℕ) (t : ℕ) (o : sheet.openOf b ≡ Opened.Nodes t) where
+module _ (b : List ℕ) (t : ℕ) (o : sheet.openOf b ≡ Counted.Count t) where
   pub nodes-total : t ≡ totalOf b
   nodes-total = openOf-total b t o
 
@@ -146,59 +146,44 @@ module _ (b : List ℕ) (t : ℕ) (o : sheet.openOf b ≡ Opened.Nodes t) where
   unfolding judgement judgedAs sheet.outcome sheet.outcomeOf
   judgement-nodes = rw o
 
--- what each way of refusing to open is judged
+-- a sheet that does not open is refused so
 module _ (b : List ℕ) where
-  pub judgement-length : sheet.openOf b ≡ Opened.BadLength → judgement b ≡ Verdict.Refused (refusal 1 0)
+  pub judgement-refused : (r : Refusal) → sheet.openOf b ≡ Counted.Refused r → judgement b ≡ Verdict.Refused r
   unfolding judgement judgedAs sheet.outcome sheet.outcomeOf
-  judgement-length o = rw o
-
-  pub judgement-check : (k : ℕ) → sheet.openOf b ≡ Opened.BadCheck k → judgement b ≡ Verdict.Refused (refusal 2 k)
-  unfolding judgement judgedAs sheet.outcome sheet.outcomeOf
-  judgement-check k o = rw o
-
-  pub judgement-header : (k : ℕ) → sheet.openOf b ≡ Opened.BadHeader k → judgement b ≡ Verdict.Refused (refusal 3 k)
-  unfolding judgement judgedAs sheet.outcome sheet.outcomeOf
-  judgement-header k o = rw o
-
-  pub judgement-slot : (k : ℕ) → sheet.openOf b ≡ Opened.BadSlot k → judgement b ≡ Verdict.Refused (refusal 4 k)
-  unfolding judgement judgedAs sheet.outcome sheet.outcomeOf
-  judgement-slot k o = rw o
+  judgement-refused r o = rw o
 
   -- an opened sheet that is lawful
-  pub lawful-opened : judgement b ≡ Verdict.Lawful → (t : ℕ) × (sheet.openOf b ≡ Opened.Nodes t)
+  pub lawful-opened : judgement b ≡ Verdict.Lawful → (t : ℕ) × (sheet.openOf b ≡ Counted.Count t)
   lawful-opened e = on (sheet.openOf b) refl
     where
       no : (r : Refusal) → judgement b ≡ Verdict.Refused r → ⊥
       no r q = let z : _≡_ {A = ℕ} 0 1 = cc in omega arith
 
-      on : (o : Opened) → sheet.openOf b ≡ o → (t : ℕ) × (sheet.openOf b ≡ Opened.Nodes t)
-      on (Opened.Nodes t) q = (t, q)
-      on Opened.BadLength q = absurd (no _ (judgement-length q))
-      on (Opened.BadCheck k) q = absurd (no _ (judgement-check k q))
-      on (Opened.BadHeader k) q = absurd (no _ (judgement-header k q))
-      on (Opened.BadSlot k) q = absurd (no _ (judgement-slot k q))
+      on : (o : Counted) → sheet.openOf b ≡ o → (t : ℕ) × (sheet.openOf b ≡ Counted.Count t)
+      on (Counted.Count t) q = (t, q)
+      on (Counted.Refused r) q = absurd (no r (judgement-refused r q))
 
-  judgedNodes-lawful : (v : Verdict) (t n : ℕ) → judgedNodes v t ≡ Judgement.Nodes n → (v ≡ Verdict.Lawful) × (n ≡ t)
+  judgedNodes-lawful : (v : Verdict) (t n : ℕ) → judgedNodes v t ≡ Counted.Count n → (v ≡ Verdict.Lawful) × (n ≡ t)
   unfolding judgedNodes
   judgedNodes-lawful Verdict.Lawful t n e = (refl, cc)
   judgedNodes-lawful (Verdict.Refused r) t n e = absurd (let z : _≡_ {A = ℕ} 0 1 = cc in omega arith)
 
-  judgedNodes-refused : (v : Verdict) (t : ℕ) (r : Refusal) → judgedNodes v t ≡ Judgement.Refused r → v ≡ Verdict.Refused r
+  judgedNodes-refused : (v : Verdict) (t : ℕ) (r : Refusal) → judgedNodes v t ≡ Counted.Refused r → v ≡ Verdict.Refused r
   unfolding judgedNodes
   judgedNodes-refused Verdict.Lawful t r e = absurd (let z : _≡_ {A = ℕ} 0 1 = cc in omega arith)
   judgedNodes-refused (Verdict.Refused s) t r e = cc
 
   -- a refused sheet
-  pub judged-refused : (r : Refusal) → judgementOf b ≡ Judgement.Refused r → judgement b ≡ Verdict.Refused r
+  pub judged-refused : (r : Refusal) → judgementOf b ≡ Counted.Refused r → judgement b ≡ Verdict.Refused r
   unfolding judgementOf
   judged-refused r e = judgedNodes-refused (judgement b) (totalOf b) r e
 
-  module _ (n : ℕ) (e : judgementOf b ≡ Judgement.Nodes n) where
+  module _ (n : ℕ) (e : judgementOf b ≡ Counted.Count n) where
     pub judged-lawful : (judgement b ≡ Verdict.Lawful) × (n ≡ totalOf b)
     unfolding judgementOf
     judged-lawful = judgedNodes-lawful (judgement b) (totalOf b) n e
 
-    opened : (t : ℕ) × (sheet.openOf b ≡ Opened.Nodes t)
+    opened : (t : ℕ) × (sheet.openOf b ≡ Counted.Count t)
     opened = lawful-opened (judged-lawful .0)
 
     pub judged-total : n ≡ totalOf b

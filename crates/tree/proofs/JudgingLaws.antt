@@ -12,7 +12,7 @@ use Rattle.tree.specs.Faults.{broken, faults, runFaults}
 use Rattle.tree.specs.Judgement.{orElse, firstFault, deepness}
 use Rattle.tree.specs.Steps.{sizes, lastFrom, lastOf, innerFrom, ruleWeight, faultFrom, firstOf, depthAt, treeOrDeep, runOrDeep, judgedTree, judgedOn, judgedRun}
 use Rattle.tree.specs.declared.place.Place.{Place}
-use Rattle.tree.specs.declared.refusal.Verdict.{Verdict}
+use Rattle.refusal.specs.declared.answers.Verdict.{Verdict}
 use Rattle.tree.specs.declared.judging.TreeJudged.{TreeJudged}
 use Rattle.tree.specs.declared.judging.RunJudged.{RunJudged}
 use Rattle.tree.proofs.FaultLaws.{firstFault-append}

@@ -9,12 +9,13 @@ use borrow.Author.Tests.{lt-ltb, le-ltb}
 use lib.IntN.{ℤ, pos, _+ℤ_, _-ℤ_, +ℤ-assoc, +ℤ-idr, +ℤ-idl}
 use lib.ListN.{length, getD, take}
 use lib.Seq.{take-suc}
+use Rattle.refusal.specs.Outcome.{refusal}
 use Rattle.sheet.specs.Slot.{childCount}
 use Rattle.sheet.proofs.FirstLaws.{firstWrong-at, firstWrong-none}
 use Rattle.tree.specs.Tree.{SlotBytes}
 use Rattle.tree.specs.OpenPlaces.{sum, openPlaces, isNoPlace}
-use Rattle.tree.specs.Judgement.{refusal, leftOver, missing}
-use Rattle.tree.specs.declared.refusal.Verdict.the-variants.{Lawful, Refused}
+use Rattle.tree.specs.Judgement.{leftOver, missing}
+use Rattle.refusal.specs.declared.answers.Verdict.the-variants.{Lawful, Refused}
 use Rattle.tree.proofs.OpenPlacesLaws.{Fills, Lacks, Full, openFrom, openFrom-one, place-filled, Open, fills-open, fills-end, lacks-open, full-below, full-none, full-open}
 
 open-test : (z : ℤ) → Open z → isNoPlace z ≡ false

@@ -2,7 +2,8 @@
 use Prim.Native.Nat.{ℕ, _<_}
 use mathlib.Core.Path.{_≡_, refl, sym, ap, _∙_, subst}
 use mathlib.Core.Logic.{_⊎_, inl, inr}
-use Rattle.tree.specs.declared.refusal.Verdict.the-variants.{Lawful, Refused}
+use Rattle.refusal.specs.Outcome.{refusal}
+use Rattle.refusal.specs.declared.answers.Verdict.the-variants.{Lawful, Refused}
 use mathlib.Core.List.{List, append-nil}
 use native.Mathlib.Omega.{arith}
 use lib.ListN.{length}
@@ -10,7 +11,7 @@ use Rattle.sheet.specs.Opening as sheet
 use Rattle.sheet.specs.Slot.{slots}
 use Rattle.tree.specs.Tree.{SlotBytes, Tree, Fields, empty, field, listing, listings, count, Claims, ClaimsAll}
 use Rattle.tree.specs.Reading.{trees, firstTree, treeOf}
-use Rattle.tree.specs.Judgement.{refusal, orElse, leftOver, missing, tooDeep, unlawful, treeRefusal}
+use Rattle.tree.specs.Judgement.{orElse, leftOver, missing, tooDeep, unlawful, treeRefusal}
 use Rattle.tree.proofs.TreeLaws.{listings-trees, trees-of-listing}
 use Rattle.tree.proofs.OpenPlacesLaws.{Fills, Lacks, Full, one-of-three, fills-trees, tree-fills, full-below}
 use Rattle.tree.proofs.PlacesLaws.{fills-leftOver, fills-missing, lacks-leftOver, lacks-missing, full-leftOver}

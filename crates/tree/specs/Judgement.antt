@@ -4,6 +4,8 @@ use mathlib.Core.Bool.{cond, not}
 use mathlib.Core.List.{List, [], _∷_, map}
 use lib.Dec.{leb, ltb}
 use lib.ListN.{length}
+use Rattle.refusal.specs.Numbers.{MISSING-NODES, LEFT-OVER, TOO-DEEP}
+use Rattle.refusal.specs.Outcome.{Outcome, given, refused, refusal}
 use Rattle.sheet.specs.Block.{totalOf}
 use Rattle.sheet.specs.First.{firstWrong}
 use Rattle.sheet.specs.Opening as sheet
@@ -12,13 +14,8 @@ use Rattle.tree.specs.Faults.{faults}
 use Rattle.tree.specs.Reading.{treeOf}
 use Rattle.tree.specs.OpenPlaces.{openPlaces, isNoPlace}
 use Rattle.tree.specs.declared.place.Place.the-variants.{Root}
-use Rattle.tree.specs.declared.refusal.Refusal.{Refusal}
-use Rattle.tree.specs.declared.refusal.Verdict.{Verdict}
-use Rattle.tree.specs.declared.judgement.Judgement.{Judgement}
-
--- a numbered refusal at its place
-abbrev pub refusal : ℕ → ℕ → Refusal
-refusal n p = record { number = n; place = p }
+use Rattle.refusal.specs.declared.answers.Verdict.{Verdict}
+use Rattle.refusal.specs.declared.answers.Counted.{Counted}
 
 -- the first refusal of two
 unfoldable pub orElse : Verdict → Verdict → Verdict
@@ -29,11 +26,11 @@ orElse (Verdict.Refused r) next = Verdict.Refused r
 unfoldable pub leftOver : List SlotBytes → Verdict
 leftOver ss =
     let k = firstWrong (λ j. not (isNoPlace (openPlaces ss j))) (length ss) in
-    cond (ltb k (length ss)) (Verdict.Refused (refusal 6 k)) Verdict.Lawful
+    cond (ltb k (length ss)) (Verdict.Refused (refusal LEFT-OVER k)) Verdict.Lawful
 
 -- "Refusal 5: otherwise, open places left after T"
 unfoldable pub missing : List SlotBytes → Verdict
-missing ss = cond (isNoPlace (openPlaces ss (length ss))) Verdict.Lawful (Verdict.Refused (refusal 5 (length ss)))
+missing ss = cond (isNoPlace (openPlaces ss (length ss))) Verdict.Lawful (Verdict.Refused (refusal MISSING-NODES (length ss)))
 
 -- the first number of a list that is not 0, at its place, the first place being k
 unfoldable pub firstFault : ℕ → List ℕ → Verdict
@@ -43,7 +40,7 @@ firstFault k (suc n ∷ ns) = Verdict.Refused (refusal (suc n) k)
 
 -- refusal 7 at a depth, 0 where it is not too deep
 unfoldable pub deepness : ℕ → ℕ
-deepness d = cond (leb d mostDepth) 0 7
+deepness d = cond (leb d mostDepth) 0 TOO-DEEP
 
 unfoldable pub tooDeep : Tree → Verdict
 tooDeep t = firstFault 0 (map deepness (depths 0 t))
@@ -57,18 +54,18 @@ unfoldable pub treeRefusal : List SlotBytes → Verdict
 treeRefusal ss = orElse (leftOver ss) (orElse (missing ss) (orElse (tooDeep (treeOf ss)) (unlawful (treeOf ss))))
 
 -- refusals 1 to 13
-unfoldable pub judgedAs : sheet.Outcome → Verdict
-judgedAs (sheet.refused n p) = Verdict.Refused (refusal n p)
-judgedAs (sheet.accepted t ss) = treeRefusal ss
+unfoldable pub judgedAs : Outcome sheet.Nodes → Verdict
+judgedAs (refused r) = Verdict.Refused r
+judgedAs (given nodes) = treeRefusal (nodes .used)
 
 unfoldable pub judgement : List ℕ → Verdict
 judgement bytes = judgedAs (sheet.outcome bytes)
 
 -- an answer to a sheet of so many nodes: that number where it is lawful, or the refusal
-unfoldable pub judgedNodes : Verdict → ℕ → Judgement
-judgedNodes Verdict.Lawful total = Judgement.Nodes total
-judgedNodes (Verdict.Refused r) total = Judgement.Refused r
+unfoldable pub judgedNodes : Verdict → ℕ → Counted
+judgedNodes Verdict.Lawful total = Counted.Count total
+judgedNodes (Verdict.Refused r) total = Counted.Refused r
 
 -- what judging answers for any bytes
-unfoldable pub judgementOf : List ℕ → Judgement
+unfoldable pub judgementOf : List ℕ → Counted
 judgementOf bytes = judgedNodes (judgement bytes) (totalOf bytes)

@@ -5,6 +5,7 @@ use mathlib.Core.Bool.{cond, not, _||_}
 use mathlib.Core.List.{List, [], _∷_, map}
 use lib.Dec.{eqb}
 use lib.ListN.{length, drop}
+use Rattle.refusal.specs.Outcome.{refusal}
 use Rattle.sheet.specs.Block.{totalOf, mostNodes}
 use Rattle.sheet.specs.Slot.{slots, slotAt, childCount, numbersOf}
 use Rattle.sheet.specs.declared.slots.Slot.{Slot as Numbers}
@@ -14,9 +15,9 @@ use Rattle.tree.specs.Rules.{underMap, rule8, rule12, listKept, mapKept}
 use Rattle.tree.specs.Faults.{faults, runFaults}
 use Rattle.tree.specs.Reading.{trees, takeFields, firstTree}
 use Rattle.parquet.specs.Logical as logical
-use Rattle.tree.specs.Judgement.{deepness, firstFault, refusal}
+use Rattle.tree.specs.Judgement.{deepness, firstFault}
 use Rattle.tree.specs.declared.place.Place.{Place}
-use Rattle.tree.specs.declared.refusal.Verdict.{Verdict}
+use Rattle.refusal.specs.declared.answers.Verdict.{Verdict}
 use Rattle.tree.specs.declared.judging.TreeJudged.{TreeJudged}
 use Rattle.tree.specs.declared.judging.RunJudged.{RunJudged}
 

@@ -16,16 +16,11 @@ use crate::structure::map_kept;
 use annotation::Annotated;
 use annotation::Judged;
 use parquet::logical;
+use refusal::numbers;
 use sheet::Slot;
 
 // Every rule is kept.
 pub(crate) const KEPT: u32 = 0;
-
-const SHAPE: u32 = 8;
-
-const LIST_STRUCTURE: u32 = 12;
-
-const MAP_STRUCTURE: u32 = 13;
 
 // The number of the first of rules 8 to 12 that the node at a number breaks, or KEPT. Its annotations are judged so.
 pub(crate) fn broken_to_12(sheet: &[u8], at: usize, place: Place, s: Slot, judged: Judged) -> u32
@@ -35,7 +30,7 @@ pub(crate) fn broken_to_12(sheet: &[u8], at: usize, place: Place, s: Slot, judge
     ensures { λ r. ⌜ r ≡ brokenTo12 place (slotAt (now (sheet .entry)) at) (fieldsAt (now (sheet .entry)) at) ⌝ }
 {
     if !shape_kept(place, s) {
-        return SHAPE;
+        return numbers::SHAPE;
     }
     if judged.refusal != KEPT {
         return judged.refusal;
@@ -60,7 +55,7 @@ pub(crate) fn broken_with_13(sheet: &[u8], at: usize, below: Place, least: u32, 
     if map_kept(sheet, at, value) {
         return KEPT;
     }
-    MAP_STRUCTURE
+    numbers::BAD_MAP
 }
 
 // The numbers of a slot that its annotations go by.
@@ -90,5 +85,5 @@ fn list_broken(sheet: &[u8], at: usize, s: Slot, logical: u8) -> u32
     if list_kept(sheet, at, s) {
         return KEPT;
     }
-    LIST_STRUCTURE
+    numbers::BAD_LIST
 }

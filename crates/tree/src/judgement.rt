@@ -4,7 +4,7 @@ ghost use Prim.Native.Nat.{_<_};
 ghost use Rattle.sheet.specs.Block.{totalOf};
 ghost use Rattle.sheet.specs.Opening.{openOf};
 ghost use Rattle.sheet.specs.Slot.{slots};
-ghost use Rattle.sheet.specs.declared.opening.Opened.the-variants.{Nodes};
+ghost use Rattle.refusal.specs.declared.answers.Counted.{Counted};
 ghost use Rattle.tree.specs.Reading.{treeOf};
 ghost use Rattle.tree.specs.Judgement.{orElse, tooDeep, unlawful, treeRefusal, judgedNodes, judgementOf};
 ghost use Rattle.tree.specs.Steps.{Claimed, verdictOf};
@@ -15,61 +15,34 @@ use crate::judging::RunJudged;
 use crate::judging::judge_run;
 use crate::place::Place;
 use crate::places::places_filled;
-use crate::refusal::Refusal;
-use crate::refusal::Verdict;
-use sheet::Opened;
+use refusal::Counted;
+use refusal::Refusal;
+use refusal::Verdict;
+use refusal::numbers;
 
-// What judging a sheet answers: its number of nodes, or the first of refusals 1 to 13.
-pub enum Judgement {
-    Nodes(usize),
-    Refused(Refusal),
-}
-
-const LENGTH: u32 = 1;
-
-const CHECK: u32 = 2;
-
-const HEADER: u32 = 3;
-
-const SLOT: u32 = 4;
-
-const DEEP: u32 = 7;
-
-// Judges a sheet.
-pub fn judge(sheet: &[u8]) -> Judgement
+// The number of nodes of a sheet, or the first of refusals 1 to 13.
+pub fn judge(sheet: &[u8]) -> Counted
     ensures { λ r. ⌜ r ≡ judgementOf (now (sheet .entry)) ⌝ }
 {
     let opened = sheet::open(sheet);
     match opened {
-        Opened::Nodes(total) => nodes_or(judge_slots(sheet, total), total),
-        Opened::BadLength => refused(LENGTH, 0),
-        Opened::BadCheck(block) => refused(CHECK, block),
-        Opened::BadHeader(block) => refused(HEADER, block),
-        Opened::BadSlot(node) => refused(SLOT, node),
+        Counted::Count(total) => nodes_or(judge_slots(sheet, total), total),
+        Counted::Refused(r) => Counted::Refused(r),
     }
 }
 
-fn refused(number: u32, place: usize) -> Judgement
-    ensures { λ r. ⌜ r ≡ Judgement.Refused (record { number = number; place = place }) ⌝ }
-{
-    Judgement::Refused(Refusal {
-        number: number,
-        place: place,
-    })
-}
-
-fn nodes_or(verdict: Verdict, total: usize) -> Judgement
+fn nodes_or(verdict: Verdict, total: usize) -> Counted
     ensures { λ r. ⌜ r ≡ judgedNodes verdict total ⌝ }
 {
     match verdict {
-        Verdict::Lawful => Judgement::Nodes(total),
-        Verdict::Refused(r) => Judgement::Refused(r),
+        Verdict::Lawful => Counted::Count(total),
+        Verdict::Refused(r) => Counted::Refused(r),
     }
 }
 
 // Refusals 5 to 13 of an open sheet.
 fn judge_slots(sheet: &[u8], total: usize) -> Verdict
-    requires { ⌜ openOf (now sheet) ≡ Nodes total ⌝ }
+    requires { ⌜ openOf (now sheet) ≡ Counted.Count total ⌝ }
     ensures { λ r. ⌜ r ≡ treeRefusal (slots (now (sheet .entry))) ⌝ }
 {
     let places = places_filled(sheet, total);
@@ -88,7 +61,7 @@ fn judge_root(sheet: &[u8]) -> Verdict
     let judged = judge_run(sheet, 0, 1, LEVELS, Place::Root);
     match judged {
         RunJudged::Deep(node) => Verdict::Refused(Refusal {
-            number: DEEP,
+            number: numbers::TOO_DEEP,
             place: node,
         }),
         RunJudged::Judged {

@@ -4,16 +4,12 @@ mod judgement; // judgement.rt: a sheet judged by refusals 1 to 13
 mod judging; // judging.rt: a tree and its run judged, too deep or at fault
 mod place; // place.rt: where a node stands for the rules
 mod places; // places.rt: refusals 5 and 6
-mod refusal; // refusal.rt: numbered refusals
 mod repetitions; // repetitions.rt: repetitions that rules 12 and 13 ask for
 mod shape; // shape.rt: rule 8
 mod structure; // structure.rt: rules 12 and 13
 
 pub use faults::annotated;
-pub use judgement::Judgement;
 pub use judgement::judge;
 pub use judging::LEVELS;
 pub use place::Place;
-pub use refusal::Refusal;
-pub use refusal::Verdict;
 pub use structure::named_element;

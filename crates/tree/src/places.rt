@@ -4,12 +4,9 @@ ghost use Prim.Native.Nat.{_≤_};
 ghost use Rattle.sheet.specs.Block.{totalOf, mostNodes};
 ghost use Rattle.sheet.specs.Slot.{slots};
 ghost use Rattle.tree.specs.Judgement.{orElse, leftOver, missing};
-use crate::refusal::Refusal;
-use crate::refusal::Verdict;
-
-const MISSING: u32 = 5;
-
-const LEFT_OVER: u32 = 6;
+use refusal::Refusal;
+use refusal::Verdict;
+use refusal::numbers;
 
 // Whether nodes are left over after the root's tree, or more children are claimed than nodes exist.
 pub(crate) fn places_filled(sheet: &[u8], total: usize) -> Verdict
@@ -22,7 +19,7 @@ pub(crate) fn places_filled(sheet: &[u8], total: usize) -> Verdict
     while node < total {
         if open == 0 {
             return Verdict::Refused(Refusal {
-                number: LEFT_OVER,
+                number: numbers::LEFT_OVER,
                 place: node,
             });
         }
@@ -34,7 +31,7 @@ pub(crate) fn places_filled(sheet: &[u8], total: usize) -> Verdict
         return Verdict::Lawful;
     }
     Verdict::Refused(Refusal {
-        number: MISSING,
+        number: numbers::MISSING_NODES,
         place: total,
     })
 }

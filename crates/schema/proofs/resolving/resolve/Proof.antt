@@ -4,13 +4,12 @@ use Rattle.tree.proofs.VisitLaws.{root-claimed}
 use Rattle.schema.proofs.DepthLaws.{root-deep}
 use Rattle.schema.proofs.ResolvingLaws.{resolve-short, resolve-refused, resolve-rows, written-refused, written-rows}
 use Rattle.tree.specs.Judgement.{judgementOf}
-use Rattle.tree.specs.declared.judgement.Judgement.{Judgement}
+use Rattle.refusal.specs.declared.answers.Counted.{Counted}
 use Rattle.schema.specs.Levels.{howMany}
 use native.Mathlib.Omega.{arith}
 use mathlib.Core.Path.{_≡_, refl, sym, ap, _∙_}
 use mathlib.Core.List.{[]}
 use borrow.Author.Needs.{needs}
-use Rattle.schema.specs.declared.resolving.Resolved.{Resolved}
 use Rattle.schema.proofs.resolving.resolve.Statement.{statement}
 use Rattle.schema.proofs.resolving.resolve.Tie as tie
 
@@ -18,7 +17,7 @@ use Rattle.schema.proofs.resolving.resolve.Tie as tie
 abbrev entry : tie.After-judgement2 → tie.Start
 entry c = c .before .before .before .before .before
 
-nodes : (c : tie.After-judgement2) → judgementOf (entry c .args .sheet .now) ≡ Judgement.Nodes (c .judgement2 .given .0 .0)
+nodes : (c : tie.After-judgement2) → judgementOf (entry c .args .sheet .now) ≡ Counted.Count (c .judgement2 .given .0 .0)
 nodes c = sym (c .before .before .judge .ensures) ∙ c .judgement2 .given .1
 
 judge-requires : tie.Need-judge-requires
@@ -40,7 +39,7 @@ returns : tie.Need-returns
 returns c =
     let judged = c .before .before .before in
     let short = resolve-short _ _ (nodes judged) (entry judged .args .rows .now) (c .before .if1 .taken) in
-    (ap Resolved.Refused (c .short-output .ensures) ∙ sym short, written-refused _ _ _ short)
+    (ap Counted.Refused (c .short-output .ensures) ∙ sym short, written-refused _ _ _ short)
 
 write-run-requires : tie.Need-write-run-requires
 write-run-requires c κs =

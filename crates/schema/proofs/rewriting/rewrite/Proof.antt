@@ -3,8 +3,7 @@ use native.Mathlib.Omega.{arith}
 use mathlib.Core.Path.{_≡_, sym, ap, _∙_}
 use lib.ListN.{length-take, length-drop}
 use Rattle.tree.specs.Judgement.{judgementOf}
-use Rattle.tree.specs.declared.judgement.Judgement.{Judgement}
-use Rattle.schema.specs.declared.rewriting.Rewritten.{Rewritten}
+use Rattle.refusal.specs.declared.answers.Counted.{Counted}
 use Rattle.schema.proofs.RewriteLaws.{rewrite-refused, rewrite-kept, rewrite-short, rewrite-bytes, rewrite-written}
 use borrow.Author.Needs.{needs}
 use Rattle.schema.proofs.rewriting.rewrite.Statement.{statement}
@@ -14,7 +13,7 @@ use Rattle.schema.proofs.rewriting.rewrite.Tie as tie
 abbrev entry : tie.After-judgement2 → tie.Start
 entry c = c .before .before .before .before .before
 
-nodes : (c : tie.After-judgement2) → judgementOf (entry c .args .sheet .now) ≡ Judgement.Nodes (c .judgement2 .given .0 .0)
+nodes : (c : tie.After-judgement2) → judgementOf (entry c .args .sheet .now) ≡ Counted.Count (c .judgement2 .given .0 .0)
 nodes c = sym (c .before .before .judge .ensures) ∙ c .judgement2 .given .1
 
 judge-requires : tie.Need-judge-requires
@@ -34,7 +33,7 @@ returns c =
     let judged = c .before .before .before in
     let start = entry judged in
     let short = rewrite-short (start .args .sheet .now) (start .args .out .now) (start .args .start) _ (nodes judged) (omega (arith, c .before .if1 .taken)) in
-    (ap Rewritten.Refused (c .short-output .ensures) ∙ sym short, sym (rewrite-kept _ _ _ _ short))
+    (ap Counted.Refused (c .short-output .ensures) ∙ sym short, sym (rewrite-kept _ _ _ _ short))
 
 sub-if2 : tie.Need-sub-if2
 sub-if2 c = search needs
@@ -47,7 +46,7 @@ returns-2 c =
     let judged = c .before .before .before .before in
     let start = entry judged in
     let short = rewrite-short (start .args .sheet .now) (start .args .out .now) (start .args .start) _ (nodes judged) (omega (arith, c .before .if2 .taken)) in
-    (ap Rewritten.Refused (c .short-output2 .ensures) ∙ sym short, sym (rewrite-kept _ _ _ _ short))
+    (ap Counted.Refused (c .short-output2 .ensures) ∙ sym short, sym (rewrite-kept _ _ _ _ short))
 
 add-end : tie.Need-add-end
 add-end c = search needs

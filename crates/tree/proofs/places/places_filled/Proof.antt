@@ -1,5 +1,5 @@
-use Rattle.tree.specs.declared.refusal.Verdict.the-variants.{Refused}
-use Rattle.tree.specs.Judgement.{refusal}
+use Rattle.refusal.specs.Outcome.{refusal}
+use Rattle.refusal.specs.declared.answers.Verdict.the-variants.{Refused}
 use mathlib.Core.Path.{ap, _∙_}
 -- `schema::places::places_filled` meets its contract. The loop keeps the count of open places, and that some were open before each node passed.
 use Rattle.tree.proofs.CountingLaws.{Counted, counted-start, counted-next, counted-left, counted-filled, counted-missing}
