@@ -1,4 +1,7 @@
 // A refusal, and the answers that several crates give.
+ghost use mathlib.Core.Path.{_≡_};
+ghost use Rattle.refusal.specs.Outcome.{shortOutput};
+use crate::numbers;
 
 // A refusal: its number, and the block, node or byte that it names, or 0 where it names none.
 pub struct Refusal {
@@ -22,4 +25,14 @@ pub enum Verdict {
 pub enum Counted {
     Count(usize),
     Refused(Refusal),
+}
+
+// The refusal of an output that is not enough.
+pub fn short_output() -> Refusal
+    ensures { λ r. ⌜ r ≡ shortOutput ⌝ }
+{
+    Refusal {
+        number: numbers::SHORT_OUTPUT,
+        place: 0,
+    }
 }

@@ -6,3 +6,4 @@ pub use answers::Counted;
 pub use answers::Fault;
 pub use answers::Refusal;
 pub use answers::Verdict;
+pub use answers::short_output;

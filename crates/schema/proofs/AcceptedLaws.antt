@@ -44,7 +44,7 @@ answer-rows Lawful t lent n e = by-test (ltb lent (rowWidth * t)) e
 
 module _ (bytes : List ℕ) (lent : ℕ) (accepted : Accepted (outcome bytes lent)) where
   -- an accepted sheet opens
-  opens : (t : ℕ) × (sheet.openOf bytes ≡ Nodes t)
+  opens : (t : ℕ) × (sheet.openOf bytes ≡ Counted.Count t)
   unfolding outcome
   opens = lawful-opened bytes (accepted-no-refusal (judgement bytes) (totalOf bytes) lent accepted)
 

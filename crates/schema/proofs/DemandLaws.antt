@@ -111,7 +111,7 @@ unfolding rows
 rows-length bytes t h = length-rowsFrom t 0 0 Other [] [] ∙ ap (λ (n : ℕ). rowWidth * n) (size-is bytes t h)
 
 -- blocks and slots are sound exactly where opening gives no refusal
-pub sound-exactly : (bytes : List ℕ) → Sound bytes ↔ (sheet.openOf bytes ≡ Nodes (totalOf bytes))
+pub sound-exactly : (bytes : List ℕ) → Sound bytes ↔ (sheet.openOf bytes ≡ Counted.Count (totalOf bytes))
 sound-exactly bytes = (
   (λ s. openOf-accepts bytes (s .blocks) (s .slots)),
   (λ e. record { blocks = openOf-blocks bytes (totalOf bytes) e; slots = openOf-slots bytes (totalOf bytes) e }),

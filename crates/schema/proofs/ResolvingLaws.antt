@@ -6,7 +6,7 @@ use native.Mathlib.Omega.{arith}
 use native.Mathlib.Nat.{zero-add}
 use borrow.Author.Tests.{lt-ltb, le-ltb}
 use lib.ListN.{length, drop}
-use Rattle.refusal.specs.Outcome.{refusal}
+use Rattle.refusal.specs.Outcome.{shortOutput}
 use Rattle.sheet.specs.Block.{totalOf}
 use Rattle.sheet.specs.Slot.{slots, slotAt}
 use Rattle.tree.specs.Tree.{SlotBytes, Tree, node}
@@ -39,7 +39,7 @@ module _ (b : List ℕ) where
   written-refused r lent e = rw e
 
   module _ (n : ℕ) (e : judgementOf b ≡ Counted.Count n) where
-    pub resolve-short : (lent : List ℕ) → length lent < rowWidth * n → outcome b (length lent) ≡ Counted.Refused (refusal 14 0)
+    pub resolve-short : (lent : List ℕ) → length lent < rowWidth * n → outcome b (length lent) ≡ Counted.Refused shortOutput
     unfolding outcome answer
     resolve-short lent h = rw (judged-lawful b n e .0, lt-ltb (length lent) (rowWidth * totalOf b) (omega (arith, judged-total b n e)))
 

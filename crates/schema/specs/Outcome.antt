@@ -4,19 +4,14 @@ use mathlib.Core.Bool.{cond}
 use mathlib.Core.List.{List, _++_}
 use lib.Dec.{ltb}
 use lib.ListN.{drop}
-use Rattle.refusal.specs.Outcome.{refusal}
+use Rattle.refusal.specs.Outcome.{shortOutput}
 use Rattle.sheet.specs.Block.{totalOf}
 use Rattle.sheet.specs.Slot.{slots}
 use Rattle.tree.specs.Judgement.{judgement}
 use Rattle.schema.specs.Rows.{rows, rowWidth}
 use Rattle.tree.specs.Reading.{treeOf}
-use Rattle.refusal.specs.declared.answers.Refusal.{Refusal}
 use Rattle.refusal.specs.declared.answers.Verdict.{Verdict}
 use Rattle.refusal.specs.declared.answers.Counted.{Counted}
-
--- 14, at place 0
-abbrev pub shortOutput : Refusal
-shortOutput = refusal 14 0
 
 -- "14 last": T rows where as many numbers are lent as they need
 unfoldable pub answer : Verdict → ℕ → ℕ → Counted

@@ -3,22 +3,15 @@ ghost use mathlib.Core.Path.{_≡_};
 ghost use Prim.Native.Nat.{_*_, _<_};
 ghost use lib.ListN.{length};
 ghost use Rattle.schema.specs.Outcome.{outcome, written};
-use crate::output::short_output;
 use crate::roles::Parent;
 use crate::rows::ROW_WIDTH;
 use crate::rows::write_run;
 use refusal::Counted;
-use refusal::Refusal;
+use refusal::short_output;
 use tree::LEVELS;
 use tree::judge;
 
-// What resolving answers: the number of nodes, whose rows are written, or the refusal.
-pub enum Resolved {
-    Rows(usize),
-    Refused(Refusal),
-}
-
-// Judges a sheet and writes its rows, eleven numbers for each node in listing order. Where the sheet is refused or fewer numbers
+// Judges a sheet and writes its rows, eleven numbers for each node in listing order, and answers the number of nodes. Where the sheet is refused or fewer numbers
 // are lent than its rows need, nothing is written.
 pub fn resolve(sheet: &[u8], rows: &mut [u32]) -> Counted
     ensures { λ r. ⌜ r ≡ outcome (now (sheet .entry)) (length (now (rows .entry))) ⌝ }

@@ -10,21 +10,14 @@ ghost use Rattle.tree.specs.Annotated.{annotated};
 ghost use Rattle.tree.specs.Judgement.{judgementOf};
 ghost use Rattle.schema.specs.Rewriting.{withRewriting, withRewritings, rewritten, rewriteOutcome, rewriteWritten};
 ghost use Rattle.schema.specs.Steps.{isWrittenMap, writtenInOrder};
-use crate::output::short_output;
 use parquet::logical;
 use refusal::Counted;
-use refusal::Refusal;
+use refusal::short_output;
 use tree::annotated;
 use tree::judge;
 
-// What rewriting answers: how many bytes are written, or the refusal.
-pub enum Rewritten {
-    Bytes(usize),
-    Refused(Refusal),
-}
-
-// Judges a sheet and writes it, with both annotations at every node, into the output from start on. Where the sheet is refused,
-// the start lies beyond the output's end or the sheet does not fit behind it, nothing is written.
+// Judges a sheet and writes it, with both annotations at every node, into the output from start on, and answers how many bytes.
+// Where the sheet is refused, the start lies beyond the output's end or the sheet does not fit behind it, nothing is written.
 pub fn rewrite(sheet: &[u8], out: &mut [u8], start: usize) -> Counted
     ensures { λ r. ⌜ r ≡ rewriteOutcome (now (sheet .entry)) (length (now (out .entry))) start ⌝ }
     ensures { λ _. ⌜ now (out .exit) ≡ rewriteWritten (rewriteOutcome (now (sheet .entry)) (length (now (out .entry))) start) (now (sheet .entry)) (now (out .entry)) start ⌝ }
