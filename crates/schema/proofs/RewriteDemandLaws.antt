@@ -22,7 +22,7 @@ use Rattle.sheet.proofs.OpeningLaws.{openOf-blocks, openOf-slots, openOf-total,
 use Rattle.sheet.proofs.RenewalLaws.{renewed-right, renewed-renewed}
 use Rattle.sheet.proofs.SlotLaws.{slotStart-within, reaches-true, slotAt-length, slots-length}
 use Rattle.sheet.proofs.SoundLaws.{slotRight-used, slotRight-unused}
-use Rattle.annotation.specs.declared.rewriting.Rewriting.{Rewriting}
+use Rattle.annotation.specs.declared.rewriting.Written.{Written}
 use Rattle.tree.specs.Tree.{SlotBytes, Tree, listing, size, AtMostDeep}
 use Rattle.schema.specs.Rows.{rows}
 use Rattle.tree.specs.Reading.{treeOf}
@@ -47,7 +47,7 @@ module _ (b : List ℕ) (lawful : judgement b ≡ Verdict.Lawful) where
   abbrev t : Tree
   t = treeOf (slots b)
 
-  abbrev rs : List Rewriting
+  abbrev rs : List Written
   rs = rewritings Root (treeOf (slots b))
 
   opened : (n : ℕ) × (sheet.openOf b ≡ Counted.Count n)
@@ -166,13 +166,13 @@ module _ (b : List ℕ) (lawful : judgement b ≡ Verdict.Lawful) where
   unfolding rewritten slots
   rewritten-rewritten =
       ap (λ (u : Tree). renewed (withRewritings (rewritten b) 0 (rewritings Root u))) tree-is
-      ∙ ap (λ (us : List Rewriting). renewed (withRewritings (rewritten b) 0 us)) (rewritings-rewritten t Root long (tree .keeps))
+      ∙ ap (λ (us : List Written). renewed (withRewritings (rewritten b) 0 us)) (rewritings-rewritten t Root long (tree .keeps))
       ∙ ap renewed (withRewritings-same rs (rewritten b) 0 (subst (HoldsEach rs) (sym slots-are ∙ ap (slotsFrom (rewritten b) 0) (total-is ∙ sym count-is)) (holds-listing t Root long (tree .keeps))))
       ∙ renewed-renewed (withRewritings b 0 rs)
 
 -- all else is copied ---------------------------------------------------------------------------------------------------
 
-copied-rewritings : (rs : List Rewriting) (sheet : List ℕ) (k j : ℕ) → Copied (slotAt (withRewritings sheet k rs) j) (slotAt sheet j)
+copied-rewritings : (rs : List Written) (sheet : List ℕ) (k j : ℕ) → Copied (slotAt (withRewritings sheet k rs) j) (slotAt sheet j)
 unfolding withRewritings
 copied-rewritings [] sheet k j = copied-refl (slotAt sheet j)
 copied-rewritings (r ∷ rs) sheet k j =

@@ -13,7 +13,7 @@ use Rattle.sheet.specs.Slot.{repetition, slots, slotAt}
 use Rattle.sheet.proofs.SlotLaws.{slots-length, slots-drop}
 use Rattle.parquet.specs.Logical as logical
 use Rattle.annotation.specs.Rewriting.{writtenOf}
-use Rattle.annotation.specs.declared.rewriting.Rewriting.{Rewriting}
+use Rattle.annotation.specs.declared.rewriting.Written as numbers
 use Rattle.annotation.proofs.RewritingLaws.{written-kind}
 use Rattle.tree.specs.Annotated.{annotated, kind}
 use Rattle.tree.specs.Tree.{SlotBytes, Tree, Fields, node, empty, field, listing, listings, size}
@@ -27,9 +27,8 @@ use Rattle.refusal.specs.declared.answers.Counted.{Counted}
 use Rattle.tree.proofs.StandingLaws.{sizes-field, size-node}
 use Rattle.tree.proofs.NodeLaws.{under-below}
 use Rattle.tree.proofs.JudgementLaws.{judged-keeps, judged-listing}
-use Rattle.schema.specs.Rewriting.{rewritings, runRewritings, withRewriting, withRewritings}
+use Rattle.schema.specs.Rewriting.{rewriting, rewritings, runRewritings, withRewriting, withRewritings}
 use Rattle.schema.specs.Steps.{isWrittenMap, writtenInOrder}
-use Rattle.schema.proofs.RewrittenSlotLaws.{kept-written}
 
 mutual
   unfolding rewritings sizes listings
@@ -79,22 +78,20 @@ order-first t fs p rest b e h =
     ∙ h
 
 mutual
-  unfolding listing rewritings writtenInOrder Keeps Alone
+  unfolding listing rewriting rewritings writtenInOrder Keeps Alone
 
   order-tree : (t : Tree) (p : Place) (rest : List SlotBytes) → Keeps p t → writtenInOrder (underMap p) (listing t ++ rest) ≡ rewritings p t ++ writtenInOrder false rest
   order-tree (node s fs) p rest k =
-      let own = Rewriting.Written (writtenOf (annotated s) (underMap p)) in
-      let written = kept-written (underMap p) s (k .0 .agreement) (k .0 .placement) (k .0 .decimals) in
+      let own = writtenOf (annotated s) (underMap p) in
       ap (λ (b : Bool). own ∷ writtenInOrder b (listings fs ++ rest)) (map-below p s)
-      ∙ ap (λ (rs : List Rewriting). own ∷ rs) (order-run fs (placeBelow p s) rest (underMap (placeBelow p s)) refl (kept-alone p s fs (underMap (placeBelow p s)) (sym (under-below p s)) (k .0 .maps)) (k .1))
-      ∙ ap (λ (r : Rewriting). r ∷ (runRewritings (placeBelow p s) fs ++ writtenInOrder false rest)) (sym written)
+      ∙ ap (λ (rs : List numbers.Written). own ∷ rs) (order-run fs (placeBelow p s) rest (underMap (placeBelow p s)) refl (kept-alone p s fs (underMap (placeBelow p s)) (sym (under-below p s)) (k .0 .maps)) (k .1))
 
   order-run : (fs : Fields) (p : Place) (rest : List SlotBytes) (b : Bool) → underMap p ≡ b → Alone b fs → KeepsAll p fs → writtenInOrder b (listings fs ++ rest) ≡ runRewritings p fs ++ writtenInOrder false rest
   order-run empty p rest false e a k = refl
   order-run empty p rest true e a k = absurd a
   order-run (field t fs) p rest false e a k =
       order-first t fs p rest false e (order-tree t p (listings fs ++ rest) (k .0))
-      ∙ ap (λ (rs : List Rewriting). rewritings p t ++ rs) (order-run fs p rest false e tt (k .1))
+      ∙ ap (λ (rs : List numbers.Written). rewritings p t ++ rs) (order-run fs p rest false e tt (k .1))
       ∙ sym (append-assoc (rewritings p t) (runRewritings p fs) (writtenInOrder false rest))
   order-run (field t empty) p rest true e a k =
       order-first t empty p rest true e (order-tree t p rest (k .0))
@@ -123,7 +120,7 @@ module _ (b lent out : List ℕ) (k : ℕ) (under : Bool) (r : Written b lent ou
   unfolding writtenInOrder withRewritings
   written-end h = sym (r .found ∙ rw (drop-of-length-le (slots b) {i = k} (omega (arith, slots-length b))))
 
-  pub written-next : k < totalOf b → (m : List ℕ) (c : Bool) → m ≡ withRewriting out k (Rewriting.Written (writtenOf (annotated (slotAt b k)) under)) → c ≡ isWrittenMap under (slotAt b k) → length m ≡ length out → Written b lent m (k + 1) c
+  pub written-next : k < totalOf b → (m : List ℕ) (c : Bool) → m ≡ withRewriting out k (writtenOf (annotated (slotAt b k)) under) → c ≡ isWrittenMap under (slotAt b k) → length m ≡ length out → Written b lent m (k + 1) c
   unfolding writtenInOrder withRewritings
   written-next h m c em ec long =
       record {

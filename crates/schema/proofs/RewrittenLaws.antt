@@ -12,7 +12,7 @@ use Rattle.sheet.specs.Slot.{childCountAt, reaches, slotAt, slotsFrom, slots}
 use Rattle.sheet.specs.Sound.{slotSound}
 use Rattle.sheet.proofs.AnnotationLaws.{annotated-nowhere, length-withAnnotation, slotAt-annotated, slotAt-annotated-other, withAnnotation-header, withAnnotation-same}
 use Rattle.sheet.proofs.CopyLaws.{SameHeaders, headers-trans, reaches-same, renewed-headers}
-use Rattle.annotation.specs.declared.rewriting.Rewriting.{Rewriting}
+use Rattle.annotation.specs.declared.rewriting.Written.{Written}
 use Rattle.tree.specs.Tree.{SlotBytes, Tree, Fields, node, empty, field, listing, listings, size}
 use Rattle.tree.specs.Rules.{underMap, placeBelow, Keeps, KeepsAll}
 use Rattle.tree.specs.Reading.{treeOf}
@@ -27,32 +27,27 @@ use Rattle.schema.proofs.RewrittenTreeLaws.{rewrittenTree, rewrittenRun
 
 -- one slot
 module _ (sheet : List ℕ) (k : ℕ) where
-  pub headers-rewriting : (r : Rewriting) → SameHeaders (withRewriting sheet k r) sheet
-  headers-rewriting (Rewriting.Written w) =
+  pub headers-rewriting : (r : Written) → SameHeaders (withRewriting sheet k r) sheet
+  headers-rewriting w =
       record {
         long = length-withAnnotation sheet k (w .converted) (w .logical) (w .a) (w .b);
         headers = withAnnotation-header sheet k (w .converted) (w .logical) (w .a) (w .b);
       }
-  headers-rewriting (Rewriting.Refused number) = record { long = refl; headers = λ p h. refl }
 
-  slotAt-rewriting : (r : Rewriting) → reaches sheet k ≡ true → slotAt (withRewriting sheet k r) k ≡ rewrittenAs r (slotAt sheet k)
-  slotAt-rewriting (Rewriting.Written w) h = slotAt-annotated sheet k (w .converted) (w .logical) (w .a) (w .b) h
-  slotAt-rewriting (Rewriting.Refused number) h = refl
+  slotAt-rewriting : (r : Written) → reaches sheet k ≡ true → slotAt (withRewriting sheet k r) k ≡ rewrittenAs r (slotAt sheet k)
+  slotAt-rewriting w h = slotAt-annotated sheet k (w .converted) (w .logical) (w .a) (w .b) h
 
-  slotAt-rewriting-other : (r : Rewriting) (j : ℕ) → (j ≡ k → ⊥) → slotAt (withRewriting sheet k r) j ≡ slotAt sheet j
-  slotAt-rewriting-other (Rewriting.Written w) j other = slotAt-annotated-other sheet k (w .converted) (w .logical) (w .a) (w .b) j other
-  slotAt-rewriting-other (Rewriting.Refused number) j other = refl
+  slotAt-rewriting-other : (r : Written) (j : ℕ) → (j ≡ k → ⊥) → slotAt (withRewriting sheet k r) j ≡ slotAt sheet j
+  slotAt-rewriting-other w j other = slotAt-annotated-other sheet k (w .converted) (w .logical) (w .a) (w .b) j other
 
-  rewriting-nowhere : (r : Rewriting) → reaches sheet k ≡ false → withRewriting sheet k r ≡ sheet
-  rewriting-nowhere (Rewriting.Written w) h = annotated-nowhere sheet k (w .converted) (w .logical) (w .a) (w .b) h
-  rewriting-nowhere (Rewriting.Refused number) h = refl
+  rewriting-nowhere : (r : Written) → reaches sheet k ≡ false → withRewriting sheet k r ≡ sheet
+  rewriting-nowhere w h = annotated-nowhere sheet k (w .converted) (w .logical) (w .a) (w .b) h
 
-  rewriting-same : (r : Rewriting) → Holds r (slotAt sheet k) → withRewriting sheet k r ≡ sheet
-  rewriting-same (Rewriting.Written w) h = withAnnotation-same sheet k (w .converted) (w .logical) (w .a) (w .b) (h .0) (h .1) (h .2) (h .3)
-  rewriting-same (Rewriting.Refused number) h = refl
+  rewriting-same : (r : Written) → Holds r (slotAt sheet k) → withRewriting sheet k r ≡ sheet
+  rewriting-same w h = withAnnotation-same sheet k (w .converted) (w .logical) (w .a) (w .b) (h .0) (h .1) (h .2) (h .3)
 
   -- whatever is rewritten, all but the annotations stays
-  pub copied-rewriting : (r : Rewriting) (j : ℕ) → Copied (slotAt (withRewriting sheet k r) j) (slotAt sheet j)
+  pub copied-rewriting : (r : Written) (j : ℕ) → Copied (slotAt (withRewriting sheet k r) j) (slotAt sheet j)
   copied-rewriting r j = own (ℕ-discrete j k) (reaches sheet k) refl
     where
       same : slotAt (withRewriting sheet k r) j ≡ slotAt sheet j → Copied (slotAt (withRewriting sheet k r) j) (slotAt sheet j)
@@ -66,21 +61,21 @@ module _ (sheet : List ℕ) (k : ℕ) where
       own (no e) there h = same (slotAt-rewriting-other r j e)
 
 -- slots from node k on
-pub headers-rewritings : (rs : List Rewriting) (sheet : List ℕ) (k : ℕ) → SameHeaders (withRewritings sheet k rs) sheet
+pub headers-rewritings : (rs : List Written) (sheet : List ℕ) (k : ℕ) → SameHeaders (withRewritings sheet k rs) sheet
 unfolding withRewritings
 headers-rewritings [] sheet k = record { long = refl; headers = λ p h. refl }
 headers-rewritings (r ∷ rs) sheet k =
     headers-trans (withRewritings (withRewriting sheet k r) (suc k) rs) (withRewriting sheet k r) sheet (headers-rewritings rs (withRewriting sheet k r) (suc k)) (headers-rewriting sheet k r)
 
 -- those before them stay
-slotAt-before : (rs : List Rewriting) (sheet : List ℕ) (k j : ℕ) → j < k → slotAt (withRewritings sheet k rs) j ≡ slotAt sheet j
+slotAt-before : (rs : List Written) (sheet : List ℕ) (k j : ℕ) → j < k → slotAt (withRewritings sheet k rs) j ≡ slotAt sheet j
 unfolding withRewritings
 slotAt-before [] sheet k j h = refl
 slotAt-before (r ∷ rs) sheet k j h =
     slotAt-before rs (withRewriting sheet k r) (suc k) j (omega arith) ∙ slotAt-rewriting-other sheet k r j (λ (e : j ≡ k). omega arith)
 
 -- and so do those behind them
-pub slotAt-behind : (rs : List Rewriting) (sheet : List ℕ) (k j : ℕ) → k + length rs ≤ j → slotAt (withRewritings sheet k rs) j ≡ slotAt sheet j
+pub slotAt-behind : (rs : List Written) (sheet : List ℕ) (k j : ℕ) → k + length rs ≤ j → slotAt (withRewritings sheet k rs) j ≡ slotAt sheet j
 unfolding withRewritings
 slotAt-behind [] sheet k j h = refl
 slotAt-behind (r ∷ rs) sheet k j h =
@@ -93,12 +88,12 @@ slotsFrom-same (suc n) x y k same =
     ap₂ (λ (s : SlotBytes) (ss : List SlotBytes). s ∷ ss) (same k (omega arith)) (slotsFrom-same n x y (suc k) (λ j h. same j (omega arith)))
 
 -- slots with what is rewritten of each
-unfoldable pub pairwise : List Rewriting → List SlotBytes → List SlotBytes
+unfoldable pub pairwise : List Written → List SlotBytes → List SlotBytes
 pairwise [] ss = []
 pairwise (r ∷ rs) [] = []
 pairwise (r ∷ rs) (s ∷ ss) = rewrittenAs r s ∷ pairwise rs ss
 
-pub slotsFrom-rewritings : (rs : List Rewriting) (sheet : List ℕ) (k : ℕ) → ((j : ℕ) → k ≤ j → j < k + length rs → reaches sheet j ≡ true) → slotsFrom (withRewritings sheet k rs) k (length rs) ≡ pairwise rs (slotsFrom sheet k (length rs))
+pub slotsFrom-rewritings : (rs : List Written) (sheet : List ℕ) (k : ℕ) → ((j : ℕ) → k ≤ j → j < k + length rs → reaches sheet j ≡ true) → slotsFrom (withRewritings sheet k rs) k (length rs) ≡ pairwise rs (slotsFrom sheet k (length rs))
 unfolding withRewritings slotsFrom pairwise
 slotsFrom-rewritings [] sheet k there = refl
 slotsFrom-rewritings (r ∷ rs) sheet k there =
@@ -107,7 +102,7 @@ slotsFrom-rewritings (r ∷ rs) sheet k there =
     (slotsFrom-rewritings rs (withRewriting sheet k r) (suc k) (λ j l h. reaches-same (withRewriting sheet k r) sheet (headers-rewriting sheet k r) j ∙ there j (omega arith) (omega arith))
     ∙ ap (pairwise rs) (slotsFrom-same (length rs) (withRewriting sheet k r) sheet (suc k) (λ j h. slotAt-rewriting-other sheet k r j (λ (e : j ≡ k). omega arith))))
 
-pairwise-append : (us vs : List Rewriting) (xs ys : List SlotBytes) → length us ≡ length xs → pairwise (us ++ vs) (xs ++ ys) ≡ pairwise us xs ++ pairwise vs ys
+pairwise-append : (us vs : List Written) (xs ys : List SlotBytes) → length us ≡ length xs → pairwise (us ++ vs) (xs ++ ys) ≡ pairwise us xs ++ pairwise vs ys
 unfolding pairwise
 pairwise-append [] vs [] ys e = refl
 pairwise-append [] vs (x ∷ xs) ys e = absurd (omega arith)
@@ -196,12 +191,12 @@ mutual
       (sound-listing t p (long .0) (h .0) (parts .0)) (sound-listings fs p (long .1) (h .1) (parts .1))
 
 -- each slot of a list has what is rewritten of it
-unfoldable pub HoldsEach : List Rewriting → List SlotBytes → Type 0
+unfoldable pub HoldsEach : List Written → List SlotBytes → Type 0
 HoldsEach [] ss = Unit {0}
 HoldsEach (r ∷ rs) [] = ⊥
 HoldsEach (r ∷ rs) (s ∷ ss) = Holds r s × HoldsEach rs ss
 
-holds-join : (us vs : List Rewriting) (xs ys : List SlotBytes) → length us ≡ length xs → HoldsEach us xs → HoldsEach vs ys → HoldsEach (us ++ vs) (xs ++ ys)
+holds-join : (us vs : List Written) (xs ys : List SlotBytes) → length us ≡ length xs → HoldsEach us xs → HoldsEach vs ys → HoldsEach (us ++ vs) (xs ++ ys)
 unfolding HoldsEach
 holds-join [] vs [] ys e g h = h
 holds-join [] vs (x ∷ xs) ys e g h = absurd (omega arith)
@@ -224,7 +219,7 @@ mutual
       (holds-listing t p (long .0) (h .0)) (holds-listings fs p (long .1) (h .1))
 
 -- a sheet that has what is rewritten stays as it is
-pub withRewritings-same : (rs : List Rewriting) (sheet : List ℕ) (k : ℕ) → HoldsEach rs (slotsFrom sheet k (length rs)) → withRewritings sheet k rs ≡ sheet
+pub withRewritings-same : (rs : List Written) (sheet : List ℕ) (k : ℕ) → HoldsEach rs (slotsFrom sheet k (length rs)) → withRewritings sheet k rs ≡ sheet
 unfolding withRewritings HoldsEach slotsFrom
 withRewritings-same [] sheet k h = refl
 withRewritings-same (r ∷ rs) sheet k h =

@@ -9,7 +9,7 @@ use Rattle.sheet.specs.Sound.{listed, convertedListed, logicalListed, slotSound
 use Rattle.sheet.proofs.AnnotatedSlotLaws.{physical-annotated, repetition-annotated, childCount-annotated, typeLength-annotated, scale-annotated, precision-annotated, name-annotated, length-annotated, converted-annotated, logical-annotated, parameterA-annotated, parameterB-annotated, sound-annotated}
 use Rattle.annotation.specs.Kinds.{kindOf}
 use Rattle.annotation.specs.Outcome.{resolutionOf}
-use Rattle.annotation.specs.Rewriting.{writtenAs, writtenOf, rewritingOf, rewritten as rewrittenNumbers}
+use Rattle.annotation.specs.Rewriting.{writtenAs, writtenOf, rewritten as rewrittenNumbers}
 use Rattle.annotation.specs.Meaning.{annotationOf}
 use Rattle.logical_type.specs.declared.types.Annotation.{Annotation}
 use Rattle.logical_type.specs.declared.types.LogicalType.{LogicalType}
@@ -17,7 +17,6 @@ use Rattle.logical_type.specs.declared.types.TimeUnit.{TimeUnit}
 use Rattle.logical_type.specs.declared.types.BitWidth.{BitWidth}
 use Rattle.annotation.specs.declared.resolution.Resolution.{Resolution}
 use Rattle.annotation.specs.declared.rewriting.Written.{Written}
-use Rattle.annotation.specs.declared.rewriting.Rewriting.{Rewriting}
 use Rattle.annotation.proofs.OutcomeLaws.{Keeps, resolved-of-keeps, keeps-of-resolved, kind-of-resolved}
 use Rattle.annotation.proofs.RewritingLaws.{resolved-rewritten, written-rewritten}
 use Rattle.tree.specs.Annotated.{annotated, kind, rule9, rule10, rule11}
@@ -26,9 +25,8 @@ use Rattle.schema.specs.Demand.{Copied}
 use Rattle.schema.specs.Rewriting.{rewriting}
 
 -- a slot with what is rewritten of it
-abbrev pub rewrittenAs : Rewriting → SlotBytes → SlotBytes
-rewrittenAs (Rewriting.Written w) s = annotatedSlot s (w .converted) (w .logical) (w .a) (w .b)
-rewrittenAs (Rewriting.Refused number) s = s
+abbrev pub rewrittenAs : Written → SlotBytes → SlotBytes
+rewrittenAs w s = annotatedSlot s (w .converted) (w .logical) (w .a) (w .b)
 
 unfoldable pub rewrittenSlot : Bool → SlotBytes → SlotBytes
 rewrittenSlot under s = rewrittenAs (rewriting under s) s
@@ -49,8 +47,8 @@ copied-trans r s u first second =
       name-is = first .name-is ∙ second .name-is;
     }
 
-pub copied-as : (r : Rewriting) (s : SlotBytes) → Copied (rewrittenAs r s) s
-copied-as (Rewriting.Written w) s =
+pub copied-as : (r : Written) (s : SlotBytes) → Copied (rewrittenAs r s) s
+copied-as w s =
     record {
       physical-is = physical-annotated s (w .converted) (w .logical) (w .a) (w .b);
       repetition-is = repetition-annotated s (w .converted) (w .logical) (w .a) (w .b);
@@ -60,17 +58,15 @@ copied-as (Rewriting.Written w) s =
       precision-is = precision-annotated s (w .converted) (w .logical) (w .a) (w .b);
       name-is = name-annotated s (w .converted) (w .logical) (w .a) (w .b);
     }
-copied-as (Rewriting.Refused number) s = copied-refl s
 
 pub slot-copied : (under : Bool) (s : SlotBytes) → Copied (rewrittenSlot under s) s
 unfolding rewrittenSlot
 slot-copied under s = copied-as (rewriting under s) s
 
 -- a slot has what is rewritten
-abbrev pub Holds : Rewriting → SlotBytes → Type 0
-Holds (Rewriting.Written w) s =
+abbrev pub Holds : Written → SlotBytes → Type 0
+Holds w s =
     (converted s ≡ w .converted) × (logical s ≡ w .logical) × (parameterA s ≡ w .a) × (parameterB s ≡ w .b)
-Holds (Rewriting.Refused number) s = Unit {0}
 
 logical-listed : (l : LogicalType) → (convertedListed (writtenAs (Annotation.Logical l) .converted) ≡ true) × (logicalListed (writtenAs (Annotation.Logical l) .logical) ≡ true)
 unfolding convertedListed logicalListed listed
@@ -107,11 +103,6 @@ written-listed (Annotation.Logical l) = logical-listed l
 written-listed Annotation.Interval = (refl, refl)
 written-listed Annotation.Unreadable = (refl, refl)
 
--- a slot that keeps rules 9, 10 and 11 is rewritten to what is written for its annotation
-pub kept-written : (under : Bool) (s : SlotBytes) → rule9 s ≡ true → rule10 under s ≡ true → rule11 under s ≡ true → rewriting under s ≡ Rewriting.Written (writtenOf (annotated s) under)
-unfolding rewriting rewritingOf rule9 rule10 rule11
-kept-written under s nine ten eleven = rw (resolved-of-keeps (annotated s) under (record { nine = nine; ten = ten; eleven = eleven }))
-
 -- a slot that is long enough to have annotations, and keeps rules 9, 10 and 11
 pub record Resolves (under : Bool) (s : SlotBytes) : Type 0 where
   pub long : childCountAt ≤ length s
@@ -127,15 +118,12 @@ module _ (under : Bool) (s : SlotBytes) (h : Resolves under s) where
   resolved : resolutionOf (annotated s) under ≡ Resolution.Resolved (kindOf (annotated s) under)
   resolved = resolved-of-keeps (annotated s) under keeps
 
-  rewriting-written : rewriting under s ≡ Rewriting.Written (writtenOf (annotated s) under)
-  rewriting-written = kept-written under s (h .nine) (h .ten) (h .eleven)
-
   w : Written
   w = writtenOf (annotated s) under
 
   slot-is : rewrittenSlot under s ≡ annotatedSlot s (w .converted) (w .logical) (w .a) (w .b)
-  unfolding rewrittenSlot w
-  slot-is = rw rewriting-written
+  unfolding rewrittenSlot rewriting w
+  slot-is = refl
 
   -- its numbers are those that the annotations' own rewriting gives
   pub annotated-rewritten : annotated (rewrittenSlot under s) ≡ rewrittenNumbers (annotated s) under
@@ -165,9 +153,8 @@ module _ (under : Bool) (s : SlotBytes) (h : Resolves under s) where
 
   -- and is rewritten to itself
   pub rewriting-rewritten : rewriting under (rewrittenSlot under s) ≡ rewriting under s
-  unfolding rewriting rewritingOf
-  rewriting-rewritten =
-      rw (again, resolved, annotated-rewritten, written-rewritten (annotated s) under)
+  unfolding rewriting
+  rewriting-rewritten = rw (annotated-rewritten, written-rewritten (annotated s) under)
 
   -- it is sound where it was
   pub sound-rewritten : slotSound s ≡ true → slotSound (rewrittenSlot under s) ≡ true
@@ -178,9 +165,9 @@ module _ (under : Bool) (s : SlotBytes) (h : Resolves under s) where
 
   -- and has what is rewritten
   pub holds-rewritten : Holds (rewriting under s) (rewrittenSlot under s)
-  unfolding w
+  unfolding rewriting w
   holds-rewritten =
-      rw (slot-is, rewriting-written) (
+      rw slot-is (
         converted-annotated s (w .converted) (w .logical) (w .a) (w .b) (h .long),
         logical-annotated s (w .converted) (w .logical) (w .a) (w .b) (h .long),
         parameterA-annotated s (w .converted) (w .logical) (w .a) (w .b) (h .long),

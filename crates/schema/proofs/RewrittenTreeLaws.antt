@@ -15,7 +15,7 @@ use Rattle.annotation.proofs.RewritingLaws.{written-plain, decimal-rewritten}
 use Rattle.annotation.specs.declared.resolution.Kind.{Kind}
 use Rattle.annotation.specs.declared.slot.Annotated.{Annotated}
 use Rattle.annotation.specs.declared.rewriting.Written.{Written}
-use Rattle.annotation.specs.declared.rewriting.Rewriting.{Rewriting}
+use Rattle.annotation.specs.declared.rewriting.Written.{Written}
 use Rattle.tree.specs.Annotated.{annotated, kind, rule9, rule10}
 use Rattle.tree.specs.Tree.{SlotBytes, Tree, Fields, node, empty, field, count, depths, runDepths, Claims, ClaimsAll}
 use Rattle.tree.specs.Rules.{isGroup, isRequiredOrOptional, underMap, isList, isMap, placeUnder, placeBelow, rootShape, placeShape, lengthShape, decimalShape, shape, rule8, namedElement, isRepeated, isElementGroup, holdsElement, listChild, listRun, listKept, rule12, keyValue, mapRun, mapKept, rule13, KeepsAt, Keeps, KeepsAll}
@@ -242,7 +242,7 @@ mutual
   -- it is rewritten to itself
   pub rewritings-rewritten : (t : Tree) (p : Place) → Long t → Keeps p t → rewritings p (rewrittenTree p t) ≡ rewritings p t
   rewritings-rewritten (node s fs) p long h =
-      ap₂ (λ (r : Rewriting) (rs : List Rewriting). r ∷ rs)
+      ap₂ (λ (r : Written) (rs : List Written). r ∷ rs)
       (rewriting-rewritten (underMap p) s (resolves p s fs (long .0) (h .0)))
       (ap (λ (q : Place). runRewritings q (rewrittenRun (placeBelow p s) fs)) (place-rewritten p s fs (long .0) (h .0)) ∙ runRewritings-rewritten fs (placeBelow p s) (long .1) (h .1))
 

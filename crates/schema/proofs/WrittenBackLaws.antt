@@ -22,7 +22,6 @@ use Rattle.annotation.specs.Kinds.{PLAIN-LEAF, PLAIN-GROUP, bareKind, kindAs, k
 use Rattle.annotation.specs.Rewriting.{writtenAs, writtenOf}
 use Rattle.annotation.specs.declared.slot.Annotated.{Annotated}
 use Rattle.annotation.specs.declared.resolution.Kind.{Kind}
-use Rattle.annotation.specs.declared.rewriting.Rewriting.{Rewriting}
 use Rattle.annotation.proofs.PlacementLaws.{kind-logical, code-stands, groupKind, group-kind}
 use Rattle.sheet.specs.Block.{totalOf}
 use Rattle.sheet.specs.Slot.{childCountAt, physical, converted as convertedOf, logical as logicalOf, parameterA, parameterB, numbersOf, slotAt, slots}
@@ -36,12 +35,12 @@ use Rattle.tree.specs.declared.place.Place.the-variants.{Root}
 use Rattle.refusal.specs.declared.answers.Verdict.{Verdict}
 use Rattle.tree.proofs.TreeOfLaws.{treeOf-listing}
 use Rattle.schema.specs.Rows.{KEY-VALUE-LAYER, rows, rowWidth, numberIn}
-use Rattle.schema.specs.Rewriting.{rewritten}
+use Rattle.schema.specs.Rewriting.{rewriting, rewritten}
 use Rattle.schema.specs.Roles.{ascent, IsKeyValueLayer}
 use Rattle.schema.specs.Demand.{IsTreeOf, Sound, kindIn, Bare, WithLogical, WrittenBack}
 use Rattle.schema.proofs.DemandLaws.{sound-judgement, tree-accepted, size-is}
 use Rattle.schema.proofs.RepeatedFieldLaws.{no-list, no-map}
-use Rattle.schema.proofs.RewrittenSlotLaws.{rewrittenSlot, Holds, kept-written, holds-rewritten}
+use Rattle.schema.proofs.RewrittenSlotLaws.{rewrittenSlot, Holds, holds-rewritten}
 use Rattle.schema.proofs.RewrittenTreeLaws.{rewrittenTree, resolves}
 use Rattle.schema.proofs.RewriteDemandLaws.{slots-are, total-is}
 use Rattle.schema.proofs.NodeRowLaws.{NodeRow, node-row, row-kind}
@@ -51,7 +50,7 @@ use Rattle.schema.proofs.RowRoleLaws.{roles-exactly}
 
 -- a slot in which an annotation is written
 abbrev Written : Annotation → SlotBytes → Type 0
-Written says s = Holds (Rewriting.Written (writtenAs says)) s
+Written says s = Holds (writtenAs says) s
 
 -- no annotation
 bare : (s : SlotBytes) → Written Annotation.Plain s → Bare s
@@ -187,12 +186,10 @@ module _ (b : List ℕ) (t : Tree) (sound : Sound b) (tree : IsTreeOf b t) (k : 
 
   -- what is written of the node stands in its rewritten slot
   holds : Written (annotationOf (annotated s) under) (slotAt (rewritten b) k)
-  unfolding writtenOf
+  unfolding rewriting writtenOf
   holds =
-      let h = own .keeps in
-      subst (Holds (Rewriting.Written (writtenAs (annotationOf (annotated s) under)))) (sym (own .copied) ∙ copy-is)
-      (subst (λ (r : Rewriting). Holds r (rewrittenSlot under s)) (kept-written under s (h .agreement) (h .placement) (h .decimals))
-      (holds-rewritten under s (resolves (own .place) s (own .fields) long h)))
+      subst (Holds (writtenAs (annotationOf (annotated s) under))) (sym (own .copied) ∙ copy-is)
+      (holds-rewritten under s (resolves (own .place) s (own .fields) long (own .keeps)))
 
   -- the kind in its row is the one that the rules took it for
   kind-is : kindIn (rows t) k ≡ kind under s

@@ -8,8 +8,8 @@ use Rattle.refusal.specs.Outcome.{shortOutput}
 use Rattle.laws.specs.Stretches.{stretched}
 use Rattle.sheet.specs.Check.{renewed}
 use Rattle.sheet.specs.Slot.{slots, withAnnotation}
-use Rattle.annotation.specs.Rewriting.{rewritingOf}
-use Rattle.annotation.specs.declared.rewriting.Rewriting.{Rewriting}
+use Rattle.annotation.specs.Rewriting.{writtenOf}
+use Rattle.annotation.specs.declared.rewriting.Written.{Written}
 use Rattle.tree.specs.Annotated.{annotated}
 use Rattle.tree.specs.Tree.{SlotBytes, Tree, Fields, node, empty, field}
 use Rattle.tree.specs.Rules.{underMap, placeBelow}
@@ -22,27 +22,26 @@ use Rattle.refusal.specs.declared.answers.Counted.{Counted}
 
 -- what is rewritten of a node, its parent a resolved MAP or not: "every resolved logical annotation with its parameters and its forward image;
 -- INTERVAL keeps converted alone; a key_value layer has none"
-unfoldable pub rewriting : Bool → SlotBytes → Rewriting
-rewriting under s = rewritingOf (annotated s) under
+unfoldable pub rewriting : Bool → SlotBytes → Written
+rewriting under s = writtenOf (annotated s) under
 
 -- of each node of a tree, in listing order
 unfoldable mutual
-  pub rewritings : Place → Tree → List Rewriting
+  pub rewritings : Place → Tree → List Written
   rewritings p (node s fs) = rewriting (underMap p) s ∷ runRewritings (placeBelow p s) fs
 
-  pub runRewritings : Place → Fields → List Rewriting
+  pub runRewritings : Place → Fields → List Written
   runRewritings p empty = []
   runRewritings p (field t fs) = rewritings p t ++ runRewritings p fs
 
--- a sheet with that in the slot of node k; no node of an accepted sheet is refused
-abbrev pub withRewriting : List ℕ → ℕ → Rewriting → List ℕ
-withRewriting sheet k (Rewriting.Written w) = withAnnotation sheet k (w .converted) (w .logical) (w .a) (w .b)
-withRewriting sheet k (Rewriting.Refused number) = sheet
+-- a sheet with that in the slot of node k
+abbrev pub withRewriting : List ℕ → ℕ → Written → List ℕ
+withRewriting sheet k w = withAnnotation sheet k (w .converted) (w .logical) (w .a) (w .b)
 
 -- and in the slots from node k on
-unfoldable pub withRewritings : List ℕ → ℕ → List Rewriting → List ℕ
+unfoldable pub withRewritings : List ℕ → ℕ → List Written → List ℕ
 withRewritings sheet k [] = sheet
-withRewritings sheet k (r ∷ rs) = withRewritings (withRewriting sheet k r) (suc k) rs
+withRewritings sheet k (w ∷ ws) = withRewritings (withRewriting sheet k w) (suc k) ws
 
 -- the rewritten sheet: "All else but the checks is copied"
 unfoldable pub rewritten : List ℕ → List ℕ

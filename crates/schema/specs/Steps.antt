@@ -7,7 +7,7 @@ use mathlib.Core.Bool.{Bool}
 use lib.Dec.{eqb}
 use Rattle.parquet.specs.Logical as logical
 use Rattle.annotation.specs.Rewriting.{writtenOf}
-use Rattle.annotation.specs.declared.rewriting.Rewriting.{Rewriting}
+use Rattle.annotation.specs.declared.rewriting.Written.{Written}
 use Rattle.tree.specs.Annotated.{annotated}
 use Rattle.tree.specs.Tree.{SlotBytes, Tree, mostDepth}
 use Rattle.schema.specs.Levels.{definitionLevel, repetitionLevel}
@@ -37,6 +37,6 @@ unfoldable pub isWrittenMap : Bool → SlotBytes → Bool
 isWrittenMap under s = eqb (writtenOf (annotated s) under .logical) logical.MAP
 
 -- what is written of nodes one after the other, where the parent of the first is a resolved MAP or not, and that of each other is one where the node before it is
-unfoldable pub writtenInOrder : Bool → List SlotBytes → List Rewriting
+unfoldable pub writtenInOrder : Bool → List SlotBytes → List Written
 writtenInOrder under [] = []
-writtenInOrder under (s ∷ ss) = Rewriting.Written (writtenOf (annotated s) under) ∷ writtenInOrder (isWrittenMap under s) ss
+writtenInOrder under (s ∷ ss) = writtenOf (annotated s) under ∷ writtenInOrder (isWrittenMap under s) ss

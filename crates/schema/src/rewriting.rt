@@ -5,7 +5,6 @@ ghost use lib.ListN.{length};
 ghost use Rattle.sheet.specs.Block.{totalOf};
 ghost use Rattle.sheet.specs.Slot.{slots, slotAt};
 ghost use Rattle.annotation.specs.Rewriting.{writtenOf};
-ghost use Rattle.annotation.specs.declared.rewriting.Rewriting.{Rewriting};
 ghost use Rattle.tree.specs.Annotated.{annotated};
 ghost use Rattle.tree.specs.Judgement.{judgementOf};
 ghost use Rattle.schema.specs.Rewriting.{withRewriting, withRewritings, rewritten, rewriteOutcome, rewriteWritten};
@@ -67,7 +66,7 @@ fn write_nodes(sheet: &[u8], out: &mut [u8], total: usize)
 // Writes the annotations of a node, its parent a resolved MAP or not, and answers whether it is a MAP itself.
 fn write_node(sheet: &[u8], out: &mut [u8], node: usize, under_map: bool) -> bool
     ensures { λ r. ⌜ r ≡ isWrittenMap «under_map» (slotAt (now (sheet .entry)) node) ⌝ }
-    ensures { λ _. ⌜ now (out .exit) ≡ withRewriting (now (out .entry)) node (Rewriting.Written (writtenOf (annotated (slotAt (now (sheet .entry)) node)) «under_map»)) ⌝ }
+    ensures { λ _. ⌜ now (out .exit) ≡ withRewriting (now (out .entry)) node (writtenOf (annotated (slotAt (now (sheet .entry)) node)) «under_map») ⌝ }
 {
     let s = sheet::slot_at(sheet, node);
     let w = annotation::written_of(annotated(s), under_map);

@@ -7,7 +7,7 @@ use Rattle.sheet.specs.Header.{lengthRight}
 use Rattle.sheet.specs.Name.{stretchOf}
 use Rattle.sheet.specs.Opening.{openOf}
 use Rattle.sheet.specs.Slot.{numbersOf, emptySlot, reaches, slotStart, slotAt}
-use Rattle.sheet.specs.declared.opening.Opened.{Opened}
+use Rattle.refusal.specs.declared.answers.Counted.{Counted}
 use Rattle.sheet.specs.declared.opening.Opened.the-variants.{Nodes, BadHeader}
 use Rattle.sheet_reader.specs.Step.{total, stepAt, nodeAfter}
 use Rattle.sheet_reader.specs.Reading.{openedOn, movedOn, steps}
@@ -18,7 +18,7 @@ use Rattle.sheet_reader.specs.declared.stepping.Step.the-variants.{Slot,
 abbrev none : RefT (List ℕ)
 none = record { ptr = (0, 0); name = 0; now = [] }
 
-abbrev by-hand : ℕ → Opened → Reader
+abbrev by-hand : ℕ → Counted → Reader
 by-hand next opened = record { sheet = none; next = next; opened = opened }
 
 -- no bytes are refused, and nothing is handed out

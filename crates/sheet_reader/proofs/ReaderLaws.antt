@@ -11,7 +11,7 @@ use denote.Ref.{RefT, now}
 use Rattle.sheet.specs.Block.{totalOf}
 use Rattle.sheet.specs.Slot.{slotsFrom, slots}
 use Rattle.sheet.specs.Opening.{openOf, outcome, outcomeOf}
-use Rattle.sheet.specs.declared.opening.Opened.{Opened}
+use Rattle.refusal.specs.declared.answers.Counted.{Counted}
 use Rattle.sheet.specs.declared.opening.Opened.the-variants.{Nodes, BadLength, BadCheck, BadHeader, BadSlot}
 use Rattle.sheet.proofs.OpeningLaws.{openOf-total, openOf-slots-length}
 use Rattle.sheet_reader.specs.Step.{total, stepAt, nodeAfter, ended, handoutOf, slotHanded}
@@ -92,7 +92,7 @@ module _ (sheet : RefT (List ℕ)) (n : ℕ) where
       steps-from n 0 n (openedOn sheet) (zero-add 0 ∙ sym e) (omega arith)
       ∙ take-all n (replicate n ended) (le-of-eq (length-replicate n ended))
 
-  kept : (opened : Opened) → openOf (now sheet) ≡ opened → map (handoutOf (now sheet)) (steps n (openedOn sheet)) ≡ handouts (outcomeOf (now sheet) opened) n
+  kept : (opened : Counted) → openOf (now sheet) ≡ opened → map (handoutOf (now sheet)) (steps n (openedOn sheet)) ≡ handouts (outcomeOf (now sheet) opened) n
   unfolding outcomeOf handouts total slots
   kept (Nodes t) e = steps-from n (totalOf (now sheet)) n (openedOn sheet) (zero-add _ ∙ sym (ap total e ∙ openOf-total (now sheet) t e)) (omega arith)
   kept BadLength e = none-handed (ap total e)

@@ -6,14 +6,14 @@ use lib.Dec.{ltb}
 use lib.ListN.{take, drop}
 use Rattle.sheet.specs.Slot.{numbersOf, slotAt, name}
 use Rattle.sheet.specs.Name.{stretchOf}
-use Rattle.sheet.specs.declared.opening.Opened.{Opened}
+use Rattle.refusal.specs.declared.answers.Counted.{Counted}
 use Rattle.sheet.specs.declared.opening.Opened.the-variants.{Nodes, BadLength, BadCheck, BadHeader, BadSlot}
 use Rattle.sheet.specs.declared.slots.Slot.{Slot as Numbers}
 use Rattle.sheet_reader.specs.declared.stepping.Step.{Step}
 use Rattle.sheet_reader.specs.declared.stepping.Step.the-variants.{Slot, End}
 
 -- how many slots there are to hand out: T, and none of a sheet that is refused
-unfoldable pub total : Opened → ℕ
+unfoldable pub total : Counted → ℕ
 total (Nodes t) = t
 total BadLength = 0
 total (BadCheck block) = 0
@@ -21,11 +21,11 @@ total (BadHeader block) = 0
 total (BadSlot node) = 0
 
 -- a node's step: its slot's numbers and where its name stands, or the end
-unfoldable pub stepAt : List ℕ → ℕ → Opened → Step
+unfoldable pub stepAt : List ℕ → ℕ → Counted → Step
 stepAt sheet node opened = cond (ltb node (total opened)) (Slot (numbersOf (slotAt sheet node)) (stretchOf sheet node)) End
 
 -- the node that a step leads to; the end leads nowhere
-unfoldable pub nodeAfter : ℕ → Opened → ℕ
+unfoldable pub nodeAfter : ℕ → Counted → ℕ
 nodeAfter node opened = cond (ltb node (total opened)) (suc node) node
 
 -- what is handed out: a slot's numbers and its name, or nothing any more

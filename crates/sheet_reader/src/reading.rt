@@ -5,7 +5,7 @@ ghost use Rattle.sheet_reader.specs.Reading.{openedOn, stepOf, movedOn, 
 use crate::stepping::Step;
 use crate::stepping::node_after;
 use crate::stepping::step_at;
-use sheet::Opened;
+use refusal::Counted;
 
 // A sheet, its next node, and what opening found: the number of nodes, or the refusal.
 pub struct Reader<'a> {

@@ -1,7 +1,7 @@
 // One step over a sheet that opening has judged: what it hands out, and where it leads.
 ghost use mathlib.Core.Path.{_≡_};
 ghost use Rattle.sheet_reader.specs.Step.{total, stepAt, nodeAfter};
-use sheet::Opened;
+use refusal::Counted;
 use sheet::Slot;
 use sheet::Stretch;
 
@@ -41,7 +41,7 @@ fn total_of(opened: Opened) -> usize
     ensures { λ r. ⌜ r ≡ total opened ⌝ }
 {
     match opened {
-        Opened::Nodes(t) => t,
+        Counted::Count(t) => t,
         Opened::BadLength => 0,
         Opened::BadCheck(_) => 0,
         Opened::BadHeader(_) => 0,

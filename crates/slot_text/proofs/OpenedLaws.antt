@@ -9,7 +9,7 @@ use Rattle.text.specs.Characters.{LF}
 use Rattle.text.specs.Placing.{positionAfter, placedText}
 use Rattle.text.proofs.PlacingLaws.{put-as}
 use Rattle.sheet.specs.Opening.{openOf, outcome, outcomeOf}
-use Rattle.sheet.specs.declared.opening.Opened.{Opened}
+use Rattle.refusal.specs.declared.answers.Counted.{Counted}
 use Rattle.sheet.specs.declared.opening.Opened.the-variants.{Nodes, BadLength, BadCheck, BadHeader, BadSlot}
 use Rattle.slot_text.specs.Opened.{lineOfSome, outcomeText, openedText, mostOpenedBytes}
 
@@ -19,7 +19,7 @@ pub put-opened-as : (lent : List ℕ) (at : ℕ) {held : List ℕ} {next : ℕ} 
     → (next ≡ positionAfter (length lent) at (openedText o′)) × ((held ≡ placedText lent at (openedText o′)) × (length (openedText o′) ≤ mostOpenedBytes))
 put-opened-as lent at e put short =
     let put′ = put-as lent at (ap openedText e) put in
-    (put′ .0, (put′ .1, subst (λ (o : Opened). length (openedText o) ≤ mostOpenedBytes) e short))
+    (put′ .0, (put′ .1, subst (λ (o : Counted). length (openedText o) ≤ mostOpenedBytes) e short))
 
 -- no text and some text as a line
 pub line-none : (text : List ℕ) → length text ≡ 0 → [] ≡ lineOfSome text
@@ -37,7 +37,7 @@ pub opened-outcome : (sheet : List ℕ) → openedText (openOf sheet) ≡ outcom
 unfolding outcome outcomeOf openedText outcomeText
 opened-outcome sheet = by-answer (openOf sheet)
   where
-    by-answer : (o : Opened) → openedText o ≡ outcomeText (outcomeOf sheet o)
+    by-answer : (o : Counted) → openedText o ≡ outcomeText (outcomeOf sheet o)
     by-answer (Nodes total) = refl
     by-answer BadLength = refl
     by-answer (BadCheck block) = refl

@@ -4,7 +4,7 @@ use mathlib.Core.List.{List, [], _∷_}
 use Rattle.text.specs.Lines.{lineOf}
 use Rattle.text.specs.Refusals.{refusalText}
 use Rattle.sheet.specs.Opening.{Outcome, accepted, refused}
-use Rattle.sheet.specs.declared.opening.Opened.{Opened}
+use Rattle.refusal.specs.declared.answers.Counted.{Counted}
 use Rattle.sheet.specs.declared.opening.Opened.the-variants.{Nodes, BadLength, BadCheck, BadHeader, BadSlot}
 
 -- a text as a line, and of no text nothing
@@ -18,7 +18,7 @@ outcomeText (accepted total used) = []
 outcomeText (refused number place) = refusalText number place
 
 -- each answer of opening
-unfoldable pub openedText : Opened → List ℕ
+unfoldable pub openedText : Counted → List ℕ
 openedText (Nodes total) = []
 openedText BadLength = refusalText 1 0
 openedText (BadCheck block) = refusalText 2 block
@@ -26,7 +26,7 @@ openedText (BadHeader block) = refusalText 3 block
 openedText (BadSlot node) = refusalText 4 node
 
 -- a refusal as a line
-unfoldable pub refusalLine : Opened → List ℕ
+unfoldable pub refusalLine : Counted → List ℕ
 refusalLine opened = lineOfSome (openedText opened)
 
 -- the most bytes that a refusal takes

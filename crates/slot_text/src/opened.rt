@@ -5,7 +5,7 @@ ghost use lib.ListN.{length, take, drop};
 ghost use Rattle.io.specs.Counts.{Counts};
 ghost use Rattle.text.specs.Placing.{positionAfter, placedText};
 ghost use Rattle.slot_text.specs.Opened.{openedText, refusalLine, mostOpenedBytes};
-use sheet::Opened;
+use refusal::Counted;
 use text::REFUSAL_ROOM;
 
 // Document 01's numbers of the refusals.
@@ -37,7 +37,7 @@ pub fn put_opened(out: &mut [u8], at: usize, opened: Opened) -> usize
     ensures { λ _. ⌜ length (openedText opened) ≤ mostOpenedBytes ⌝ }
 {
     match opened {
-        Opened::Nodes(_) => text::put(out, at, b""),
+        Counted::Count(_) => text::put(out, at, b""),
         Opened::BadLength => text::put_refusal(out, at, BAD_LENGTH, 0),
         Opened::BadCheck(block) => text::put_refusal(out, at, BAD_CHECK, block as u64),
         Opened::BadHeader(block) => text::put_refusal(out, at, BAD_HEADER, block as u64),

@@ -6,7 +6,7 @@ use native.Mathlib.Nat.{le-of-eq}
 use lib.ListN.{length, take, drop, drop-of-length-le}
 use lib.Seq.{take-length}
 use Rattle.sheet.specs.Check.{renewed}
-use Rattle.annotation.specs.declared.rewriting.Rewriting.{Rewriting}
+use Rattle.annotation.specs.declared.rewriting.Written.{Written}
 use Rattle.tree.proofs.JudgementLaws.{judged-total}
 use Rattle.schema.specs.Rewriting.{withRewritings, rewritten}
 use Rattle.schema.proofs.RewritingSteps.{order-accepted}
@@ -40,7 +40,7 @@ returns c =
     let start = at-copy .before .before .before .before in
     let copied = whole-copy (start .args .sheet .now) (start .args .out .now) _ (start .pre .1) (at-copy .copy .ensures .1) in
     at-renew-checks .renew-checks .ensures
-    ∙ ap renewed (at-write-nodes .write-nodes .ensures ∙ ap₂ (λ (l : List ℕ) (rs : List Rewriting). withRewritings l 0 rs) copied (order-accepted (start .args .sheet .now) _ (start .pre .0)))
+    ∙ ap renewed (at-write-nodes .write-nodes .ensures ∙ ap₂ (λ (l : List ℕ) (rs : List Written). withRewritings l 0 rs) copied (order-accepted (start .args .sheet .now) _ (start .pre .0)))
 
 pub write-sheet-spec : {M : Type 1} → statement M
 write-sheet-spec =

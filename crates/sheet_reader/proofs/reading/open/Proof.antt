@@ -41,7 +41,7 @@ use denote.Triple.Walked.{says, Stays, stay-none-slice, walkOf, goes-none-slice,
 use denote.Exit.{yes}
 use denote.Triple.Clauses.{ensured, lasts}
 use Rattle.sheet.specs.Opening.{openOf, outcome, outcomeOf}
-use Rattle.sheet.specs.declared.opening.Opened.{Opened}
+use Rattle.refusal.specs.declared.answers.Counted.{Counted}
 use Rattle.sheet.proofs.opening.Opened as O
 use Rattle.sheet.proofs.opening.Opened.Laws as O′
 use Rattle.sheet.proofs.open as judge
@@ -72,13 +72,13 @@ module _ {M : Type 1} (𝓤 : URA M) (H : Heap 𝓤) (A : Atoms 𝓤) (W : Given
   abbrev v : Val
   v = sliceVal (s .ptr) (length (s .now))
 
-  abbrev answer : Opened → Val
+  abbrev answer : Counted → Val
   answer o = EL.val O.the-type O′.the-laws o
 
-  abbrev made : Opened → Reader
+  abbrev made : Counted → Reader
   made o = record { sheet = s; next = 0; opened = o }
 
-  abbrev mach : Opened → Val
+  abbrev mach : Counted → Val
   mach o = LL.val (T.the-type α) (T′.the-laws α) (made o)
 
   abbrev Post : Val → SProp 𝓤
@@ -97,16 +97,16 @@ module _ {M : Type 1} (𝓤 : URA M) (H : Heap 𝓤) (A : Atoms 𝓤) (W : Given
       move ! (1 ∷ []) $ fsplit ! $ use1 W (‵ Own ⊛ ‵ Own) (shr-slice-copy 𝓤 H A W (named 0) κ u8 .twice s (v ∷ [])) $ split ! $
       move ! (0 ∷ 2 ∷ []) $ fjoin ! $ move ! (2 ∷ 0 ∷ []) $ use2 W (raw (Judge 𝓤 H A mem run .pre to-judge)) (qed W ((‵ (flft κ q) ⊛ ‵ ftrue) ∷ ‵ (owns (ShrSlice (named 0) κ u8 ∷ []) (s, tt) (v ∷ [], tt)) ∷ []) ∵ join ! $ frame ! $ done !) $ frame ! $ done !
 
-  judged : (o : Opened) → ent 𝓤 (ensured 𝓤 H A judge.ended (judge.clauses 𝓤 H A mem run) (κ, tt) (s, tt) tt o) (fact 𝓤 (o ≡ openOf (now s)))
+  judged : (o : Counted) → ent 𝓤 (ensured 𝓤 H A judge.ended (judge.clauses 𝓤 H A mem run) (κ, tt) (s, tt) tt o) (fact 𝓤 (o ≡ openOf (now s)))
   judged o =
       exE 𝓤 _ (λ ws. via 𝓤 _ (snd∗ 𝓤 (sem 𝓤 H A (lasts judge.ended (κ, tt) (s, tt) ws)) _)
       (fst∗ 𝓤 (fact 𝓤 (o ≡ openOf (now s))) (fact 𝓤 (outcomeOf (now s) o ≡ outcome (now s)))))
 
   -- the reader's value and its machine value belong together
-  fits : (o : Opened) → Is (ShrSlice (named 0) κ u8) s (v ∷ []) → Is O.the-row o (answer o ∷ []) → Is (T.the-row α) (made o) (mach o ∷ [])
+  fits : (o : Counted) → Is (ShrSlice (named 0) κ u8) s (v ∷ []) → Is O.the-row o (answer o ∷ []) → Is (T.the-row α) (made o) (mach o ∷ [])
   fits o p is = LL.owes (T.the-type α) (T′.the-laws α) (made o) (p, ((refl, lit< tt), (is, tt)))
 
-  exits : (o : Opened) → o ≡ openOf (now s) → ent 𝓤 (⋆ 𝓤 H A (‵ (O.the-row .own o (answer o ∷ [])) ∷ (‵ (flft κ q) ⊛ ‵ ftrue) ∷ ‵ Own ∷ [])) (Post (mach o))
+  exits : (o : Counted) → o ≡ openOf (now s) → ent 𝓤 (⋆ 𝓤 H A (‵ (O.the-row .own o (answer o ∷ [])) ∷ (‵ (flft κ q) ⊛ ‵ ftrue) ∷ ‵ Own ∷ [])) (Post (mach o))
   exits o e =
       qed W (‵ (O.the-row .own o (answer o ∷ [])) ∷ (‵ (flft κ q) ⊛ ‵ ftrue) ∷ ‵ Own ∷ []) ∵
       suffices ! _ (ends-at 𝓤 H A opens.ended stayed (opens.clauses 𝓤 H A mem run) W (((κ, tt), (q, tt), tt, (s, tt), (v ∷ [], tt)), tt) (mach o) (made o) (tt, tt) (tt, tt)) $ says ! (λ i. made (e i)) $
@@ -122,7 +122,7 @@ module _ {M : Type 1} (𝓤 : URA M) (H : Heap 𝓤) (A : Atoms 𝓤) (W : Given
         alloc1 ! (λ l₀. alloc1 ! (λ l₁. alloc1 ! (λ l₂. alloc0 ! $ params1 ! $ pass1 ! (init ! 2 refl (shr-slice-lawful 𝓤 H A W (named 0) κ u8 .typed s (v ∷ []) p .0)) $ pass0 ! $
         move ! (6 ∷ []) $ use1 W (raw (Judge 𝓤 H A mem run .pre to-judge) ⊛ ‵ Own) goes-judge $ split ! $
         calls-at ! fm (Judge 𝓤 H A mem run) known to-judge (and-then ! (load ! (from ! (stop !)) (look ! 4 refl)) (no-more !)) (λ u.
-        use1 W (later (some (λ (o : Opened). ((‵ (flft κ q) ⊛ ‵ ftrue) ⊛ ‵ (O.the-row .own o (u ∷ []))) ⊛ raw (ensured 𝓤 H A judge.ended (judge.clauses 𝓤 H A mem run) (κ, tt) (s, tt) tt o)))) (id⊢ 𝓤 _) $ await ! tt $ pick ! (λ o.
+        use1 W (later (some (λ (o : Counted). ((‵ (flft κ q) ⊛ ‵ ftrue) ⊛ ‵ (O.the-row .own o (u ∷ []))) ⊛ raw (ensured 𝓤 H A judge.ended (judge.clauses 𝓤 H A mem run) (κ, tt) (s, tt) tt o)))) (id⊢ 𝓤 _) $ await ! tt $ pick ! (λ o.
         split ! $ move ! (1 ∷ []) $ use1 W (raw (fact 𝓤 (o ≡ openOf (now s)))) (judged o) $ heard ! (o ≡ openOf (now s)) (λ e. split ! $ move ! (1 ∷ []) $
         peeks ! O.the-row (Is O.the-row) (shows 𝓤 H A O.the-row) o (u ∷ []) (λ is′.
         rewrite ! 0 (λ (w : Val). ‵ (O.the-row .own o (w ∷ []))) (ap only (EL.tells O.the-type O′.the-laws o _ is′)) refl $
