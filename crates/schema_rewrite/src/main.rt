@@ -1,8 +1,8 @@
 // Reads a sheet from standard input and writes the rewritten sheet to standard output, or prints the refusal and nothing else.
 use libc::STDIN_FILENO;
 use libc::STDOUT_FILENO;
-use schema::Refusal;
-use schema::Rewritten;
+use refusal::Counted;
+use refusal::Refusal;
 use sheet::MOST_BYTES;
 use text::REFUSAL_ROOM;
 
@@ -18,10 +18,10 @@ fn write_answer(sheet: &[u8]) {
     let mut out = [0u8; MOST_BYTES];
     let rewritten = schema::rewrite(sheet, &mut out, 0);
     match rewritten {
-        Rewritten::Bytes(n) => {
+        Counted::Count(n) => {
             io::write_all(STDOUT_FILENO, &out[..n]);
         }
-        Rewritten::Refused(refusal) => print_refusal(refusal),
+        Counted::Refused(refusal) => print_refusal(refusal),
     }
 }
 

@@ -9,8 +9,8 @@ use lib.ListN.{length, getD, take, drop, length-append, length-take, length-drop
 use lib.Seq.{length-take-le, getD-take, getD-drop}
 use Rattle.text.specs.Lines.{numbersLine}
 use Rattle.schema.specs.Rows.{rowWidth}
-use Rattle.tree.specs.declared.refusal.Refusal.{Refusal}
-use Rattle.schema.specs.declared.resolving.Resolved.{Resolved}
+use Rattle.refusal.specs.declared.answers.Refusal.{Refusal}
+use Rattle.refusal.specs.declared.answers.Counted.{Counted}
 use Rattle.laws.proofs.DifferenceLaws.{below?}
 use Rattle.text.proofs.NumberLaws.{digits-below}
 use Rattle.text.proofs.LineLaws.{line-most}
@@ -56,25 +56,25 @@ rows-most total ns text small e =
     fits enough q = let same : text ≡ rowsText total ns = cc in omega (arith, ap length same, rowsText-most total ns small enough)
 
 -- an answer by its case
-pub answer-rows-most : (o : Resolved) (total : ℕ) (ns : List ℕ) → o ≡ Resolved.Rows total
+pub answer-rows-most : (o : Counted) (total : ℕ) (ns : List ℕ) → o ≡ Counted.Count total
     → ((text : List ℕ) → rowsTextOf total ns ≡ some text → length text ≤ mostRowsBytes total)
     → (text : List ℕ) → answerText o ns ≡ some text → length text ≤ mostBytes o
 unfolding answerText mostBytes
 answer-rows-most o total ns is most text e =
-    rw is (most text (sym (ap (λ (p : Resolved). answerText p ns) is) ∙ e))
+    rw is (most text (sym (ap (λ (p : Counted). answerText p ns) is) ∙ e))
 
-pub answer-refusal-most : (o : Resolved) (r : Refusal) (ns : List ℕ) → o ≡ Resolved.Refused r → length (refusalLine r) ≤ mostRefusalBytes
+pub answer-refusal-most : (o : Counted) (r : Refusal) (ns : List ℕ) → o ≡ Counted.Refused r → length (refusalLine r) ≤ mostRefusalBytes
     → (text : List ℕ) → answerText o ns ≡ some text → length text ≤ mostBytes o
 unfolding answerText mostBytes
 answer-refusal-most o r ns is most text e =
-    let line : some (refusalLine r) ≡ some text = sym (ap (λ (p : Resolved). answerText p ns) is) ∙ e in
+    let line : some (refusalLine r) ≡ some text = sym (ap (λ (p : Counted). answerText p ns) is) ∙ e in
     let same : refusalLine r ≡ text = cc in
     rw is (omega (arith, ap length same))
 
 -- no answer takes more than there is room for where the rows of any sheet fit
-pub most-fits : (o : Resolved) → ((total : ℕ) → o ≡ Resolved.Rows total → rowWidth * total ≤ mostNumbers) → mostBytes o ≤ 11 * mostNumbers + 16
+pub most-fits : (o : Counted) → ((total : ℕ) → o ≡ Counted.Count total → rowWidth * total ≤ mostNumbers) → mostBytes o ≤ 11 * mostNumbers + 16
 unfolding mostBytes mostRowsBytes headerText
-most-fits (Resolved.Rows total) h =
+most-fits (Counted.Count total) h =
     let most : rowWidth * total ≤ mostNumbers = h total refl in
     simp length-append (omega (arith, digits-below total 3 (omega arith) (omega arith)))
-most-fits (Resolved.Refused r) h = omega arith
+most-fits (Counted.Refused r) h = omega arith

@@ -7,29 +7,25 @@ use mathlib.Core.Path.{_≡_, refl, sym, ap, _∙_}
 use native.Mathlib.Omega.{arith}
 use lib.ListN.{length}
 use borrow.Author.Tests.{lt-ltb, le-ltb, le-leb, lt-leb}
+use Rattle.refusal.specs.Outcome.{shortOutput}
+use Rattle.refusal.specs.declared.answers.Counted.{Counted}
 use Rattle.text.specs.Placing.{positionAfter, placedText}
 use Rattle.schema.specs.Rows.{rowWidth}
 use Rattle.text.proofs.PlacingLaws.{past-within, past-beyond}
 use Rattle.schema_text.specs.Rows.{rowsText, rowsTextOf}
-use Rattle.schema_text.specs.Making.{made, outcomeOf, outcome, madeIn}
-use Rattle.schema_text.specs.declared.rows.Made.{Made}
+use Rattle.schema_text.specs.Making.{made, madeIn}
 
 -- a text that fits
-pub made-fits : (text : List ℕ) (room : ℕ) → length text ≤ room → made (some text) room ≡ Made.Bytes (length text)
+pub made-fits : (text : List ℕ) (room : ℕ) → length text ≤ room → made (some text) room ≡ Counted.Count (length text)
 unfolding made
 made-fits text room h = rw (le-leb (0 + length text) room (omega arith))
 
-made-short : (text : List ℕ) (room : ℕ) → room < length text → made (some text) room ≡ Made.NoRoom
+made-short : (text : List ℕ) (room : ℕ) → room < length text → made (some text) room ≡ Counted.Refused shortOutput
 unfolding made
 made-short text room h = rw (lt-leb (0 + length text) room (omega arith))
 
--- an answer with what it stands for
-pub with-outcome : (may : Option (List ℕ)) (room : ℕ) (r : Made) → r ≡ made may room → outcomeOf r ≡ outcome may room
-unfolding outcome
-with-outcome may room r e = ap outcomeOf e
-
 -- no text
-pub made-none : (may : Option (List ℕ)) (lent : List ℕ) → may ≡ none → (Made.TooFewNumbers ≡ made may (length lent)) × (lent ≡ madeIn may lent)
+pub made-none : (may : Option (List ℕ)) (lent : List ℕ) → may ≡ none → (Counted.Refused shortOutput ≡ made may (length lent)) × (lent ≡ madeIn may lent)
 unfolding made madeIn
 made-none may lent e = rw e (refl, refl)
 
@@ -39,13 +35,13 @@ module _ (may : Option (List ℕ)) (lent held : List ℕ) (next : ℕ) (text : L
   unfolding madeIn
   held-in = put ∙ ap (λ (o : Option (List ℕ)). madeIn o lent) (sym e)
 
-  pub made-within : next ≤ length lent → (Made.Bytes next ≡ made may (length lent)) × (held ≡ madeIn may lent)
+  pub made-within : next ≤ length lent → (Counted.Count next ≡ made may (length lent)) × (held ≡ madeIn may lent)
   made-within h =
       let exact : next ≡ 0 + length text = past-within (length lent) 0 (length text) next after h in
       let whole : next ≡ length text = omega arith in
-      (ap Made.Bytes whole ∙ sym (made-fits text (length lent) (omega arith)) ∙ ap (λ (o : Option (List ℕ)). made o (length lent)) (sym e), held-in)
+      (ap Counted.Count whole ∙ sym (made-fits text (length lent) (omega arith)) ∙ ap (λ (o : Option (List ℕ)). made o (length lent)) (sym e), held-in)
 
-  pub made-beyond : length lent < next → (Made.NoRoom ≡ made may (length lent)) × (held ≡ madeIn may lent)
+  pub made-beyond : length lent < next → (Counted.Refused shortOutput ≡ made may (length lent)) × (held ≡ madeIn may lent)
   made-beyond h =
       let short : length lent < 0 + length text = past-beyond (length lent) 0 (length text) next after h in
       (sym (made-short text (length lent) (omega arith)) ∙ ap (λ (o : Option (List ℕ)). made o (length lent)) (sym e), held-in)

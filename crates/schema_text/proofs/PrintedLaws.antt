@@ -13,7 +13,7 @@ use Rattle.schema.specs.Rows.{rows, rowWidth}
 use Rattle.tree.specs.Reading.{treeOf}
 use Rattle.schema.specs.Outcome.{outcome, written}
 use Rattle.schema.specs.Demand.{IsTreeOf, Sound, EnoughOutput}
-use Rattle.schema.specs.declared.resolving.Resolved.{Resolved}
+use Rattle.refusal.specs.declared.answers.Counted.{Counted}
 use Rattle.sheet.proofs.OpeningLaws.{openOf-accepts, openOf-most}
 use Rattle.text.proofs.PlacingLaws.{placed-fits, Holds}
 use Rattle.schema.proofs.AcceptedLaws.{rows-fit}
@@ -22,7 +22,6 @@ use Rattle.schema.proofs.DemandLaws.{tree-rows}
 use Rattle.schema_text.specs.Rows.{linesOf, headerText, rowsText, answerText}
 use Rattle.schema_text.specs.Making.{made, madeIn, mostBytes}
 use Rattle.schema_text.specs.Printed.{mostNumbers, printedAs, printed}
-use Rattle.schema_text.specs.declared.rows.Made.{Made}
 use Rattle.schema_text.proofs.RowsLaws.{cut-front}
 use Rattle.schema_text.proofs.MakingLaws.{made-fits, rows-enough}
 use Rattle.schema_text.proofs.GreatestLaws.{most-fits}
@@ -34,13 +33,13 @@ rowsText-front total ns ms h = ap (λ (rows : List (List ℕ)). headerText total
 
 -- the numbers that resolving leaves in lent places, as many as it was lent
 module _ (bytes lent numbers : List ℕ) (most : length lent ≡ mostNumbers) (after : numbers ≡ written (outcome bytes mostNumbers) bytes lent) (kept : length numbers ≡ length lent) where
-  by-case : (o : Resolved) → outcome bytes mostNumbers ≡ o → answerText o numbers ≡ some (printedAs o bytes)
+  by-case : (o : Counted) → outcome bytes mostNumbers ≡ o → answerText o numbers ≡ some (printedAs o bytes)
   unfolding answerText printedAs written
-  by-case (Resolved.Refused r) e = refl
-  by-case (Resolved.Rows total) e =
+  by-case (Counted.Refused r) e = refl
+  by-case (Counted.Count total) e =
       let fit : rowWidth * total ≤ mostNumbers = rows-fit bytes mostNumbers total e in
       let row : List ℕ = rows (treeOf (slots bytes)) in
-      let is : numbers ≡ row ++ drop (rowWidth * total) lent = after ∙ ap (λ (o : Resolved). written o bytes lent) e in
+      let is : numbers ≡ row ++ drop (rowWidth * total) lent = after ∙ ap (λ (o : Counted). written o bytes lent) e in
       rows-enough total numbers (omega arith)
       ∙ ap some
       (ap (rowsText total) is
@@ -58,7 +57,7 @@ tree-printed bytes t sound is =
     rw (tree-rows bytes mostNumbers t sound (omega arith) is, treeOf-listing t (slots bytes) (is .claims) (is .lists))
 
 -- what the steps of making a sheet's text came to, of one that is resolved in places enough for any sheet
-pub record Steps (bytes lent numbers out held : List ℕ) (answer : Resolved) (result : Made) : Type 0 where
+pub record Steps (bytes lent numbers out held : List ℕ) (answer result : Counted) : Type 0 where
   pub places : length lent ≡ mostNumbers
   pub room : 11 * mostNumbers + 16 ≤ length out
   pub answered : answer ≡ outcome bytes (length lent)
@@ -68,7 +67,7 @@ pub record Steps (bytes lent numbers out held : List ℕ) (answer : Resolved) (r
   pub filled : held ≡ madeIn (answerText answer numbers) out
   pub most : (text : List ℕ) → answerText answer numbers ≡ some text → length text ≤ mostBytes answer
 
-module _ {bytes lent numbers out held : List ℕ} {answer : Resolved} {result : Made} (steps : Steps bytes lent numbers out held answer result) where
+module _ {bytes lent numbers out held : List ℕ} {answer result : Counted} (steps : Steps bytes lent numbers out held answer result) where
   outcome-is : answer ≡ outcome bytes mostNumbers
   outcome-is = steps .answered ∙ ap (outcome bytes) (steps .places)
 
@@ -76,7 +75,7 @@ module _ {bytes lent numbers out held : List ℕ} {answer : Resolved} {result : 
   steps-written = steps .left ∙ ap (λ (n : ℕ). written (outcome bytes n) bytes lent) (steps .places)
 
   text-is : answerText answer numbers ≡ some (printed bytes)
-  text-is = ap (λ (o : Resolved). answerText o numbers) outcome-is ∙ answer-printed bytes lent numbers (steps .places) steps-written (steps .kept)
+  text-is = ap (λ (o : Counted). answerText o numbers) outcome-is ∙ answer-printed bytes lent numbers (steps .places) steps-written (steps .kept)
 
   fits : length (printed bytes) ≤ length out
   fits =
@@ -84,7 +83,7 @@ module _ {bytes lent numbers out held : List ℕ} {answer : Resolved} {result : 
       omega (arith, h, steps .room, steps .most (printed bytes) text-is)
 
   -- the text is made
-  pub steps-made : result ≡ Made.Bytes (length (printed bytes))
+  pub steps-made : result ≡ Counted.Count (length (printed bytes))
   steps-made = steps .told ∙ ap (λ (may : Option (List ℕ)). made may (length out)) text-is ∙ made-fits (printed bytes) (length out) fits
 
   steps-hold-all : Holds out held 0 (length (printed bytes)) (printed bytes)
@@ -96,7 +95,7 @@ module _ {bytes lent numbers out held : List ℕ} {answer : Resolved} {result : 
         bytes = steps .filled ∙ ap (λ (may : Option (List ℕ)). madeIn may out) text-is ∙ placed-fits out 0 (printed bytes) (omega (arith, fits));
       }
 
-  pub steps-hold : (count : ℕ) → result ≡ Made.Bytes count → Holds out held 0 count (printed bytes)
+  pub steps-hold : (count : ℕ) → result ≡ Counted.Count count → Holds out held 0 count (printed bytes)
   steps-hold count e =
       let q = steps-made in
       let same : length (printed bytes) ≡ count = cc in

@@ -6,7 +6,7 @@ use Rattle.sheet.specs.Slot.{slots}
 use Rattle.schema.specs.Rows.{rows, rowWidth}
 use Rattle.tree.specs.Reading.{treeOf}
 use Rattle.schema.specs.Outcome.{outcome}
-use Rattle.schema.specs.declared.resolving.Resolved.{Resolved}
+use Rattle.refusal.specs.declared.answers.Counted.{Counted}
 use Rattle.schema_text.specs.Rows.{rowsText, refusalLine}
 
 -- as many numbers as the rows of any sheet have
@@ -14,9 +14,9 @@ abbrev pub mostNumbers : ℕ
 mostNumbers = rowWidth * mostNodes
 
 -- the text of an answer: the rows of the sheet's tree, or the refusal
-unfoldable pub printedAs : Resolved → List ℕ → List ℕ
-printedAs (Resolved.Rows total) bytes = rowsText total (rows (treeOf (slots bytes)))
-printedAs (Resolved.Refused r) bytes = refusalLine r
+unfoldable pub printedAs : Counted → List ℕ → List ℕ
+printedAs (Counted.Count total) bytes = rowsText total (rows (treeOf (slots bytes)))
+printedAs (Counted.Refused r) bytes = refusalLine r
 
 -- what is printed of any bytes; there is output enough for any sheet
 unfoldable pub printed : List ℕ → List ℕ

@@ -10,8 +10,8 @@ use Rattle.text.specs.Numbers.{decimalText}
 use Rattle.text.specs.Lines.{lineOf, numbersLine}
 use Rattle.text.specs.Refusals.{refusalText}
 use Rattle.schema.specs.Rows.{rowWidth}
-use Rattle.tree.specs.declared.refusal.Refusal.{Refusal}
-use Rattle.schema.specs.declared.resolving.Resolved.{Resolved}
+use Rattle.refusal.specs.declared.answers.Refusal.{Refusal}
+use Rattle.refusal.specs.declared.answers.Counted.{Counted}
 
 -- numbers cut into so many rows
 unfoldable pub cut : ℕ → List ℕ → List (List ℕ)
@@ -37,9 +37,9 @@ rowsTextOf total ns = cond (ltb (length ns) (rowWidth * total)) none (some (rows
 
 -- the line of a refusal
 unfoldable pub refusalLine : Refusal → List ℕ
-refusalLine r = lineOf (refusalText (r .number) (r .place))
+refusalLine r = lineOf (refusalText r)
 
 -- what resolving answered: the rows, in the numbers that it wrote, or the refusal
-unfoldable pub answerText : Resolved → List ℕ → Option (List ℕ)
-answerText (Resolved.Rows total) ns = rowsTextOf total ns
-answerText (Resolved.Refused r) ns = some (refusalLine r)
+unfoldable pub answerText : Counted → List ℕ → Option (List ℕ)
+answerText (Counted.Count total) ns = rowsTextOf total ns
+answerText (Counted.Refused r) ns = some (refusalLine r)

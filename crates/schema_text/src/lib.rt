@@ -4,7 +4,6 @@ mod rows; // rows.rt: rows as text
 mod sheets; // sheets.rt: a sheet as text
 
 pub use answers::answer_text;
-pub use rows::Made;
 pub use rows::rows_text;
 pub use sheets::MOST_NUMBERS;
 pub use sheets::MOST_TEXT_BYTES;

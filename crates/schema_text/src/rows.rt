@@ -8,42 +8,34 @@ ghost use Rattle.io.specs.Counts.{Counts};
 ghost use Rattle.text.specs.Placing.{positionAfter, placedText};
 ghost use Rattle.schema.specs.Rows.{rowWidth};
 ghost use Rattle.schema_text.specs.Rows.{cut, linesOf, headerText, rowsTextOf};
-ghost use Rattle.schema_text.specs.Making.{made, outcomeOf, outcome, madeIn, mostRowsBytes};
+ghost use Rattle.schema_text.specs.Making.{made, madeIn, mostRowsBytes};
+use refusal::Counted;
+use refusal::short_output;
 use schema::ROW_WIDTH;
 
 // Room for the line with the number of rows, which has at most 20 digits.
 const HEADER_ROOM: usize = 32;
 
-// What making a text answers; where it is not made, refusal 14 at 0.
-pub enum Made {
-    // How many bytes of the lent buffer it takes, from the first on.
-    Bytes(usize),
-    // Fewer numbers are lent than the rows have.
-    TooFewNumbers,
-    // The lent buffer is too short for the text.
-    NoRoom,
-}
-
-// Makes the text of so many rows, whose numbers are lent. Where these are too few or the buffer is too short, nothing is written.
-pub fn rows_text(rows: &[u32], total: usize, out: &mut [u8]) -> Made
+// Makes the text of so many rows, whose numbers are lent, and answers how many bytes of the buffer it takes. Where the numbers are too few
+// or the buffer is too short, nothing is written.
+pub fn rows_text(rows: &[u32], total: usize, out: &mut [u8]) -> Counted
     ensures { λ r. ⌜ r ≡ made (rowsTextOf total (now (rows .entry))) (length (now (out .entry))) ⌝ }
-    ensures { λ r. ⌜ outcomeOf r ≡ outcome (rowsTextOf total (now (rows .entry))) (length (now (out .entry))) ⌝ }
     ensures { λ _. ⌜ now (out .exit) ≡ madeIn (rowsTextOf total (now (rows .entry))) (now (out .entry)) ⌝ }
     ensures { λ _. ⌜ ((text : List ℕ) → rowsTextOf total (now (rows .entry)) ≡ some text → length text ≤ mostRowsBytes total) ⌝ }
 {
     if rows.len() / ROW_WIDTH < total {
-        return Made::TooFewNumbers;
+        return Counted::Refused(short_output());
     }
     let mut header = [0u8; HEADER_ROOM];
     let count = make_header(total, &mut header);
     let first = text::after(out, 0, count);
     let end = after_rows(rows, total, out, first);
     if end > out.len() {
-        return Made::NoRoom;
+        return Counted::Refused(short_output());
     }
     text::put(out, 0, &header[..count]);
     write_rows(rows, total, out, count);
-    Made::Bytes(end)
+    Counted::Count(end)
 }
 
 // Makes the line with the number of rows at the start of a room, and answers its length.

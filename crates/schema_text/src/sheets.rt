@@ -5,7 +5,7 @@ ghost use Rattle.io.specs.Counts.{Counts};
 ghost use Rattle.schema.specs.Outcome.{outcome, written};
 ghost use Rattle.schema_text.specs.Printed.{mostNumbers, printed};
 use crate::answers::answer_text;
-use crate::rows::Made;
+use refusal::Counted;
 use schema::ROW_WIDTH;
 
 // The most nodes that a sheet has.
@@ -37,9 +37,8 @@ pub fn sheet_text(
     let resolved = schema::resolve(sheet, rows);
     let made = answer_text(resolved, rows, out);
     match made {
-        Made::Bytes(count) => count,
+        Counted::Count(count) => count,
         // There is room for the rows of any sheet and for their text.
-        Made::TooFewNumbers => 0,
-        Made::NoRoom => 0,
+        Counted::Refused(_) => 0,
     }
 }

@@ -7,8 +7,8 @@ use Rattle.sheet.specs.Header.{lengthRight}
 use Rattle.sheet.specs.Name.{stretchOf}
 use Rattle.sheet.specs.Opening.{openOf}
 use Rattle.sheet.specs.Slot.{numbersOf, emptySlot, reaches, slotStart, slotAt}
+use Rattle.refusal.specs.Outcome.{refusal}
 use Rattle.refusal.specs.declared.answers.Counted.{Counted}
-use Rattle.sheet.specs.declared.opening.Opened.the-variants.{Nodes, BadHeader}
 use Rattle.sheet_reader.specs.Step.{total, stepAt, nodeAfter}
 use Rattle.sheet_reader.specs.Reading.{openedOn, movedOn, steps}
 use Rattle.sheet_reader.specs.declared.reading.Reader.{Reader}
@@ -27,16 +27,16 @@ unfolding openOf lengthRight total stepAt nodeAfter steps
 opened-on-none = refl
 
 -- a reader that says two nodes hands out two slots, empty where there are no bytes, and then ends
-two-by-hand : steps 3 (by-hand 0 (Nodes 2)) ≡ Slot (numbersOf emptySlot) (stretchOf [] 0) ∷ Slot (numbersOf emptySlot) (stretchOf [] 1) ∷ End ∷ []
+two-by-hand : steps 3 (by-hand 0 (Counted.Count 2)) ≡ Slot (numbersOf emptySlot) (stretchOf [] 0) ∷ Slot (numbersOf emptySlot) (stretchOf [] 1) ∷ End ∷ []
 unfolding reaches slotStart slotAt total stepAt nodeAfter steps
 two-by-hand = refl
 
 -- one that says a refusal hands out nothing
-refusal-by-hand : steps 2 (by-hand 0 (BadHeader 3)) ≡ End ∷ End ∷ []
+refusal-by-hand : steps 2 (by-hand 0 (Counted.Refused (refusal 3 3))) ≡ End ∷ End ∷ []
 unfolding total stepAt nodeAfter steps
 refusal-by-hand = refl
 
 -- at the greatest number that a node can have it ends, and stays
-greatest-by-hand : movedOn (by-hand (2 ^ 64 - 1) (Nodes (2 ^ 64 - 1))) ≡ by-hand (2 ^ 64 - 1) (Nodes (2 ^ 64 - 1))
+greatest-by-hand : movedOn (by-hand (2 ^ 64 - 1) (Counted.Count (2 ^ 64 - 1))) ≡ by-hand (2 ^ 64 - 1) (Counted.Count (2 ^ 64 - 1))
 unfolding total nodeAfter
 greatest-by-hand = refl

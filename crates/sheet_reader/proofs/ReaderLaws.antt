@@ -12,7 +12,6 @@ use Rattle.sheet.specs.Block.{totalOf}
 use Rattle.sheet.specs.Slot.{slotsFrom, slots}
 use Rattle.sheet.specs.Opening.{openOf, outcome, outcomeOf}
 use Rattle.refusal.specs.declared.answers.Counted.{Counted}
-use Rattle.sheet.specs.declared.opening.Opened.the-variants.{Nodes, BadLength, BadCheck, BadHeader, BadSlot}
 use Rattle.sheet.proofs.OpeningLaws.{openOf-total, openOf-slots-length}
 use Rattle.sheet_reader.specs.Step.{total, stepAt, nodeAfter, ended, handoutOf, slotHanded}
 use Rattle.sheet_reader.specs.Reading.{openedOn, stepOf, movedOn, movedBy, stepAfter, steps, handouts}
@@ -94,11 +93,8 @@ module _ (sheet : RefT (List ℕ)) (n : ℕ) where
 
   kept : (opened : Counted) → openOf (now sheet) ≡ opened → map (handoutOf (now sheet)) (steps n (openedOn sheet)) ≡ handouts (outcomeOf (now sheet) opened) n
   unfolding outcomeOf handouts total slots
-  kept (Nodes t) e = steps-from n (totalOf (now sheet)) n (openedOn sheet) (zero-add _ ∙ sym (ap total e ∙ openOf-total (now sheet) t e)) (omega arith)
-  kept BadLength e = none-handed (ap total e)
-  kept (BadCheck block) e = none-handed (ap total e)
-  kept (BadHeader block) e = none-handed (ap total e)
-  kept (BadSlot node) e = none-handed (ap total e)
+  kept (Counted.Count t) e = steps-from n (totalOf (now sheet)) n (openedOn sheet) (zero-add _ ∙ sym (ap total e ∙ openOf-total (now sheet) t e)) (omega arith)
+  kept (Counted.Refused r) e = none-handed (ap total e)
 
   -- "hands out each slot once, in order, ending after T steps": n steps over an accepted sheet hand out its used slots and then nothing, and over a refused one nothing
   pub steps-handouts : map (handoutOf (now sheet)) (steps n (openedOn sheet)) ≡ handouts (outcome (now sheet)) n
@@ -106,10 +102,10 @@ module _ (sheet : RefT (List ℕ)) (n : ℕ) where
   steps-handouts = kept (openOf (now sheet)) refl
 
 -- so the first T steps hand out all of them
-pub steps-all : (sheet : RefT (List ℕ)) (t : ℕ) → openOf (now sheet) ≡ Nodes t → map (handoutOf (now sheet)) (steps t (openedOn sheet)) ≡ map slotHanded (slots (now sheet))
+pub steps-all : (sheet : RefT (List ℕ)) (t : ℕ) → openOf (now sheet) ≡ Counted.Count t → map (handoutOf (now sheet)) (steps t (openedOn sheet)) ≡ map slotHanded (slots (now sheet))
 unfolding outcomeOf handouts
 steps-all sheet t e =
-    kept sheet t (Nodes t) e
+    kept sheet t (Counted.Count t) e
     ∙ take-at (map slotHanded (slots (now sheet))) (replicate t ended) t (length-map (slots (now sheet)) slotHanded ∙ openOf-slots-length (now sheet) t e)
 
 -- a reader keeps the sheet that it was opened on, and what opening found

@@ -3,7 +3,8 @@ use Prim.Native.Nat.{ℕ, zero, suc}
 use mathlib.Core.List.{List, [], _∷_, _++_, map}
 use lib.ListN.{take, replicate}
 use denote.Ref.{RefT, now}
-use Rattle.sheet.specs.Opening.{Outcome, accepted, refused, openOf}
+use Rattle.refusal.specs.Outcome.{Outcome, given, refused}
+use Rattle.sheet.specs.Opening.{Nodes, openOf}
 use Rattle.sheet_reader.specs.Step.{stepAt, nodeAfter, Handout, ended, slotHanded}
 use Rattle.sheet_reader.specs.declared.reading.Reader.{Reader}
 use Rattle.sheet_reader.specs.declared.stepping.Step.{Step}
@@ -35,6 +36,6 @@ steps zero reader = []
 steps (suc n) reader = stepOf reader ∷ steps n (movedOn reader)
 
 -- "hands out each slot once, in order, ending after T steps": what n steps hand out of a sheet with this outcome
-unfoldable pub handouts : Outcome → ℕ → List Handout
-handouts (accepted t used) n = take n (map slotHanded used ++ replicate n ended)
-handouts (refused number place) n = replicate n ended
+unfoldable pub handouts : Outcome Nodes → ℕ → List Handout
+handouts (given nodes) n = take n (map slotHanded (nodes .used) ++ replicate n ended)
+handouts (refused r) n = replicate n ended

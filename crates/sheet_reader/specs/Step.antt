@@ -7,18 +7,14 @@ use lib.ListN.{take, drop}
 use Rattle.sheet.specs.Slot.{numbersOf, slotAt, name}
 use Rattle.sheet.specs.Name.{stretchOf}
 use Rattle.refusal.specs.declared.answers.Counted.{Counted}
-use Rattle.sheet.specs.declared.opening.Opened.the-variants.{Nodes, BadLength, BadCheck, BadHeader, BadSlot}
 use Rattle.sheet.specs.declared.slots.Slot.{Slot as Numbers}
 use Rattle.sheet_reader.specs.declared.stepping.Step.{Step}
 use Rattle.sheet_reader.specs.declared.stepping.Step.the-variants.{Slot, End}
 
 -- how many slots there are to hand out: T, and none of a sheet that is refused
 unfoldable pub total : Counted → ℕ
-total (Nodes t) = t
-total BadLength = 0
-total (BadCheck block) = 0
-total (BadHeader block) = 0
-total (BadSlot node) = 0
+total (Counted.Count t) = t
+total (Counted.Refused r) = 0
 
 -- a node's step: its slot's numbers and where its name stands, or the end
 unfoldable pub stepAt : List ℕ → ℕ → Counted → Step

@@ -11,7 +11,7 @@ use refusal::Counted;
 pub struct Reader<'a> {
     pub sheet: &'a [u8],
     pub next: usize,
-    pub opened: Opened,
+    pub opened: Counted,
 }
 
 // A reader at the first node of a sheet.

@@ -14,7 +14,7 @@ pub enum Step {
 }
 
 // The slot of a node, or the end where the node is not one of those that opening found.
-pub fn step_at(sheet: &[u8], node: usize, opened: Opened) -> Step
+pub fn step_at(sheet: &[u8], node: usize, opened: Counted) -> Step
     ensures { λ r. ⌜ r ≡ stepAt (now (sheet .entry)) node opened ⌝ }
 {
     if node >= total_of(opened) {
@@ -27,7 +27,7 @@ pub fn step_at(sheet: &[u8], node: usize, opened: Opened) -> Step
 }
 
 // The node after one that opening found, and the same node where it found none such.
-pub fn node_after(node: usize, opened: Opened) -> usize
+pub fn node_after(node: usize, opened: Counted) -> usize
     ensures { λ r. ⌜ r ≡ nodeAfter node opened ⌝ }
 {
     if node >= total_of(opened) {
@@ -37,14 +37,11 @@ pub fn node_after(node: usize, opened: Opened) -> usize
 }
 
 // How many nodes opening found: none in a sheet that it refused.
-fn total_of(opened: Opened) -> usize
+fn total_of(opened: Counted) -> usize
     ensures { λ r. ⌜ r ≡ total opened ⌝ }
 {
     match opened {
         Counted::Count(t) => t,
-        Opened::BadLength => 0,
-        Opened::BadCheck(_) => 0,
-        Opened::BadHeader(_) => 0,
-        Opened::BadSlot(_) => 0,
+        Counted::Refused(_) => 0,
     }
 }

@@ -5,8 +5,8 @@ ghost use Rattle.sheet.specs.Opening.{openOf};
 ghost use Rattle.sheet_reader.specs.declared.stepping.Step.the-variants.{End};
 use libc::STDIN_FILENO;
 use libc::STDOUT_FILENO;
+use refusal::Counted;
 use sheet::MOST_BYTES;
-use sheet::Opened;
 use sheet_reader::Step;
 use slot_text::LINE_ROOM;
 use text::REFUSAL_ROOM;
@@ -23,7 +23,7 @@ fn main() {
 }
 
 // Prints what a reader over a sheet hands out, to its end or to the first line that cannot be written, and answers what opening found.
-fn print_slots(sheet: &[u8]) -> Opened
+fn print_slots(sheet: &[u8]) -> Counted
     ensures { λ r. ⌜ r ≡ openOf (now (sheet .entry)) ⌝ }
 {
     let mut reader = sheet_reader::open(sheet);

@@ -5,7 +5,7 @@
 // text, the text and the bytes. Each number is four bytes, the least first.
 use libc::STDIN_FILENO;
 use libc::STDOUT_FILENO;
-use sheet::Opened;
+use refusal::Counted;
 
 // Room for a sheet of two blocks more than there may be, for a text, and for a line.
 const SHEET_ROOM: usize = 66560;
@@ -63,7 +63,7 @@ fn answer(bytes: &[u8], node: usize, other: usize, text: &[u8]) {
 
 fn put_opened(line: &mut [u8], opened: Opened) -> usize {
     match opened {
-        Opened::Nodes(total) => {
+        Counted::Count(total) => {
             let word = text::put(line, 0, b"nodes ");
             text::put_decimal(line, word, total as u64)
         }

@@ -6,7 +6,8 @@ use Rattle.text.specs.Characters.{ascii}
 use Rattle.text.specs.Numbers.{enoughDigits, digitCount, decimalText, signedText}
 use Rattle.text.specs.Lines.{spaced}
 use Rattle.text.specs.Refusals.{refusalText}
-use Rattle.sheet.specs.declared.opening.Opened.the-variants.{BadCheck}
+use Rattle.refusal.specs.Outcome.{refusal}
+use Rattle.refusal.specs.declared.answers.Counted.{Counted}
 use Rattle.slot_text.specs.Slots.{integersText, slotText, stretchText, slotLine}
 use Rattle.slot_text.specs.Opened.{openedText}
 
@@ -17,6 +18,6 @@ unfolding slotLine slotText stretchText integersText spaced signedText decimalTe
 line-example = refl
 
 -- a byte of the third block changed
-refused-example : openedText (BadCheck 2) ≡ ascii "refused 2 at 2"
+refused-example : openedText (Counted.Refused (refusal 2 2)) ≡ ascii "refused 2 at 2"
 unfolding openedText refusalText decimalText digitCount enoughDigits
 refused-example = refl

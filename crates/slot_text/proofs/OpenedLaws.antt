@@ -10,11 +10,10 @@ use Rattle.text.specs.Placing.{positionAfter, placedText}
 use Rattle.text.proofs.PlacingLaws.{put-as}
 use Rattle.sheet.specs.Opening.{openOf, outcome, outcomeOf}
 use Rattle.refusal.specs.declared.answers.Counted.{Counted}
-use Rattle.sheet.specs.declared.opening.Opened.the-variants.{Nodes, BadLength, BadCheck, BadHeader, BadSlot}
 use Rattle.slot_text.specs.Opened.{lineOfSome, outcomeText, openedText, mostOpenedBytes}
 
 -- an answer that was put is short
-pub put-opened-as : (lent : List ℕ) (at : ℕ) {held : List ℕ} {next : ℕ} {o o′ : Opened} → o ≡ o′
+pub put-opened-as : (lent : List ℕ) (at : ℕ) {held : List ℕ} {next : ℕ} {o o′ : Counted} → o ≡ o′
     → (next ≡ positionAfter (length lent) at (openedText o)) × (held ≡ placedText lent at (openedText o)) → length (openedText o) ≤ mostOpenedBytes
     → (next ≡ positionAfter (length lent) at (openedText o′)) × ((held ≡ placedText lent at (openedText o′)) × (length (openedText o′) ≤ mostOpenedBytes))
 put-opened-as lent at e put short =
@@ -38,8 +37,5 @@ unfolding outcome outcomeOf openedText outcomeText
 opened-outcome sheet = by-answer (openOf sheet)
   where
     by-answer : (o : Counted) → openedText o ≡ outcomeText (outcomeOf sheet o)
-    by-answer (Nodes total) = refl
-    by-answer BadLength = refl
-    by-answer (BadCheck block) = refl
-    by-answer (BadHeader block) = refl
-    by-answer (BadSlot node) = refl
+    by-answer (Counted.Count total) = refl
+    by-answer (Counted.Refused r) = refl

@@ -3,9 +3,9 @@ use Prim.Native.Nat.{ℕ}
 use mathlib.Core.List.{List, [], _∷_}
 use Rattle.text.specs.Lines.{lineOf}
 use Rattle.text.specs.Refusals.{refusalText}
-use Rattle.sheet.specs.Opening.{Outcome, accepted, refused}
+use Rattle.refusal.specs.Outcome.{Outcome, given, refused}
+use Rattle.sheet.specs.Opening.{Nodes}
 use Rattle.refusal.specs.declared.answers.Counted.{Counted}
-use Rattle.sheet.specs.declared.opening.Opened.the-variants.{Nodes, BadLength, BadCheck, BadHeader, BadSlot}
 
 -- a text as a line, and of no text nothing
 unfoldable pub lineOfSome : List ℕ → List ℕ
@@ -13,17 +13,14 @@ lineOfSome [] = []
 lineOfSome (byte ∷ bytes) = lineOf (byte ∷ bytes)
 
 -- an outcome
-unfoldable pub outcomeText : Outcome → List ℕ
-outcomeText (accepted total used) = []
-outcomeText (refused number place) = refusalText number place
+unfoldable pub outcomeText : Outcome Nodes → List ℕ
+outcomeText (given nodes) = []
+outcomeText (refused r) = refusalText (r .number) (r .place)
 
 -- each answer of opening
 unfoldable pub openedText : Counted → List ℕ
-openedText (Nodes total) = []
-openedText BadLength = refusalText 1 0
-openedText (BadCheck block) = refusalText 2 block
-openedText (BadHeader block) = refusalText 3 block
-openedText (BadSlot node) = refusalText 4 node
+openedText (Counted.Count total) = []
+openedText (Counted.Refused r) = refusalText (r .number) (r .place)
 
 -- a refusal as a line
 unfoldable pub refusalLine : Counted → List ℕ

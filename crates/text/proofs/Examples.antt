@@ -3,6 +3,7 @@
 use mathlib.Core.List.{[], _∷_}
 use mathlib.Core.Path.{_≡_, refl}
 use lib.IntN.{negsuc}
+use Rattle.refusal.specs.Outcome.{refusal}
 use Rattle.text.specs.Characters.{ascii}
 use Rattle.text.specs.Numbers.{enoughDigits, digitCount, decimalText, signedText, hexText}
 use Rattle.text.specs.Lines.{spaced, numbersLine}
@@ -33,6 +34,6 @@ unfolding numbersLine spaced decimalText digitCount enoughDigits
 row-text = refl
 
 -- the first node of the second block at fault
-refusal-text : refusalText 11 7 ≡ ascii "refused 11 at 7"
+refusal-text : refusalText (refusal 11 7) ≡ ascii "refused 11 at 7"
 unfolding refusalText decimalText digitCount enoughDigits
 refusal-text = refl

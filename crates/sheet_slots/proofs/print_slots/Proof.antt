@@ -42,9 +42,9 @@ use denote.Triple.Walked.{says, Stays, stay-none-slice, walkOf, goes-none-slice,
 use denote.Exit.{yes}
 use denote.Triple.Clauses.{ensured, lasts}
 use Rattle.sheet.specs.Opening.{openOf}
-use Rattle.sheet.specs.declared.opening.Opened.{Opened as Answer}
-use Rattle.sheet.proofs.opening.Opened as O
-use Rattle.sheet.proofs.opening.Opened.Laws as O′
+use Rattle.refusal.specs.declared.answers.Counted.{Counted as Answer}
+use Rattle.refusal.proofs.answers.Counted as O
+use Rattle.refusal.proofs.answers.Counted.Laws as O′
 use Rattle.sheet_reader.specs.Reading.{openedOn, movedOn}
 use Rattle.sheet_reader.specs.declared.reading.Reader.{Reader}
 use Rattle.sheet_reader.specs.declared.stepping.Step.{Step}

@@ -4,11 +4,10 @@ use mathlib.Core.List.{List}
 use mathlib.Core.Option.{Option}
 use mathlib.Core.Path.{sym, ap, _∙_}
 use lib.ListN.{length}
-use Rattle.schema.specs.declared.resolving.Resolved.{Resolved}
+use Rattle.refusal.specs.declared.answers.Counted.{Counted}
 use Rattle.schema_text.specs.Making.{made, madeIn}
 use Rattle.schema_text.specs.Rows.{answerText}
 use Rattle.schema_text.proofs.GreatestLaws.{answer-rows-most, answer-refusal-most}
-use Rattle.schema_text.proofs.MakingLaws.{with-outcome}
 use borrow.Author.Needs.{needs}
 use Rattle.schema_text.proofs.answers.answer_text.Statement.{statement}
 use Rattle.schema_text.proofs.answers.answer_text.Tie as tie
@@ -34,9 +33,9 @@ returns c =
     let at-rows-text = c .before .before in
     let at-resolved = at-rows-text .before .before .before in
     let start = at-resolved .before .before .before .before in
-    let text = ap (λ (o : Resolved). answerText o (start .args .rows .now)) (sym (at-resolved .resolved .given .1)) in
+    let text = ap (λ (o : Counted). answerText o (start .args .rows .now)) (sym (at-resolved .resolved .given .1)) in
     let told = at-rows-text .rows-text .ensures .0 ∙ ap (λ (t : Option (List ℕ)). made t (length (start .args .out .now))) text in
-    (told, (with-outcome _ _ _ told, (at-rows-text .rows-text .ensures .1 .1 .0 ∙ ap (λ (t : Option (List ℕ)). madeIn t (start .args .out .now)) text, answer-rows-most _ _ _ (at-resolved .resolved .given .1) (at-rows-text .rows-text .ensures .1 .1 .1))))
+    (told, (at-rows-text .rows-text .ensures .1 .0 ∙ ap (λ (t : Option (List ℕ)). madeIn t (start .args .out .now)) text, answer-rows-most _ _ _ (at-resolved .resolved .given .1) (at-rows-text .rows-text .ensures .1 .1)))
 
 same-length-2 : tie.Need-same-length-2
 same-length-2 c = search needs
@@ -47,9 +46,9 @@ returns-2 c =
     let at-refusal-text = c .before .before in
     let at-resolved2 = at-refusal-text .before .before .before in
     let start = at-resolved2 .before .before .before .before in
-    let text = ap (λ (o : Resolved). answerText o (start .args .rows .now)) (sym (at-resolved2 .resolved2 .given .1)) in
+    let text = ap (λ (o : Counted). answerText o (start .args .rows .now)) (sym (at-resolved2 .resolved2 .given .1)) in
     let told = at-refusal-text .refusal-text .ensures .0 ∙ ap (λ (t : Option (List ℕ)). made t (length (start .args .out .now))) text in
-    (told, (with-outcome _ _ _ told, (at-refusal-text .refusal-text .ensures .1 .0 ∙ ap (λ (t : Option (List ℕ)). madeIn t (start .args .out .now)) text, answer-refusal-most _ _ _ (at-resolved2 .resolved2 .given .1) (at-refusal-text .refusal-text .ensures .1 .1))))
+    (told, (at-refusal-text .refusal-text .ensures .1 .0 ∙ ap (λ (t : Option (List ℕ)). madeIn t (start .args .out .now)) text, answer-refusal-most _ _ _ (at-resolved2 .resolved2 .given .1) (at-refusal-text .refusal-text .ensures .1 .1)))
 
 pub answer-text-spec : {M : Type 1} → statement M
 answer-text-spec =

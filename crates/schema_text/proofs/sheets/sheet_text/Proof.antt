@@ -1,10 +1,10 @@
 -- `schema_text::sheets::sheet_text` meets its contract.
 use Prim.Native.Nat.{ℕ}
-use mathlib.Core.Path.{_≡_, sym}
+use mathlib.Core.Path.{sym, _∙_}
 use native.Mathlib.Omega.{arith}
 use lib.Seq.{length-take-le}
 use Rattle.text.proofs.PlacingLaws.{holds-front, holds-within, holds-back}
-use Rattle.schema_text.specs.declared.rows.Made.{Made}
+use Rattle.sheet.proofs.OpeningLaws.{refused-other}
 use Rattle.schema_text.proofs.PrintedLaws.{Steps, steps-written, steps-made, steps-hold}
 use borrow.Author.Needs.{needs}
 use Rattle.schema_text.proofs.sheets.sheet_text.Statement.{statement}
@@ -23,16 +23,9 @@ steps c =
       left = resolve .ensures .1;
       kept = resolve .kept .1 .0;
       told = c .answer-text .ensures .0;
-      filled = c .answer-text .ensures .1 .1 .0;
-      most = c .answer-text .ensures .1 .1 .1;
+      filled = c .answer-text .ensures .1 .0;
+      most = c .answer-text .ensures .1 .1;
     }
-
--- a text that is made is no other answer
-few-never : (result : Made) (n : ℕ) → result ≡ Made.Bytes n → result ≡ Made.TooFewNumbers → ⊥
-few-never result n e q = let z : _≡_ {A = ℕ} 0 1 = cc in omega arith
-
-room-never : (result : Made) (n : ℕ) → result ≡ Made.Bytes n → result ≡ Made.NoRoom → ⊥
-room-never result n e q = let z : _≡_ {A = ℕ} 0 1 = cc in omega arith
 
 resolve-requires : tie.Need-resolve-requires
 resolve-requires c κs = search needs
@@ -46,9 +39,6 @@ enum-known-made c = search needs
 enum-told : tie.Need-enum-told
 enum-told c = search needs
 
-enum-told-2 : tie.Need-enum-told-2
-enum-told-2 c = search needs
-
 returns : tie.Need-returns
 returns c =
     let done = steps (c .before .before .before) in
@@ -56,10 +46,7 @@ returns c =
     ((holds-within held, sym (length-take-le _ _ (holds-within held))), (holds-front held, (holds-back held, steps-written done)))
 
 returns-2 : tie.Need-returns-2
-returns-2 c = absurd (few-never _ _ (steps-made (steps (c .before .before))) (c .enum-told .given .1))
-
-returns-3 : tie.Need-returns-3
-returns-3 c = absurd (room-never _ _ (steps-made (steps (c .before .before))) (c .enum-told2 .given .1))
+returns-2 c = absurd (refused-other _ _ (sym (c .enum-told .given .1) ∙ steps-made (steps (c .before .before))))
 
 pub sheet-text-spec : {M : Type 1} → statement M
 sheet-text-spec =
@@ -69,7 +56,5 @@ sheet-text-spec =
     answer-text-requires
     enum-known-made
     enum-told
-    enum-told-2
     returns
-    returns-2
-    returns-3)
+    returns-2)

@@ -44,8 +44,8 @@ use denote.Triple.Spec.{Meets, tripleOf}
 use denote.Triple.Table.{entered, cited}
 use denote.Triple.Walked.{says, Stays, stay-ref, walkOf, goes-ref, Walks, ends-at, walked, walk-meets}
 use denote.Triple.Clauses.{ensured, lasts}
-use Rattle.sheet.proofs.opening.Opened as O
-use Rattle.sheet.proofs.opening.Opened.Laws as O′
+use Rattle.refusal.proofs.answers.Counted as O
+use Rattle.refusal.proofs.answers.Counted.Laws as O′
 use Rattle.sheet_reader.specs.Step.{stepAt, nodeAfter}
 use Rattle.sheet_reader.specs.declared.reading.Reader.{Reader}
 use Rattle.sheet_reader.specs.declared.stepping.Step.{Step}

@@ -42,8 +42,8 @@ use denote.Exit.{yes}
 use denote.Triple.Clauses.{ensured, lasts}
 use Rattle.sheet.specs.Opening.{openOf, outcome, outcomeOf}
 use Rattle.refusal.specs.declared.answers.Counted.{Counted}
-use Rattle.sheet.proofs.opening.Opened as O
-use Rattle.sheet.proofs.opening.Opened.Laws as O′
+use Rattle.refusal.proofs.answers.Counted as O
+use Rattle.refusal.proofs.answers.Counted.Laws as O′
 use Rattle.sheet.proofs.open as judge
 use Rattle.sheet.proofs.open.Symbol as judge-def
 use Rattle.sheet.proofs.open.Symbol.{name as #sheet·open}

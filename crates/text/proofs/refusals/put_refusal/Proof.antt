@@ -6,32 +6,45 @@ use lib.ListN.{length, replicate, length-append}
 use lib.Seq.{length-take-le}
 use Rattle.text.specs.Characters.{ascii}
 use Rattle.text.specs.Numbers.{decimalText}
-use Rattle.text.specs.Refusals.{refusalText}
+use Rattle.text.specs.Refusals.{refusalText, mostRefusal}
 use Rattle.text.specs.Placing.{positionAfter, placedText}
-use Rattle.text.proofs.NumberLaws.{decimal-most}
+use Rattle.text.proofs.RefusalLaws.{refusal-most}
 use Rattle.text.proofs.PlacingLaws.{Holds, holds-none, holds-more, holds-front, holds-within}
 use borrow.Author.Needs.{needs}
 use Rattle.text.proofs.refusals.put_refusal.Statement.{statement}
 use Rattle.text.proofs.refusals.put_refusal.Tie as tie
 
+-- places, from the last number back
+abbrev at-put2 : tie.After-put-decimal2 → tie.After-put2
+at-put2 c = c .before .before .before
+
+abbrev at-put-decimal : tie.After-put-decimal2 → tie.After-put-decimal
+at-put-decimal c = at-put2 c .before .before .before .before
+
+abbrev at-known : tie.After-put-decimal2 → tie.After-struct-known
+at-known c = at-put-decimal c .before
+
+abbrev at-put : tie.After-put-decimal2 → tie.After-put
+at-put c = at-known c .before .before .before
+
 abbrev start : tie.After-put-decimal2 → tie.Start
-start c = c .before .before .before .before .before .before .before .before .before .before .before .before .before .before
+start c = at-put c .before .before .before .before
+
+-- its numbers are of 32 and 64 bits
+short : (c : tie.After-put-decimal2) → length (refusalText (start c .args .refusal)) ≤ mostRefusal
+short c = refusal-most _ (record { fits = omega (arith, at-known c .struct-known .given) }) (record { fits = omega (arith, at-known c .struct-known .given) })
 
 -- what the room holds
-held : (c : tie.After-put-decimal2) → Holds (replicate 53 0) (c .put-decimal2 .last .0) 0 (c .put-decimal2 .result) (refusalText (start c .args .number) (start c .args .place))
+held : (c : tie.After-put-decimal2) → Holds (replicate 53 0) (c .put-decimal2 .last .0) 0 (c .put-decimal2 .result) (refusalText (start c .args .refusal))
 unfolding refusalText
 held c =
-    let at-put2 = c .before .before .before in
-    let at-put-decimal = at-put2 .before .before .before .before in
-    let at-put = at-put-decimal .before .before .before in
-    let number = start c .args .number in
-    let place = start c .args .place in
-    let most : length (decimalText number) ≤ 20 = decimal-most number (start c .fits .number) in
-    let most′ : length (decimalText place) ≤ 20 = decimal-most place (start c .fits .place) in
-    let word = holds-more (holds-none (replicate 53 0) 0 (omega arith)) (ascii "refused ") (omega arith) (at-put .put .ensures) in
-    let numbered = holds-more word (decimalText number) (omega arith) (at-put-decimal .put-decimal .ensures) in
-    let preposition = holds-more numbered (ascii " at ") (simp length-append (omega arith)) (at-put2 .put2 .ensures) in
-    holds-more preposition (decimalText place) (simp length-append (omega arith)) (c .put-decimal2 .ensures)
+    let r = start c .args .refusal in
+    let whole : length (refusalText r) ≤ mostRefusal = short c in
+    let most = simp length-append at whole in
+    let word = holds-more (holds-none (replicate 53 0) 0 (omega arith)) (ascii "refused ") (omega arith) (at-put c .put .ensures) in
+    let numbered = holds-more word (decimalText (r .number)) (omega arith) (at-put-decimal c .put-decimal .ensures) in
+    let preposition = holds-more numbered (ascii " at ") (simp length-append (omega arith)) (at-put2 c .put2 .ensures) in
+    holds-more preposition (decimalText (r .place)) (simp length-append (omega arith)) (c .put-decimal2 .ensures)
 
 slice-aggregate-put : tie.Need-slice-aggregate-put
 slice-aggregate-put c = search needs
@@ -44,6 +57,9 @@ put-requires c κs = search needs
 
 slice-aggregate-put-decimal : tie.Need-slice-aggregate-put-decimal
 slice-aggregate-put-decimal c = search needs
+
+cast-put-decimal : tie.Need-cast-put-decimal
+cast-put-decimal c = search needs
 
 put-decimal-requires : tie.Need-put-decimal-requires
 put-decimal-requires c κs = search needs
@@ -80,7 +96,7 @@ returns c =
     let at-put3 = c .before .before in
     let for-held = at-put3 .before .before .before .before in
     let text = holds-front (held for-held) in
-    (at-put3 .put3 .ensures .0 ∙ ap (positionAfter _ _) text, at-put3 .put3 .ensures .1 ∙ ap (placedText _ _) text)
+    (at-put3 .put3 .ensures .0 ∙ ap (positionAfter _ _) text, (at-put3 .put3 .ensures .1 ∙ ap (placedText _ _) text, short for-held))
 
 pub put-refusal-spec : {M : Type 1} → statement M
 put-refusal-spec =
@@ -90,6 +106,7 @@ put-refusal-spec =
     slice-aggregate-put-2
     put-requires
     slice-aggregate-put-decimal
+    cast-put-decimal
     put-decimal-requires
     slice-aggregate-put-3
     slice-aggregate-put-4
