@@ -28,7 +28,7 @@ fn write_answer(sheet: &[u8]) {
 // Prints `refused N at P`, for which there is room.
 fn print_refusal(refusal: Refusal) {
     let mut line = [0u8; REFUSAL_ROOM];
-    let told = text::put_refusal(&mut line, 0, refusal.number as u64, refusal.place as u64);
+    let told = text::put_refusal(&mut line, 0, refusal);
     let end = text::put(&mut line, told, b"\n");
     if end <= line.len() {
         io::write_all(STDOUT_FILENO, &line[..end]);

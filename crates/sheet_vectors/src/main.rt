@@ -61,7 +61,7 @@ fn answer(bytes: &[u8], node: usize, other: usize, text: &[u8]) {
     }
 }
 
-fn put_opened(line: &mut [u8], opened: Opened) -> usize {
+fn put_opened(line: &mut [u8], opened: Counted) -> usize {
     match opened {
         Counted::Count(total) => {
             let word = text::put(line, 0, b"nodes ");

@@ -10,15 +10,16 @@ use Rattle.text.specs.Placing.{positionAfter, placedText}
 use Rattle.text.proofs.PlacingLaws.{put-as}
 use Rattle.sheet.specs.Opening.{openOf, outcome, outcomeOf}
 use Rattle.refusal.specs.declared.answers.Counted.{Counted}
-use Rattle.slot_text.specs.Opened.{lineOfSome, outcomeText, openedText, mostOpenedBytes}
+use Rattle.text.specs.Refusals.{mostRefusal}
+use Rattle.slot_text.specs.Opened.{lineOfSome, outcomeText, openedText}
 
 -- an answer that was put is short
 pub put-opened-as : (lent : List ℕ) (at : ℕ) {held : List ℕ} {next : ℕ} {o o′ : Counted} → o ≡ o′
-    → (next ≡ positionAfter (length lent) at (openedText o)) × (held ≡ placedText lent at (openedText o)) → length (openedText o) ≤ mostOpenedBytes
-    → (next ≡ positionAfter (length lent) at (openedText o′)) × ((held ≡ placedText lent at (openedText o′)) × (length (openedText o′) ≤ mostOpenedBytes))
+    → (next ≡ positionAfter (length lent) at (openedText o)) × (held ≡ placedText lent at (openedText o)) → length (openedText o) ≤ mostRefusal
+    → (next ≡ positionAfter (length lent) at (openedText o′)) × ((held ≡ placedText lent at (openedText o′)) × (length (openedText o′) ≤ mostRefusal))
 put-opened-as lent at e put short =
     let put′ = put-as lent at (ap openedText e) put in
-    (put′ .0, (put′ .1, subst (λ (o : Counted). length (openedText o) ≤ mostOpenedBytes) e short))
+    (put′ .0, (put′ .1, subst (λ (o : Counted). length (openedText o) ≤ mostRefusal) e short))
 
 -- no text and some text as a line
 pub line-none : (text : List ℕ) → length text ≡ 0 → [] ≡ lineOfSome text

@@ -15,17 +15,13 @@ lineOfSome (byte ∷ bytes) = lineOf (byte ∷ bytes)
 -- an outcome
 unfoldable pub outcomeText : Outcome Nodes → List ℕ
 outcomeText (given nodes) = []
-outcomeText (refused r) = refusalText (r .number) (r .place)
+outcomeText (refused r) = refusalText r
 
 -- each answer of opening
 unfoldable pub openedText : Counted → List ℕ
 openedText (Counted.Count total) = []
-openedText (Counted.Refused r) = refusalText (r .number) (r .place)
+openedText (Counted.Refused r) = refusalText r
 
 -- a refusal as a line
 unfoldable pub refusalLine : Counted → List ℕ
 refusalLine opened = lineOfSome (openedText opened)
-
--- the most bytes that a refusal takes
-abbrev pub mostOpenedBytes : ℕ
-mostOpenedBytes = 52

@@ -4,7 +4,8 @@ ghost use Prim.Native.Nat.{_≤_};
 ghost use lib.ListN.{length, take, drop};
 ghost use Rattle.io.specs.Counts.{Counts};
 ghost use Rattle.text.specs.Placing.{positionAfter, placedText};
-ghost use Rattle.slot_text.specs.Opened.{openedText, refusalLine, mostOpenedBytes};
+ghost use Rattle.text.specs.Refusals.{mostRefusal};
+ghost use Rattle.slot_text.specs.Opened.{openedText, refusalLine};
 use refusal::Counted;
 use text::REFUSAL_ROOM;
 
@@ -25,10 +26,10 @@ pub fn refusal_line(opened: Counted, out: &mut [u8; REFUSAL_ROOM]) -> usize
 pub fn put_opened(out: &mut [u8], at: usize, opened: Counted) -> usize
     ensures { λ next. ⌜ next ≡ positionAfter (length (now (out .entry))) at (openedText opened) ⌝ }
     ensures { λ _. ⌜ now (out .exit) ≡ placedText (now (out .entry)) at (openedText opened) ⌝ }
-    ensures { λ _. ⌜ length (openedText opened) ≤ mostOpenedBytes ⌝ }
+    ensures { λ _. ⌜ length (openedText opened) ≤ mostRefusal ⌝ }
 {
     match opened {
         Counted::Count(_) => text::put(out, at, b""),
-        Counted::Refused(r) => text::put_refusal(out, at, r.number as u64, r.place as u64),
+        Counted::Refused(r) => text::put_refusal(out, at, r),
     }
 }

@@ -8,9 +8,6 @@ use Rattle.schema_rewrite.proofs.print_refusal.Tie as tie
 slice-aggregate-put-refusal : tie.Need-slice-aggregate-put-refusal
 slice-aggregate-put-refusal c = search needs
 
-cast-put-refusal : tie.Need-cast-put-refusal
-cast-put-refusal c = search needs
-
 put-refusal-requires : tie.Need-put-refusal-requires
 put-refusal-requires c κs = search needs
 
@@ -43,7 +40,6 @@ print-refusal-spec =
     tie.close
     (tie.spec
     slice-aggregate-put-refusal
-    cast-put-refusal
     put-refusal-requires
     slice-aggregate-put
     slice-aggregate-put-2
