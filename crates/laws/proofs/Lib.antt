@@ -3,3 +3,4 @@ pub mod BoolLaws
 pub mod DifferenceLaws
 pub mod SignedLaws
 pub mod StretchLaws
+pub mod MostLaws

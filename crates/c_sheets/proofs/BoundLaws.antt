@@ -7,6 +7,8 @@ use native.Mathlib.Omega.{arith}
 use borrow.Author.Tests.{ltb-true}
 use lib.Dec.{ltb, leb}
 use lib.ListN.{length, length-append, length-map}
+use Rattle.refusal.specs.Numbers.{SHEET-LENGTH, BLOCK-CHECK, BLOCK-HEADER, SLOT, SHORT-OUTPUT}
+use Rattle.refusal.specs.Outcome.{refusal, unplaced, shortOutput}
 use Rattle.sheet.specs.Block.{mostBytes, mostNodes, slotsInBlock, blockCount, totalOf}
 use Rattle.sheet.specs.Check.{checkRight}
 use Rattle.sheet.specs.Header.{lengthRight, headerRight}
@@ -14,7 +16,7 @@ use Rattle.sheet.specs.First.{firstWrong}
 use Rattle.sheet.specs.Opening.{atFirst, openOf}
 use Rattle.sheet.specs.Slot.{slots}
 use Rattle.sheet.specs.Sound.{slotRight}
-use Rattle.sheet.specs.declared.opening.Opened.{Opened}
+use Rattle.refusal.specs.declared.answers.Counted.{Counted}
 use Rattle.sheet.proofs.BlockLaws.{blocks-within}
 use Rattle.sheet.proofs.HeaderLaws.{lengthRight-most}
 use Rattle.sheet.proofs.OpeningLaws.{openOf-blocks, openOf-total, openOf-most, openOf-slots-length}
@@ -24,21 +26,20 @@ use Rattle.tree.specs.Rules.{underMap, placeBelow, rule8, rule12, rule13}
 use Rattle.tree.specs.Faults.{broken, faults, runFaults}
 use Rattle.tree.specs.Reading.{trees, firstTree, treeOf}
 use Rattle.tree.specs.OpenPlaces.{openPlaces, isNoPlace}
-use Rattle.tree.specs.Judgement.{refusal, orElse, firstFault, deepness, leftOver, missing, tooDeep, unlawful, treeRefusal, judgement}
+use Rattle.tree.specs.Judgement.{orElse, firstFault, deepness, leftOver, missing, tooDeep, unlawful, treeRefusal, judgement}
 use Rattle.tree.specs.declared.place.Place.{Place}
 use Rattle.tree.specs.declared.place.Place.the-variants.{Root}
-use Rattle.tree.specs.declared.refusal.Refusal.{Refusal}
-use Rattle.tree.specs.declared.refusal.Verdict.{Verdict}
-use Rattle.tree.specs.declared.refusal.Verdict.the-variants.{Lawful, Refused}
+use Rattle.refusal.specs.declared.answers.Refusal.{Refusal}
+use Rattle.refusal.specs.declared.answers.Verdict.{Verdict}
+use Rattle.refusal.specs.declared.answers.Verdict.the-variants.{Lawful, Refused}
 use Rattle.tree.proofs.TreeLaws.{listings-trees}
 use Rattle.tree.proofs.JudgingLaws.{length-depths, length-faults}
-use Rattle.tree.proofs.JudgementLaws.{judgement-nodes, judgement-length, judgement-check, judgement-header, judgement-slot, lawful-opened}
+use Rattle.tree.proofs.JudgementLaws.{judgement-nodes, judgement-refused, lawful-opened}
 use Rattle.schema.specs.Rows.{rowWidth}
-use Rattle.schema.specs.Outcome.{shortOutput, answer, outcome}
+use Rattle.schema.specs.Outcome.{answer, outcome}
 use Rattle.schema.specs.Rewriting.{fits, rewriteAnswer, rewriteOutcome}
-use Rattle.schema.specs.declared.resolving.Resolved.{Resolved}
-use Rattle.griffeljol.specs.Promises.{Bounded, ResolvedBounded, RewrittenBounded}
-use Rattle.griffeljol.proofs.MostLaws.{AtMost, atMost-append, atMost-map, cond-most}
+use Rattle.c_answer.specs.Packing.{Bounded, CountedBounded}
+use Rattle.laws.proofs.MostLaws.{AtMost, atMost-append, atMost-map, cond-most}
 
 -- a verdict whose refusal, if it is one, is within these
 abbrev pub VerdictBounded : ℕ → ℕ → Verdict → Type 0
@@ -137,61 +138,52 @@ module _ (ss : List SlotBytes) (place : ℕ) (most : length ss ≤ place) where
 
 -- ---- refusals 1 to 4
 
--- the place of a refusal to open is at most this
-abbrev PlacedBelow : ℕ → Opened → Type 0
-PlacedBelow place (Opened.Nodes t) = Unit {0}
-PlacedBelow place Opened.BadLength = Unit {0}
-PlacedBelow place (Opened.BadCheck k) = k ≤ place
-PlacedBelow place (Opened.BadHeader k) = k ≤ place
-PlacedBelow place (Opened.BadSlot k) = k ≤ place
+-- a refusal to open is within these
+abbrev OpenedBounded : Counted → Type 0
+OpenedBounded (Counted.Count t) = Unit {0}
+OpenedBounded (Counted.Refused r) = Bounded 13 mostNodes r
 
-atFirst-placed : (right : ℕ → Bool) (n : ℕ) (refusal-at : ℕ → Opened) (next : Opened)
-    → ((i : ℕ) → i < n → PlacedBelow mostNodes (refusal-at i))
-    → PlacedBelow mostNodes next
-    → PlacedBelow mostNodes (atFirst right n refusal-at next)
+atFirst-bounded : (right : ℕ → Bool) (n number : ℕ) (next : Counted) → n ≤ mostNodes → 0 < number → number ≤ 13 → OpenedBounded next → OpenedBounded (atFirst right n number next)
 unfolding atFirst
-atFirst-placed right n refusal-at next each rest = on (ltb (firstWrong right n) n) refl
+atFirst-bounded right n number next few some most rest = on (ltb (firstWrong right n) n) refl
   where
-    on : (b : Bool) → ltb (firstWrong right n) n ≡ b → PlacedBelow mostNodes (cond b (refusal-at (firstWrong right n)) next)
-    on true e = each (firstWrong right n) (ltb-true (firstWrong right n) n e)
+    on : (b : Bool) → ltb (firstWrong right n) n ≡ b → OpenedBounded (cond b (Counted.Refused (refusal number (firstWrong right n))) next)
+    on true e = record { some-number = some; most-number = most; most-place = omega (arith, ltb-true (firstWrong right n) n e) }
     on false e = rest
 
-openOf-placed : (sheet : List ℕ) → PlacedBelow mostNodes (openOf sheet)
+openOf-bounded : (sheet : List ℕ) → OpenedBounded (openOf sheet)
 unfolding openOf
-openOf-placed sheet = on (lengthRight (length sheet)) refl
+openOf-bounded sheet = on (lengthRight (length sheet)) refl
   where
     on : (b : Bool)
         → lengthRight (length sheet) ≡ b
-        → PlacedBelow mostNodes
+        → OpenedBounded
         (cond b
-        (atFirst (checkRight sheet) (blockCount sheet) Opened.BadCheck
-        (atFirst (headerRight sheet) (blockCount sheet) Opened.BadHeader
-        (atFirst (slotRight sheet) (slotsInBlock * blockCount sheet) Opened.BadSlot
-        (Opened.Nodes (totalOf sheet)))))
-        Opened.BadLength)
-    on false e = tt
+        (atFirst (checkRight sheet) (blockCount sheet) BLOCK-CHECK
+        (atFirst (headerRight sheet) (blockCount sheet) BLOCK-HEADER
+        (atFirst (slotRight sheet) (slotsInBlock * blockCount sheet) SLOT
+        (Counted.Count (totalOf sheet)))))
+        (Counted.Refused (unplaced SHEET-LENGTH)))
+    on false e = record { some-number = omega arith; most-number = omega arith; most-place = omega arith }
     on true e =
         let most : slotsInBlock * blockCount sheet ≤ mostNodes = omega (arith, lengthRight-most (length sheet) e, blocks-within sheet) in
-        atFirst-placed (checkRight sheet) (blockCount sheet) Opened.BadCheck _ (λ i h. omega arith)
-        (atFirst-placed (headerRight sheet) (blockCount sheet) Opened.BadHeader _ (λ i h. omega arith)
-        (atFirst-placed (slotRight sheet) (slotsInBlock * blockCount sheet) Opened.BadSlot _ (λ i h. omega arith) tt))
+        atFirst-bounded (checkRight sheet) (blockCount sheet) BLOCK-CHECK _ (omega arith) (omega arith) (omega arith)
+        (atFirst-bounded (headerRight sheet) (blockCount sheet) BLOCK-HEADER _ (omega arith) (omega arith) (omega arith)
+        (atFirst-bounded (slotRight sheet) (slotsInBlock * blockCount sheet) SLOT _ most (omega arith) (omega arith) tt))
 
 -- ---- what judging, resolving and rewriting answer
 
 -- of refusals 1 to 13
 pub judgement-bounded : (sheet : List ℕ) → VerdictBounded 13 mostNodes (judgement sheet)
-judgement-bounded sheet = on (openOf sheet) refl (openOf-placed sheet)
+judgement-bounded sheet = on (openOf sheet) refl (openOf-bounded sheet)
   where
-    on : (o : Opened) → openOf sheet ≡ o → PlacedBelow mostNodes o → VerdictBounded 13 mostNodes (judgement sheet)
-    on (Opened.Nodes t) e p =
+    on : (o : Counted) → openOf sheet ≡ o → OpenedBounded o → VerdictBounded 13 mostNodes (judgement sheet)
+    on (Counted.Count t) e p =
         rw (judgement-nodes sheet t e) (treeRefusal-bounded (slots sheet) mostNodes (omega (arith, openOf-slots-length sheet t e, openOf-most sheet t e)))
-    on Opened.BadLength e p = rw (judgement-length sheet e) (record { some-number = omega arith; most-number = omega arith; most-place = omega arith })
-    on (Opened.BadCheck k) e p = rw (judgement-check sheet k e) (record { some-number = omega arith; most-number = omega arith; most-place = p })
-    on (Opened.BadHeader k) e p = rw (judgement-header sheet k e) (record { some-number = omega arith; most-number = omega arith; most-place = p })
-    on (Opened.BadSlot k) e p = rw (judgement-slot sheet k e) (record { some-number = omega arith; most-number = omega arith; most-place = p })
+    on (Counted.Refused r) e p = rw (judgement-refused sheet r e) p
 
 module _ (sheet : List ℕ) (lawful : judgement sheet ≡ Lawful) where
-  opens : (t : ℕ) × (openOf sheet ≡ Opened.Nodes t)
+  opens : (t : ℕ) × (openOf sheet ≡ Counted.Count t)
   opens = lawful-opened sheet lawful
 
   lawful-total : totalOf sheet ≤ mostNodes
@@ -200,31 +192,39 @@ module _ (sheet : List ℕ) (lawful : judgement sheet ≡ Lawful) where
   lawful-length : length sheet ≤ mostBytes
   lawful-length = lengthRight-most (length sheet) (openOf-blocks sheet (opens .0) (opens .1) .length-right)
 
-widened : (r : Refusal) → Bounded 13 mostNodes r → Bounded 14 mostNodes r
+widened : (r : Refusal) → Bounded 13 mostNodes r → Bounded SHORT-OUTPUT mostNodes r
 widened r w = record { some-number = w .some-number; most-number = omega (arith, w .most-number); most-place = w .most-place }
 
-short : Bounded 14 mostNodes shortOutput
+short : Bounded SHORT-OUTPUT mostNodes shortOutput
 short = record { some-number = omega arith; most-number = omega arith; most-place = omega arith }
 
-answer-bounded : (v : Verdict) (t lent : ℕ) → VerdictBounded 13 mostNodes v → (v ≡ Lawful → t ≤ mostNodes) → ResolvedBounded (answer v t lent)
+answer-bounded : (v : Verdict) (t lent : ℕ) → VerdictBounded 13 mostNodes v → (v ≡ Lawful → t ≤ mostNodes) → CountedBounded mostNodes SHORT-OUTPUT mostNodes (answer v t lent)
 unfolding answer
 answer-bounded (Refused r) t lent b most = widened r b
 answer-bounded Lawful t lent b most = on (ltb lent (rowWidth * t))
   where
-    on : (b : Bool) → ResolvedBounded (cond b (Resolved.Refused shortOutput) (Resolved.Rows t))
+    on : (b : Bool) → CountedBounded mostNodes SHORT-OUTPUT mostNodes (cond b (Counted.Refused shortOutput) (Counted.Count t))
     on true = short
     on false = most refl
 
-pub resolved-bounded : (sheet : List ℕ) (lent : ℕ) → ResolvedBounded (outcome sheet lent)
+pub resolved-bounded : (sheet : List ℕ) (lent : ℕ) → CountedBounded mostNodes SHORT-OUTPUT mostNodes (outcome sheet lent)
 unfolding outcome
 resolved-bounded sheet lent = answer-bounded (judgement sheet) (totalOf sheet) lent (judgement-bounded sheet) (lawful-total sheet)
 
-rewriteAnswer-bounded : (v : Verdict) (enough : Bool) (n : ℕ) → VerdictBounded 13 mostNodes v → (v ≡ Lawful → n ≤ mostBytes) → RewrittenBounded (rewriteAnswer v enough n)
+rewriteAnswer-bounded : (v : Verdict) (enough : Bool) (n : ℕ) → VerdictBounded 13 mostNodes v → (v ≡ Lawful → n ≤ mostBytes) → CountedBounded mostBytes SHORT-OUTPUT mostNodes (rewriteAnswer v enough n)
 unfolding rewriteAnswer
 rewriteAnswer-bounded (Refused r) enough n b most = widened r b
 rewriteAnswer-bounded Lawful true n b most = most refl
 rewriteAnswer-bounded Lawful false n b most = short
 
-pub rewritten-bounded : (sheet : List ℕ) (lent start : ℕ) → RewrittenBounded (rewriteOutcome sheet lent start)
+pub rewritten-bounded : (sheet : List ℕ) (lent start : ℕ) → CountedBounded mostBytes SHORT-OUTPUT mostNodes (rewriteOutcome sheet lent start)
 unfolding rewriteOutcome
 rewritten-bounded sheet lent start = rewriteAnswer-bounded (judgement sheet) (fits sheet lent start) (length sheet) (judgement-bounded sheet) (lawful-length sheet)
+
+-- there are no more nodes than bytes
+nodes-bounded : (c : Counted) → CountedBounded mostNodes SHORT-OUTPUT mostNodes c → CountedBounded mostBytes SHORT-OUTPUT mostNodes c
+nodes-bounded (Counted.Count n) b = omega arith
+nodes-bounded (Counted.Refused r) b = b
+
+pub resolved-answered : (sheet : List ℕ) (lent : ℕ) → CountedBounded mostBytes SHORT-OUTPUT mostNodes (outcome sheet lent)
+resolved-answered sheet lent = nodes-bounded (outcome sheet lent) (resolved-bounded sheet lent)

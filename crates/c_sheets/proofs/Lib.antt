@@ -1,0 +1,3 @@
+-- Laws of calls on sheets.
+pub mod BoundLaws
+pub mod PromiseLaws

@@ -1,0 +1,2 @@
+-- What calls on sheets promise.
+pub mod Promises
