@@ -7,11 +7,12 @@ use mathlib.Core.Option.{Option, none, some}
 use borrow.Author.Tests.{ne-eqb}
 use lib.Dec.{eqb}
 use lib.IntN.{ℤ}
+use Rattle.refusal.specs.Outcome.{Outcome}
 use Rattle.timestamp.specs.declared.fields.Fields.{Fields}
 use Rattle.timestamp.specs.declared.moment.Moment.{Moment}
 use Rattle.timestamp.specs.declared.units.Named.{Named}
 use Rattle.timestamp.specs.Units.{TimeUnit, millis, micros, nanos, ticksPerSecond, unitOf, unitNamed}
-use Rattle.timestamp.specs.Outcomes.{Outcome, Decodes, dayHas}
+use Rattle.timestamp.specs.Outcomes.{Decodes, dayHas}
 use Rattle.timestamp.specs.Steps.{encodingFor}
 use Rattle.timestamp.proofs.CountLaws.{decodes-one}
 

@@ -8,6 +8,7 @@ use lib.Dec.{ltb}
 use lib.IntN.{ℤ, pos, subℕ, _+ℤ_, _*ℤ_}
 use lib.ListN.{getD}
 use lib.Signed.{mag}
+use Rattle.refusal.specs.Outcome.{Outcome, given}
 -- types of the code: a month's `days`, an unsigned 32-bit number, and its `offset`, a signed 64-bit one
 use Rattle.timestamp.specs.declared.calendar.Month.{Month}
 -- near fields' `Second`, which holds a signed 64-bit number, or `Other`; a moment's `Second`, which holds one, `Far` or `NoDateTime`
@@ -18,7 +19,7 @@ use Rattle.timestamp.specs.declared.moment.Moment.{Moment}
 use Rattle.timestamp.specs.declared.fields.Fields.{Fields}
 use Rattle.timestamp.specs.Calendar.{months, isDate, dayNumber}
 use Rattle.timestamp.specs.Clock.{hoursPerDay, minutesPerHour, secondsPerMinute, secondsPerDay}
-use Rattle.timestamp.specs.Outcomes.{Outcome, isSigned64, given, noDateTime, notRepresentable, unknownUnit}
+use Rattle.timestamp.specs.Outcomes.{isSigned64, noDateTime, notRepresentable, unknownUnit}
 use Rattle.timestamp.specs.Units.{TimeUnit, ticksPerSecond}
 
 -- the day number of the day before the first of a month, in the year from 1 March of year 0 on

@@ -5,10 +5,11 @@ ghost use mathlib.Core.Path.{_≡_};
 ghost use Prim.Native.Nat.{_<_};
 ghost use lib.Dec.{ltb};
 ghost use lib.Signed.{mag};
+ghost use Rattle.refusal.specs.Outcome.{given};
 ghost use Rattle.timestamp.specs.Units.{millis, micros, nanos, ticksPerSecond, ticksPerDay, unitOf, unitNamed};
 ghost use Rattle.timestamp.specs.FloorDivision.{FloorDivision};
 ghost use Rattle.timestamp.specs.declared.division.Division.{Division};
-ghost use Rattle.timestamp.specs.Outcomes.{encoded, given, dayAnswer, dayHas};
+ghost use Rattle.timestamp.specs.Outcomes.{encoded, dayAnswer, dayHas};
 ghost use Rattle.timestamp.specs.Steps.{secondsReached, encodingAt};
 ghost use Rattle.timestamp.specs.declared.moment.Moment;
 use crate::division::Division;
@@ -17,6 +18,8 @@ use crate::encoding::Encoded;
 use crate::encoding::encode_at;
 use crate::encoding::encode_near_at;
 use crate::moment::Moment;
+use crate::refusals::unknown_unit;
+use refusal::Refusal;
 
 // The seconds of a day.
 pub(crate) const SECONDS_PER_DAY: u64 = 86_400;
@@ -175,8 +178,7 @@ pub(crate) fn which(unit: u32) -> Named
 pub enum InDay {
     Within,
     Beyond,
-    // The unit is not 1 to 3.
-    UnknownUnit,
+    Refused(Refusal),
 }
 
 // Whether a day has this tick, the first being 0, in the unit of that number.
@@ -188,7 +190,7 @@ pub fn in_day(unit: u32, tick: u64) -> InDay
         Named::Millis => answered(Millis::has_tick(tick)),
         Named::Micros => answered(Micros::has_tick(tick)),
         Named::Nanos => answered(Nanos::has_tick(tick)),
-        Named::Unknown => InDay::UnknownUnit,
+        Named::Unknown => InDay::Refused(unknown_unit()),
     }
 }
 

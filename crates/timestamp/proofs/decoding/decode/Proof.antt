@@ -1,7 +1,8 @@
 -- `timestamp::decoding::decode` meets its contract, unit by unit.
 use native.Mathlib.Omega.{arith}
-use mathlib.Core.Path.{refl}
+use mathlib.Core.Path.{ap}
 use borrow.Author.Needs.{needs}
+use Rattle.refusal.specs.Outcome.{refused}
 use Rattle.timestamp.proofs.FloorLaws.{division-days, division-told}
 use Rattle.timestamp.proofs.UnitLaws.{decodes-told}
 use Rattle.timestamp.proofs.decoding.decode.Statement.{statement}
@@ -48,8 +49,10 @@ returns-3 c =
 
 returns-4 : tie.Need-returns-4
 returns-4 c =
-    let s = c .before .before .before in
-    decodes-told (s .args .unit) _ _ (s .args .count) _ (c .before .before .which .ensures) (c .enum-told4 .given .1) refl
+    let at-enum-told4 = c .before in
+    let at-which = at-enum-told4 .before .before in
+    let s = at-which .before in
+    decodes-told (s .args .unit) _ _ (s .args .count) _ (at-which .which .ensures) (at-enum-told4 .enum-told4 .given .1) (ap refused (c .unknown-unit .ensures))
 
 pub decode-spec : {M : Type 1} → statement M
 decode-spec =
@@ -66,6 +69,7 @@ decode-spec =
     (λ c κs. search needs)
     decode-in-requires-3
     (λ c. search needs)
+    (λ c κs. search needs)
     returns
     returns-2
     returns-3

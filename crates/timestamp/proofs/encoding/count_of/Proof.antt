@@ -6,7 +6,7 @@ use mathlib.Core.Path.{_≡_, sym, ap, _∙_}
 use mathlib.Core.Bool.{Bool}
 use borrow.Author.Needs.{needs}
 use lib.IntN.{ℤ}
-use Rattle.timestamp.specs.Outcomes.{given}
+use Rattle.refusal.specs.Outcome.{given, refused}
 use Rattle.timestamp.proofs.CountLaws.{counted-fits, counted-beyond}
 use Rattle.timestamp.proofs.FloorLaws.{joined, joined-signed, turned-of, turned-below}
 use Rattle.timestamp.proofs.SignedLaws.{signed-of, signed-told, signed-back}
@@ -39,9 +39,10 @@ count-is m =
 
 returns : tie.Need-returns
 returns c =
-    let m = c .before in
-    let beyond = div-lt-iff-lt-mul {k = start m .args .ticks-per-second} {x = 2 ^ 63 - 1} {y = m .folded .result} (omega arith) .0 (c .if1 .taken) in
-    sym (counted-beyond _ (negative m) (size m) (count-is m) (omega (arith, beyond)))
+    let t = c .before in
+    let m = t .before in
+    let beyond = div-lt-iff-lt-mul {k = start m .args .ticks-per-second} {x = 2 ^ 63 - 1} {y = m .folded .result} (omega arith) .0 (t .if1 .taken) in
+    ap refused (c .not-representable .ensures) ∙ sym (counted-beyond _ (negative m) (size m) (count-is m) (omega (arith, beyond)))
 
 -- the seconds' ticks are not above the greatest number
 seconds-fit : (c : tie.Else1) → c .before .folded .result * start (c .before) .args .ticks-per-second ≤ 2 ^ 63 - 1
@@ -64,8 +65,9 @@ size-is c = ap (λ (r : ℕ). c .before .before .folded .result * start (c .befo
 
 returns-2 : tie.Need-returns-2
 returns-2 c =
-    let m = c .before .before .before in
-    sym (counted-beyond _ (negative m) (size m) (count-is m) (omega (arith, size-is (c .before), c .if2 .taken)))
+    let t = c .before in
+    let m = t .before .before .before in
+    ap refused (c .not-representable2 .ensures) ∙ sym (counted-beyond _ (negative m) (size m) (count-is m) (omega (arith, size-is (t .before), t .if2 .taken)))
 
 signed-requires : tie.Need-signed-requires
 signed-requires c κs = search needs
@@ -84,10 +86,12 @@ count-of-spec =
     is-negative-requires
     folded-requires
     div-if1
+    (λ c κs. search needs)
     returns
     mul-size
     turned-requires
     add-size
+    (λ c κs. search needs)
     returns-2
     signed-requires
     returns-3)

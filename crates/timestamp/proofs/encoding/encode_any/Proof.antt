@@ -1,6 +1,7 @@
 -- `timestamp::encoding::encode_any` meets its contract, unit by unit.
-use mathlib.Core.Path.{_≡_, _∙_}
+use mathlib.Core.Path.{_≡_, ap, _∙_}
 use borrow.Author.Needs.{needs}
+use Rattle.refusal.specs.Outcome.{refused}
 use Rattle.timestamp.specs.declared.units.Named.{Named}
 use Rattle.timestamp.specs.Units.{unitOf, unitNamed}
 use Rattle.timestamp.specs.Steps.{encodingFor}
@@ -24,7 +25,7 @@ returns-3 : tie.Need-returns-3
 returns-3 c = c .encode3 .ensures ∙ told (c .before .before .before) _ (c .before .enum-told3 .given .1)
 
 returns-4 : tie.Need-returns-4
-returns-4 c = told (c .before .before) _ (c .enum-told4 .given .1)
+returns-4 c = ap refused (c .unknown-unit .ensures) ∙ told (c .before .before .before) _ (c .before .enum-told4 .given .1)
 
 pub encode-any-spec : {M : Type 1} → statement M
 encode-any-spec =
@@ -38,6 +39,7 @@ encode-any-spec =
     (λ c. search needs)
     (λ c κs. search needs)
     (λ c. search needs)
+    (λ c κs. search needs)
     returns
     returns-2
     returns-3

@@ -7,6 +7,7 @@ use mir.Val.{toZ, ofZ}
 use mir.ValLaws.{toZ-ofZ}
 use Rattle.timestamp.specs.declared.moment.Moment
 use Rattle.timestamp.specs.declared.moment.Moment.{Moment}
+use Rattle.refusal.specs.Outcome.{refused}
 use Rattle.timestamp.specs.declared.units.Named.{Named}
 use Rattle.timestamp.specs.Units.{unitOf, unitNamed}
 use Rattle.timestamp.specs.Steps.{encodingFor}
@@ -30,7 +31,7 @@ returns-3 : tie.Need-returns-3
 returns-3 c = c .encode-near3 .ensures ∙ told (c .before .before .before) _ (c .before .enum-told3 .given .1)
 
 returns-4 : tie.Need-returns-4
-returns-4 c = told (c .before .before) _ (c .enum-told4 .given .1)
+returns-4 c = ap refused (c .unknown-unit .ensures) ∙ told (c .before .before .before) _ (c .before .enum-told4 .given .1)
 
 pub encode-near-spec : {M : Type 1} → statement M
 encode-near-spec =
@@ -44,6 +45,7 @@ encode-near-spec =
     (λ c. search needs)
     (λ c κs. search needs)
     (λ c. search needs)
+    (λ c κs. search needs)
     returns
     returns-2
     returns-3

@@ -4,13 +4,15 @@ use native.Mathlib.Omega.{arith}
 use native.Mathlib.Nat.{mul-le-mul}
 use mathlib.Core.Path.{_≡_, refl, sym, ap, subst, _∙_}
 use mathlib.Core.Bool.{Bool, cond}
+use borrow.Author.Needs.{needs}
 use lib.IntN.{ℤ}
 use lib.Signed.{mag}
 use mir.Syntax.{w64}
 use mir.ValLaws.{toZ-ofZ}
+use Rattle.refusal.specs.Outcome.{given, refused}
 use Rattle.timestamp.specs.declared.moment.Moment
 use Rattle.timestamp.specs.declared.moment.Moment.{Moment}
-use Rattle.timestamp.specs.Outcomes.{given, notRepresentable}
+use Rattle.timestamp.specs.Outcomes.{notRepresentable}
 use Rattle.timestamp.proofs.FloorLaws.{joined, joined-asked, joined-told, signed-fits}
 use Rattle.timestamp.proofs.MomentLaws.{fraction-beyond, fraction-within}
 use Rattle.timestamp.proofs.encoding.encode_near_at.Statement.{statement}
@@ -18,8 +20,9 @@ use Rattle.timestamp.proofs.encoding.encode_near_at.Tie as tie
 
 returns : tie.Need-returns
 returns c =
-    let a = c .before .args in
-    sym (fraction-beyond (a .ticks-per-second) (Moment.Second (a .second)) (a .fraction) (c .if1 .taken))
+    let t = c .before in
+    let a = t .before .args in
+    ap refused (c .no-date-time .ensures) ∙ sym (fraction-beyond (a .ticks-per-second) (Moment.Second (a .second)) (a .fraction) (t .if1 .taken))
 
 joined-requires : tie.Need-joined-requires
 joined-requires c κs =
@@ -38,4 +41,4 @@ returns-2 c =
     ∙ sym (fraction-within (s .args .ticks-per-second) _ (s .args .second) (s .args .fraction) (e .if1 .left) refl)
 
 pub encode-near-at-spec : {M : Type 1} → statement M
-encode-near-at-spec = tie.close (tie.spec returns joined-requires returns-2)
+encode-near-at-spec = tie.close (tie.spec (λ c κs. search needs) returns joined-requires returns-2)

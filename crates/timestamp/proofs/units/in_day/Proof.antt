@@ -1,9 +1,10 @@
 -- `timestamp::units::in_day` meets its contract, unit by unit.
 use mathlib.Core.Path.{_≡_, ap, _∙_}
 use borrow.Author.Needs.{needs}
+use Rattle.refusal.specs.Outcome.{given, refused}
 use Rattle.timestamp.specs.declared.units.Named.{Named}
 use Rattle.timestamp.specs.Units.{unitOf, unitNamed}
-use Rattle.timestamp.specs.Outcomes.{given, dayHas}
+use Rattle.timestamp.specs.Outcomes.{dayHas}
 use Rattle.timestamp.proofs.UnitLaws.{day-told}
 use Rattle.timestamp.proofs.units.in_day.Statement.{statement}
 use Rattle.timestamp.proofs.units.in_day.Tie as tie
@@ -28,7 +29,7 @@ returns-3 c =
     c .answered3 .ensures ∙ ap given (c .before .has-tick3 .ensures) ∙ told (t .before .before) _ (t .enum-told3 .given .1)
 
 returns-4 : tie.Need-returns-4
-returns-4 c = told (c .before .before) _ (c .enum-told4 .given .1)
+returns-4 c = ap refused (c .unknown-unit .ensures) ∙ told (c .before .before .before) _ (c .before .enum-told4 .given .1)
 
 pub in-day-spec : {M : Type 1} → statement M
 in-day-spec =
@@ -45,6 +46,7 @@ in-day-spec =
     (λ c κs. search needs)
     (λ c κs. search needs)
     (λ c. search needs)
+    (λ c κs. search needs)
     returns
     returns-2
     returns-3
