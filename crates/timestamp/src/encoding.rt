@@ -21,11 +21,11 @@ use crate::refusals::unknown_unit;
 use crate::signed::folded;
 use crate::signed::is_negative;
 use crate::signed::signed;
+use crate::units::FoundUnit;
 use crate::units::Micros;
 use crate::units::Millis;
-use crate::units::Named;
 use crate::units::Nanos;
-use crate::units::which;
+use crate::units::find_unit;
 use refusal::Refusal;
 
 // What encoding answers.
@@ -53,12 +53,12 @@ fn encode_near(unit: u32, second: i64, fraction: u32) -> Encoded
     requires { ⌜ mag second < secondsReached ⌝ }
     ensures { λ r. ⌜ encoded r ≡ encodingFor (unitOf unit) (Moment.Second second) fraction ⌝ }
 {
-    let named = which(unit);
-    match named {
-        Named::Millis => Millis::encode_near(second, fraction),
-        Named::Micros => Micros::encode_near(second, fraction),
-        Named::Nanos => Nanos::encode_near(second, fraction),
-        Named::Unknown => Encoded::Refused(unknown_unit()),
+    let found = find_unit(unit);
+    match found {
+        FoundUnit::Millis => Millis::encode_near(second, fraction),
+        FoundUnit::Micros => Micros::encode_near(second, fraction),
+        FoundUnit::Nanos => Nanos::encode_near(second, fraction),
+        FoundUnit::Unknown => Encoded::Refused(unknown_unit()),
     }
 }
 
@@ -66,12 +66,12 @@ fn encode_near(unit: u32, second: i64, fraction: u32) -> Encoded
 fn encode_any(unit: u32, moment: Moment, fraction: u32) -> Encoded
     ensures { λ r. ⌜ encoded r ≡ encodingFor (unitOf unit) moment fraction ⌝ }
 {
-    let named = which(unit);
-    match named {
-        Named::Millis => Millis::encode(moment, fraction),
-        Named::Micros => Micros::encode(moment, fraction),
-        Named::Nanos => Nanos::encode(moment, fraction),
-        Named::Unknown => Encoded::Refused(unknown_unit()),
+    let found = find_unit(unit);
+    match found {
+        FoundUnit::Millis => Millis::encode(moment, fraction),
+        FoundUnit::Micros => Micros::encode(moment, fraction),
+        FoundUnit::Nanos => Nanos::encode(moment, fraction),
+        FoundUnit::Unknown => Encoded::Refused(unknown_unit()),
     }
 }
 

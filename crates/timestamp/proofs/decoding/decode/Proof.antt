@@ -17,9 +17,9 @@ decode-in-requires c κs =
 returns : tie.Need-returns
 returns c =
     let at-enum-told = c .before .before in
-    let at-which = at-enum-told .before .before in
-    let s = at-which .before in
-    decodes-told (s .args .unit) _ _ (s .args .count) _ (at-which .which .ensures) (at-enum-told .enum-told .given .1) (c .decode-in .ensures (s .args .count) (division-told (s .fits .count) (c .before .divide .ensures .0)))
+    let at-find-unit = at-enum-told .before .before in
+    let s = at-find-unit .before in
+    decodes-told (s .args .unit) _ _ (s .args .count) _ (at-find-unit .find-unit .ensures) (at-enum-told .enum-told .given .1) (c .decode-in .ensures (s .args .count) (division-told (s .fits .count) (c .before .divide .ensures .0)))
 
 decode-in-requires-2 : tie.Need-decode-in-requires-2
 decode-in-requires-2 c κs =
@@ -30,9 +30,9 @@ decode-in-requires-2 c κs =
 returns-2 : tie.Need-returns-2
 returns-2 c =
     let at-enum-told2 = c .before .before in
-    let at-which = at-enum-told2 .before .before in
-    let s = at-which .before in
-    decodes-told (s .args .unit) _ _ (s .args .count) _ (at-which .which .ensures) (at-enum-told2 .enum-told2 .given .1) (c .decode-in2 .ensures (s .args .count) (division-told (s .fits .count) (c .before .divide2 .ensures .0)))
+    let at-find-unit = at-enum-told2 .before .before in
+    let s = at-find-unit .before in
+    decodes-told (s .args .unit) _ _ (s .args .count) _ (at-find-unit .find-unit .ensures) (at-enum-told2 .enum-told2 .given .1) (c .decode-in2 .ensures (s .args .count) (division-told (s .fits .count) (c .before .divide2 .ensures .0)))
 
 decode-in-requires-3 : tie.Need-decode-in-requires-3
 decode-in-requires-3 c κs =
@@ -43,16 +43,16 @@ decode-in-requires-3 c κs =
 returns-3 : tie.Need-returns-3
 returns-3 c =
     let at-enum-told3 = c .before .before in
-    let at-which = at-enum-told3 .before .before in
-    let s = at-which .before in
-    decodes-told (s .args .unit) _ _ (s .args .count) _ (at-which .which .ensures) (at-enum-told3 .enum-told3 .given .1) (c .decode-in3 .ensures (s .args .count) (division-told (s .fits .count) (c .before .divide3 .ensures .0)))
+    let at-find-unit = at-enum-told3 .before .before in
+    let s = at-find-unit .before in
+    decodes-told (s .args .unit) _ _ (s .args .count) _ (at-find-unit .find-unit .ensures) (at-enum-told3 .enum-told3 .given .1) (c .decode-in3 .ensures (s .args .count) (division-told (s .fits .count) (c .before .divide3 .ensures .0)))
 
 returns-4 : tie.Need-returns-4
 returns-4 c =
     let at-enum-told4 = c .before in
-    let at-which = at-enum-told4 .before .before in
-    let s = at-which .before in
-    decodes-told (s .args .unit) _ _ (s .args .count) _ (at-which .which .ensures) (at-enum-told4 .enum-told4 .given .1) (ap refused (c .unknown-unit .ensures))
+    let at-find-unit = at-enum-told4 .before .before in
+    let s = at-find-unit .before in
+    decodes-told (s .args .unit) _ _ (s .args .count) _ (at-find-unit .find-unit .ensures) (at-enum-told4 .enum-told4 .given .1) (ap refused (c .unknown-unit .ensures))
 
 pub decode-spec : {M : Type 1} → statement M
 decode-spec =

@@ -2,18 +2,18 @@
 use mathlib.Core.Path.{_≡_, ap, _∙_}
 use borrow.Author.Needs.{needs}
 use Rattle.refusal.specs.Outcome.{refused}
-use Rattle.timestamp.specs.declared.units.Named.{Named}
-use Rattle.timestamp.specs.Units.{unitOf, unitNamed}
-use Rattle.timestamp.specs.Steps.{encodingFor}
+use Rattle.timestamp.specs.declared.units.FoundUnit.{FoundUnit}
+use Rattle.timestamp.specs.Units.{unitOf}
+use Rattle.timestamp.specs.Steps.{encodingFor, unitFound}
 use Rattle.timestamp.proofs.UnitLaws.{encoding-told}
 use Rattle.timestamp.proofs.encoding.encode_any.Statement.{statement}
 use Rattle.timestamp.proofs.encoding.encode_any.Tie as tie
 
 -- what is answered in the unit that was read
-told : (c : tie.After-which) (k : Named) → c .which .result ≡ k → encodingFor (unitNamed k) (c .before .args .moment) (c .before .args .fraction) ≡ encodingFor (unitOf (c .before .args .unit)) (c .before .args .moment) (c .before .args .fraction)
+told : (c : tie.After-find-unit) (k : FoundUnit) → c .find-unit .result ≡ k → encodingFor (unitFound k) (c .before .args .moment) (c .before .args .fraction) ≡ encodingFor (unitOf (c .before .args .unit)) (c .before .args .moment) (c .before .args .fraction)
 told c k e =
     let a = c .before .args in
-    encoding-told (a .unit) (c .which .result) k (a .moment) (a .fraction) (c .which .ensures) e
+    encoding-told (a .unit) (c .find-unit .result) k (a .moment) (a .fraction) (c .find-unit .ensures) e
 
 returns : tie.Need-returns
 returns c = c .encode .ensures ∙ told (c .before .before .before) _ (c .before .enum-told .given .1)

@@ -8,18 +8,18 @@ use mir.ValLaws.{toZ-ofZ}
 use Rattle.timestamp.specs.declared.moment.Moment
 use Rattle.timestamp.specs.declared.moment.Moment.{Moment}
 use Rattle.refusal.specs.Outcome.{refused}
-use Rattle.timestamp.specs.declared.units.Named.{Named}
-use Rattle.timestamp.specs.Units.{unitOf, unitNamed}
-use Rattle.timestamp.specs.Steps.{encodingFor}
+use Rattle.timestamp.specs.declared.units.FoundUnit.{FoundUnit}
+use Rattle.timestamp.specs.Units.{unitOf}
+use Rattle.timestamp.specs.Steps.{encodingFor, unitFound}
 use Rattle.timestamp.proofs.UnitLaws.{encoding-told}
 use Rattle.timestamp.proofs.encoding.encode_near.Statement.{statement}
 use Rattle.timestamp.proofs.encoding.encode_near.Tie as tie
 
 -- what is answered in the unit that was read
-told : (c : tie.After-which) (k : Named) → c .which .result ≡ k → encodingFor (unitNamed k) (Moment.Second (toZ w64 (ofZ w64 (c .before .args .second)))) (c .before .args .fraction) ≡ encodingFor (unitOf (c .before .args .unit)) (Moment.Second (c .before .args .second)) (c .before .args .fraction)
+told : (c : tie.After-find-unit) (k : FoundUnit) → c .find-unit .result ≡ k → encodingFor (unitFound k) (Moment.Second (toZ w64 (ofZ w64 (c .before .args .second)))) (c .before .args .fraction) ≡ encodingFor (unitOf (c .before .args .unit)) (Moment.Second (c .before .args .second)) (c .before .args .fraction)
 told c k e =
     let a = c .before .args in
-    ap (λ (z : ℤ). encodingFor (unitNamed k) (Moment.Second z) (a .fraction)) (toZ-ofZ w64 (a .second) (c .before .fits .second)) ∙ encoding-told (a .unit) (c .which .result) k (Moment.Second (a .second)) (a .fraction) (c .which .ensures) e
+    ap (λ (z : ℤ). encodingFor (unitFound k) (Moment.Second z) (a .fraction)) (toZ-ofZ w64 (a .second) (c .before .fits .second)) ∙ encoding-told (a .unit) (c .find-unit .result) k (Moment.Second (a .second)) (a .fraction) (c .find-unit .ensures) e
 
 returns : tie.Need-returns
 returns c = c .encode-near .ensures ∙ told (c .before .before .before) _ (c .before .enum-told .given .1)

@@ -2,16 +2,17 @@
 use mathlib.Core.Path.{_≡_, ap, _∙_}
 use borrow.Author.Needs.{needs}
 use Rattle.refusal.specs.Outcome.{given, refused}
-use Rattle.timestamp.specs.declared.units.Named.{Named}
-use Rattle.timestamp.specs.Units.{unitOf, unitNamed}
+use Rattle.timestamp.specs.declared.units.FoundUnit.{FoundUnit}
+use Rattle.timestamp.specs.Units.{unitOf}
 use Rattle.timestamp.specs.Outcomes.{dayHas}
+use Rattle.timestamp.specs.Steps.{unitFound}
 use Rattle.timestamp.proofs.UnitLaws.{day-told}
 use Rattle.timestamp.proofs.units.in_day.Statement.{statement}
 use Rattle.timestamp.proofs.units.in_day.Tie as tie
 
 -- what is answered in the unit that was read
-told : (c : tie.After-which) (k : Named) → c .which .result ≡ k → dayHas (unitNamed k) (c .before .args .tick) ≡ dayHas (unitOf (c .before .args .unit)) (c .before .args .tick)
-told c k e = day-told (c .before .args .unit) (c .which .result) k (c .before .args .tick) (c .which .ensures) e
+told : (c : tie.After-find-unit) (k : FoundUnit) → c .find-unit .result ≡ k → dayHas (unitFound k) (c .before .args .tick) ≡ dayHas (unitOf (c .before .args .unit)) (c .before .args .tick)
+told c k e = day-told (c .before .args .unit) (c .find-unit .result) k (c .before .args .tick) (c .find-unit .ensures) e
 
 returns : tie.Need-returns
 returns c =
