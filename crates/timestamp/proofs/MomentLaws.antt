@@ -10,6 +10,7 @@ use lib.Signed.{mag}
 use mir.Syntax.{w64}
 use mir.Val.{SFits, toZ, ofZ}
 use mir.ValLaws.{toZ-ofZ}
+use Rattle.refusal.specs.Outcome.{Outcome}
 use Rattle.timestamp.specs.declared.fields.Fields.{Fields}
 use Rattle.timestamp.specs.declared.moment.Moment
 use Rattle.timestamp.specs.declared.moment.Moment.{Moment}
@@ -80,5 +81,5 @@ fraction-far t m fraction h e = ap (λ (k : Moment). encodingAt t k fraction) e 
 pub second-asked : {s : ℤ} {n : ℕ} → SFits w64 s → mag s < n → mag (toZ w64 (ofZ w64 s)) < n
 second-asked {s} {n} h p = subst (λ (z : ℤ). mag z < n) (sym (toZ-ofZ w64 s h)) p
 
-pub second-answered : {s : ℤ} (t fraction : ℕ) → SFits w64 s → encodingAt t (Moment.Second (toZ w64 (ofZ w64 s))) fraction ≡ encodingAt t (Moment.Second s) fraction
-second-answered {s} t fraction h = ap (λ (z : ℤ). encodingAt t (Moment.Second z) fraction) (toZ-ofZ w64 s h)
+pub second-answered : (s : ℤ) (t fraction : ℕ) (o : Outcome ℤ) → SFits w64 s → o ≡ encodingAt t (Moment.Second (toZ w64 (ofZ w64 s))) fraction → o ≡ encodingAt t (Moment.Second s) fraction
+second-answered s t fraction o h p = p ∙ ap (λ (z : ℤ). encodingAt t (Moment.Second z) fraction) (toZ-ofZ w64 s h)
