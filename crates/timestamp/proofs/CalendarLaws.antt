@@ -18,9 +18,9 @@ use Rattle.timestamp.proofs.EraDateLaws.{era-date}
 
 -- ---- leap years
 
-pub leap-tests : (y : ℤ) (n : ℕ) → n ≡ natAbs y → isLeap y ≡ divides 4 n && (not (divides 100 n) || divides 400 n)
+pub leap-tests : (y : ℤ) (n : ℕ) → n ≡ natAbs y → (divides 4 n && (not (divides 100 n) || divides 400 n)) ≡ isLeap y
 unfolding isLeap
-leap-tests y n e = ap (λ (x : ℕ). divides 4 x && (not (divides 100 x) || divides 400 x)) (sym e)
+leap-tests y n e = ap (λ (x : ℕ). divides 4 x && (not (divides 100 x) || divides 400 x)) e
 
 -- ---- what the code tests of a date
 

@@ -7,12 +7,15 @@ use mathlib.Core.Bool.{Bool, true, false, not, cond}
 use mathlib.Core.Option.{Option, none, some}
 use lib.IntN.{ℤ}
 use lib.Signed.{mag, nonNeg}
+use Rattle.refusal.specs.declared.answers.Refusal.{Refusal}
+use Rattle.refusal.specs.Numbers.{NO-DATE-TIME, NOT-REPRESENTABLE, UNKNOWN-TYPE}
+use Rattle.refusal.specs.Outcome.{Outcome, given, refused, unplaced}
 use Rattle.timestamp.specs.declared.fields.Fields.{Fields}
 use Rattle.timestamp.specs.Calendar.{isDate, dayNumber}
 use Rattle.timestamp.specs.Clock.{isTime, tickOfDay}
 use Rattle.timestamp.specs.Units.{TimeUnit, millis, micros, nanos, ticksPerSecond, ticksPerDay}
 use Rattle.timestamp.specs.Count.{isDateTime, countOf, FieldsOf}
-use Rattle.timestamp.specs.Outcomes.{Outcome, refused, given, noDateTime, notRepresentable, isSigned64, Decodes, encodingIn, encoding}
+use Rattle.timestamp.specs.Outcomes.{noDateTime, notRepresentable, isSigned64, Decodes, encodingIn, encoding}
 use Rattle.laws.proofs.BoolLaws.{and-both, both-and}
 use Rattle.timestamp.proofs.CalendarLaws.{date-some}
 use Rattle.timestamp.proofs.DateLaws.{date-one}
@@ -125,8 +128,8 @@ encoding-far t f e h k =
 pub encoding-good : (t : ℕ) (f : Fields) → isDateTime t f ≡ true → isSigned64 (countOf t f) ≡ true → encodingIn t f ≡ given (countOf t f)
 encoding-good t f p q = encoding-formed t f p ∙ ap (λ (b : Bool). cond b (given (countOf t f)) notRepresentable) q
 
-refused-given : {A : Type 0} (n p : ℕ) (a : A) → refused n p ≡ given a → ⊥
-refused-given n p a e = let z : _≡_ {A = ℕ} 0 1 = cc in omega arith
+refused-given : {A : Type 0} (r : Refusal) (a : A) → refused r ≡ given a → ⊥
+refused-given r a e = let z : _≡_ {A = ℕ} 0 1 = cc in omega arith
 
 given-inj : (a b : ℤ) → given a ≡ given b → a ≡ b
 given-inj a b e = cc
@@ -139,8 +142,8 @@ encoding-given t f count = by-tests (isDateTime t f) (isSigned64 (countOf t f)) 
     by-tests true true p q e =
         let same : countOf t f ≡ count = given-inj (countOf t f) count e in
         (record { formed = p; counted = same }, ap isSigned64 (sym same) ∙ q)
-    by-tests true false p q e = absurd (refused-given 19 0 count e)
-    by-tests false b p q e = absurd (refused-given 18 0 count e)
+    by-tests true false p q e = absurd (refused-given (unplaced NOT-REPRESENTABLE) count e)
+    by-tests false b p q e = absurd (refused-given (unplaced NO-DATE-TIME) count e)
 
 -- every decoded count is encoded again, and what is encoded decodes to the fields that it was encoded from
 pub encoding-decoded : (unit : TimeUnit) (count : ℤ) (o : Outcome Fields) → isSigned64 count ≡ true → Decodes (some unit) count o → (f : Fields) × (o ≡ given f) × (encoding (some unit) f ≡ given count)
@@ -149,7 +152,7 @@ encoding-decoded unit count o h p =
     (p .0, p .1, encoding-good (ticksPerSecond unit) (p .0) (p .2 .formed) (ap isSigned64 same ∙ h) ∙ ap given same)
 
 pub decoding-encoded : (u : Option TimeUnit) (f : Fields) (count : ℤ) (o : Outcome Fields) → encoding u f ≡ given count → Decodes u count o → o ≡ given f
-decoding-encoded none f count o e p = absurd (refused-given 20 0 count e)
+decoding-encoded none f count o e p = absurd (refused-given (unplaced UNKNOWN-TYPE) count e)
 decoding-encoded (some unit) f count o e p = p .1 ∙ ap given (fields-one (p .2) (encoding-given (ticksPerSecond unit) f count e .0))
 
 -- ---- a count by its sign and what it folds onto, where it is a number of 64 bits and where it is not

@@ -138,8 +138,8 @@ pub division-told : {count : ℤ} {t : ℕ} {d : Division} → SFits w64 count �
 division-told {count} {t} {d} h p = subst (λ (z : ℤ). FloorDivision z t d) (toZ-ofZ w64 count h) p
 
 -- and whatever divides the number is that division
-pub division-just : {count : ℤ} {t : ℕ} {d : Division} → SFits w64 count → FloorDivision (toZ w64 (ofZ w64 count)) t d → FloorDivision count t d × ((e : Division) → FloorDivision count t e → e ≡ d)
-division-just {count} {t} {d} h p = let is : FloorDivision count t d = division-told h p in (is, λ e q. division-one q is)
+pub division-only : {count : ℤ} {t : ℕ} {d e : Division} → SFits w64 count → FloorDivision (toZ w64 (ofZ w64 count)) t d → FloorDivision count t e → e ≡ d
+division-only h p q = division-one q (division-told h p)
 
 -- at a thousand ticks a second or more the days of a count of 64 bits are few
 pub division-days : {count : ℤ} {t : ℕ} {d : Division} → 86400000 ≤ t → SFits w64 count → FloorDivision count t d → mag (d .day) < 2 ^ 37

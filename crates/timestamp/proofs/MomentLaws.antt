@@ -10,6 +10,7 @@ use lib.Signed.{mag}
 use mir.Syntax.{w64}
 use mir.Val.{SFits, toZ, ofZ}
 use mir.ValLaws.{toZ-ofZ}
+use Rattle.refusal.specs.Outcome.{Outcome}
 use Rattle.timestamp.specs.declared.fields.Fields.{Fields}
 use Rattle.timestamp.specs.declared.moment.Moment
 use Rattle.timestamp.specs.declared.moment.Moment.{Moment}
@@ -60,25 +61,29 @@ module _ (t : ℕ) (f : Fields) where
   moment-encoded Moment.NoDateTime h p = encoding-none t f (unformed-told p)
 
 -- and so in the unit that is named, if any
-pub moment-for : (u : Option TimeUnit) (f : Fields) (m : Moment) → IsMoment f m → encodingFor u m (f .fraction) ≡ encoding u f
-moment-for none f m p = refl
-moment-for (some unit) f m p = sym (moment-encoded (ticksPerSecond unit) f m (ticks-least unit) p)
+pub moment-for : (u : Option TimeUnit) (f : Fields) (m : Moment) (o : Outcome ℤ) → IsMoment f m → o ≡ encodingFor u m (f .fraction) → o ≡ encoding u f
+moment-for none f m o p e = e
+moment-for (some unit) f m o p e = e ∙ sym (moment-encoded (ticksPerSecond unit) f m (ticks-least unit) p)
 
 -- where the fraction is a full second there is no such time, and else the moment decides
-pub fraction-beyond : (t : ℕ) (m : Moment) (fraction : ℕ) → t ≤ fraction → encodingAt t m fraction ≡ noDateTime
-fraction-beyond t (Moment.Second s) fraction h = ap (λ (b : Bool). cond b (counting (joined s t fraction)) noDateTime) (le-ltb fraction t h)
-fraction-beyond t Moment.Far fraction h = ap (λ (b : Bool). cond b notRepresentable noDateTime) (le-ltb fraction t h)
-fraction-beyond t Moment.NoDateTime fraction h = refl
+pub fraction-beyond : (t : ℕ) (m : Moment) (fraction : ℕ) (o : Outcome ℤ) → t ≤ fraction → o ≡ noDateTime → o ≡ encodingAt t m fraction
+fraction-beyond t (Moment.Second s) fraction o h e = e ∙ sym (ap (λ (b : Bool). cond b (counting (joined s t fraction)) noDateTime) (le-ltb fraction t h))
+fraction-beyond t Moment.Far fraction o h e = e ∙ sym (ap (λ (b : Bool). cond b notRepresentable noDateTime) (le-ltb fraction t h))
+fraction-beyond t Moment.NoDateTime fraction o h e = e
 
-pub fraction-within : (t : ℕ) (m : Moment) (s : ℤ) (fraction : ℕ) → fraction < t → m ≡ Moment.Second s → encodingAt t m fraction ≡ counting (joined s t fraction)
-fraction-within t m s fraction h e = ap (λ (k : Moment). encodingAt t k fraction) e ∙ ap (λ (b : Bool). cond b (counting (joined s t fraction)) noDateTime) (lt-ltb fraction t h)
+pub fraction-within : (t : ℕ) (m : Moment) (s : ℤ) (fraction : ℕ) (o : Outcome ℤ) → fraction < t → m ≡ Moment.Second s → o ≡ counting (joined s t fraction) → o ≡ encodingAt t m fraction
+fraction-within t m s fraction o h e p =
+    p ∙ sym (ap (λ (k : Moment). encodingAt t k fraction) e ∙ ap (λ (b : Bool). cond b (counting (joined s t fraction)) noDateTime) (lt-ltb fraction t h))
 
-pub fraction-far : (t : ℕ) (m : Moment) (fraction : ℕ) → fraction < t → m ≡ Moment.Far → encodingAt t m fraction ≡ notRepresentable
-fraction-far t m fraction h e = ap (λ (k : Moment). encodingAt t k fraction) e ∙ ap (λ (b : Bool). cond b notRepresentable noDateTime) (lt-ltb fraction t h)
+pub fraction-far : (t : ℕ) (m : Moment) (fraction : ℕ) (o : Outcome ℤ) → fraction < t → m ≡ Moment.Far → o ≡ notRepresentable → o ≡ encodingAt t m fraction
+fraction-far t m fraction o h e p = p ∙ sym (ap (λ (k : Moment). encodingAt t k fraction) e ∙ ap (λ (b : Bool). cond b notRepresentable noDateTime) (lt-ltb fraction t h))
+
+pub fraction-none : (t : ℕ) (m : Moment) (fraction : ℕ) (o : Outcome ℤ) → m ≡ Moment.NoDateTime → o ≡ noDateTime → o ≡ encodingAt t m fraction
+fraction-none t m fraction o e p = p ∙ sym (ap (λ (k : Moment). encodingAt t k fraction) e)
 
 -- what is asked and answered of the second that the machine reads back is asked and answered of the second
 pub second-asked : {s : ℤ} {n : ℕ} → SFits w64 s → mag s < n → mag (toZ w64 (ofZ w64 s)) < n
 second-asked {s} {n} h p = subst (λ (z : ℤ). mag z < n) (sym (toZ-ofZ w64 s h)) p
 
-pub second-answered : {s : ℤ} (t fraction : ℕ) → SFits w64 s → encodingAt t (Moment.Second (toZ w64 (ofZ w64 s))) fraction ≡ encodingAt t (Moment.Second s) fraction
-second-answered {s} t fraction h = ap (λ (z : ℤ). encodingAt t (Moment.Second z) fraction) (toZ-ofZ w64 s h)
+pub second-answered : (s : ℤ) (t fraction : ℕ) (o : Outcome ℤ) → SFits w64 s → o ≡ encodingAt t (Moment.Second (toZ w64 (ofZ w64 s))) fraction → o ≡ encodingAt t (Moment.Second s) fraction
+second-answered s t fraction o h p = p ∙ ap (λ (z : ℤ). encodingAt t (Moment.Second z) fraction) (toZ-ofZ w64 s h)

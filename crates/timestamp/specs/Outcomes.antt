@@ -6,54 +6,49 @@ use mathlib.Core.Option.{Option, none, some}
 use lib.Dec.{ltb}
 use lib.IntN.{ℤ, pos, negsuc}
 use lib.Signed.{leZ}
+use Rattle.refusal.specs.Numbers.{NO-DATE-TIME, NOT-REPRESENTABLE, UNKNOWN-TYPE}
+use Rattle.refusal.specs.Outcome.{Outcome, given, refused, unplaced}
 -- a type of the code: the seven fields, as `Count` has them
 use Rattle.timestamp.specs.declared.fields.Fields.{Fields}
--- what decode answers: `Fields`, which holds them, or `UnknownUnit`
+-- what decode answers: `Fields`, which holds them, or `Refused`, which holds a refusal
 use Rattle.timestamp.specs.declared.decoding.Decoded
 use Rattle.timestamp.specs.declared.decoding.Decoded.{Decoded}
--- what encode answers: `Count`, which holds a signed 64-bit number, `NoDateTime`, `NotRepresentable` or `UnknownUnit`
+-- what encode answers: `Count`, which holds a signed 64-bit number, or `Refused`
 use Rattle.timestamp.specs.declared.encoding.Encoded
 use Rattle.timestamp.specs.declared.encoding.Encoded.{Encoded}
--- what in_day answers: `Within`, `Beyond` or `UnknownUnit`
+-- what in_day answers: `Within`, `Beyond` or `Refused`
 use Rattle.timestamp.specs.declared.units.InDay
 use Rattle.timestamp.specs.declared.units.InDay.{InDay}
 use Rattle.timestamp.specs.Units.{TimeUnit, ticksPerSecond, ticksPerDay}
 use Rattle.timestamp.specs.Count.{isDateTime, countOf, FieldsOf}
 
--- a refusal, by its number and place, or what was asked for
-pub data Outcome (A : Type 0) : Type 0 where
-  refused : ℕ → ℕ → Outcome A
-  given : A → Outcome A
-
 -- fields form no date or time
 abbrev pub noDateTime : {A : Type 0} → Outcome A
-noDateTime = refused 18 0
+noDateTime = refused (unplaced NO-DATE-TIME)
 
 -- fields not representable in a signed 64-bit count
 abbrev pub notRepresentable : {A : Type 0} → Outcome A
-notRepresentable = refused 19 0
+notRepresentable = refused (unplaced NOT-REPRESENTABLE)
 
 -- a time unit is not 1 to 3
 abbrev pub unknownUnit : {A : Type 0} → Outcome A
-unknownUnit = refused 20 0
+unknownUnit = refused (unplaced UNKNOWN-TYPE)
 
 -- what each answer of decode stands for
 abbrev pub decoded : Decoded → Outcome Fields
 decoded (Decoded.Fields f) = given f
-decoded Decoded.UnknownUnit = unknownUnit
+decoded (Decoded.Refused r) = refused r
 
 -- what each answer of encode stands for
 abbrev pub encoded : Encoded → Outcome ℤ
 encoded (Encoded.Count z) = given z
-encoded Encoded.NoDateTime = noDateTime
-encoded Encoded.NotRepresentable = notRepresentable
-encoded Encoded.UnknownUnit = unknownUnit
+encoded (Encoded.Refused r) = refused r
 
 -- what each answer of in_day stands for
 abbrev pub dayAnswer : InDay → Outcome Bool
 dayAnswer InDay.Within = given true
 dayAnswer InDay.Beyond = given false
-dayAnswer InDay.UnknownUnit = unknownUnit
+dayAnswer (InDay.Refused r) = refused r
 
 -- whether a day has a tick, the first being 0: 20 where no unit is named, else whether it lies below those of that unit
 abbrev pub dayHas : Option TimeUnit → ℕ → Outcome Bool

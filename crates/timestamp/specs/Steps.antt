@@ -8,6 +8,7 @@ use lib.Dec.{ltb}
 use lib.IntN.{ℤ, pos, subℕ, _+ℤ_, _*ℤ_}
 use lib.ListN.{getD}
 use lib.Signed.{mag}
+use Rattle.refusal.specs.Outcome.{Outcome, given}
 -- types of the code: a month's `days`, an unsigned 32-bit number, and its `offset`, a signed 64-bit one
 use Rattle.timestamp.specs.declared.calendar.Month.{Month}
 -- near fields' `Second`, which holds a signed 64-bit number, or `Other`; a moment's `Second`, which holds one, `Far` or `NoDateTime`
@@ -15,11 +16,14 @@ use Rattle.timestamp.specs.declared.near.Near
 use Rattle.timestamp.specs.declared.near.Near.{Near}
 use Rattle.timestamp.specs.declared.moment.Moment
 use Rattle.timestamp.specs.declared.moment.Moment.{Moment}
+-- the unit that was found: `Millis`, `Micros`, `Nanos` or `Unknown`
+use Rattle.timestamp.specs.declared.units.FoundUnit
+use Rattle.timestamp.specs.declared.units.FoundUnit.{FoundUnit}
 use Rattle.timestamp.specs.declared.fields.Fields.{Fields}
 use Rattle.timestamp.specs.Calendar.{months, isDate, dayNumber}
 use Rattle.timestamp.specs.Clock.{hoursPerDay, minutesPerHour, secondsPerMinute, secondsPerDay}
-use Rattle.timestamp.specs.Outcomes.{Outcome, isSigned64, given, noDateTime, notRepresentable, unknownUnit}
-use Rattle.timestamp.specs.Units.{TimeUnit, ticksPerSecond}
+use Rattle.timestamp.specs.Outcomes.{isSigned64, noDateTime, notRepresentable, unknownUnit}
+use Rattle.timestamp.specs.Units.{TimeUnit, millis, micros, nanos, ticksPerSecond}
 
 -- the day number of the day before the first of a month, in the year from 1 March of year 0 on
 abbrev pub offsetOf : ℕ → ℤ
@@ -80,3 +84,10 @@ encodingAt perSecond Moment.NoDateTime fraction = noDateTime
 abbrev pub encodingFor : Option TimeUnit → Moment → ℕ → Outcome ℤ
 encodingFor none moment fraction = unknownUnit
 encodingFor (some unit) moment fraction = encodingAt (ticksPerSecond unit) moment fraction
+
+-- the unit that was found: one of the three, or none
+abbrev pub unitFound : FoundUnit → Option TimeUnit
+unitFound FoundUnit.Millis = some millis
+unitFound FoundUnit.Micros = some micros
+unitFound FoundUnit.Nanos = some nanos
+unitFound FoundUnit.Unknown = none

@@ -3,9 +3,6 @@ use Prim.Native.Nat.{ℕ, _*_}
 use mathlib.Core.Bool.{cond}
 use mathlib.Core.Option.{Option, none, some}
 use lib.Dec.{eqb}
--- a type of the code: `Millis`, `Micros`, `Nanos` or `Unknown`
-use Rattle.timestamp.specs.declared.units.Named
-use Rattle.timestamp.specs.declared.units.Named.{Named}
 use Rattle.timestamp.specs.Clock.{secondsPerDay}
 
 -- MILLIS, MICROS and NANOS
@@ -26,10 +23,3 @@ ticksPerDay perSecond = perSecond * secondsPerDay
 abbrev pub unitOf : ℕ → Option TimeUnit
 unitOf number =
     cond (eqb number 1) (some millis) (cond (eqb number 2) (some micros) (cond (eqb number 3) (some nanos) none))
-
--- the unit that each case of `Named` stands for: one of the three, or none. It serves the contract of the private `which` only
-abbrev pub unitNamed : Named → Option TimeUnit
-unitNamed Named.Millis = some millis
-unitNamed Named.Micros = some micros
-unitNamed Named.Nanos = some nanos
-unitNamed Named.Unknown = none

@@ -4,25 +4,27 @@ ghost use mathlib.Core.Path.{_≡_};
 ghost use Prim.Native.Nat.{_<_, _≤_, _^_};
 ghost use lib.IntN.{ℤ};
 ghost use lib.Signed.{mag};
+ghost use Rattle.refusal.specs.Outcome.{Outcome};
 ghost use Rattle.timestamp.specs.Units.{nanos, ticksPerSecond, ticksPerDay, unitOf};
 ghost use Rattle.timestamp.specs.FloorDivision.{FloorDivision};
-ghost use Rattle.timestamp.specs.Outcomes.{Decodes, DecodesIn, Outcome, decoded};
+ghost use Rattle.timestamp.specs.Outcomes.{Decodes, DecodesIn, decoded};
 ghost use Rattle.timestamp.specs.declared.fields.Fields.{Fields};
 use crate::calendar::date_of;
 use crate::clock::time_of;
 use crate::division::Division;
 use crate::fields::Fields;
+use crate::refusals::unknown_unit;
+use crate::units::FoundUnit;
 use crate::units::Micros;
 use crate::units::Millis;
-use crate::units::Named;
 use crate::units::Nanos;
-use crate::units::which;
+use crate::units::find_unit;
+use refusal::Refusal;
 
 // What decoding answers.
 pub enum Decoded {
     Fields(Fields),
-    // The unit is not 1 to 3.
-    UnknownUnit,
+    Refused(Refusal),
 }
 
 // The fields of a count of ticks since 1 January 1970, in the unit of that number. Every count has them, and no others.
@@ -30,12 +32,12 @@ pub fn decode(unit: u32, count: i64) -> Decoded
     ensures { λ r. ⌜ Decodes (unitOf unit) count (decoded r) ⌝ }
     ensures { λ r. ⌜ ((o : Outcome Fields) → Decodes (unitOf unit) count o → o ≡ decoded r) ⌝ }
 {
-    let named = which(unit);
-    match named {
-        Named::Millis => decode_in(Millis::TICKS_PER_SECOND, Millis::divide(count)),
-        Named::Micros => decode_in(Micros::TICKS_PER_SECOND, Micros::divide(count)),
-        Named::Nanos => decode_in(Nanos::TICKS_PER_SECOND, Nanos::divide(count)),
-        Named::Unknown => Decoded::UnknownUnit,
+    let found = find_unit(unit);
+    match found {
+        FoundUnit::Millis => decode_in(Millis::TICKS_PER_SECOND, Millis::divide(count)),
+        FoundUnit::Micros => decode_in(Micros::TICKS_PER_SECOND, Micros::divide(count)),
+        FoundUnit::Nanos => decode_in(Nanos::TICKS_PER_SECOND, Nanos::divide(count)),
+        FoundUnit::Unknown => Decoded::Refused(unknown_unit()),
     }
 }
 

@@ -15,24 +15,23 @@ use crate::moment::Moment;
 use crate::moment::moment_of;
 use crate::near;
 use crate::near::Near;
+use crate::refusals::no_date_time;
+use crate::refusals::not_representable;
+use crate::refusals::unknown_unit;
 use crate::signed::folded;
 use crate::signed::is_negative;
 use crate::signed::signed;
+use crate::units::FoundUnit;
 use crate::units::Micros;
 use crate::units::Millis;
-use crate::units::Named;
 use crate::units::Nanos;
-use crate::units::which;
+use crate::units::find_unit;
+use refusal::Refusal;
 
 // What encoding answers.
 pub enum Encoded {
     Count(i64),
-    // The fields form no date or time.
-    NoDateTime,
-    // No signed number of 64 bits is their count.
-    NotRepresentable,
-    // The unit is not 1 to 3.
-    UnknownUnit,
+    Refused(Refusal),
 }
 
 // The greatest count, as a signed number of 64 bits: each count folds onto a number that is not above it.
@@ -54,12 +53,12 @@ fn encode_near(unit: u32, second: i64, fraction: u32) -> Encoded
     requires { ⌜ mag second < secondsReached ⌝ }
     ensures { λ r. ⌜ encoded r ≡ encodingFor (unitOf unit) (Moment.Second second) fraction ⌝ }
 {
-    let named = which(unit);
-    match named {
-        Named::Millis => Millis::encode_near(second, fraction),
-        Named::Micros => Micros::encode_near(second, fraction),
-        Named::Nanos => Nanos::encode_near(second, fraction),
-        Named::Unknown => Encoded::UnknownUnit,
+    let found = find_unit(unit);
+    match found {
+        FoundUnit::Millis => Millis::encode_near(second, fraction),
+        FoundUnit::Micros => Micros::encode_near(second, fraction),
+        FoundUnit::Nanos => Nanos::encode_near(second, fraction),
+        FoundUnit::Unknown => Encoded::Refused(unknown_unit()),
     }
 }
 
@@ -67,12 +66,12 @@ fn encode_near(unit: u32, second: i64, fraction: u32) -> Encoded
 fn encode_any(unit: u32, moment: Moment, fraction: u32) -> Encoded
     ensures { λ r. ⌜ encoded r ≡ encodingFor (unitOf unit) moment fraction ⌝ }
 {
-    let named = which(unit);
-    match named {
-        Named::Millis => Millis::encode(moment, fraction),
-        Named::Micros => Micros::encode(moment, fraction),
-        Named::Nanos => Nanos::encode(moment, fraction),
-        Named::Unknown => Encoded::UnknownUnit,
+    let found = find_unit(unit);
+    match found {
+        FoundUnit::Millis => Millis::encode(moment, fraction),
+        FoundUnit::Micros => Micros::encode(moment, fraction),
+        FoundUnit::Nanos => Nanos::encode(moment, fraction),
+        FoundUnit::Unknown => Encoded::Refused(unknown_unit()),
     }
 }
 
@@ -82,7 +81,7 @@ pub(crate) fn encode_near_at(second: i64, fraction: u32, ticks_per_second: u64) 
     ensures { λ r. ⌜ encoded r ≡ encodingAt «ticks_per_second» (Moment.Second second) fraction ⌝ }
 {
     if ticks_per_second <= fraction as u64 {
-        return Encoded::NoDateTime;
+        return Encoded::Refused(no_date_time());
     }
     Encoded::Count(joined(second, ticks_per_second, fraction as u64))
 }
@@ -93,12 +92,12 @@ pub(crate) fn encode_at(moment: Moment, fraction: u32, ticks_per_second: u64) ->
     ensures { λ r. ⌜ encoded r ≡ encodingAt «ticks_per_second» moment fraction ⌝ }
 {
     if ticks_per_second <= fraction as u64 {
-        return Encoded::NoDateTime;
+        return Encoded::Refused(no_date_time());
     }
     match moment {
         Moment::Second(second) => count_of(second, fraction as u64, ticks_per_second),
-        Moment::Far => Encoded::NotRepresentable,
-        Moment::NoDateTime => Encoded::NoDateTime,
+        Moment::Far => Encoded::Refused(not_representable()),
+        Moment::NoDateTime => Encoded::Refused(no_date_time()),
     }
 }
 
@@ -110,11 +109,11 @@ fn count_of(second: i64, fraction: u64, ticks_per_second: u64) -> Encoded
     let negative = is_negative(second);
     let seconds = folded(second);
     if GREATEST_COUNT / ticks_per_second < seconds {
-        return Encoded::NotRepresentable;
+        return Encoded::Refused(not_representable());
     }
     let size = seconds * ticks_per_second + turned(negative, fraction, ticks_per_second);
     if GREATEST_COUNT < size {
-        return Encoded::NotRepresentable;
+        return Encoded::Refused(not_representable());
     }
     Encoded::Count(signed(negative, size))
 }

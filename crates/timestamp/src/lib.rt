@@ -8,6 +8,7 @@ mod eras; // eras.rt: dates as arithmetic on days, by eras of 400 years
 pub mod fields; // fields.rt: the fields of a date and time
 mod moment; // moment.rt: the second of a date and time
 mod near; // near.rt: the same for years that counts of every unit reach
+mod refusals; // refusals.rt: the refusals that timestamps have
 mod signed; // signed.rt: signed numbers as natural ones
 pub mod units; // units.rt: the three time units
 
@@ -17,6 +18,7 @@ pub use division::Division;
 pub use encoding::Encoded;
 pub use encoding::encode;
 pub use fields::Fields;
+pub use refusal::Refusal;
 pub use units::InDay;
 pub use units::Micros;
 pub use units::Millis;

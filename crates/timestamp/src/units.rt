@@ -5,11 +5,12 @@ ghost use mathlib.Core.Path.{_≡_};
 ghost use Prim.Native.Nat.{_<_};
 ghost use lib.Dec.{ltb};
 ghost use lib.Signed.{mag};
-ghost use Rattle.timestamp.specs.Units.{millis, micros, nanos, ticksPerSecond, ticksPerDay, unitOf, unitNamed};
+ghost use Rattle.refusal.specs.Outcome.{given};
+ghost use Rattle.timestamp.specs.Units.{millis, micros, nanos, ticksPerSecond, ticksPerDay, unitOf};
 ghost use Rattle.timestamp.specs.FloorDivision.{FloorDivision};
 ghost use Rattle.timestamp.specs.declared.division.Division.{Division};
-ghost use Rattle.timestamp.specs.Outcomes.{encoded, given, dayAnswer, dayHas};
-ghost use Rattle.timestamp.specs.Steps.{secondsReached, encodingAt};
+ghost use Rattle.timestamp.specs.Outcomes.{encoded, dayAnswer, dayHas};
+ghost use Rattle.timestamp.specs.Steps.{secondsReached, encodingAt, unitFound};
 ghost use Rattle.timestamp.specs.declared.moment.Moment;
 use crate::division::Division;
 use crate::division::floor_divide;
@@ -17,6 +18,8 @@ use crate::encoding::Encoded;
 use crate::encoding::encode_at;
 use crate::encoding::encode_near_at;
 use crate::moment::Moment;
+use crate::refusals::unknown_unit;
+use refusal::Refusal;
 
 // The seconds of a day.
 pub(crate) const SECONDS_PER_DAY: u64 = 86_400;
@@ -147,8 +150,8 @@ impl Nanos {
     }
 }
 
-// The unit that a number names, if any.
-pub enum Named {
+// The unit that a number names, or that it names none.
+pub(crate) enum FoundUnit {
     Millis,
     Micros,
     Nanos,
@@ -156,39 +159,38 @@ pub enum Named {
 }
 
 // Reads a unit's number, here and nowhere else.
-pub(crate) fn which(unit: u32) -> Named
-    ensures { λ r. ⌜ unitNamed r ≡ unitOf unit ⌝ }
+pub(crate) fn find_unit(number: u32) -> FoundUnit
+    ensures { λ r. ⌜ unitFound r ≡ unitOf number ⌝ }
 {
-    if unit == Millis::NUMBER {
-        return Named::Millis;
+    if number == Millis::NUMBER {
+        return FoundUnit::Millis;
     }
-    if unit == Micros::NUMBER {
-        return Named::Micros;
+    if number == Micros::NUMBER {
+        return FoundUnit::Micros;
     }
-    if unit == Nanos::NUMBER {
-        return Named::Nanos;
+    if number == Nanos::NUMBER {
+        return FoundUnit::Nanos;
     }
-    Named::Unknown
+    FoundUnit::Unknown
 }
 
 // Whether a day has a tick.
 pub enum InDay {
     Within,
     Beyond,
-    // The unit is not 1 to 3.
-    UnknownUnit,
+    Refused(Refusal),
 }
 
 // Whether a day has this tick, the first being 0, in the unit of that number.
 pub fn in_day(unit: u32, tick: u64) -> InDay
     ensures { λ r. ⌜ dayAnswer r ≡ dayHas (unitOf unit) tick ⌝ }
 {
-    let named = which(unit);
-    match named {
-        Named::Millis => answered(Millis::has_tick(tick)),
-        Named::Micros => answered(Micros::has_tick(tick)),
-        Named::Nanos => answered(Nanos::has_tick(tick)),
-        Named::Unknown => InDay::UnknownUnit,
+    let found = find_unit(unit);
+    match found {
+        FoundUnit::Millis => answered(Millis::has_tick(tick)),
+        FoundUnit::Micros => answered(Micros::has_tick(tick)),
+        FoundUnit::Nanos => answered(Nanos::has_tick(tick)),
+        FoundUnit::Unknown => InDay::Refused(unknown_unit()),
     }
 }
 

@@ -1,55 +1,21 @@
 -- `timestamp::decoding::decode` meets its contract, unit by unit.
-use native.Mathlib.Omega.{arith}
-use mathlib.Core.Path.{refl}
+use mathlib.Core.Path.{_≡_}
 use borrow.Author.Needs.{needs}
+use Rattle.refusal.specs.Outcome.{Outcome}
+use Rattle.timestamp.specs.declared.fields.Fields.{Fields}
+use Rattle.timestamp.specs.declared.units.FoundUnit
+use Rattle.timestamp.specs.declared.units.FoundUnit.{FoundUnit}
+use Rattle.timestamp.specs.Units.{unitOf}
+use Rattle.timestamp.specs.Outcomes.{Decodes}
+use Rattle.timestamp.specs.Steps.{unitFound}
 use Rattle.timestamp.proofs.FloorLaws.{division-days, division-told}
 use Rattle.timestamp.proofs.UnitLaws.{decodes-told}
 use Rattle.timestamp.proofs.decoding.decode.Statement.{statement}
 use Rattle.timestamp.proofs.decoding.decode.Tie as tie
 
-decode-in-requires : tie.Need-decode-in-requires
-decode-in-requires c κs =
-    let fits = c .before .before .before .before .fits .count in
-    let d = division-told fits (c .divide .ensures .0) in
-    (omega arith, omega arith, division-days (omega arith) fits d, d .below)
-
-returns : tie.Need-returns
-returns c =
-    let at-enum-told = c .before .before in
-    let at-which = at-enum-told .before .before in
-    let s = at-which .before in
-    decodes-told (s .args .unit) _ _ (s .args .count) _ (at-which .which .ensures) (at-enum-told .enum-told .given .1) (c .decode-in .ensures (s .args .count) (division-told (s .fits .count) (c .before .divide .ensures .0)))
-
-decode-in-requires-2 : tie.Need-decode-in-requires-2
-decode-in-requires-2 c κs =
-    let fits = c .before .before .before .before .fits .count in
-    let d = division-told fits (c .divide2 .ensures .0) in
-    (omega arith, omega arith, division-days (omega arith) fits d, d .below)
-
-returns-2 : tie.Need-returns-2
-returns-2 c =
-    let at-enum-told2 = c .before .before in
-    let at-which = at-enum-told2 .before .before in
-    let s = at-which .before in
-    decodes-told (s .args .unit) _ _ (s .args .count) _ (at-which .which .ensures) (at-enum-told2 .enum-told2 .given .1) (c .decode-in2 .ensures (s .args .count) (division-told (s .fits .count) (c .before .divide2 .ensures .0)))
-
-decode-in-requires-3 : tie.Need-decode-in-requires-3
-decode-in-requires-3 c κs =
-    let fits = c .before .before .before .before .fits .count in
-    let d = division-told fits (c .divide3 .ensures .0) in
-    (omega arith, omega arith, division-days (omega arith) fits d, d .below)
-
-returns-3 : tie.Need-returns-3
-returns-3 c =
-    let at-enum-told3 = c .before .before in
-    let at-which = at-enum-told3 .before .before in
-    let s = at-which .before in
-    decodes-told (s .args .unit) _ _ (s .args .count) _ (at-which .which .ensures) (at-enum-told3 .enum-told3 .given .1) (c .decode-in3 .ensures (s .args .count) (division-told (s .fits .count) (c .before .divide3 .ensures .0)))
-
-returns-4 : tie.Need-returns-4
-returns-4 c =
-    let s = c .before .before .before in
-    decodes-told (s .args .unit) _ _ (s .args .count) _ (c .before .before .which .ensures) (c .enum-told4 .given .1) refl
+-- what is answered in the unit that was found
+told : (c : tie.After-find-unit) (k : FoundUnit) (o : Outcome Fields) → let a = c .before .args in c .find-unit .result ≡ k → Decodes (unitFound k) (a .count) o → Decodes (unitOf (a .unit)) (a .count) o × ((o′ : Outcome Fields) → Decodes (unitOf (a .unit)) (a .count) o′ → o′ ≡ o)
+told c k o e p = let a = c .before .args in decodes-told (unitOf (a .unit)) (c .find-unit .result) k (a .count) o (c .find-unit .ensures) e p
 
 pub decode-spec : {M : Type 1} → statement M
 decode-spec =
@@ -58,15 +24,16 @@ decode-spec =
     (λ c κs. search needs)
     (λ c. search needs)
     (λ c κs. search needs)
-    decode-in-requires
+    (λ c κs. search (needs, division-days))
     (λ c. search needs)
     (λ c κs. search needs)
-    decode-in-requires-2
+    (λ c κs. search (needs, division-days))
     (λ c. search needs)
     (λ c κs. search needs)
-    decode-in-requires-3
+    (λ c κs. search (needs, division-days))
     (λ c. search needs)
-    returns
-    returns-2
-    returns-3
-    returns-4)
+    (λ c κs. search needs)
+    (λ c. told (c .before .before .before .before) FoundUnit.Millis _ (search) (c .decode-in .ensures _ (search division-told)))
+    (λ c. told (c .before .before .before .before) FoundUnit.Micros _ (search) (c .decode-in2 .ensures _ (search division-told)))
+    (λ c. told (c .before .before .before .before) FoundUnit.Nanos _ (search) (c .decode-in3 .ensures _ (search division-told)))
+    (λ c. told (c .before .before .before) FoundUnit.Unknown _ (search) (search)))

@@ -2,60 +2,39 @@
 use Prim.Native.Nat.{ℕ, _/_, _%_, _<_, _^_}
 use native.Mathlib.Nat.{mod-lt, div-le-self}
 use native.Mathlib.Omega.{arith}
-use mathlib.Core.Path.{sym, ap₂, subst, _∙_}
+use mathlib.Core.Path.{_≡_, sym, ap₂, subst, _∙_}
+use mathlib.Core.Bool.{Bool, not}
 use borrow.Author.Needs.{needs}
 use lib.IntN.{ℤ}
-use Rattle.timestamp.proofs.FloorLaws.{joined, divided-signed, turned-below}
-use Rattle.timestamp.proofs.SignedLaws.{folded-told, signed-told, signed-back}
+use lib.Signed.{mag, nonNeg}
+use mir.Syntax.{w64}
+use mir.Val.{SFits, toZ, ofZ}
+use Rattle.timestamp.proofs.FloorLaws.{joined, divided-signed, turned-of, turned-below}
+use Rattle.timestamp.proofs.SignedLaws.{signed-of, folded-told, signed-told, signed-back}
 use Rattle.timestamp.proofs.division.floor_divide.Statement.{statement}
 use Rattle.timestamp.proofs.division.floor_divide.Tie as tie
 
-is-negative-requires : tie.Need-is-negative-requires
-is-negative-requires c κs = search needs
+module _ (count : ℤ) (t n : ℕ) (fits : SFits w64 count) (fold : n ≡ mag (toZ w64 (ofZ w64 count))) where
+  -- a quotient of a number of 63 bits is one
+  days-fit : n / t < 2 ^ 63
+  days-fit = omega (arith, div-le-self n t, folded-told fits fold, fits .sfits)
 
-folded-requires : tie.Need-folded-requires
-folded-requires c κs = search needs
+  -- the days, as the machine reads them back, and the rest tell the count
+  module _ (some : 0 < t) (b : Bool) (sign : b ≡ not (nonNeg (toZ w64 (ofZ w64 count)))) (day : ℤ) (rest : ℕ) (days : day ≡ signed-of b (n / t)) (turned : rest ≡ turned-of b (n % t) t) where
+    exact-told : count ≡ joined (toZ w64 (ofZ w64 day)) t rest
+    exact-told = signed-told fits sign fold ∙ divided-signed b n t some ∙ ap₂ (λ (z : ℤ) (r : ℕ). joined z t r) (sym (signed-back b (n / t) days days-fit)) (sym turned)
 
-div-signed : tie.Need-div-signed
-div-signed c = search needs
-
--- a quotient of a number of 63 bits is one
-days-fit : (c : tie.After-folded) → c .folded .result / c .before .before .args .ticks-per-day < 2 ^ 63
-days-fit c =
-    let s = c .before .before in
-    omega (arith, div-le-self (c .folded .result) (s .args .ticks-per-day), folded-told (s .fits .count) (c .folded .ensures), s .fits .count .sfits)
-
-signed-requires : tie.Need-signed-requires
-signed-requires c κs = days-fit c
-
-rem-turned : tie.Need-rem-turned
-rem-turned c = search needs
-
-turned-requires : tie.Need-turned-requires
-turned-requires c κs = mod-lt (c .before .folded .result) (c .before .before .before .pre)
-
-returns : tie.Need-returns
-returns c =
-    let m = c .before .before in
-    let s = m .before .before in
-    let per-day = s .args .ticks-per-day in
-    let negative = m .before .is-negative .result in
-    let size = m .folded .result in
-    let day = signed-back negative (size / per-day) (c .before .signed .ensures) (days-fit m) in
-    record {
-      exact =
-          signed-told (s .fits .count) (m .before .is-negative .ensures) (m .folded .ensures) ∙ divided-signed negative size per-day (s .pre) ∙ ap₂ (λ (z : ℤ) (r : ℕ). joined z per-day r) (sym day) (sym (c .turned .ensures));
-      below = subst (λ (r : ℕ). r < per-day) (sym (c .turned .ensures)) (turned-below negative (size % per-day) per-day (mod-lt size (s .pre)));
-    }
+    below-told : rest < t
+    below-told = subst (λ (r : ℕ). r < t) (sym turned) (turned-below b (n % t) t (mod-lt n some))
 
 pub floor-divide-spec : {M : Type 1} → statement M
 floor-divide-spec =
     tie.close
     (tie.spec
-    is-negative-requires
-    folded-requires
-    div-signed
-    signed-requires
-    rem-turned
-    turned-requires
-    returns)
+    (λ c κs. search needs)
+    (λ c κs. search needs)
+    (λ c. search needs)
+    (λ c κs. search days-fit)
+    (λ c. search needs)
+    (λ c κs. search mod-lt)
+    (λ c. search (exact-told, below-told)))

@@ -1,22 +1,20 @@
--- `timestamp::division::turned` meets its contract.
-use mathlib.Core.Path.{sym, ap}
-use mathlib.Core.Bool.{Bool}
+-- `timestamp::division::turned` meets its contract, by the sign.
+use Prim.Native.Nat.{ℕ, _-_}
+use mathlib.Core.Path.{_≡_, sym, ap}
+use mathlib.Core.Bool.{Bool, true, false}
 use borrow.Author.Needs.{needs}
 use Rattle.timestamp.proofs.FloorLaws.{turned-of}
 use Rattle.timestamp.proofs.division.turned.Statement.{statement}
 use Rattle.timestamp.proofs.division.turned.Tie as tie
 
-sub-result : tie.Need-sub-result
-sub-result c = search needs
+module _ (b : Bool) (rest t : ℕ) where
+  negative-turned : b ≡ true → t - 1 - rest ≡ turned-of b rest t
+  negative-turned e = ap (λ (s : Bool). turned-of s rest t) (sym e)
 
-sub-result-2 : tie.Need-sub-result-2
-sub-result-2 c = search needs
-
-returns : tie.Need-returns
-returns c = ap (λ (b : Bool). turned-of b (c .before .args .rest) (c .before .args .ticks-per-day)) (sym (c .if1 .taken))
-
-returns-2 : tie.Need-returns-2
-returns-2 c = ap (λ (b : Bool). turned-of b (c .before .args .rest) (c .before .args .ticks-per-day)) (sym (c .if1 .left))
+  nonnegative-turned : b ≡ false → rest ≡ turned-of b rest t
+  nonnegative-turned e = ap (λ (s : Bool). turned-of s rest t) (sym e)
 
 pub turned-spec : {M : Type 1} → statement M
-turned-spec = tie.close (tie.spec sub-result sub-result-2 returns returns-2)
+turned-spec =
+    tie.close
+    (tie.spec (λ c. search needs) (λ c. search needs) (λ c. search negative-turned) (λ c. search nonnegative-turned))

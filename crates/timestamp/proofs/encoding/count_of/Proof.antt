@@ -1,93 +1,65 @@
 -- `timestamp::encoding::count_of` meets its contract: the count folds onto the ticks that its seconds fold onto, with the fraction turned before 0.
-use Prim.Native.Nat.{ℕ, _+_, _*_, _-_, _<_, _≤_, _^_}
+use Prim.Native.Nat.{ℕ, _+_, _*_, _-_, _/_, _<_, _≤_, _^_}
 use native.Mathlib.Nat.{le-div-iff-mul-le, div-lt-iff-lt-mul}
 use native.Mathlib.Omega.{arith}
 use mathlib.Core.Path.{_≡_, sym, ap, _∙_}
-use mathlib.Core.Bool.{Bool}
+use mathlib.Core.Bool.{Bool, not}
 use borrow.Author.Needs.{needs}
 use lib.IntN.{ℤ}
-use Rattle.timestamp.specs.Outcomes.{given}
+use lib.Signed.{mag, nonNeg}
+use mir.Syntax.{w64}
+use mir.Val.{Fits, SFits, toZ, ofZ}
+use Rattle.refusal.specs.Outcome.{Outcome, given}
+use Rattle.timestamp.specs.Outcomes.{notRepresentable}
+use Rattle.timestamp.specs.Steps.{counting}
 use Rattle.timestamp.proofs.CountLaws.{counted-fits, counted-beyond}
 use Rattle.timestamp.proofs.FloorLaws.{joined, joined-signed, turned-of, turned-below}
 use Rattle.timestamp.proofs.SignedLaws.{signed-of, signed-told, signed-back}
 use Rattle.timestamp.proofs.encoding.count_of.Statement.{statement}
 use Rattle.timestamp.proofs.encoding.count_of.Tie as tie
 
-is-negative-requires : tie.Need-is-negative-requires
-is-negative-requires c κs = search needs
+-- n seconds, whose ticks are not above the greatest number, and a fraction, turned or not
+module _ (t n fraction : ℕ) (below : fraction < t) where
+  seconds-fit : n ≤ (2 ^ 63 - 1) / t → Fits w64 (n * t)
+  seconds-fit h = record { fits = omega (arith, le-div-iff-mul-le {k = t} (omega arith) .0 h) }
 
-folded-requires : tie.Need-folded-requires
-folded-requires c κs = search needs
+  size-fits : (b : Bool) (r : ℕ) → t < 2 ^ 63 → n ≤ (2 ^ 63 - 1) / t → r ≡ turned-of b fraction t → Fits w64 (n * t + r)
+  size-fits b r k h e = record { fits = omega (arith, le-div-iff-mul-le {k = t} (omega arith) .0 h, turned-below b fraction t below) }
 
-div-if1 : tie.Need-div-if1
-div-if1 c = search needs
+-- the sign of a second and what it folds onto
+module _ (s : ℤ) (t fraction : ℕ) (b : Bool) (n : ℕ) (fits : SFits w64 s) (sign : b ≡ not (nonNeg (toZ w64 (ofZ w64 s)))) (fold : n ≡ mag (toZ w64 (ofZ w64 s))) (below : fraction < t) where
+  count-is : joined s t fraction ≡ signed-of b (n * t + turned-of b fraction t)
+  count-is = ap (λ (z : ℤ). joined z t fraction) (signed-told {x = s} fits sign fold) ∙ joined-signed b n t fraction below
 
--- what is passed in, the sign, and what the count folds onto
-abbrev start : tie.After-folded → tie.Start
-start m = m .before .before
+  -- where its ticks alone are too many, so are all
+  seconds-beyond : (o : Outcome ℤ) → (2 ^ 63 - 1) / t < n → o ≡ notRepresentable → o ≡ counting (joined s t fraction)
+  seconds-beyond o h p =
+      let beyond = div-lt-iff-lt-mul {k = t} {x = 2 ^ 63 - 1} {y = n} (omega arith) .0 h in
+      p ∙ sym (counted-beyond _ b (n * t + turned-of b fraction t) count-is (omega (arith, beyond)))
 
-abbrev negative : tie.After-folded → Bool
-negative m = m .before .is-negative .result
+  -- and else all are compared
+  module _ (r : ℕ) (turned : r ≡ turned-of b fraction t) where
+    size-beyond : (o : Outcome ℤ) → 2 ^ 63 - 1 < n * t + r → o ≡ notRepresentable → o ≡ counting (joined s t fraction)
+    size-beyond o h p = p ∙ sym (counted-beyond _ b (n * t + turned-of b fraction t) count-is (omega (arith, turned)))
 
-abbrev size : tie.After-folded → ℕ
-size m = m .folded .result * start m .args .ticks-per-second + turned-of (negative m) (start m .args .fraction) (start m .args .ticks-per-second)
-
-count-is : (m : tie.After-folded) → joined (start m .args .second) (start m .args .ticks-per-second) (start m .args .fraction) ≡ signed-of (negative m) (size m)
-count-is m =
-    let s = start m in
-    ap (λ (z : ℤ). joined z (s .args .ticks-per-second) (s .args .fraction)) (signed-told {x = s .args .second} (s .fits .second) (m .before .is-negative .ensures) (m .folded .ensures)) ∙ joined-signed (negative m) (m .folded .result) (s .args .ticks-per-second) (s .args .fraction) (s .pre .0)
-
-returns : tie.Need-returns
-returns c =
-    let m = c .before in
-    let beyond = div-lt-iff-lt-mul {k = start m .args .ticks-per-second} {x = 2 ^ 63 - 1} {y = m .folded .result} (omega arith) .0 (c .if1 .taken) in
-    sym (counted-beyond _ (negative m) (size m) (count-is m) (omega (arith, beyond)))
-
--- the seconds' ticks are not above the greatest number
-seconds-fit : (c : tie.Else1) → c .before .folded .result * start (c .before) .args .ticks-per-second ≤ 2 ^ 63 - 1
-seconds-fit c = le-div-iff-mul-le {k = start (c .before) .args .ticks-per-second} (omega arith) .0 (c .if1 .left)
-
-mul-size : tie.Need-mul-size
-mul-size c = omega (arith, seconds-fit c)
-
-turned-requires : tie.Need-turned-requires
-turned-requires c κs = search needs
-
-add-size : tie.Need-add-size
-add-size c =
-    let m = c .before .before in
-    omega (arith, seconds-fit (c .before), c .turned .ensures, turned-below (negative m) (start m .args .fraction) (start m .args .ticks-per-second) (start m .pre .0), start m .pre .1)
-
--- the sum of the code is what the count folds onto
-size-is : (c : tie.After-turned) → c .before .before .folded .result * start (c .before .before) .args .ticks-per-second + c .turned .result ≡ size (c .before .before)
-size-is c = ap (λ (r : ℕ). c .before .before .folded .result * start (c .before .before) .args .ticks-per-second + r) (c .turned .ensures)
-
-returns-2 : tie.Need-returns-2
-returns-2 c =
-    let m = c .before .before .before in
-    sym (counted-beyond _ (negative m) (size m) (count-is m) (omega (arith, size-is (c .before), c .if2 .taken)))
-
-signed-requires : tie.Need-signed-requires
-signed-requires c κs = search needs
-
-returns-3 : tie.Need-returns-3
-returns-3 c =
-    let t = c .before .before in
-    let m = t .before .before in
-    let fits : size m < 2 ^ 63 = omega (arith, size-is t, c .before .if2 .left) in
-    ap given (signed-back (negative m) (size m) (c .signed .ensures ∙ ap (signed-of (negative m)) (size-is t)) fits) ∙ sym (counted-fits _ (negative m) (size m) (count-is m) fits)
+    size-told : (z : ℤ) → n * t + r ≤ 2 ^ 63 - 1 → z ≡ signed-of b (n * t + r) → given (toZ w64 (ofZ w64 z)) ≡ counting (joined s t fraction)
+    size-told z h e =
+        let most : n * t + turned-of b fraction t < 2 ^ 63 = omega (arith, turned) in
+        ap given (signed-back b (n * t + turned-of b fraction t) (e ∙ ap (λ (k : ℕ). signed-of b (n * t + k)) turned) most) ∙ sym (counted-fits _ b (n * t + turned-of b fraction t) count-is most)
 
 pub count-of-spec : {M : Type 1} → statement M
 count-of-spec =
     tie.close
     (tie.spec
-    is-negative-requires
-    folded-requires
-    div-if1
-    returns
-    mul-size
-    turned-requires
-    add-size
-    returns-2
-    signed-requires
-    returns-3)
+    (λ c κs. search needs)
+    (λ c κs. search needs)
+    (λ c. search needs)
+    (λ c κs. search needs)
+    (λ c. search seconds-beyond)
+    (λ c. search seconds-fit)
+    (λ c κs. search needs)
+    (λ c. search size-fits)
+    (λ c κs. search needs)
+    (λ c. search size-beyond)
+    (λ c κs. search needs)
+    (λ c. search size-told))

@@ -1,30 +1,8 @@
 -- `timestamp::encoding::encode_any` meets its contract, unit by unit.
-use mathlib.Core.Path.{_≡_, _∙_}
 use borrow.Author.Needs.{needs}
-use Rattle.timestamp.specs.declared.units.Named.{Named}
-use Rattle.timestamp.specs.Units.{unitOf, unitNamed}
-use Rattle.timestamp.specs.Steps.{encodingFor}
 use Rattle.timestamp.proofs.UnitLaws.{encoding-told}
 use Rattle.timestamp.proofs.encoding.encode_any.Statement.{statement}
 use Rattle.timestamp.proofs.encoding.encode_any.Tie as tie
-
--- what is answered in the unit that was read
-told : (c : tie.After-which) (k : Named) → c .which .result ≡ k → encodingFor (unitNamed k) (c .before .args .moment) (c .before .args .fraction) ≡ encodingFor (unitOf (c .before .args .unit)) (c .before .args .moment) (c .before .args .fraction)
-told c k e =
-    let a = c .before .args in
-    encoding-told (a .unit) (c .which .result) k (a .moment) (a .fraction) (c .which .ensures) e
-
-returns : tie.Need-returns
-returns c = c .encode .ensures ∙ told (c .before .before .before) _ (c .before .enum-told .given .1)
-
-returns-2 : tie.Need-returns-2
-returns-2 c = c .encode2 .ensures ∙ told (c .before .before .before) _ (c .before .enum-told2 .given .1)
-
-returns-3 : tie.Need-returns-3
-returns-3 c = c .encode3 .ensures ∙ told (c .before .before .before) _ (c .before .enum-told3 .given .1)
-
-returns-4 : tie.Need-returns-4
-returns-4 c = told (c .before .before) _ (c .enum-told4 .given .1)
 
 pub encode-any-spec : {M : Type 1} → statement M
 encode-any-spec =
@@ -38,7 +16,8 @@ encode-any-spec =
     (λ c. search needs)
     (λ c κs. search needs)
     (λ c. search needs)
-    returns
-    returns-2
-    returns-3
-    returns-4)
+    (λ c κs. search needs)
+    (λ c. search encoding-told)
+    (λ c. search encoding-told)
+    (λ c. search encoding-told)
+    (λ c. search encoding-told))

@@ -1,38 +1,35 @@
 -- `timestamp::encoding::encode_at` meets its contract: the fraction first, then by the moment.
-use mathlib.Core.Path.{sym, ap, _∙_}
+use Prim.Native.Nat.{ℕ, _<_, _^_}
+use mathlib.Core.Path.{_≡_, ap, _∙_}
 use borrow.Author.Needs.{needs}
 use lib.IntN.{ℤ}
+use lib.Signed.{mag}
 use mir.Syntax.{w64}
+use mir.Val.{toZ, ofZ}
 use mir.ValLaws.{toZ-ofZ}
-use Rattle.timestamp.specs.declared.moment.Moment.{Moment}
-use Rattle.timestamp.specs.Steps.{counting, encodingAt}
+use Rattle.refusal.specs.Outcome.{Outcome}
+use Rattle.timestamp.specs.Steps.{counting}
 use Rattle.timestamp.proofs.FloorLaws.{joined}
-use Rattle.timestamp.proofs.MomentLaws.{fraction-beyond, fraction-within, fraction-far}
+use Rattle.timestamp.proofs.MomentLaws.{fraction-beyond, fraction-within, fraction-far, fraction-none}
 use Rattle.timestamp.proofs.encoding.encode_at.Statement.{statement}
 use Rattle.timestamp.proofs.encoding.encode_at.Tie as tie
 
-returns : tie.Need-returns
-returns c = let a = c .before .args in sym (fraction-beyond (a .ticks-per-second) (a .moment) (a .fraction) (c .if1 .taken))
-
-returns-2 : tie.Need-returns-2
-returns-2 c =
-    let m = c .before .before in
-    let e = m .before .before in
-    let a = e .before .args in
-    c .count-of .ensures ∙ ap (λ (z : ℤ). counting (joined z (a .ticks-per-second) (a .fraction))) (toZ-ofZ w64 (m .moment .given .0 .0) (record { sfits = c .before .known-told .given .0 .1 })) ∙ sym (fraction-within (a .ticks-per-second) (a .moment) (m .moment .given .0 .0) (a .fraction) (e .if1 .left) (m .moment .given .1))
-
-returns-3 : tie.Need-returns-3
-returns-3 c =
-    let e = c .before .before in
-    let a = e .before .args in
-    sym (fraction-far (a .ticks-per-second) (a .moment) (a .fraction) (e .if1 .left) (c .enum-told .given .1))
-
-returns-4 : tie.Need-returns-4
-returns-4 c =
-    let a = c .before .before .before .args in
-    sym (ap (λ (m : Moment). encodingAt (a .ticks-per-second) m (a .fraction)) (c .enum-told2 .given .1))
+-- the second is counted as it is passed on
+counting-told : (s : ℤ) (t fraction : ℕ) (o : Outcome ℤ) → mag s < 2 ^ 63 → o ≡ counting (joined (toZ w64 (ofZ w64 s)) t fraction) → o ≡ counting (joined s t fraction)
+counting-told s t fraction o h p = p ∙ ap (λ (z : ℤ). counting (joined z t fraction)) (toZ-ofZ w64 s (record { sfits = h }))
 
 pub encode-at-spec : {M : Type 1} → statement M
 encode-at-spec =
     tie.close
-    (tie.spec returns (λ c. search needs) (λ c κs. search needs) (λ c. search needs) (λ c. search needs) returns-2 returns-3 returns-4)
+    (tie.spec
+    (λ c κs. search needs)
+    (λ c. search fraction-beyond)
+    (λ c. search needs)
+    (λ c κs. search needs)
+    (λ c. search needs)
+    (λ c κs. search needs)
+    (λ c. search needs)
+    (λ c κs. search needs)
+    (λ c. search (fraction-within, counting-told))
+    (λ c. search fraction-far)
+    (λ c. search fraction-none))

@@ -1,36 +1,8 @@
 -- `timestamp::encoding::encode_near` meets its contract, unit by unit.
-use mathlib.Core.Path.{_≡_, ap, _∙_}
 use borrow.Author.Needs.{needs}
-use lib.IntN.{ℤ}
-use mir.Syntax.{w64}
-use mir.Val.{toZ, ofZ}
-use mir.ValLaws.{toZ-ofZ}
-use Rattle.timestamp.specs.declared.moment.Moment
-use Rattle.timestamp.specs.declared.moment.Moment.{Moment}
-use Rattle.timestamp.specs.declared.units.Named.{Named}
-use Rattle.timestamp.specs.Units.{unitOf, unitNamed}
-use Rattle.timestamp.specs.Steps.{encodingFor}
-use Rattle.timestamp.proofs.UnitLaws.{encoding-told}
+use Rattle.timestamp.proofs.UnitLaws.{near-told}
 use Rattle.timestamp.proofs.encoding.encode_near.Statement.{statement}
 use Rattle.timestamp.proofs.encoding.encode_near.Tie as tie
-
--- what is answered in the unit that was read
-told : (c : tie.After-which) (k : Named) → c .which .result ≡ k → encodingFor (unitNamed k) (Moment.Second (toZ w64 (ofZ w64 (c .before .args .second)))) (c .before .args .fraction) ≡ encodingFor (unitOf (c .before .args .unit)) (Moment.Second (c .before .args .second)) (c .before .args .fraction)
-told c k e =
-    let a = c .before .args in
-    ap (λ (z : ℤ). encodingFor (unitNamed k) (Moment.Second z) (a .fraction)) (toZ-ofZ w64 (a .second) (c .before .fits .second)) ∙ encoding-told (a .unit) (c .which .result) k (Moment.Second (a .second)) (a .fraction) (c .which .ensures) e
-
-returns : tie.Need-returns
-returns c = c .encode-near .ensures ∙ told (c .before .before .before) _ (c .before .enum-told .given .1)
-
-returns-2 : tie.Need-returns-2
-returns-2 c = c .encode-near2 .ensures ∙ told (c .before .before .before) _ (c .before .enum-told2 .given .1)
-
-returns-3 : tie.Need-returns-3
-returns-3 c = c .encode-near3 .ensures ∙ told (c .before .before .before) _ (c .before .enum-told3 .given .1)
-
-returns-4 : tie.Need-returns-4
-returns-4 c = told (c .before .before) _ (c .enum-told4 .given .1)
 
 pub encode-near-spec : {M : Type 1} → statement M
 encode-near-spec =
@@ -44,7 +16,8 @@ encode-near-spec =
     (λ c. search needs)
     (λ c κs. search needs)
     (λ c. search needs)
-    returns
-    returns-2
-    returns-3
-    returns-4)
+    (λ c κs. search needs)
+    (λ c. search near-told)
+    (λ c. search near-told)
+    (λ c. search near-told)
+    (λ c. search near-told))

@@ -1,41 +1,41 @@
 -- `timestamp::encoding::encode_near_at` meets its contract: the second lies so near that its ticks fit.
-use Prim.Native.Nat.{suc, _*_, _<_, _≤_, _^_}
+use Prim.Native.Nat.{ℕ, suc, _*_, _<_, _≤_, _^_}
 use native.Mathlib.Omega.{arith}
 use native.Mathlib.Nat.{mul-le-mul}
 use mathlib.Core.Path.{_≡_, refl, sym, ap, subst, _∙_}
 use mathlib.Core.Bool.{Bool, cond}
+use borrow.Author.Needs.{needs}
 use lib.IntN.{ℤ}
 use lib.Signed.{mag}
 use mir.Syntax.{w64}
+use mir.Val.{SFits, toZ, ofZ}
 use mir.ValLaws.{toZ-ofZ}
+use Rattle.refusal.specs.Outcome.{given}
 use Rattle.timestamp.specs.declared.moment.Moment
 use Rattle.timestamp.specs.declared.moment.Moment.{Moment}
-use Rattle.timestamp.specs.Outcomes.{given, notRepresentable}
+use Rattle.timestamp.specs.Units.{nanos, ticksPerSecond}
+use Rattle.timestamp.specs.Outcomes.{notRepresentable}
+use Rattle.timestamp.specs.Steps.{secondsReached, encodingAt}
 use Rattle.timestamp.proofs.FloorLaws.{joined, joined-asked, joined-told, signed-fits}
 use Rattle.timestamp.proofs.MomentLaws.{fraction-beyond, fraction-within}
 use Rattle.timestamp.proofs.encoding.encode_near_at.Statement.{statement}
 use Rattle.timestamp.proofs.encoding.encode_near_at.Tie as tie
 
-returns : tie.Need-returns
-returns c =
-    let a = c .before .args in
-    sym (fraction-beyond (a .ticks-per-second) (Moment.Second (a .second)) (a .fraction) (c .if1 .taken))
+module _ (s : ℤ) (t : ℕ) (fits : SFits w64 s) where
+  -- its ticks are a number of 63 bits
+  ticks-asked : mag s < secondsReached → t ≤ ticksPerSecond nanos → suc (mag (toZ w64 (ofZ w64 s))) * t < 2 ^ 63
+  ticks-asked h k =
+      let most : suc (mag s) * t ≤ 9223286400 * 1000000000 = mul-le-mul h k in
+      joined-asked t fits (omega arith)
 
-joined-requires : tie.Need-joined-requires
-joined-requires c κs =
-    let s = c .before in
-    let most : suc (mag (s .args .second)) * s .args .ticks-per-second ≤ 9223286400 * 1000000000 = mul-le-mul (s .pre .0) (s .pre .1) in
-    (c .if1 .left, joined-asked (s .args .ticks-per-second) (s .fits .second) (omega arith))
-
-returns-2 : tie.Need-returns-2
-returns-2 c =
-    let e = c .before in
-    let s = e .before in
-    let z = joined (s .args .second) (s .args .ticks-per-second) (s .args .fraction) in
-    let told : c .joined .result ≡ z = joined-told (s .args .ticks-per-second) (s .args .fraction) (s .fits .second) (c .joined .ensures) in
-    ap given (toZ-ofZ w64 (c .joined .result) (record { sfits = c .joined .ok }) ∙ told)
-    ∙ ap (λ (b : Bool). cond b (given z) notRepresentable) (sym (signed-fits z (subst (λ (w : ℤ). mag w < 2 ^ 63) told (c .joined .ok))))
-    ∙ sym (fraction-within (s .args .ticks-per-second) _ (s .args .second) (s .args .fraction) (e .if1 .left) refl)
+  -- so the count is given
+  count-told : (fraction : ℕ) (z : ℤ) → fraction < t → mag z < 2 ^ 63 → z ≡ joined (toZ w64 (ofZ w64 s)) t fraction → given (toZ w64 (ofZ w64 z)) ≡ encodingAt t (Moment.Second s) fraction
+  count-told fraction z h k e =
+      let told : z ≡ joined s t fraction = joined-told t fraction fits e in
+      fraction-within t (Moment.Second s) s fraction _ h refl
+      (ap given (toZ-ofZ w64 z (record { sfits = k }) ∙ told) ∙ ap (λ (b : Bool). cond b (given (joined s t fraction)) notRepresentable) (sym (signed-fits (joined s t fraction) (subst (λ (w : ℤ). mag w < 2 ^ 63) told k))))
 
 pub encode-near-at-spec : {M : Type 1} → statement M
-encode-near-at-spec = tie.close (tie.spec returns joined-requires returns-2)
+encode-near-at-spec =
+    tie.close
+    (tie.spec (λ c κs. search needs) (λ c. search fraction-beyond) (λ c κs. search (needs, ticks-asked)) (λ c. search count-told))

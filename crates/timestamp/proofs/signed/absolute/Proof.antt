@@ -1,52 +1,38 @@
 -- `timestamp::signed::absolute` meets its contract: below 0 it is one more than what the number folds onto.
-use Prim.Native.Nat.{suc}
+use Prim.Native.Nat.{ℕ, suc, _+_}
 use native.Mathlib.Numerals.{add-one}
 use native.Mathlib.Omega.{arith}
-use mathlib.Core.Path.{sym, ap, _∙_}
+use mathlib.Core.Path.{_≡_, sym, ap, _∙_}
+use mathlib.Core.Bool.{Bool, true, false, not}
 use borrow.Author.Needs.{needs}
-use lib.IntN.{natAbs}
+use lib.IntN.{ℤ, natAbs}
+use lib.Signed.{mag, nonNeg}
+use mir.Syntax.{w64}
+use mir.Val.{Fits, SFits, toZ, ofZ}
 use Rattle.laws.proofs.SignedLaws.{negative-is, nonnegative-is, sign-told}
 use Rattle.timestamp.proofs.SignedLaws.{folded-told}
 use Rattle.timestamp.proofs.signed.absolute.Statement.{statement}
 use Rattle.timestamp.proofs.signed.absolute.Tie as tie
 
-is-negative-requires : tie.Need-is-negative-requires
-is-negative-requires c κs = search needs
+module _ (x : ℤ) (n : ℕ) (fits : SFits w64 x) (fold : n ≡ mag (toZ w64 (ofZ w64 x))) where
+  sum-fits : Fits w64 (n + 1)
+  sum-fits = record { fits = omega (arith, folded-told fits fold) }
 
-folded-requires : tie.Need-folded-requires
-folded-requires c κs = search needs
+  -- by the sign
+  module _ (b : Bool) (sign : b ≡ not (nonNeg (toZ w64 (ofZ w64 x)))) where
+    negative-absolute : b ≡ true → n + 1 ≡ natAbs x
+    negative-absolute e = add-one n ∙ ap suc (folded-told fits fold) ∙ ap natAbs (sym (negative-is x (sign-told fits sign e)))
 
-add-result : tie.Need-add-result
-add-result c =
-    let start = c .before .before .before in
-    omega (arith, start .fits .x .sfits, folded-told (start .fits .x) (c .folded .ensures))
-
-returns : tie.Need-returns
-returns c =
-    let at-is-negative = c .before .before in
-    let start = at-is-negative .before in
-    let x = start .args .x in
-    let fits = start .fits .x in
-    add-one (c .folded .result) ∙ ap suc (folded-told fits (c .folded .ensures)) ∙ ap natAbs (sym (negative-is x (sign-told fits (at-is-negative .is-negative .ensures) (c .before .if1 .taken))))
-
-folded-requires-2 : tie.Need-folded-requires-2
-folded-requires-2 c κs = search needs
-
-returns-2 : tie.Need-returns-2
-returns-2 c =
-    let at-is-negative = c .before .before in
-    let start = at-is-negative .before in
-    let x = start .args .x in
-    let fits = start .fits .x in
-    folded-told fits (c .folded2 .ensures) ∙ ap natAbs (sym (nonnegative-is x (sign-told fits (at-is-negative .is-negative .ensures) (c .before .if1 .left))))
+    nonnegative-absolute : b ≡ false → n ≡ natAbs x
+    nonnegative-absolute e = folded-told fits fold ∙ ap natAbs (sym (nonnegative-is x (sign-told fits sign e)))
 
 pub absolute-spec : {M : Type 1} → statement M
 absolute-spec =
     tie.close
     (tie.spec
-    is-negative-requires
-    folded-requires
-    add-result
-    returns
-    folded-requires-2
-    returns-2)
+    (λ c κs. search needs)
+    (λ c κs. search needs)
+    (λ c. search sum-fits)
+    (λ c. search negative-absolute)
+    (λ c κs. search needs)
+    (λ c. search nonnegative-absolute))

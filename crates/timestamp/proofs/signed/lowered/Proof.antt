@@ -1,38 +1,30 @@
 -- `timestamp::signed::lowered` meets its contract: below `by` the number is negative.
+use Prim.Native.Nat.{ℕ, _-_, _<_, _≤_, _^_}
 use native.Mathlib.Omega.{arith}
-use mathlib.Core.Path.{sym, ap, _∙_}
+use mathlib.Core.Path.{_≡_, sym, ap, _∙_}
 use borrow.Author.Needs.{needs}
-use lib.IntN.{negsuc}
+use lib.IntN.{ℤ, pos, negsuc, subℕ}
+use mir.Syntax.{w64}
+use mir.Val.{toZ, ofZ}
 use Rattle.laws.proofs.DifferenceLaws.{sub-below, sub-above}
 use Rattle.laws.proofs.SignedLaws.{read-back}
 use Rattle.timestamp.proofs.signed.lowered.Statement.{statement}
 use Rattle.timestamp.proofs.signed.lowered.Tie as tie
 
-sub-signed : tie.Need-sub-signed
-sub-signed c = search needs
+module _ (n by : ℕ) (z : ℤ) where
+  negative-lowered : n < by → by < 2 ^ 63 → z ≡ negsuc (by - 1 - n) → toZ w64 (ofZ w64 z) ≡ subℕ n by
+  negative-lowered h k e = read-back e (omega arith) ∙ ap negsuc (omega arith) ∙ sym (sub-below n by h)
 
-sub-signed-2 : tie.Need-sub-signed-2
-sub-signed-2 c = search needs
-
-signed-requires : tie.Need-signed-requires
-signed-requires c κs = search needs
-
-returns : tie.Need-returns
-returns c =
-    let n = c .before .before .args .n in
-    let by = c .before .before .args .by in
-    read-back (c .signed .ensures) (omega arith) ∙ ap negsuc (omega arith) ∙ sym (sub-below n by (c .before .if1 .taken))
-
-signed-requires-2 : tie.Need-signed-requires-2
-signed-requires-2 c κs = search needs
-
-returns-2 : tie.Need-returns-2
-returns-2 c =
-    let n = c .before .before .args .n in
-    let by = c .before .before .args .by in
-    read-back (c .signed2 .ensures) (omega arith) ∙ sym (sub-above n by (c .before .if1 .left))
+  nonnegative-lowered : by ≤ n → n < 2 ^ 63 → z ≡ pos (n - by) → toZ w64 (ofZ w64 z) ≡ subℕ n by
+  nonnegative-lowered h k e = read-back e (omega arith) ∙ sym (sub-above n by h)
 
 pub lowered-spec : {M : Type 1} → statement M
 lowered-spec =
     tie.close
-    (tie.spec sub-signed sub-signed-2 signed-requires returns signed-requires-2 returns-2)
+    (tie.spec
+    (λ c. search needs)
+    (λ c. search needs)
+    (λ c κs. search needs)
+    (λ c. search negative-lowered)
+    (λ c κs. search needs)
+    (λ c. search nonnegative-lowered))

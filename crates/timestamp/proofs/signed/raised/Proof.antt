@@ -1,54 +1,46 @@
 -- `timestamp::signed::raised` meets its contract, by the sign.
-use Prim.Native.Nat.{suc, _+_, _-_}
+use Prim.Native.Nat.{ℕ, suc, _+_, _-_, _<_, _≤_, _^_}
 use native.Mathlib.Omega.{arith}
-use mathlib.Core.Path.{_∙_}
+use mathlib.Core.Path.{_≡_, _∙_}
+use mathlib.Core.Bool.{Bool, true, false, not}
 use borrow.Author.Needs.{needs}
-use lib.Signed.{mag}
+use lib.IntN.{ℤ, subℕ}
+use lib.Signed.{mag, nonNeg}
+use mir.Syntax.{w64}
+use mir.Val.{Fits, SFits, toZ, ofZ}
 use Rattle.laws.proofs.DifferenceLaws.{pos-sub, negsuc-sub, sub-eq}
 use Rattle.laws.proofs.SignedLaws.{negative-is, nonnegative-is, sign-told}
 use Rattle.timestamp.proofs.SignedLaws.{folded-told}
 use Rattle.timestamp.proofs.signed.raised.Statement.{statement}
 use Rattle.timestamp.proofs.signed.raised.Tie as tie
 
-is-negative-requires : tie.Need-is-negative-requires
-is-negative-requires c κs = search needs
+module _ (x : ℤ) (n by : ℕ) (fits : SFits w64 x) (fold : n ≡ mag (toZ w64 (ofZ w64 x))) (most : mag x < by) where
+  size : n ≡ mag x
+  size = folded-told fits fold
 
-sub-result : tie.Need-sub-result
-sub-result c = search needs
+  size-most : n ≤ by - 1
+  size-most = omega (arith, size)
 
-folded-requires : tie.Need-folded-requires
-folded-requires c κs = search needs
+  sum-fits : by < 2 ^ 63 → Fits w64 (by + n)
+  sum-fits h = record { fits = omega (arith, size) }
 
-sub-result-2 : tie.Need-sub-result-2
-sub-result-2 c = omega (arith, folded-told (c .before .before .before .fits .x) (c .folded .ensures))
+  -- by the sign
+  module _ (b : Bool) (sign : b ≡ not (nonNeg (toZ w64 (ofZ w64 x)))) where
+    negative-raised : b ≡ true → x ≡ subℕ (by - 1 - n) by
+    negative-raised e = negative-is x (sign-told fits sign e) ∙ negsuc-sub (mag x) ∙ sub-eq 0 (suc (mag x)) (by - 1 - n) by (omega (arith, size))
 
-returns : tie.Need-returns
-returns c =
-    let s = c .before .before .before in
-    let size = folded-told (s .fits .x) (c .folded .ensures) in
-    negative-is (s .args .x) (sign-told (s .fits .x) (c .before .before .is-negative .ensures) (c .before .if1 .taken)) ∙ negsuc-sub (mag (s .args .x)) ∙ sub-eq 0 (suc (mag (s .args .x))) (s .args .by - 1 - c .folded .result) (s .args .by) (omega (arith, size, s .pre))
-
-folded-requires-2 : tie.Need-folded-requires-2
-folded-requires-2 c κs = search needs
-
-add-result : tie.Need-add-result
-add-result c = omega (arith, folded-told (c .before .before .before .fits .x) (c .folded2 .ensures))
-
-returns-2 : tie.Need-returns-2
-returns-2 c =
-    let s = c .before .before .before in
-    let size = folded-told (s .fits .x) (c .folded2 .ensures) in
-    nonnegative-is (s .args .x) (sign-told (s .fits .x) (c .before .before .is-negative .ensures) (c .before .if1 .left)) ∙ pos-sub (mag (s .args .x)) ∙ sub-eq (mag (s .args .x)) 0 (s .args .by + c .folded2 .result) (s .args .by) (omega (arith, size))
+    nonnegative-raised : b ≡ false → x ≡ subℕ (by + n) by
+    nonnegative-raised e = nonnegative-is x (sign-told fits sign e) ∙ pos-sub (mag x) ∙ sub-eq (mag x) 0 (by + n) by (omega (arith, size))
 
 pub raised-spec : {M : Type 1} → statement M
 raised-spec =
     tie.close
     (tie.spec
-    is-negative-requires
-    sub-result
-    folded-requires
-    sub-result-2
-    returns
-    folded-requires-2
-    add-result
-    returns-2)
+    (λ c κs. search needs)
+    (λ c. search needs)
+    (λ c κs. search needs)
+    (λ c. search size-most)
+    (λ c. search negative-raised)
+    (λ c κs. search needs)
+    (λ c. search sum-fits)
+    (λ c. search nonnegative-raised))

@@ -1,6 +1,6 @@
 -- `timestamp::units::answered` meets its contract, by the test.
 use mathlib.Core.Path.{sym, ap}
-use Rattle.timestamp.specs.Outcomes.{given}
+use Rattle.refusal.specs.Outcome.{given}
 use Rattle.timestamp.proofs.units.answered.Statement.{statement}
 use Rattle.timestamp.proofs.units.answered.Tie as tie
 

@@ -1,34 +1,15 @@
 -- `timestamp::units::in_day` meets its contract, unit by unit.
 use mathlib.Core.Path.{_≡_, ap, _∙_}
+use mathlib.Core.Bool.{Bool}
 use borrow.Author.Needs.{needs}
-use Rattle.timestamp.specs.declared.units.Named.{Named}
-use Rattle.timestamp.specs.Units.{unitOf, unitNamed}
-use Rattle.timestamp.specs.Outcomes.{given, dayHas}
+use Rattle.refusal.specs.Outcome.{Outcome, given}
 use Rattle.timestamp.proofs.UnitLaws.{day-told}
 use Rattle.timestamp.proofs.units.in_day.Statement.{statement}
 use Rattle.timestamp.proofs.units.in_day.Tie as tie
 
--- what is answered in the unit that was read
-told : (c : tie.After-which) (k : Named) → c .which .result ≡ k → dayHas (unitNamed k) (c .before .args .tick) ≡ dayHas (unitOf (c .before .args .unit)) (c .before .args .tick)
-told c k e = day-told (c .before .args .unit) (c .which .result) k (c .before .args .tick) (c .which .ensures) e
-
-returns : tie.Need-returns
-returns c =
-    let t = c .before .before in
-    c .answered .ensures ∙ ap given (c .before .has-tick .ensures) ∙ told (t .before .before) _ (t .enum-told .given .1)
-
-returns-2 : tie.Need-returns-2
-returns-2 c =
-    let t = c .before .before in
-    c .answered2 .ensures ∙ ap given (c .before .has-tick2 .ensures) ∙ told (t .before .before) _ (t .enum-told2 .given .1)
-
-returns-3 : tie.Need-returns-3
-returns-3 c =
-    let t = c .before .before in
-    c .answered3 .ensures ∙ ap given (c .before .has-tick3 .ensures) ∙ told (t .before .before) _ (t .enum-told3 .given .1)
-
-returns-4 : tie.Need-returns-4
-returns-4 c = told (c .before .before) _ (c .enum-told4 .given .1)
+-- what is answered of a test's outcome
+given-told : (o : Outcome Bool) (a b : Bool) → o ≡ given a → a ≡ b → o ≡ given b
+given-told o a b p q = p ∙ ap given q
 
 pub in-day-spec : {M : Type 1} → statement M
 in-day-spec =
@@ -45,7 +26,8 @@ in-day-spec =
     (λ c κs. search needs)
     (λ c κs. search needs)
     (λ c. search needs)
-    returns
-    returns-2
-    returns-3
-    returns-4)
+    (λ c κs. search needs)
+    (λ c. search (day-told, given-told))
+    (λ c. search (day-told, given-told))
+    (λ c. search (day-told, given-told))
+    (λ c. search day-told))

@@ -1,14 +1,8 @@
 -- `timestamp::units::Nanos::divide` meets its contract.
 use borrow.Author.Needs.{needs}
-use Rattle.timestamp.proofs.FloorLaws.{division-just}
+use Rattle.timestamp.proofs.FloorLaws.{division-told, division-only}
 use Rattle.timestamp.proofs.units.Nanos.divide.Statement.{statement}
 use Rattle.timestamp.proofs.units.Nanos.divide.Tie as tie
 
-floor-divide-requires : tie.Need-floor-divide-requires
-floor-divide-requires c κs = search needs
-
-returns : tie.Need-returns
-returns c = division-just (c .before .fits .count) (c .floor-divide .ensures)
-
 pub divide-spec : {M : Type 1} → statement M
-divide-spec = tie.close (tie.spec floor-divide-requires returns)
+divide-spec = tie.close (tie.spec (λ c κs. search needs) (λ c. search (division-told, division-only)))
