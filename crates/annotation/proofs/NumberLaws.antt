@@ -10,6 +10,7 @@ use mir.Facts.{toZ-ofZ}
 use mir.Syntax.{w32}
 use mir.Val.{SFits, toZ, ofZ}
 use borrow.Author.Tests.{eqb-true, eq-eqb, ne-eqb, le-leb, lt-leb}
+use Rattle.refusal.specs.Numbers.{DISAGREEMENT, MISPLACED, BAD-DECIMAL}
 use Rattle.parquet.specs.Converted as converted
 use Rattle.parquet.specs.Logical as logical
 use Rattle.logical_type.specs.Parameters.{UNUSED, validParameters}
@@ -121,19 +122,19 @@ resolutionAs : Bool → Annotation → Annotated → Resolution
 resolutionAs agree says n =
     cond agree
     (cond (annotationOn says (n .physical) (natural (n .«type_length»)))
-    (cond (digitsAllowed says n) (Resolution.Resolved (kindAs says n)) Resolution.BadDecimal)
-    Resolution.Misplaced)
-    Resolution.Disagreement
+    (cond (digitsAllowed says n) (Resolution.Resolved (kindAs says n)) (Resolution.Refused BAD-DECIMAL))
+    (Resolution.Refused MISPLACED))
+    (Resolution.Refused DISAGREEMENT)
 
 -- the rules by their truth values
 
-by-ten : (ten : Bool) (k : Kind) → cond ten 0 (refusalOf Resolution.Misplaced) ≡ refusalOf (cond ten (Resolution.Resolved k) Resolution.Misplaced)
+by-ten : (ten : Bool) (k : Kind) → cond ten 0 MISPLACED ≡ refusalOf (cond ten (Resolution.Resolved k) (Resolution.Refused MISPLACED))
 by-ten true k = refl
 by-ten false k = refl
 
 by-ten-eleven : (ten eleven : Bool) (k : Kind)
-    → cond ten (cond eleven 0 (refusalOf Resolution.BadDecimal)) (refusalOf Resolution.Misplaced)
-    ≡ refusalOf (cond ten (cond eleven (Resolution.Resolved k) Resolution.BadDecimal) Resolution.Misplaced)
+    → cond ten (cond eleven 0 BAD-DECIMAL) MISPLACED
+    ≡ refusalOf (cond ten (cond eleven (Resolution.Resolved k) (Resolution.Refused BAD-DECIMAL)) (Resolution.Refused MISPLACED))
 by-ten-eleven true true k = refl
 by-ten-eleven true false k = refl
 by-ten-eleven false eleven k = refl
@@ -144,7 +145,7 @@ placedBy p n =
     cond (eqb (n .physical) (p .demand)) 0
     (cond (eqb (p .demand) ANY) 0
     (cond (eqb (p .demand) OWN) (ownFault (p .logical) (n .physical) (natural (n .«type_length»)) (n .precision) (n .scale))
-    (refusalOf Resolution.Misplaced)))
+    MISPLACED))
 
 module _ (n : Annotated) (byte : n .physical < 2 ^ 8) where
   -- an annotation keeps rules 10 and 11 as the parts of its number say; those that are no physical type are above a byte
@@ -154,7 +155,7 @@ module _ (n : Annotated) (byte : n .physical < 2 ^ 8) where
 
   kept : (l : LogicalType)
       → let on = logicalOn l (n .physical) (natural (n .«type_length»)) in
-      cond on 0 (refusalOf Resolution.Misplaced) ≡ refusalOf (cond on (Resolution.Resolved (kindAs (Annotation.Logical l) n)) Resolution.Misplaced)
+      cond on 0 MISPLACED ≡ refusalOf (cond on (Resolution.Resolved (kindAs (Annotation.Logical l) n)) (Resolution.Refused MISPLACED))
   kept l = by-ten (logicalOn l (n .physical) (natural (n .«type_length»))) (kindAs (Annotation.Logical l) n)
 
   logical-placed : (l : LogicalType) → placedBy (partsOf (Annotation.Logical l)) n ≡ refusalOf (resolutionAs true (Annotation.Logical l) n)

@@ -3,6 +3,7 @@ use Prim.Native.Nat.{ℕ, _+_}
 use mathlib.Core.Bool.{Bool, true, false, not, cond, _&&_}
 use lib.Dec.{eqb, leb}
 use lib.IntN.{ℤ, pos}
+use Rattle.refusal.specs.Numbers.{DISAGREEMENT, MISPLACED, BAD-DECIMAL}
 use Rattle.parquet.specs.Physical as physical
 use Rattle.parquet.specs.Converted as converted
 use Rattle.parquet.specs.Logical as logical
@@ -14,10 +15,8 @@ use Rattle.annotation.specs.Rule9.{rule9}
 use Rattle.annotation.specs.Rule10.{UUID-LENGTH, INTERVAL-LENGTH, isFixed, decimalOn}
 use Rattle.annotation.specs.Rule11.{ordered, physicalHolds}
 use Rattle.annotation.specs.Kinds.{bareKind, plainKind, decimalKind}
-use Rattle.annotation.specs.Outcome.{refusalOf}
 use Rattle.annotation.specs.declared.slot.Annotated.{Annotated}
 use Rattle.annotation.specs.declared.resolution.Kind.{Kind}
-use Rattle.annotation.specs.declared.resolution.Resolution.{Resolution}
 use Rattle.annotation.specs.declared.rewriting.Written.{Written}
 
 -- no annotation stands, and no parameter
@@ -63,17 +62,16 @@ digitsHold code length precision scale = ordered precision scale && physicalHold
 unfoldable pub ownFault : ℕ → ℕ → ℕ → ℤ → ℤ → ℕ
 ownFault named code length precision scale =
     cond (ownOn named code length)
-    (cond (eqb named logical.DECIMAL) (cond (digitsHold code length precision scale) 0 (refusalOf Resolution.BadDecimal)) 0)
-    (refusalOf Resolution.Misplaced)
+    (cond (eqb named logical.DECIMAL) (cond (digitsHold code length precision scale) 0 BAD-DECIMAL) 0)
+    MISPLACED
 
 -- the number of the first of the rules 9, 10 and 11 that the numbers of a slot break, by the number of what its annotations say
 unfoldable pub faultBy : ℕ → ℕ → ℤ → ℤ → ℤ → ℕ
 faultBy number code length precision scale =
-    cond (leb MARK number) (refusalOf Resolution.Disagreement)
+    cond (leb MARK number) DISAGREEMENT
     (cond (eqb code (demandPart number)) 0
     (cond (eqb (demandPart number) ANY) 0
-    (cond (eqb (demandPart number) OWN) (ownFault (logicalPart number) code (natural length) precision scale)
-    (refusalOf Resolution.Misplaced))))
+    (cond (eqb (demandPart number) OWN) (ownFault (logicalPart number) code (natural length) precision scale) MISPLACED)))
 
 -- whether the number tells at once that none is broken: it asks for this physical type alone
 abbrev pub standsBy : ℕ → ℕ → Bool

@@ -1,12 +1,10 @@
 // The outcome of the numbers of a slot: their kind as rows have it, or the first of the rules 9, 10 and 11 that they break.
+ghost use Prim.Native.Nat.{ℕ};
 ghost use mathlib.Core.Path.{_≡_};
 ghost use Rattle.annotation.specs.Kinds.{kindOf, bareKind, plainKind, decimalKind};
 ghost use Rattle.annotation.specs.Outcome.{resolutionOf, refusalOf, outcomeOf, outcome};
 ghost use Rattle.annotation.specs.Rewriting.{writtenOf};
 ghost use Rattle.annotation.specs.Steps.{kindBy, loneKind, logicalKindBy};
-use crate::rules::BAD_DECIMAL;
-use crate::rules::DISAGREEMENT;
-use crate::rules::MISPLACED;
 use crate::rules::NO_REFUSAL;
 use crate::rules::fault;
 use crate::rules::stands;
@@ -27,14 +25,10 @@ pub struct Kind {
     pub p2: u32,
 }
 
+// What resolving answers for the numbers of a slot: their kind, or the number of the refusal, 9, 10 or 11.
 pub enum Resolution {
     Resolved(Kind),
-    // Refusal 9: converted and logical disagree.
-    Disagreement,
-    // Refusal 10: annotation on the wrong physical type, length or parameters.
-    Misplaced,
-    // Refusal 11: DECIMAL scale or precision.
-    BadDecimal,
+    Refused(u32),
 }
 
 // What judging the numbers of a slot finds: the number of the refusal, 9, 10 or 11, or 0 where they resolve; and the logical type that
@@ -53,16 +47,14 @@ const PLAIN_GROUP: u32 = 30;
 // refused like parameters that a type does not take: beside the other annotation by 9, alone by 10.
 pub fn resolve(n: Annotated, under_map: bool) -> Resolution
     ensures { λ r. ⌜ r ≡ resolutionOf n «under_map» ⌝ }
-    ensures { λ r. ⌜ outcomeOf r ≡ outcome n «under_map» ⌝ }
+    ensures { λ r. ⌜ ((k : ℕ) → outcomeOf k r ≡ outcome k n «under_map») ⌝ }
 {
     let says = annotation_of(n.converted, n.logical, n.a, n.b, under_map);
     let number = fault(says, n.physical, n.type_length, n.precision, n.scale);
-    match number {
-        NO_REFUSAL => Resolution::Resolved(kind_as(says, n)),
-        DISAGREEMENT => Resolution::Disagreement,
-        MISPLACED => Resolution::Misplaced,
-        _ => Resolution::BadDecimal,
+    if number == NO_REFUSAL {
+        return Resolution::Resolved(kind_as(says, n));
     }
+    Resolution::Refused(number)
 }
 
 // The kind that the numbers of a slot say, whatever else is wrong with them: that of no annotation where they cannot be read.
@@ -108,9 +100,7 @@ pub fn refusal(r: Resolution) -> u32
 {
     match r {
         Resolution::Resolved(_) => NO_REFUSAL,
-        Resolution::Disagreement => DISAGREEMENT,
-        Resolution::Misplaced => MISPLACED,
-        Resolution::BadDecimal => BAD_DECIMAL,
+        Resolution::Refused(number) => number,
     }
 }
 

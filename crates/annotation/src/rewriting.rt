@@ -1,4 +1,5 @@
 // What the rewritten sheet says of a node.
+ghost use Prim.Native.Nat.{ℕ};
 ghost use mathlib.Core.Path.{_≡_};
 ghost use Rattle.annotation.specs.Rewriting.{rewritingOf, outcomeOf, outcome, writtenOf};
 ghost use Rattle.annotation.specs.Steps.{writtenBy};
@@ -26,7 +27,7 @@ pub enum Rewriting {
 // written where the numbers of a slot resolve. under_map is as for resolve.
 pub fn rewrite(n: Annotated, under_map: bool) -> Rewriting
     ensures { λ r. ⌜ r ≡ rewritingOf n «under_map» ⌝ }
-    ensures { λ r. ⌜ outcomeOf r ≡ outcome n «under_map» ⌝ }
+    ensures { λ r. ⌜ ((k : ℕ) → outcomeOf k r ≡ outcome k n «under_map») ⌝ }
 {
     let says = annotation_of(n.converted, n.logical, n.a, n.b, under_map);
     let number = fault(says, n.physical, n.type_length, n.precision, n.scale);

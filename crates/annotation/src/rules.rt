@@ -6,15 +6,12 @@ use crate::placement::own_on;
 use crate::slot::natural;
 use logical_type::number;
 use parquet::logical;
+use refusal::numbers::BAD_DECIMAL;
+use refusal::numbers::DISAGREEMENT;
+use refusal::numbers::MISPLACED;
 
-// Document 01's numbers of the refusals.
+// Stands for no refusal among their numbers.
 pub(crate) const NO_REFUSAL: u32 = 0;
-
-pub(crate) const DISAGREEMENT: u32 = 9;
-
-pub(crate) const MISPLACED: u32 = 10;
-
-pub(crate) const BAD_DECIMAL: u32 = 11;
 
 // Whether the number of what the annotations say tells at once that the rules are kept, as it does for most annotated slots: it asks
 // for this physical type alone.

@@ -4,7 +4,7 @@ use mathlib.Core.Path.{_≡_, sym, ap, _∙_}
 use native.Mathlib.Omega.{arith}
 use Rattle.annotation.specs.Outcome.{refusalOf, resolutionOf}
 use Rattle.annotation.specs.declared.resolution.Resolution.{Resolution}
-use Rattle.annotation.proofs.OutcomeLaws.{with-outcome, resolved-of-refusal, refusal-nine, refusal-ten, refusal-eleven}
+use Rattle.annotation.proofs.OutcomeLaws.{with-outcome, resolved-of-refusal, refused-of-number}
 use Rattle.annotation.proofs.NumberLaws.{kind-read, fault-passed}
 use Rattle.annotation.proofs.resolution.resolve.Statement.{statement}
 use Rattle.annotation.proofs.resolution.resolve.Tie as tie
@@ -26,27 +26,11 @@ returns c =
     let n = read .before .args .n in
     let underMap = read .before .args .under-map in
     let kind = c .kind-as .ensures ∙ kind-read n underMap _ (read .annotation-of .ensures) in
-    with-outcome _ _ _ (ap Resolution.Resolved kind ∙ sym (resolved-of-refusal n underMap (sym (c .before .match .keys1) ∙ number asked)))
+    with-outcome _ _ _ (ap Resolution.Resolved kind ∙ sym (resolved-of-refusal n underMap (sym (c .before .if1 .taken) ∙ number asked)))
 
 returns-2 : tie.Need-returns-2
-returns-2 c = with-outcome _ _ _ (refusal-nine _ (sym (c .match .keys2) ∙ number (c .before)))
-
-returns-3 : tie.Need-returns-3
-returns-3 c = with-outcome _ _ _ (refusal-ten _ (sym (c .match .keys3) ∙ number (c .before)))
-
-returns-4 : tie.Need-returns-4
-returns-4 c =
-    let is = number (c .before) in
-    with-outcome _ _ _ (refusal-eleven _ (λ e. c .match .rest .0 .0 .1 (is ∙ e)) (λ e. c .match .rest .0 .1 (is ∙ e)) (λ e. c .match .rest .1 (is ∙ e)))
+returns-2 c = with-outcome _ _ _ (refused-of-number _ _ (number (c .before)) (c .if1 .left))
 
 pub resolve-spec : {M : Type 1} → statement M
 resolve-spec =
-    tie.close
-    (tie.spec
-    (λ c κs. tt)
-    (λ c κs. tt)
-    (λ c κs. tt)
-    returns
-    returns-2
-    returns-3
-    returns-4)
+    tie.close (tie.spec (λ c κs. tt) (λ c κs. tt) (λ c κs. tt) returns returns-2)
