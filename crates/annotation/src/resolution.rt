@@ -5,6 +5,7 @@ ghost use Rattle.annotation.specs.Kinds.{kindOf, bareKind, plainKind, de
 ghost use Rattle.annotation.specs.Outcome.{resolutionOf, refusalOf, outcomeOf, outcome};
 ghost use Rattle.annotation.specs.Rewriting.{writtenOf};
 ghost use Rattle.annotation.specs.Steps.{kindBy, loneKind, logicalKindBy};
+use crate::packed;
 use crate::rules::NO_REFUSAL;
 use crate::rules::fault;
 use crate::rules::stands;
@@ -13,7 +14,6 @@ use crate::slot::annotation_of;
 use crate::slot::is_plain;
 use crate::slot::precision;
 use crate::slot::scale;
-use logical_type::number;
 use parquet::converted;
 use parquet::logical;
 use parquet::physical;
@@ -85,12 +85,12 @@ pub fn judge(n: Annotated, under_map: bool) -> Judged
     if stands(says, n.physical as u64) {
         return Judged {
             refusal: NO_REFUSAL,
-            logical: number::logical(says),
+            logical: packed::logical(says),
         };
     }
     Judged {
         refusal: fault(says, n.physical, n.type_length, n.precision, n.scale),
-        logical: number::logical(says),
+        logical: packed::logical(says),
     }
 }
 
@@ -104,13 +104,13 @@ pub fn refusal(r: Resolution) -> u32
     }
 }
 
-// The kind of a node by the number of what its annotations say.
+// The kind of a node by its packed annotation.
 fn kind_as(says: u64, n: Annotated) -> Kind
     ensures { λ r. ⌜ r ≡ kindBy says n ⌝ }
 {
-    let logical = number::logical(says);
+    let logical = packed::logical(says);
     if logical == logical::NONE {
-        return lone_kind(number::converted(says), n.physical);
+        return lone_kind(packed::converted(says), n.physical);
     }
     if logical == logical::DECIMAL {
         return decimal_kind(n);
@@ -151,9 +151,9 @@ fn logical_kind(says: u64) -> Kind
     ensures { λ r. ⌜ r ≡ logicalKindBy says ⌝ }
 {
     Kind {
-        kind: number::logical(says) as u32,
-        p1: number::a(says) as u32,
-        p2: number::b(says) as u32,
+        kind: packed::logical(says) as u32,
+        p1: packed::a(says) as u32,
+        p2: packed::b(says) as u32,
     }
 }
 

@@ -5,7 +5,7 @@ use mathlib.Core.Path.{sym, ap, _∙_}
 use native.Mathlib.Omega.{arith}
 use borrow.Author.Needs.{needs}
 use Rattle.annotation.specs.declared.rewriting.Written.{Written}
-use Rattle.annotation.proofs.NumberLaws.{written-read, fault-passed, kept-read, plain-kept, plain-logical}
+use Rattle.annotation.proofs.SlotLaws.{written-read, fault-passed, kept-read, plain-kept, plain-logical}
 use Rattle.annotation.proofs.resolution.judge.Statement.{statement}
 use Rattle.annotation.proofs.resolution.judge.Tie as tie
 

@@ -5,7 +5,7 @@ use native.Mathlib.Omega.{arith}
 use Rattle.annotation.specs.Outcome.{refusalOf, resolutionOf}
 use Rattle.annotation.specs.declared.resolution.Resolution.{Resolution}
 use Rattle.annotation.proofs.OutcomeLaws.{with-outcome, resolved-of-refusal, refused-of-number}
-use Rattle.annotation.proofs.NumberLaws.{kind-read, fault-passed}
+use Rattle.annotation.proofs.SlotLaws.{kind-read, fault-passed}
 use Rattle.annotation.proofs.resolution.resolve.Statement.{statement}
 use Rattle.annotation.proofs.resolution.resolve.Tie as tie
 

@@ -3,7 +3,7 @@
 use mathlib.Core.Path.{_≡_, sym, _∙_}
 use native.Mathlib.Omega.{arith}
 use Rattle.annotation.specs.Outcome.{refusalOf, resolutionOf}
-use Rattle.annotation.proofs.NumberLaws.{written-read, fault-passed}
+use Rattle.annotation.proofs.SlotLaws.{written-read, fault-passed}
 use Rattle.annotation.proofs.RewritingLaws.{with-outcome, written-rewriting, refused-rewriting}
 use Rattle.annotation.proofs.rewriting.rewrite.Statement.{statement}
 use Rattle.annotation.proofs.rewriting.rewrite.Tie as tie

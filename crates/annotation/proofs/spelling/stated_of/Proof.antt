@@ -1,7 +1,7 @@
--- `logical_type::spelling::stated_of` meets its contract: the parameters are unused, or not.
+-- `annotation::spelling::stated_of` meets its contract: the parameters are unused, or not.
 -- Assumes nothing.
-use Rattle.logical_type.proofs.spelling.stated_of.Statement.{statement}
-use Rattle.logical_type.proofs.spelling.stated_of.Tie as tie
+use Rattle.annotation.proofs.spelling.stated_of.Statement.{statement}
+use Rattle.annotation.proofs.spelling.stated_of.Tie as tie
 
 returns : tie.Need-returns
 returns c = rw (c .without-parameters .ensures, c .before .if1 .taken)
