@@ -19,7 +19,7 @@ unfolding backwardOf
 returns-3 c = rw (c .standing-alone .ensures, c .before .before .if2 .taken, ne-eqb _ _ (c .before .if3 .left))
 
 returns-4 : tie.Need-returns-4
-returns-4 c = rw (c .standing-alone2 .ensures, c .before .if2 .left)
+returns-4 c = cc
 
 pub backward-of-spec : {M : Type 1} → statement M
 backward-of-spec =

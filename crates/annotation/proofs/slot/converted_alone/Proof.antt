@@ -8,7 +8,7 @@ use Rattle.annotation.proofs.slot.converted_alone.Tie as tie
 
 returns : tie.Need-returns
 unfolding validParameters
-returns c = rw (c .before .if1 .taken, c .backward-of .ensures)
+returns c = cc
 
 returns-2 : tie.Need-returns-2
 unfolding validParameters packedOf

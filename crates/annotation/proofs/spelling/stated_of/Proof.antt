@@ -4,7 +4,7 @@ use Rattle.annotation.proofs.spelling.stated_of.Statement.{statement}
 use Rattle.annotation.proofs.spelling.stated_of.Tie as tie
 
 returns : tie.Need-returns
-returns c = rw (c .without-parameters .ensures, c .before .if1 .taken)
+returns c = cc
 
 pub stated-of-spec : {M : Type 1} → statement M
 stated-of-spec =
