@@ -1,8 +1,10 @@
 -- The numbers of a slot resolve exactly where rules 9, 10 and 11 hold, to their kind; else the first that fails is answered.
 -- Assumes nothing.
+use Prim.Native.Nat.{ℕ}
 use mathlib.Core.Path.{_≡_, refl, ap}
 use mathlib.Core.Bool.{Bool, true, false, cond}
 use native.Mathlib.Omega.{arith}
+use Rattle.refusal.specs.Numbers.{DISAGREEMENT, MISPLACED, BAD-DECIMAL}
 use Rattle.annotation.specs.Rule9.{rule9}
 use Rattle.annotation.specs.Rule10.{rule10}
 use Rattle.annotation.specs.Rule11.{rule11}
@@ -25,7 +27,7 @@ resolved-of-keeps n underMap k = rw (k .nine, k .ten, k .eleven)
 
 -- the three tests in order, as truth values
 InOrder : Bool → Bool → Bool → Kind → Resolution
-InOrder nine ten eleven k = cond nine (cond ten (cond eleven (Resolution.Resolved k) Resolution.BadDecimal) Resolution.Misplaced) Resolution.Disagreement
+InOrder nine ten eleven k = cond nine (cond ten (cond eleven (Resolution.Resolved k) (Resolution.Refused BAD-DECIMAL)) (Resolution.Refused MISPLACED)) (Resolution.Refused DISAGREEMENT)
 
 all-held : (nine ten eleven : Bool) (k k′ : Kind) → InOrder nine ten eleven k ≡ Resolution.Resolved k′ → (nine ≡ true) × (ten ≡ true) × (eleven ≡ true) × (k ≡ k′)
 unfolding InOrder
@@ -46,20 +48,20 @@ unfolding resolutionOf InOrder
 kind-of-resolved n underMap k e = all-held (rule9 n) (rule10 n underMap) (rule11 n underMap) (kindOf n underMap) k e .3
 
 -- an answer that resolving gives has the outcome of the numbers
-pub with-outcome : (n : Annotated) (underMap : Bool) (r : Resolution) → r ≡ resolutionOf n underMap → (r ≡ resolutionOf n underMap) × (outcomeOf r ≡ outcome n underMap)
+pub with-outcome : (n : Annotated) (underMap : Bool) (r : Resolution) → r ≡ resolutionOf n underMap → (r ≡ resolutionOf n underMap) × ((k : ℕ) → outcomeOf k r ≡ outcome k n underMap)
 unfolding outcome
-with-outcome n underMap r e = (e, ap outcomeOf e)
+with-outcome n underMap r e = (e, λ k. ap (outcomeOf k) e)
 
 -- the refusals, each where its rule is the first to fail
-pub refused-nine : (n : Annotated) (underMap : Bool) → rule9 n ≡ false → resolutionOf n underMap ≡ Resolution.Disagreement
+pub refused-nine : (n : Annotated) (underMap : Bool) → rule9 n ≡ false → resolutionOf n underMap ≡ Resolution.Refused DISAGREEMENT
 unfolding resolutionOf
 refused-nine n underMap e = rw e
 
-pub refused-ten : (n : Annotated) (underMap : Bool) → rule9 n ≡ true → rule10 n underMap ≡ false → resolutionOf n underMap ≡ Resolution.Misplaced
+pub refused-ten : (n : Annotated) (underMap : Bool) → rule9 n ≡ true → rule10 n underMap ≡ false → resolutionOf n underMap ≡ Resolution.Refused MISPLACED
 unfolding resolutionOf
 refused-ten n underMap e f = rw (e, f)
 
-pub refused-eleven : (n : Annotated) (underMap : Bool) → rule9 n ≡ true → rule10 n underMap ≡ true → rule11 n underMap ≡ false → resolutionOf n underMap ≡ Resolution.BadDecimal
+pub refused-eleven : (n : Annotated) (underMap : Bool) → rule9 n ≡ true → rule10 n underMap ≡ true → rule11 n underMap ≡ false → resolutionOf n underMap ≡ Resolution.Refused BAD-DECIMAL
 unfolding resolutionOf
 refused-eleven n underMap e f g = rw (e, f, g)
 
@@ -75,20 +77,6 @@ resolved-of-refusal n underMap e = cases (rule9 n) (rule10 n underMap) (rule11 n
     cases false ten eleven z = absurd (omega arith)
 
 -- a refusal is told by its number
-pub refusal-nine : (r : Resolution) → 9 ≡ refusalOf r → Resolution.Disagreement ≡ r
-refusal-nine (Resolution.Resolved k) e = absurd (omega arith)
-refusal-nine Resolution.Disagreement e = refl
-refusal-nine Resolution.Misplaced e = absurd (omega arith)
-refusal-nine Resolution.BadDecimal e = absurd (omega arith)
-
-pub refusal-ten : (r : Resolution) → 10 ≡ refusalOf r → Resolution.Misplaced ≡ r
-refusal-ten (Resolution.Resolved k) e = absurd (omega arith)
-refusal-ten Resolution.Disagreement e = absurd (omega arith)
-refusal-ten Resolution.Misplaced e = refl
-refusal-ten Resolution.BadDecimal e = absurd (omega arith)
-
-pub refusal-eleven : (r : Resolution) → (refusalOf r ≡ 0 → ⊥) → (refusalOf r ≡ 9 → ⊥) → (refusalOf r ≡ 10 → ⊥) → Resolution.BadDecimal ≡ r
-refusal-eleven (Resolution.Resolved k) h i j = absurd (h refl)
-refusal-eleven Resolution.Disagreement h i j = absurd (i refl)
-refusal-eleven Resolution.Misplaced h i j = absurd (j refl)
-refusal-eleven Resolution.BadDecimal h i j = refl
+pub refused-of-number : (r : Resolution) (number : ℕ) → number ≡ refusalOf r → (number ≡ 0 → ⊥) → Resolution.Refused number ≡ r
+refused-of-number (Resolution.Resolved kind) number e h = absurd (h e)
+refused-of-number (Resolution.Refused other) number e h = ap Resolution.Refused e

@@ -19,7 +19,7 @@ use Rattle.annotation.specs.Rule10.{annotationOn, rule10}
 use Rattle.annotation.specs.Rule11.{isDecimal, decimalHolds, rule11}
 use Rattle.annotation.specs.Kinds.{PLAIN-LEAF, PLAIN-GROUP, bareKind, kindAs, kindOf}
 use Rattle.annotation.specs.Outcome.{refusalOf, resolutionOf}
-use Rattle.annotation.specs.Rewriting.{writtenAs, writtenOf, rewritingAs, rewritingOf, outcomeOf, outcome, withWritten, rewritten}
+use Rattle.annotation.specs.Rewriting.{writtenAs, writtenOf, rewritingOf, outcomeOf, outcome, withWritten, rewritten}
 use Rattle.logical_type.specs.declared.types.LogicalType.{LogicalType}
 use Rattle.logical_type.specs.declared.types.Annotation.{Annotation}
 use Rattle.annotation.specs.declared.slot.Annotated.{Annotated}
@@ -30,7 +30,7 @@ use Rattle.annotation.specs.declared.rewriting.Rewriting.{Rewriting}
 use Rattle.logical_type.proofs.ConversionLaws.{forward-decimal}
 use Rattle.logical_type.proofs.SpellingLaws.{stated-spelled}
 use Rattle.annotation.proofs.PlacementLaws.{kind-logical, code-stands}
-use Rattle.annotation.proofs.OutcomeLaws.{resolved-of-keeps, keeps-of-resolved, kind-of-resolved, resolved-of-refusal}
+use Rattle.annotation.proofs.OutcomeLaws.{resolved-of-keeps, keeps-of-resolved, kind-of-resolved, resolved-of-refusal, refused-of-number}
 
 -- an annotation as it is after rewriting: what cannot be read is written as none
 abbrev settled : Annotation → Annotation
@@ -174,9 +174,9 @@ module _ (n : Annotated) (underMap : Bool) (nine : rule9 n ≡ true) (ten : rule
       written-decimal (annotationOf n underMap) (decimal-by-either (eqb (n .converted) converted.DECIMAL) refl e)
 
 -- an answer that rewriting gives has the outcome of the numbers
-pub with-outcome : (n : Annotated) (underMap : Bool) (r : Rewriting) → r ≡ rewritingOf n underMap → (r ≡ rewritingOf n underMap) × (outcomeOf r ≡ outcome n underMap)
+pub with-outcome : (n : Annotated) (underMap : Bool) (r : Rewriting) → r ≡ rewritingOf n underMap → (r ≡ rewritingOf n underMap) × ((k : ℕ) → outcomeOf k r ≡ outcome k n underMap)
 unfolding outcome
-with-outcome n underMap r e = (e, ap outcomeOf e)
+with-outcome n underMap r e = (e, λ k. ap (outcomeOf k) e)
 
 -- what is written of the numbers of a slot says whether their kind is a code, but for the codes of nodes without logical type
 module _ (code : ℕ) (none : eqb logical.NONE code ≡ false) (group : eqb PLAIN-GROUP code ≡ false) (interval : eqb converted.INTERVAL code ≡ false) where
@@ -202,10 +202,4 @@ written-rewriting n underMap w e same = rw (resolved-of-refusal n underMap e) (a
 -- and for those that are
 pub refused-rewriting : (n : Annotated) (underMap : Bool) (number : ℕ) → number ≡ refusalOf (resolutionOf n underMap) → (number ≡ 0 → ⊥) → Rewriting.Refused number ≡ rewritingOf n underMap
 unfolding rewritingOf
-refused-rewriting n underMap number e h = cases (resolutionOf n underMap) e
-  where
-    cases : (r : Resolution) → number ≡ refusalOf r → Rewriting.Refused number ≡ rewritingAs r (writtenOf n underMap)
-    cases (Resolution.Resolved k) same = absurd (h same)
-    cases Resolution.Disagreement same = ap Rewriting.Refused same
-    cases Resolution.Misplaced same = ap Rewriting.Refused same
-    cases Resolution.BadDecimal same = ap Rewriting.Refused same
+refused-rewriting n underMap number e h = rw (← refused-of-number (resolutionOf n underMap) number e h)

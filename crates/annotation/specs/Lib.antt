@@ -7,4 +7,6 @@ pub mod Rule11
 pub mod Kinds
 pub mod Outcome
 pub mod Rewriting
+pub mod Pairs
+pub mod Packed
 pub mod Steps

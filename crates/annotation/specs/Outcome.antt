@@ -1,13 +1,15 @@
 -- The outcome of the numbers of a slot: their kind, or the first of the rules 9, 10 and 11 that they break.
 use Prim.Native.Nat.{ℕ}
 use mathlib.Core.Bool.{Bool, cond}
+use Rattle.refusal.specs.Numbers.{DISAGREEMENT, MISPLACED, BAD-DECIMAL}
+use Rattle.refusal.specs.Outcome.{Outcome, given, refused, refusal}
 use Rattle.annotation.specs.Rule9.{rule9}
 use Rattle.annotation.specs.Rule10.{rule10}
 use Rattle.annotation.specs.Rule11.{rule11}
 use Rattle.annotation.specs.Kinds.{kindOf}
 use Rattle.annotation.specs.declared.slot.Annotated.{Annotated}
 use Rattle.annotation.specs.declared.resolution.Kind.{Kind}
--- `Resolution` is Resolved, with a `Kind`, or Disagreement, Misplaced or BadDecimal, which are refusals 9, 10 and 11
+-- `Resolution` is Resolved, with a `Kind`, or Refused, with the number of the refusal
 use Rattle.annotation.specs.declared.resolution.Resolution.{Resolution}
 
 -- "at one node in number order" (01, "Numbered refusals")
@@ -15,29 +17,20 @@ unfoldable pub resolutionOf : Annotated → Bool → Resolution
 resolutionOf n underMap =
     cond (rule9 n)
     (cond (rule10 n underMap)
-    (cond (rule11 n underMap) (Resolution.Resolved (kindOf n underMap)) Resolution.BadDecimal)
-    Resolution.Misplaced)
-    Resolution.Disagreement
+    (cond (rule11 n underMap) (Resolution.Resolved (kindOf n underMap)) (Resolution.Refused BAD-DECIMAL))
+    (Resolution.Refused MISPLACED))
+    (Resolution.Refused DISAGREEMENT)
 
--- the number of each refusal, and 0 of none (01, "Numbered refusals")
+-- the number of a refusal, and 0 of none (01, "Numbered refusals")
 abbrev pub refusalOf : Resolution → ℕ
-refusalOf (Resolution.Resolved k) = 0
-refusalOf Resolution.Disagreement = 9
-refusalOf Resolution.Misplaced = 10
-refusalOf Resolution.BadDecimal = 11
+refusalOf (Resolution.Resolved kind) = 0
+refusalOf (Resolution.Refused number) = number
 
--- the paper's outcome: what is asked for, or a refusal's number; its place is the node, which the numbers of its slot do not tell
-pub data Outcome (A : Type 0) : Type 0 where
-  given : A → Outcome A
-  refused : ℕ → Outcome A
+-- what each answer stands for at a node, which is the place of its refusal: the numbers of a slot do not tell which node they are of
+abbrev pub outcomeOf : ℕ → Resolution → Outcome Kind
+outcomeOf k (Resolution.Resolved kind) = given kind
+outcomeOf k (Resolution.Refused number) = refused (refusal number k)
 
--- each answer's number and values
-abbrev pub outcomeOf : Resolution → Outcome Kind
-outcomeOf (Resolution.Resolved k) = given k
-outcomeOf Resolution.Disagreement = refused (refusalOf Resolution.Disagreement)
-outcomeOf Resolution.Misplaced = refused (refusalOf Resolution.Misplaced)
-outcomeOf Resolution.BadDecimal = refused (refusalOf Resolution.BadDecimal)
-
--- the outcome of the numbers of any slot
-unfoldable pub outcome : Annotated → Bool → Outcome Kind
-outcome n underMap = outcomeOf (resolutionOf n underMap)
+-- the outcome of the numbers of any slot at any node
+unfoldable pub outcome : ℕ → Annotated → Bool → Outcome Kind
+outcome k n underMap = outcomeOf k (resolutionOf n underMap)

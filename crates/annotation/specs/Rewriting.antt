@@ -1,6 +1,7 @@
 -- What the rewritten sheet says of a node (01, "Rows and the rewritten sheet").
 use Prim.Native.Nat.{ℕ}
 use mathlib.Core.Bool.{Bool}
+use Rattle.refusal.specs.Outcome.{Outcome, given, refused, refusal}
 use Rattle.parquet.specs.Converted as converted
 use Rattle.parquet.specs.Logical as logical
 use Rattle.logical_type.specs.Parameters.{UNUSED}
@@ -10,7 +11,7 @@ use Rattle.annotation.specs.Meaning.{annotationOf}
 use Rattle.logical_type.specs.declared.types.LogicalType.{LogicalType}
 use Rattle.logical_type.specs.declared.types.Annotation.{Annotation}
 use Rattle.annotation.specs.declared.slot.Annotated.{Annotated}
-use Rattle.annotation.specs.Outcome.{Outcome, given, refused, refusalOf, resolutionOf}
+use Rattle.annotation.specs.Outcome.{resolutionOf}
 use Rattle.annotation.specs.declared.resolution.Resolution.{Resolution}
 -- `Written` has the annotation numbers of a rewritten slot: converted, logical, a and b
 use Rattle.annotation.specs.declared.rewriting.Written.{Written}
@@ -39,23 +40,21 @@ writtenOf n underMap = writtenAs (annotationOf n underMap)
 
 -- what rewriting answers: what is written, or the number of the refusal where the numbers do not resolve
 abbrev pub rewritingAs : Resolution → Written → Rewriting
-rewritingAs (Resolution.Resolved k) w = Rewriting.Written w
-rewritingAs Resolution.Disagreement w = Rewriting.Refused (refusalOf Resolution.Disagreement)
-rewritingAs Resolution.Misplaced w = Rewriting.Refused (refusalOf Resolution.Misplaced)
-rewritingAs Resolution.BadDecimal w = Rewriting.Refused (refusalOf Resolution.BadDecimal)
+rewritingAs (Resolution.Resolved kind) w = Rewriting.Written w
+rewritingAs (Resolution.Refused number) w = Rewriting.Refused number
 
 -- what rewriting answers for the numbers of a slot
 unfoldable pub rewritingOf : Annotated → Bool → Rewriting
 rewritingOf n underMap = rewritingAs (resolutionOf n underMap) (writtenOf n underMap)
 
--- each answer's number and values
-abbrev pub outcomeOf : Rewriting → Outcome Written
-outcomeOf (Rewriting.Written w) = given w
-outcomeOf (Rewriting.Refused number) = refused number
+-- what each answer stands for at a node, which is the place of its refusal
+abbrev pub outcomeOf : ℕ → Rewriting → Outcome Written
+outcomeOf k (Rewriting.Written w) = given w
+outcomeOf k (Rewriting.Refused number) = refused (refusal number k)
 
--- the outcome of rewriting the numbers of any slot
-unfoldable pub outcome : Annotated → Bool → Outcome Written
-outcome n underMap = outcomeOf (rewritingOf n underMap)
+-- the outcome of rewriting the numbers of any slot at any node
+unfoldable pub outcome : ℕ → Annotated → Bool → Outcome Written
+outcome k n underMap = outcomeOf k (rewritingOf n underMap)
 
 -- the numbers of a slot with others for its annotations: "All else .. is copied"
 abbrev pub withWritten : Annotated → Written → Annotated

@@ -3,21 +3,20 @@ use Prim.Native.Nat.{ℕ, _+_}
 use mathlib.Core.Bool.{Bool, true, false, not, cond, _&&_}
 use lib.Dec.{eqb, leb}
 use lib.IntN.{ℤ, pos}
+use Rattle.refusal.specs.Numbers.{DISAGREEMENT, MISPLACED, BAD-DECIMAL}
 use Rattle.parquet.specs.Physical as physical
 use Rattle.parquet.specs.Converted as converted
 use Rattle.parquet.specs.Logical as logical
 use Rattle.logical_type.specs.Parameters.{UNUSED}
-use Rattle.logical_type.specs.Number.{ANY, OWN, MARK, numberOf, convertedPart, logicalPart, aPart, bPart, demandPart}
 use Rattle.annotation.specs.Signed.{natural}
 use Rattle.annotation.specs.Meaning.{annotationOf}
 use Rattle.annotation.specs.Rule9.{rule9}
 use Rattle.annotation.specs.Rule10.{UUID-LENGTH, INTERVAL-LENGTH, isFixed, decimalOn}
 use Rattle.annotation.specs.Rule11.{ordered, physicalHolds}
 use Rattle.annotation.specs.Kinds.{bareKind, plainKind, decimalKind}
-use Rattle.annotation.specs.Outcome.{refusalOf}
+use Rattle.annotation.specs.Packed.{ANY-PHYSICAL, OWN-RULE, DISAGREEMENT-MARK, packedOf, convertedPart, logicalPart, aPart, bPart, demandPart}
 use Rattle.annotation.specs.declared.slot.Annotated.{Annotated}
 use Rattle.annotation.specs.declared.resolution.Kind.{Kind}
-use Rattle.annotation.specs.declared.resolution.Resolution.{Resolution}
 use Rattle.annotation.specs.declared.rewriting.Written.{Written}
 
 -- no annotation stands, and no parameter
@@ -39,16 +38,16 @@ annotatedBy code named a b =
       precision = pos 0;
     }
 
--- a number, marked where rule 9 does not hold
+-- a packed annotation, marked where rule 9 does not hold
 abbrev pub marked : Bool → ℕ → ℕ
-marked true number = number
-marked false number = number + MARK
+marked true packed = packed
+marked false packed = packed + DISAGREEMENT-MARK
 
--- the number of what the annotations of a slot say, marked where they disagree
+-- what the annotations of a slot say, packed, and marked where they disagree
 unfoldable pub readingOf : Annotated → Bool → ℕ
-readingOf n underMap = marked (rule9 n) (numberOf (annotationOf n underMap))
+readingOf n underMap = marked (rule9 n) (packedOf (annotationOf n underMap))
 
--- rule 10 of DECIMAL, UNKNOWN, UUID and INTERVAL, which ask for more than one physical type
+-- rule 10 of DECIMAL, UNKNOWN, UUID and INTERVAL, which have a rule of their own
 unfoldable pub ownOn : ℕ → ℕ → ℕ → Bool
 ownOn named code length =
     cond (eqb named logical.DECIMAL) (decimalOn code)
@@ -63,21 +62,20 @@ digitsHold code length precision scale = ordered precision scale && physicalHold
 unfoldable pub ownFault : ℕ → ℕ → ℕ → ℤ → ℤ → ℕ
 ownFault named code length precision scale =
     cond (ownOn named code length)
-    (cond (eqb named logical.DECIMAL) (cond (digitsHold code length precision scale) 0 (refusalOf Resolution.BadDecimal)) 0)
-    (refusalOf Resolution.Misplaced)
+    (cond (eqb named logical.DECIMAL) (cond (digitsHold code length precision scale) 0 BAD-DECIMAL) 0)
+    MISPLACED
 
--- the number of the first of the rules 9, 10 and 11 that the numbers of a slot break, by the number of what its annotations say
+-- the number of the first of the rules 9, 10 and 11 that the numbers of a slot break, by its packed annotation
 unfoldable pub faultBy : ℕ → ℕ → ℤ → ℤ → ℤ → ℕ
-faultBy number code length precision scale =
-    cond (leb MARK number) (refusalOf Resolution.Disagreement)
-    (cond (eqb code (demandPart number)) 0
-    (cond (eqb (demandPart number) ANY) 0
-    (cond (eqb (demandPart number) OWN) (ownFault (logicalPart number) code (natural length) precision scale)
-    (refusalOf Resolution.Misplaced))))
+faultBy packed code length precision scale =
+    cond (leb DISAGREEMENT-MARK packed) DISAGREEMENT
+    (cond (eqb code (demandPart packed)) 0
+    (cond (eqb (demandPart packed) ANY-PHYSICAL) 0
+    (cond (eqb (demandPart packed) OWN-RULE) (ownFault (logicalPart packed) code (natural length) precision scale) MISPLACED)))
 
--- whether the number tells at once that none is broken: it asks for this physical type alone
+-- whether a packed annotation tells at once that none is broken: it demands this physical type
 abbrev pub standsBy : ℕ → ℕ → Bool
-standsBy number code = eqb code (demandPart number)
+standsBy packed code = eqb code (demandPart packed)
 
 -- the kind of a node without logical type
 abbrev pub loneKind : ℕ → ℕ → Kind
@@ -85,15 +83,15 @@ loneKind code kind = cond (eqb code converted.INTERVAL) (bareKind converted.INTE
 
 -- the kind of a logical type other than DECIMAL
 abbrev pub logicalKindBy : ℕ → Kind
-logicalKindBy number = record { kind = logicalPart number; p1 = aPart number; p2 = bPart number }
+logicalKindBy packed = record { kind = logicalPart packed; p1 = aPart packed; p2 = bPart packed }
 
--- the kind of a node by the number of what its annotations say
+-- the kind of a node by its packed annotation
 unfoldable pub kindBy : ℕ → Annotated → Kind
-kindBy number n =
-    cond (eqb (logicalPart number) logical.NONE) (loneKind (convertedPart number) (n .physical))
-    (cond (eqb (logicalPart number) logical.DECIMAL) (decimalKind n) (logicalKindBy number))
+kindBy packed n =
+    cond (eqb (logicalPart packed) logical.NONE) (loneKind (convertedPart packed) (n .physical))
+    (cond (eqb (logicalPart packed) logical.DECIMAL) (decimalKind n) (logicalKindBy packed))
 
--- what is written for a number
+-- what is written for a packed annotation
 abbrev pub writtenBy : ℕ → Written
-writtenBy number =
-    record { converted = convertedPart number; logical = logicalPart number; a = aPart number; b = bPart number }
+writtenBy packed =
+    record { converted = convertedPart packed; logical = logicalPart packed; a = aPart packed; b = bPart packed }

@@ -4,21 +4,21 @@ ghost use mathlib.Core.Bool.{_||_};
 ghost use mathlib.Core.Path.{_≡_};
 ghost use lib.Dec.{eqb};
 ghost use Rattle.parquet.specs.Converted.{NONE};
-ghost use Rattle.logical_type.specs.Number.{MARK, convertedPart};
+ghost use Rattle.annotation.specs.Packed.{DISAGREEMENT-MARK, convertedPart};
 ghost use Rattle.annotation.specs.Steps.{marked};
-use logical_type::number;
+use crate::packed;
 use parquet::converted;
 
-// The number of a logical type, marked where a converted type stands beside it that is not its forward image.
+// The packed annotation of a logical type, marked where a converted type stands beside it that is not its forward image.
 pub(crate) fn agreed(says: u64, converted: u8) -> u64
-    requires { ⌜ says < MARK ⌝ }
+    requires { ⌜ says < DISAGREEMENT-MARK ⌝ }
     ensures { λ r. ⌜ r ≡ marked (eqb converted NONE || eqb (convertedPart says) converted) says ⌝ }
 {
     if converted == converted::NONE {
         return says;
     }
-    if number::converted(says) == converted {
+    if packed::converted(says) == converted {
         return says;
     }
-    says + number::MARK
+    says + packed::DISAGREEMENT_MARK
 }

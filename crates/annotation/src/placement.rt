@@ -1,4 +1,4 @@
-// Rule 10 of the annotations that ask for more than one physical type. The number of any other has the one it asks for.
+// Rule 10 of the annotations that have a rule of their own. Any other, packed, has the one physical type that it demands.
 ghost use mathlib.Core.Path.{_≡_};
 ghost use Rattle.annotation.specs.Rule10.{decimalOn, isFixed};
 ghost use Rattle.annotation.specs.Steps.{ownOn};

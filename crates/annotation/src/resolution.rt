@@ -1,12 +1,11 @@
 // The outcome of the numbers of a slot: their kind as rows have it, or the first of the rules 9, 10 and 11 that they break.
+ghost use Prim.Native.Nat.{ℕ};
 ghost use mathlib.Core.Path.{_≡_};
 ghost use Rattle.annotation.specs.Kinds.{kindOf, bareKind, plainKind, decimalKind};
 ghost use Rattle.annotation.specs.Outcome.{resolutionOf, refusalOf, outcomeOf, outcome};
 ghost use Rattle.annotation.specs.Rewriting.{writtenOf};
 ghost use Rattle.annotation.specs.Steps.{kindBy, loneKind, logicalKindBy};
-use crate::rules::BAD_DECIMAL;
-use crate::rules::DISAGREEMENT;
-use crate::rules::MISPLACED;
+use crate::packed;
 use crate::rules::NO_REFUSAL;
 use crate::rules::fault;
 use crate::rules::stands;
@@ -15,7 +14,6 @@ use crate::slot::annotation_of;
 use crate::slot::is_plain;
 use crate::slot::precision;
 use crate::slot::scale;
-use logical_type::number;
 use parquet::converted;
 use parquet::logical;
 use parquet::physical;
@@ -27,14 +25,10 @@ pub struct Kind {
     pub p2: u32,
 }
 
+// What resolving answers for the numbers of a slot: their kind, or the number of the refusal, 9, 10 or 11.
 pub enum Resolution {
     Resolved(Kind),
-    // Refusal 9: converted and logical disagree.
-    Disagreement,
-    // Refusal 10: annotation on the wrong physical type, length or parameters.
-    Misplaced,
-    // Refusal 11: DECIMAL scale or precision.
-    BadDecimal,
+    Refused(u32),
 }
 
 // What judging the numbers of a slot finds: the number of the refusal, 9, 10 or 11, or 0 where they resolve; and the logical type that
@@ -53,16 +47,14 @@ const PLAIN_GROUP: u32 = 30;
 // refused like parameters that a type does not take: beside the other annotation by 9, alone by 10.
 pub fn resolve(n: Annotated, under_map: bool) -> Resolution
     ensures { λ r. ⌜ r ≡ resolutionOf n «under_map» ⌝ }
-    ensures { λ r. ⌜ outcomeOf r ≡ outcome n «under_map» ⌝ }
+    ensures { λ r. ⌜ ((k : ℕ) → outcomeOf k r ≡ outcome k n «under_map») ⌝ }
 {
     let says = annotation_of(n.converted, n.logical, n.a, n.b, under_map);
     let number = fault(says, n.physical, n.type_length, n.precision, n.scale);
-    match number {
-        NO_REFUSAL => Resolution::Resolved(kind_as(says, n)),
-        DISAGREEMENT => Resolution::Disagreement,
-        MISPLACED => Resolution::Misplaced,
-        _ => Resolution::BadDecimal,
+    if number == NO_REFUSAL {
+        return Resolution::Resolved(kind_as(says, n));
     }
+    Resolution::Refused(number)
 }
 
 // The kind that the numbers of a slot say, whatever else is wrong with them: that of no annotation where they cannot be read.
@@ -93,12 +85,12 @@ pub fn judge(n: Annotated, under_map: bool) -> Judged
     if stands(says, n.physical as u64) {
         return Judged {
             refusal: NO_REFUSAL,
-            logical: number::logical(says),
+            logical: packed::logical(says),
         };
     }
     Judged {
         refusal: fault(says, n.physical, n.type_length, n.precision, n.scale),
-        logical: number::logical(says),
+        logical: packed::logical(says),
     }
 }
 
@@ -108,19 +100,17 @@ pub fn refusal(r: Resolution) -> u32
 {
     match r {
         Resolution::Resolved(_) => NO_REFUSAL,
-        Resolution::Disagreement => DISAGREEMENT,
-        Resolution::Misplaced => MISPLACED,
-        Resolution::BadDecimal => BAD_DECIMAL,
+        Resolution::Refused(number) => number,
     }
 }
 
-// The kind of a node by the number of what its annotations say.
+// The kind of a node by its packed annotation.
 fn kind_as(says: u64, n: Annotated) -> Kind
     ensures { λ r. ⌜ r ≡ kindBy says n ⌝ }
 {
-    let logical = number::logical(says);
+    let logical = packed::logical(says);
     if logical == logical::NONE {
-        return lone_kind(number::converted(says), n.physical);
+        return lone_kind(packed::converted(says), n.physical);
     }
     if logical == logical::DECIMAL {
         return decimal_kind(n);
@@ -161,9 +151,9 @@ fn logical_kind(says: u64) -> Kind
     ensures { λ r. ⌜ r ≡ logicalKindBy says ⌝ }
 {
     Kind {
-        kind: number::logical(says) as u32,
-        p1: number::a(says) as u32,
-        p2: number::b(says) as u32,
+        kind: packed::logical(says) as u32,
+        p1: packed::a(says) as u32,
+        p2: packed::b(says) as u32,
     }
 }
 

@@ -1,12 +1,13 @@
 // What the rewritten sheet says of a node.
+ghost use Prim.Native.Nat.{ℕ};
 ghost use mathlib.Core.Path.{_≡_};
 ghost use Rattle.annotation.specs.Rewriting.{rewritingOf, outcomeOf, outcome, writtenOf};
 ghost use Rattle.annotation.specs.Steps.{writtenBy};
+use crate::packed;
 use crate::rules::NO_REFUSAL;
 use crate::rules::fault;
 use crate::slot::Annotated;
 use crate::slot::annotation_of;
-use logical_type::number;
 
 // The annotation numbers of a rewritten slot.
 pub struct Written {
@@ -26,7 +27,7 @@ pub enum Rewriting {
 // written where the numbers of a slot resolve. under_map is as for resolve.
 pub fn rewrite(n: Annotated, under_map: bool) -> Rewriting
     ensures { λ r. ⌜ r ≡ rewritingOf n «under_map» ⌝ }
-    ensures { λ r. ⌜ outcomeOf r ≡ outcome n «under_map» ⌝ }
+    ensures { λ r. ⌜ ((k : ℕ) → outcomeOf k r ≡ outcome k n «under_map») ⌝ }
 {
     let says = annotation_of(n.converted, n.logical, n.a, n.b, under_map);
     let number = fault(says, n.physical, n.type_length, n.precision, n.scale);
@@ -43,14 +44,14 @@ pub fn written_of(n: Annotated, under_map: bool) -> Written
     written_as(annotation_of(n.converted, n.logical, n.a, n.b, under_map))
 }
 
-// What is written for a number of what the annotations say.
+// What is written for a packed annotation.
 fn written_as(says: u64) -> Written
     ensures { λ r. ⌜ r ≡ writtenBy says ⌝ }
 {
     Written {
-        converted: number::converted(says),
-        logical: number::logical(says),
-        a: number::a(says),
-        b: number::b(says),
+        converted: packed::converted(says),
+        logical: packed::logical(says),
+        a: packed::a(says),
+        b: packed::b(says),
     }
 }

@@ -1,16 +1,18 @@
 // The numbers of a slot that say its type, and what its annotations mean.
 ghost use mathlib.Core.Path.{_≡_};
 ghost use Rattle.parquet.specs.Logical.{NONE};
-ghost use Rattle.logical_type.specs.Number.{numberOf, pairA, pairB};
 ghost use Rattle.annotation.specs.Signed.{natural};
 ghost use Rattle.annotation.specs.Meaning.{convertedAlone};
+ghost use Rattle.annotation.specs.Pairs.{pairA, pairB};
+ghost use Rattle.annotation.specs.Packed.{packedOf};
 ghost use Rattle.annotation.specs.Steps.{isPlain, annotatedBy, readingOf};
 use crate::agreement::agreed;
-use logical_type::backward_of;
-use logical_type::number;
-use logical_type::paired;
+use crate::conversion::backward_of;
+use crate::packed;
+use crate::pairs;
+use crate::pairs::paired;
+use crate::spelling::stated_of;
 use logical_type::parameters;
-use logical_type::stated_of;
 use parquet::converted;
 use parquet::logical;
 
@@ -42,7 +44,7 @@ pub(crate) fn is_plain(n: Annotated) -> bool
     n.b == parameters::UNUSED
 }
 
-// The number of the logical type where one stands, marked where rule 9 does not hold, else of what the converted type means.
+// The packed annotation of the logical type where one stands, marked where rule 9 does not hold, else of what the converted type means.
 // under_map says that the parent's resolved kind is MAP, where MAP_KEY_VALUE counts as no annotation.
 pub(crate) fn annotation_of(converted: u8, logical: u8, a: u8, b: u8, under_map: bool) -> u64
     ensures { λ r. ⌜ r ≡ readingOf (annotatedBy converted logical a b) «under_map» ⌝ }
@@ -56,12 +58,12 @@ pub(crate) fn annotation_of(converted: u8, logical: u8, a: u8, b: u8, under_map:
 
 // Where no logical type stands there are no parameters either.
 fn converted_alone(converted: u8, pair: u32, under_map: bool) -> u64
-    ensures { λ r. ⌜ r ≡ numberOf (convertedAlone (annotatedBy converted NONE (pairA pair) (pairB pair)) «under_map») ⌝ }
+    ensures { λ r. ⌜ r ≡ packedOf (convertedAlone (annotatedBy converted NONE (pairA pair) (pairB pair)) «under_map») ⌝ }
 {
-    if pair == parameters::NO_PAIR {
+    if pair == pairs::NO_PAIR {
         return backward_of(converted, under_map);
     }
-    number::UNREADABLE
+    packed::UNREADABLE
 }
 
 // The type length as a natural number, 0 where it is negative.

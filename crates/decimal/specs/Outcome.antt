@@ -1,6 +1,8 @@
 -- What the answers of `decimal` are in document 01: a refusal by its number and place, or what was asked for.
 use Prim.Native.Nat.{ℕ}
 use mathlib.Core.List.{List}
+use Rattle.refusal.specs.Numbers.{WRONG-LENGTH, BREAKS-ANNOTATION}
+use Rattle.refusal.specs.Outcome.{Outcome, given, refused, unplaced}
 use Rattle.decimal.specs.declared.order.Order
 use Rattle.decimal.specs.declared.order.Order.{Order}
 use Rattle.decimal.specs.declared.fit.Fit
@@ -8,18 +10,13 @@ use Rattle.decimal.specs.declared.fit.Fit.{Fit}
 use Rattle.decimal.specs.Order.{orderOf}
 use Rattle.decimal.specs.Fit.{fitOf}
 
--- a refusal, by its number and place, or what was asked for
-pub data Outcome (A : Type 0) : Type 0 where
-  refused : ℕ → ℕ → Outcome A
-  given : A → Outcome A
-
--- "15: value of wrong length"
+-- "value of wrong length"
 abbrev pub wrongLength : {A : Type 0} → Outcome A
-wrongLength = refused 15 0
+wrongLength = refused (unplaced WRONG-LENGTH)
 
--- "16: value breaks its annotation"
+-- "value breaks its annotation"
 abbrev pub breaksAnnotation : {A : Type 0} → Outcome A
-breaksAnnotation = refused 16 0
+breaksAnnotation = refused (unplaced BREAKS-ANNOTATION)
 
 -- the first number against the second
 pub data Relation : Type 0 where

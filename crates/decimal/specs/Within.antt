@@ -1,6 +1,7 @@
 -- The order of two decimals that are both held to a precision: the first that is refused, and else their order.
 use Prim.Native.Nat.{ℕ}
 use mathlib.Core.List.{List}
+use Rattle.refusal.specs.Outcome.{Outcome, given}
 use Rattle.decimal.specs.declared.fit.Fit
 use Rattle.decimal.specs.declared.fit.Fit.{Fit}
 use Rattle.decimal.specs.declared.order.Order
@@ -9,7 +10,7 @@ use Rattle.decimal.specs.declared.within.Compared
 use Rattle.decimal.specs.declared.within.Compared.{Compared}
 use Rattle.decimal.specs.Fit.{fitOf}
 use Rattle.decimal.specs.Order.{orderOf}
-use Rattle.decimal.specs.Outcome.{Outcome, Relation, given, less, equal, greater, wrongLength, breaksAnnotation}
+use Rattle.decimal.specs.Outcome.{Relation, less, equal, greater, wrongLength, breaksAnnotation}
 
 -- `Compared` is what comparing within a precision answers, declared in src/within.rt: Less, Equal, Greater, Beyond, or WrongLength
 

@@ -1,6 +1,4 @@
 -- Laws that other crates cite, and those that the proofs here share.
 pub mod ConversionLaws
 pub mod SpellingLaws
-mod TableLaws
 pub mod ReadingLaws
-pub mod NumberLaws

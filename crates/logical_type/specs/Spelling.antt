@@ -10,7 +10,7 @@ use Rattle.logical_type.specs.declared.types.LogicalType.{LogicalType}
 -- `Annotation` is Plain, no annotation; Logical, with a `LogicalType`; Interval, which no logical type is; or Unreadable, a code outside the lists or parameters that its type does not take
 use Rattle.logical_type.specs.declared.types.Annotation.{Annotation}
 -- `Spelling` has the numbers logical, a and b
-use Rattle.logical_type.specs.declared.spelling.Spelling.{Spelling}
+use Rattle.logical_type.specs.declared.types.Spelling.{Spelling}
 
 -- the spelling of a logical type without parameters: "else a = b = 0" (01, rule 10)
 abbrev pub bareSpelling : ℕ → Spelling

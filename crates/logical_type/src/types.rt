@@ -1,5 +1,5 @@
-// Logical types with their parameters, and what the annotations of a slot say. Contracts speak of these, the code goes by their
-// numbers.
+// Logical types with their parameters, how they are spelled, and what the annotations of a slot say. Contracts speak of these, the code
+// goes by numbers.
 
 pub enum TimeUnit {
     Millis,
@@ -37,6 +37,13 @@ pub enum LogicalType {
     Json,
     Bson,
     Uuid,
+}
+
+// The numbers of a slot that spell its logical type.
+pub struct Spelling {
+    pub logical: u8,
+    pub a: u8,
+    pub b: u8,
 }
 
 // What the annotations of a slot say of its node.

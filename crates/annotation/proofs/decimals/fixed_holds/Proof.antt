@@ -4,7 +4,7 @@ use Rattle.annotation.proofs.decimals.fixed_holds.Statement.{statement}
 use Rattle.annotation.proofs.decimals.fixed_holds.Tie as tie
 
 returns : tie.Need-returns
-returns c = rw (c .before .is-length .ensures, c .greatest-precision .ensures)
+returns c = cc
 
 pub fixed-holds-spec : {M : Type 1} → statement M
 fixed-holds-spec = tie.close (tie.spec (λ c κs. tt) (λ c κs. tt) returns)

@@ -15,7 +15,7 @@ returns-2 c = rw (c .match .keys2)
 
 returns-3 : tie.Need-returns-3
 unfolding physicalHolds
-returns-3 c = rw (c .before .match .keys3, c .fixed-holds .ensures)
+returns-3 c = cc
 
 returns-4 : tie.Need-returns-4
 unfolding physicalHolds

@@ -5,7 +5,7 @@ use Rattle.annotation.proofs.resolution.decimal_kind.Statement.{stateme
 use Rattle.annotation.proofs.resolution.decimal_kind.Tie as tie
 
 returns : tie.Need-returns
-returns c = rw (c .before .precision .ensures, c .scale .ensures)
+returns c = cc
 
 pub decimal-kind-spec : {M : Type 1} → statement M
 decimal-kind-spec = tie.close (tie.spec (λ c. search needs) (λ c κs. tt) (λ c κs. tt) returns)

@@ -1,47 +1,41 @@
 -- `annotation::resolution::judge` meets its contract: no annotation breaks no rule, and the number of what any other says has both.
 -- Assumes nothing.
-use Prim.Native.Nat.{_<_, _^_}
-use mathlib.Core.Path.{sym, ap, _∙_}
-use native.Mathlib.Omega.{arith}
+use mathlib.Core.Path.{_≡_, sym, ap, _∙_}
 use borrow.Author.Needs.{needs}
+use Rattle.annotation.specs.Outcome.{refusalOf, resolutionOf}
 use Rattle.annotation.specs.declared.rewriting.Written.{Written}
-use Rattle.annotation.proofs.NumberLaws.{written-read, fault-passed, kept-read, plain-kept, plain-logical}
+use Rattle.annotation.proofs.SlotLaws.{written-read, fault-passed, kept-read, plain-kept, plain-logical}
 use Rattle.annotation.proofs.resolution.judge.Statement.{statement}
 use Rattle.annotation.proofs.resolution.judge.Tie as tie
 
-byte : (c : tie.After-struct-known) → c .before .before .before .before .args .n .physical < 2 ^ 8
-byte c = omega (arith, c .struct-known .given)
+-- where the annotations have been read, from where it has been asked whether the rules are kept at once
+abbrev read : tie.After-stands → tie.After-annotation-of
+read c = c .before .before
+
+-- and that place, from where the first rule that is broken has been asked for
+abbrev asked : tie.After-fault → tie.After-stands
+asked c = c .before .before .before .before .before
+
+-- the number of that rule
+number : (c : tie.After-fault) → let a = read (asked c) .before .before .before .args in c .fault .result ≡ refusalOf (resolutionOf (a .n) (a .under-map))
+number c = c .fault .ensures ∙ search (needs, fault-passed)
 
 returns : tie.Need-returns
 returns c =
-    let start = c .before .before in
     let plain = sym (c .before .is-plain .ensures) ∙ c .if1 .taken in
-    (plain-kept (start .args .n) (start .args .under-map) plain, plain-logical (start .args .n) (start .args .under-map) plain)
+    (plain-kept _ _ plain, plain-logical _ _ plain)
 
 returns-2 : tie.Need-returns-2
 returns-2 c =
-    let known = c .before .before .before in
-    let start = known .before .before .before .before in
-    let read = known .before .annotation-of .ensures in
-    let written = written-read (start .args .n) (start .args .under-map) _ read in (
-      kept-read _ _ _ read (byte known) (sym (c .before .before .stands .ensures) ∙ c .before .if2 .taken),
-      c .logical .ensures ∙ ap (λ (w : Written). w .logical) written,
+    let asked = c .before .before in
+    let packed = read asked .annotation-of .ensures in (
+      kept-read _ _ _ packed (search needs) (sym (asked .stands .ensures) ∙ c .before .if2 .taken),
+      c .logical .ensures ∙ ap (λ (w : Written). w .logical) (written-read _ _ _ packed),
     )
 
 returns-3 : tie.Need-returns-3
 returns-3 c =
-    let fault = c .before in
-    let known = fault .before .before .before .before .before .before in
-    let start = known .before .before .before .before in
-    let read = known .before .annotation-of .ensures in
-    let written = written-read (start .args .n) (start .args .under-map) _ read in (
-      fault .fault .ensures
-          ∙ fault-passed _ _ _ read (byte known)
-          (record { sfits = fault .before .before .before .struct-told .given .1 .0 .1 })
-          (record { sfits = fault .before .before .struct-told2 .given .1 .1 .1 .1 .1 .1 .1 .0 .1 })
-          (record { sfits = fault .before .struct-told3 .given .1 .1 .1 .1 .1 .1 .0 .1 }),
-      c .logical2 .ensures ∙ ap (λ (w : Written). w .logical) written,
-    )
+    (number (c .before), c .logical2 .ensures ∙ ap (λ (w : Written). w .logical) (written-read _ _ _ (read (asked (c .before)) .annotation-of .ensures)))
 
 pub judge-spec : {M : Type 1} → statement M
 judge-spec =

@@ -8,20 +8,20 @@ use Rattle.annotation.proofs.resolution.kind_as.Tie as tie
 returns : tie.Need-returns
 unfolding kindBy
 returns c =
-    let at = c .before .before in
-    rw (c .lone-kind .ensures, c .before .converted .ensures, ← at .before .logical .ensures, at .if1 .taken)
+    let read = c .before .before .before in
+    search (eq-eqb, c .lone-kind .ensures, c .before .converted .ensures, ← read .logical .ensures)
 
 returns-2 : tie.Need-returns-2
 unfolding kindBy
 returns-2 c =
-    let first = c .before .before in
-    rw (c .decimal-kind .ensures, ← first .before .logical .ensures, ne-eqb _ _ (first .if1 .left), eq-eqb _ _ (c .before .if2 .taken))
+    let read = c .before .before .before in
+    search (eq-eqb, ne-eqb, c .decimal-kind .ensures, ← read .logical .ensures)
 
 returns-3 : tie.Need-returns-3
 unfolding kindBy
 returns-3 c =
-    let first = c .before .before in
-    rw (c .logical-kind .ensures, ← first .before .logical .ensures, ne-eqb _ _ (first .if1 .left), ne-eqb _ _ (c .before .if2 .left))
+    let read = c .before .before .before in
+    search (ne-eqb, c .logical-kind .ensures, ← read .logical .ensures)
 
 pub kind-as-spec : {M : Type 1} → statement M
 kind-as-spec =

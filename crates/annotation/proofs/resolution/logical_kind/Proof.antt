@@ -5,7 +5,7 @@ use Rattle.annotation.proofs.resolution.logical_kind.Statement.{stateme
 use Rattle.annotation.proofs.resolution.logical_kind.Tie as tie
 
 returns : tie.Need-returns
-returns c = rw (c .before .before .logical .ensures, c .before .a .ensures, c .b .ensures)
+returns c = cc
 
 pub logical-kind-spec : {M : Type 1} → statement M
 logical-kind-spec =

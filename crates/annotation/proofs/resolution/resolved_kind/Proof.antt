@@ -2,7 +2,7 @@
 -- has the kind.
 -- Assumes nothing.
 use mathlib.Core.Path.{sym, _∙_}
-use Rattle.annotation.proofs.NumberLaws.{kind-read, plain-kind}
+use Rattle.annotation.proofs.SlotLaws.{kind-read, plain-kind}
 use Rattle.annotation.proofs.resolution.resolved_kind.Statement.{statement}
 use Rattle.annotation.proofs.resolution.resolved_kind.Tie as tie
 

@@ -1,6 +1,6 @@
 -- `annotation::rewriting::written_of` meets its contract: the number of what the annotations say has what is written.
 use mathlib.Core.Path.{_∙_}
-use Rattle.annotation.proofs.NumberLaws.{written-read}
+use Rattle.annotation.proofs.SlotLaws.{written-read}
 use Rattle.annotation.proofs.rewriting.written_of.Statement.{statement}
 use Rattle.annotation.proofs.rewriting.written_of.Tie as tie
 

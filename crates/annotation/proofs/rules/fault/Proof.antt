@@ -9,31 +9,29 @@ use Rattle.annotation.proofs.rules.fault.Tie as tie
 
 returns : tie.Need-returns
 unfolding faultBy
-returns c = rw (le-leb _ _ (c .if1 .taken))
+returns c = search (le-leb)
 
 returns-2 : tie.Need-returns-2
 unfolding faultBy
-returns-2 c = rw (lt-leb _ _ (c .before .before .if1 .left), ← c .before .demand .ensures, eq-eqb _ _ (c .if2 .taken))
+returns-2 c = search (lt-leb, eq-eqb, ← c .before .demand .ensures)
 
 returns-3 : tie.Need-returns-3
 unfolding faultBy
-returns-3 c =
-    let second = c .before in
-    rw (lt-leb _ _ (second .before .before .if1 .left), ← second .before .demand .ensures, ne-eqb _ _ (second .if2 .left), c .match .keys1)
+returns-3 c = search (lt-leb, eq-eqb, ne-eqb, ← c .before .before .demand .ensures)
 
 returns-4 : tie.Need-returns-4
 unfolding faultBy
 returns-4 c =
-    let at = c .before .before .before in
-    let second = at .before in
-    let start = second .before .before .before in
+    let read = c .before .before in
+    let unmet = read .before .before in
+    let start = unmet .before .before .before in
     rw (
-      lt-leb _ _ (second .before .before .if1 .left),
-      ← second .before .demand .ensures,
-      ne-eqb _ _ (second .if2 .left),
-      at .match .keys2,
+      lt-leb _ _ (unmet .before .before .if1 .left),
+      ← unmet .before .demand .ensures,
+      ne-eqb _ _ (unmet .if2 .left),
+      read .before .match .keys2,
       c .own-fault .ensures,
-      c .before .before .logical .ensures,
+      read .logical .ensures,
       c .before .natural .ensures,
       toZ-ofZ {w = w32} (start .fits .type-length),
       toZ-ofZ {w = w32} (start .fits .precision),
@@ -42,15 +40,7 @@ returns-4 c =
 
 returns-5 : tie.Need-returns-5
 unfolding faultBy
-returns-5 c =
-    let second = c .before in
-    rw (
-      lt-leb _ _ (second .before .before .if1 .left),
-      ← second .before .demand .ensures,
-      ne-eqb _ _ (second .if2 .left),
-      ne-eqb _ _ (c .match .rest .0 .1),
-      ne-eqb _ _ (c .match .rest .1),
-    )
+returns-5 c = search (lt-leb, ne-eqb, ← c .before .before .demand .ensures)
 
 pub fault-spec : {M : Type 1} → statement M
 fault-spec =

@@ -2,11 +2,10 @@
 -- Assumes nothing.
 use mathlib.Core.Bool.{or-true, or-false}
 use borrow.Author.Tests.{ne-eqb}
-use Rattle.logical_type.proofs.NumberLaws.{number-bound}
 use Rattle.annotation.specs.Meaning.{annotationOf}
 use Rattle.annotation.specs.Rule9.{rule9}
 use Rattle.annotation.specs.Steps.{readingOf}
-use Rattle.annotation.proofs.NumberLaws.{stated-image}
+use Rattle.annotation.proofs.PackedLaws.{packed-bound, stated-image}
 use Rattle.annotation.proofs.slot.annotation_of.Statement.{statement}
 use Rattle.annotation.proofs.slot.annotation_of.Tie as tie
 
@@ -30,5 +29,5 @@ annotation-of-spec =
     (λ c κs. tt)
     returns
     (λ c κs. tt)
-    (λ c κs. rw (c .stated-of .ensures) (number-bound _))
+    (λ c κs. rw (c .stated-of .ensures) (packed-bound _))
     returns-2)

@@ -1,16 +1,16 @@
--- `logical_type::conversion::standing_alone` meets its contract: each arm knows the code, and the last that it is none of the table's.
+-- `annotation::conversion::standing_alone` meets its contract: each arm knows the code, and the last that it is none of the table's.
 -- Assumes nothing.
 use mathlib.Core.Path.{ap}
 use mathlib.Core.Bool.{false}
 use Rattle.logical_type.specs.Backward.{backwardTable, backwardOf}
-use Rattle.logical_type.specs.Number.{numberOf}
+use Rattle.annotation.specs.Packed.{packedOf}
 use Rattle.logical_type.specs.declared.types.Annotation.{Annotation}
-use Rattle.logical_type.proofs.TableLaws.{lookup-default}
-use Rattle.logical_type.proofs.conversion.standing_alone.Statement.{statement}
-use Rattle.logical_type.proofs.conversion.standing_alone.Tie as tie
+use Rattle.annotation.proofs.TableLaws.{lookup-default}
+use Rattle.annotation.proofs.conversion.standing_alone.Statement.{statement}
+use Rattle.annotation.proofs.conversion.standing_alone.Tie as tie
 
 pub standing-alone-spec : {M : Type 1} → statement M
-unfolding backwardOf numberOf
+unfolding backwardOf packedOf
 standing-alone-spec =
     tie.close
     (tie.spec
@@ -36,4 +36,4 @@ standing-alone-spec =
     (λ c. rw (c .match .keys20))
     (λ c. rw (c .match .keys21))
     (λ c. rw (c .match .keys22))
-    (λ c. ap numberOf (lookup-default (c .before .args .converted) (backwardTable false) Annotation.Unreadable (c .match .rest, c .before .pre))))
+    (λ c. ap packedOf (lookup-default (c .before .args .converted) (backwardTable false) Annotation.Unreadable (c .match .rest, c .before .pre))))

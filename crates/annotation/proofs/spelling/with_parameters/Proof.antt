@@ -1,15 +1,15 @@
--- `logical_type::spelling::with_parameters` meets its contract: each arm knows the code, and the last that the type has no parameters.
+-- `annotation::spelling::with_parameters` meets its contract: each arm knows the code, and the last that the type has no parameters.
 -- Assumes nothing.
 use borrow.Author.Tests.{ne-eqb}
 use Rattle.logical_type.specs.Parameters.{validParameters}
 use Rattle.logical_type.specs.Spelling.{statedOf}
-use Rattle.logical_type.specs.Number.{numberOf}
-use Rattle.logical_type.proofs.NumberLaws.{unused-pair}
-use Rattle.logical_type.proofs.spelling.with_parameters.Statement.{statement}
-use Rattle.logical_type.proofs.spelling.with_parameters.Tie as tie
+use Rattle.annotation.specs.Packed.{packedOf}
+use Rattle.annotation.proofs.PairLaws.{unused-pair}
+use Rattle.annotation.proofs.spelling.with_parameters.Statement.{statement}
+use Rattle.annotation.proofs.spelling.with_parameters.Tie as tie
 
 returns-4 : tie.Need-returns-4
-unfolding statedOf validParameters numberOf
+unfolding statedOf validParameters packedOf
 returns-4 c =
     rw (
       ne-eqb _ _ (c .match .rest .1),

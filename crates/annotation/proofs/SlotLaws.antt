@@ -1,4 +1,4 @@
--- What the number of an annotation tells of a slot: its kind, what is written for it, and the first rule that it breaks.
+-- What a packed annotation tells of its slot: its kind, what is written for it, and the first rule that it breaks.
 -- Assumes nothing.
 use Prim.Native.Nat.{ℕ, _+_, _^_, _≤_, _<_}
 use mathlib.Core.Path.{_≡_, refl, sym, _∙_}
@@ -10,13 +10,11 @@ use mir.Facts.{toZ-ofZ}
 use mir.Syntax.{w32}
 use mir.Val.{SFits, toZ, ofZ}
 use borrow.Author.Tests.{eqb-true, eq-eqb, ne-eqb, le-leb, lt-leb}
+use Rattle.refusal.specs.Numbers.{DISAGREEMENT, MISPLACED, BAD-DECIMAL}
 use Rattle.parquet.specs.Converted as converted
 use Rattle.parquet.specs.Logical as logical
 use Rattle.logical_type.specs.Parameters.{UNUSED, validParameters}
-use Rattle.logical_type.specs.Spelling.{statedOf}
-use Rattle.logical_type.specs.Forward.{imageOf}
 use Rattle.logical_type.specs.Backward.{backwardOf}
-use Rattle.logical_type.specs.Number.{ANY, NEVER, OWN, MARK, Parts, partsOf, numberOf, convertedPart, logicalPart, aPart, bPart, demandPart}
 use Rattle.annotation.specs.Signed.{natural}
 use Rattle.annotation.specs.Meaning.{annotationOf}
 use Rattle.annotation.specs.Rule9.{rule9}
@@ -25,6 +23,7 @@ use Rattle.annotation.specs.Rule11.{decimalHolds, digitsAllowed, rule11}
 use Rattle.annotation.specs.Kinds.{plainKind, decimalKind, kindAs, kindOf}
 use Rattle.annotation.specs.Outcome.{refusalOf, resolutionOf}
 use Rattle.annotation.specs.Rewriting.{writtenAs, writtenOf}
+use Rattle.annotation.specs.Packed.{ANY-PHYSICAL, NO-PHYSICAL, OWN-RULE, DISAGREEMENT-MARK, demandOf, packedOf, demandPart}
 use Rattle.annotation.specs.Steps.{isPlain, annotatedBy, marked, readingOf, ownOn, digitsHold, ownFault, faultBy, standsBy, loneKind, kindBy, writtenBy}
 use Rattle.logical_type.specs.declared.types.TimeUnit.{TimeUnit}
 use Rattle.logical_type.specs.declared.types.BitWidth.{BitWidth}
@@ -35,83 +34,41 @@ use Rattle.annotation.specs.declared.resolution.Kind.{Kind}
 use Rattle.annotation.specs.declared.resolution.Resolution.{Resolution}
 use Rattle.annotation.specs.declared.rewriting.Written.{Written}
 use Rattle.laws.proofs.BoolLaws.{and-both}
-use Rattle.logical_type.proofs.ReadingLaws.{Spells, spelled-stated}
-use Rattle.logical_type.proofs.NumberLaws.{bounded, number-bound}
+use Rattle.annotation.proofs.PackedLaws.{bytes, demand, packed-bound}
 use Rattle.annotation.proofs.PlacementLaws.{code-stands}
-
--- the bytes of a number are those of its annotation, marked or not
-record Bytes (number : ℕ) (says : Annotation) : Type 0 where
-  converted : convertedPart number ≡ partsOf says .converted
-  logical : logicalPart number ≡ partsOf says .logical
-  a : aPart number ≡ partsOf says .a
-  b : bPart number ≡ partsOf says .b
-
-bytes : (agree : Bool) (says : Annotation) → Bytes (marked agree (numberOf says)) says
-unfolding numberOf
-bytes true says =
-    let within = bounded says in
-    record { converted = omega arith; logical = omega arith; a = omega arith; b = omega arith }
-bytes false says =
-    let within = bounded says in
-    record { converted = omega arith; logical = omega arith; a = omega arith; b = omega arith }
-
--- and so is what rule 10 asks, where it is not marked
-demand : (says : Annotation) → demandPart (numberOf says) ≡ partsOf says .demand
-unfolding numberOf
-demand says = let within = bounded says in omega arith
-
--- the converted type in the number of a logical type that is read is its forward image
-read-image : (says : Annotation) (code a b : ℕ) → Spells says code a b → partsOf says .converted ≡ imageOf says
-read-image Annotation.Plain code a b s = refl
-read-image (Annotation.Logical l) code a b s = refl
-read-image Annotation.Interval code a b s = absurd s
-read-image Annotation.Unreadable code a b s = refl
-
-pub stated-image : (code a b : ℕ) → convertedPart (numberOf (statedOf code a b)) ≡ imageOf (statedOf code a b)
-stated-image code a b =
-    bytes true (statedOf code a b) .converted ∙ read-image (statedOf code a b) code a b (spelled-stated code a b)
 
 -- only the annotations of a slot count in what they say
 reading-alike : (n : Annotated) (underMap : Bool) → readingOf (annotatedBy (n .converted) (n .logical) (n .a) (n .b)) underMap ≡ readingOf n underMap
 unfolding readingOf rule9 annotationOf
 reading-alike n underMap = refl
 
-kind-by : (agree : Bool) (says : Annotation) (n : Annotated) → kindBy (marked agree (numberOf says)) n ≡ kindAs says n
+kind-by : (agree : Bool) (says : Annotation) (n : Annotated) → kindBy (marked agree (packedOf says)) n ≡ kindAs says n
 unfolding kindBy
 kind-by agree says n =
     let of = bytes agree says in
     rw (of .converted, of .logical, of .a, of .b) (cases says)
   where
     cases : (says : Annotation)
-        → cond (eqb (partsOf says .logical) logical.NONE) (loneKind (partsOf says .converted) (n .physical))
-        (cond (eqb (partsOf says .logical) logical.DECIMAL) (decimalKind n)
-        (record { kind = partsOf says .logical; p1 = partsOf says .a; p2 = partsOf says .b }))
+        → cond (eqb (writtenAs says .logical) logical.NONE) (loneKind (writtenAs says .converted) (n .physical))
+        (cond (eqb (writtenAs says .logical) logical.DECIMAL) (decimalKind n)
+        (record { kind = writtenAs says .logical; p1 = writtenAs says .a; p2 = writtenAs says .b }))
         ≡ kindAs says n
     cases Annotation.Plain = refl
     cases (Annotation.Logical l) = rw (code-stands l .0)
     cases Annotation.Interval = refl
     cases Annotation.Unreadable = refl
 
--- the kind of a slot by its number
+-- the kind of a slot by its packed annotation
 reading-kind : (n : Annotated) (underMap : Bool) → kindBy (readingOf n underMap) n ≡ kindOf n underMap
 unfolding readingOf kindOf
 reading-kind n underMap = kind-by (rule9 n) (annotationOf n underMap) n
 
-written-by : (agree : Bool) (says : Annotation) → writtenBy (marked agree (numberOf says)) ≡ writtenAs says
+written-by : (agree : Bool) (says : Annotation) → writtenBy (marked agree (packedOf says)) ≡ writtenAs says
 written-by agree says =
     let of = bytes agree says in
-    rw (of .converted, of .logical, of .a, of .b) (cases says)
-  where
-    cases : (says : Annotation)
-        → _≡_ {A = Written}
-        (record { converted = partsOf says .converted; logical = partsOf says .logical; a = partsOf says .a; b = partsOf says .b })
-        (writtenAs says)
-    cases Annotation.Plain = refl
-    cases (Annotation.Logical l) = refl
-    cases Annotation.Interval = refl
-    cases Annotation.Unreadable = refl
+    rw (of .converted, of .logical, of .a, of .b)
 
--- what is written for a slot by its number
+-- what is written for a slot by its packed annotation
 reading-written : (n : Annotated) (underMap : Bool) → writtenBy (readingOf n underMap) ≡ writtenOf n underMap
 unfolding readingOf writtenOf
 reading-written n underMap = written-by (rule9 n) (annotationOf n underMap)
@@ -121,50 +78,50 @@ resolutionAs : Bool → Annotation → Annotated → Resolution
 resolutionAs agree says n =
     cond agree
     (cond (annotationOn says (n .physical) (natural (n .«type_length»)))
-    (cond (digitsAllowed says n) (Resolution.Resolved (kindAs says n)) Resolution.BadDecimal)
-    Resolution.Misplaced)
-    Resolution.Disagreement
+    (cond (digitsAllowed says n) (Resolution.Resolved (kindAs says n)) (Resolution.Refused BAD-DECIMAL))
+    (Resolution.Refused MISPLACED))
+    (Resolution.Refused DISAGREEMENT)
 
 -- the rules by their truth values
 
-by-ten : (ten : Bool) (k : Kind) → cond ten 0 (refusalOf Resolution.Misplaced) ≡ refusalOf (cond ten (Resolution.Resolved k) Resolution.Misplaced)
+by-ten : (ten : Bool) (k : Kind) → cond ten 0 MISPLACED ≡ refusalOf (cond ten (Resolution.Resolved k) (Resolution.Refused MISPLACED))
 by-ten true k = refl
 by-ten false k = refl
 
 by-ten-eleven : (ten eleven : Bool) (k : Kind)
-    → cond ten (cond eleven 0 (refusalOf Resolution.BadDecimal)) (refusalOf Resolution.Misplaced)
-    ≡ refusalOf (cond ten (cond eleven (Resolution.Resolved k) Resolution.BadDecimal) Resolution.Misplaced)
+    → cond ten (cond eleven 0 BAD-DECIMAL) MISPLACED
+    ≡ refusalOf (cond ten (cond eleven (Resolution.Resolved k) (Resolution.Refused BAD-DECIMAL)) (Resolution.Refused MISPLACED))
 by-ten-eleven true true k = refl
 by-ten-eleven true false k = refl
 by-ten-eleven false eleven k = refl
 
--- rules 10 and 11 by the parts of a number
-placedBy : Parts → Annotated → ℕ
-placedBy p n =
-    cond (eqb (n .physical) (p .demand)) 0
-    (cond (eqb (p .demand) ANY) 0
-    (cond (eqb (p .demand) OWN) (ownFault (p .logical) (n .physical) (natural (n .«type_length»)) (n .precision) (n .scale))
-    (refusalOf Resolution.Misplaced)))
+-- rules 10 and 11 by what an annotation demands and the logical type that is written for it
+placedBy : Annotation → Annotated → ℕ
+placedBy says n =
+    cond (eqb (n .physical) (demandOf says)) 0
+    (cond (eqb (demandOf says) ANY-PHYSICAL) 0
+    (cond (eqb (demandOf says) OWN-RULE) (ownFault (writtenAs says .logical) (n .physical) (natural (n .«type_length»)) (n .precision) (n .scale))
+    MISPLACED))
 
 module _ (n : Annotated) (byte : n .physical < 2 ^ 8) where
-  -- an annotation keeps rules 10 and 11 as the parts of its number say; those that are no physical type are above a byte
+  -- an annotation keeps rules 10 and 11 as its demand says; a demand that is no physical type is above a byte
 
   apart : (above : ℕ) → 2 ^ 8 ≤ above → eqb (n .physical) above ≡ false
   apart above h = ne-eqb (n .physical) above (λ (e : n .physical ≡ above). omega arith)
 
   kept : (l : LogicalType)
       → let on = logicalOn l (n .physical) (natural (n .«type_length»)) in
-      cond on 0 (refusalOf Resolution.Misplaced) ≡ refusalOf (cond on (Resolution.Resolved (kindAs (Annotation.Logical l) n)) Resolution.Misplaced)
+      cond on 0 MISPLACED ≡ refusalOf (cond on (Resolution.Resolved (kindAs (Annotation.Logical l) n)) (Resolution.Refused MISPLACED))
   kept l = by-ten (logicalOn l (n .physical) (natural (n .«type_length»))) (kindAs (Annotation.Logical l) n)
 
-  logical-placed : (l : LogicalType) → placedBy (partsOf (Annotation.Logical l)) n ≡ refusalOf (resolutionAs true (Annotation.Logical l) n)
+  logical-placed : (l : LogicalType) → placedBy (Annotation.Logical l) n ≡ refusalOf (resolutionAs true (Annotation.Logical l) n)
   unfolding placedBy resolutionAs ownFault ownOn digitsHold decimalHolds
   logical-placed LogicalType.String = kept LogicalType.String
   logical-placed LogicalType.Map = kept LogicalType.Map
   logical-placed LogicalType.List = kept LogicalType.List
   logical-placed LogicalType.Enum = kept LogicalType.Enum
   logical-placed LogicalType.Decimal =
-      rw (apart OWN (omega arith)) (by-ten-eleven (decimalOn (n .physical)) (decimalHolds n) (decimalKind n))
+      rw (apart OWN-RULE (omega arith)) (by-ten-eleven (decimalOn (n .physical)) (decimalHolds n) (decimalKind n))
   logical-placed LogicalType.Date = kept LogicalType.Date
   logical-placed (LogicalType.Time TimeUnit.Millis utc) = kept (LogicalType.Time TimeUnit.Millis utc)
   logical-placed (LogicalType.Time TimeUnit.Micros utc) = kept (LogicalType.Time TimeUnit.Micros utc)
@@ -174,64 +131,64 @@ module _ (n : Annotated) (byte : n .physical < 2 ^ 8) where
   logical-placed (LogicalType.Integer BitWidth.Bits16 signed) = kept (LogicalType.Integer BitWidth.Bits16 signed)
   logical-placed (LogicalType.Integer BitWidth.Bits32 signed) = kept (LogicalType.Integer BitWidth.Bits32 signed)
   logical-placed (LogicalType.Integer BitWidth.Bits64 signed) = kept (LogicalType.Integer BitWidth.Bits64 signed)
-  logical-placed LogicalType.Unknown = rw (apart OWN (omega arith)) (kept LogicalType.Unknown)
+  logical-placed LogicalType.Unknown = rw (apart OWN-RULE (omega arith)) (kept LogicalType.Unknown)
   logical-placed LogicalType.Json = kept LogicalType.Json
   logical-placed LogicalType.Bson = kept LogicalType.Bson
-  logical-placed LogicalType.Uuid = rw (apart OWN (omega arith)) (kept LogicalType.Uuid)
+  logical-placed LogicalType.Uuid = rw (apart OWN-RULE (omega arith)) (kept LogicalType.Uuid)
 
-  placed : (says : Annotation) → placedBy (partsOf says) n ≡ refusalOf (resolutionAs true says n)
+  placed : (says : Annotation) → placedBy says n ≡ refusalOf (resolutionAs true says n)
   unfolding placedBy resolutionAs ownFault ownOn
-  placed Annotation.Plain = either (eqb (n .physical) ANY)
+  placed Annotation.Plain = either (eqb (n .physical) ANY-PHYSICAL)
     where
       either : (same : Bool) → _≡_ {A = ℕ} (cond same 0 0) 0
       either true = refl
       either false = refl
   placed (Annotation.Logical l) = logical-placed l
   placed Annotation.Interval =
-      rw (apart OWN (omega arith)) (by-ten (isFixed INTERVAL-LENGTH (n .physical) (natural (n .«type_length»))) (kindAs Annotation.Interval n))
-  placed Annotation.Unreadable = rw (apart NEVER (omega arith))
+      rw (apart OWN-RULE (omega arith)) (by-ten (isFixed INTERVAL-LENGTH (n .physical) (natural (n .«type_length»))) (kindAs Annotation.Interval n))
+  placed Annotation.Unreadable = rw (apart NO-PHYSICAL (omega arith))
 
   fault-by : (agree : Bool) (says : Annotation)
-      → faultBy (marked agree (numberOf says)) (n .physical) (n .«type_length») (n .precision) (n .scale) ≡ refusalOf (resolutionAs agree says n)
+      → faultBy (marked agree (packedOf says)) (n .physical) (n .«type_length») (n .precision) (n .scale) ≡ refusalOf (resolutionAs agree says n)
   unfolding faultBy resolutionAs placedBy
-  fault-by false says = rw (le-leb MARK (numberOf says + MARK) (omega arith))
+  fault-by false says = rw (le-leb DISAGREEMENT-MARK (packedOf says + DISAGREEMENT-MARK) (omega arith))
   fault-by true says =
-      rw (lt-leb MARK (numberOf says) (number-bound says), demand says, bytes true says .logical) (placed says)
+      rw (lt-leb DISAGREEMENT-MARK (packedOf says) (packed-bound says), demand says, bytes true says .logical) (placed says)
 
-  -- the first rule that a slot breaks by its number
+  -- the first rule that a slot breaks by its packed annotation
   reading-fault : (underMap : Bool)
       → faultBy (readingOf n underMap) (n .physical) (n .«type_length») (n .precision) (n .scale) ≡ refusalOf (resolutionOf n underMap)
   unfolding readingOf resolutionOf resolutionAs rule10 rule11 kindOf
   reading-fault underMap = fault-by (rule9 n) (annotationOf n underMap)
 
--- where a number tells at once that no rule is broken, none is
-stands-kept : (number code : ℕ) (length precision scale : ℤ) → code < 2 ^ 8 → standsBy number code ≡ true → 0 ≡ faultBy number code length precision scale
+-- where a packed annotation tells at once that no rule is broken, none is
+stands-kept : (packed code : ℕ) (length precision scale : ℤ) → code < 2 ^ 8 → standsBy packed code ≡ true → 0 ≡ faultBy packed code length precision scale
 unfolding faultBy
-stands-kept number code length precision scale byte e =
-    rw (e, lt-leb MARK number (let z = eqb-true code (demandPart number) e in omega arith))
+stands-kept packed code length precision scale byte e =
+    rw (e, lt-leb DISAGREEMENT-MARK packed (let z = eqb-true code (demandPart packed) e in omega arith))
 
--- what the number that was read of a slot's annotations tells of it
-module _ (n : Annotated) (underMap : Bool) (number : ℕ) (read : number ≡ readingOf (annotatedBy (n .converted) (n .logical) (n .a) (n .b)) underMap) where
-  reading : number ≡ readingOf n underMap
+-- what the packed annotation that was read of a slot tells of it
+module _ (n : Annotated) (underMap : Bool) (packed : ℕ) (read : packed ≡ readingOf (annotatedBy (n .converted) (n .logical) (n .a) (n .b)) underMap) where
+  reading : packed ≡ readingOf n underMap
   reading = read ∙ reading-alike n underMap
 
-  pub kind-read : kindBy number n ≡ kindOf n underMap
+  pub kind-read : kindBy packed n ≡ kindOf n underMap
   kind-read = rw reading (reading-kind n underMap)
 
-  pub written-read : writtenBy number ≡ writtenOf n underMap
+  pub written-read : writtenBy packed ≡ writtenOf n underMap
   written-read = rw reading (reading-written n underMap)
 
-  fault-read : n .physical < 2 ^ 8 → faultBy number (n .physical) (n .«type_length») (n .precision) (n .scale) ≡ refusalOf (resolutionOf n underMap)
+  fault-read : n .physical < 2 ^ 8 → faultBy packed (n .physical) (n .«type_length») (n .precision) (n .scale) ≡ refusalOf (resolutionOf n underMap)
   fault-read byte = rw reading (reading-fault n byte underMap)
 
   -- the same where signed numbers are passed as bits, whose numbers they are again
   pub fault-passed : n .physical < 2 ^ 8 → SFits w32 (n .«type_length») → SFits w32 (n .precision) → SFits w32 (n .scale)
-      → faultBy number (n .physical) (toZ w32 (ofZ w32 (n .«type_length»))) (toZ w32 (ofZ w32 (n .precision))) (toZ w32 (ofZ w32 (n .scale))) ≡ refusalOf (resolutionOf n underMap)
+      → faultBy packed (n .physical) (toZ w32 (ofZ w32 (n .«type_length»))) (toZ w32 (ofZ w32 (n .precision))) (toZ w32 (ofZ w32 (n .scale))) ≡ refusalOf (resolutionOf n underMap)
   fault-passed byte length precision scale = rw (toZ-ofZ length, toZ-ofZ precision, toZ-ofZ scale) (fault-read byte)
 
-  -- no rule is broken where the number tells so at once
-  pub kept-read : n .physical < 2 ^ 8 → standsBy number (n .physical) ≡ true → 0 ≡ refusalOf (resolutionOf n underMap)
-  kept-read byte e = stands-kept number (n .physical) (n .«type_length») (n .precision) (n .scale) byte e ∙ fault-read byte
+  -- no rule is broken where it tells so at once
+  pub kept-read : n .physical < 2 ^ 8 → standsBy packed (n .physical) ≡ true → 0 ≡ refusalOf (resolutionOf n underMap)
+  kept-read byte e = stands-kept packed (n .physical) (n .«type_length») (n .precision) (n .scale) byte e ∙ fault-read byte
 
 -- a slot without annotation and parameters
 module _ (n : Annotated) (underMap : Bool) (plain : isPlain n ≡ true) where

@@ -1,0 +1,23 @@
+-- `annotation::spelling::integer` meets its contract: each arm knows the parameters, and the last that they are not valid.
+-- Assumes nothing.
+use Rattle.logical_type.specs.Parameters.{bitWidthOf, validParameters}
+use Rattle.logical_type.specs.Spelling.{namedOf, statedOf}
+use Rattle.annotation.specs.Packed.{packedOf}
+use Rattle.annotation.proofs.PairLaws.{sized-rest}
+use Rattle.annotation.proofs.spelling.integer.Statement.{statement}
+use Rattle.annotation.proofs.spelling.integer.Tie as tie
+
+pub integer-spec : {M : Type 1} → statement M
+unfolding statedOf validParameters namedOf bitWidthOf packedOf
+integer-spec =
+    tie.close
+    (tie.spec
+    (λ c. rw (c .match .keys1))
+    (λ c. rw (c .match .keys2))
+    (λ c. rw (c .match .keys3))
+    (λ c. rw (c .match .keys4))
+    (λ c. rw (c .match .keys5))
+    (λ c. rw (c .match .keys6))
+    (λ c. rw (c .match .keys7))
+    (λ c. rw (c .match .keys8))
+    (λ c. rw (sized-rest _ (c .match .rest))))
