@@ -15,7 +15,7 @@ use Rattle.annotation.specs.Rule10 as ten
 use Rattle.annotation.specs.Rule11 as eleven
 use Rattle.annotation.specs.Outcome.{resolutionOf, refusalOf}
 use Rattle.annotation.specs.Rewriting.{writtenOf}
-use Rattle.annotation.proofs.OutcomeLaws.{kind-of-resolved}
+use Rattle.annotation.proofs.OutcomeLaws.{resolved-of-refusal}
 use Rattle.annotation.proofs.RewritingLaws.{written-kind}
 use Rattle.annotation.specs.declared.slot.Annotated.{Annotated}
 use Rattle.annotation.specs.declared.resolution.Kind.{Kind}
@@ -31,11 +31,9 @@ use Rattle.tree.proofs.VisitLaws.{count-fieldsAt}
 -- the number of a resolution's refusal, or what its kind breaks
 unfoldable pub brokenBy : Resolution → (Kind → ℕ) → ℕ
 brokenBy (Resolution.Resolved k) f = f k
-brokenBy Resolution.Disagreement f = 9
-brokenBy Resolution.Misplaced f = 10
-brokenBy Resolution.BadDecimal f = 11
+brokenBy (Resolution.Refused number) f = number
 
-broken-cases : (a b c : Bool) (k : Kind) (f : Kind → ℕ) → cond a (cond b (cond c (f k) 11) 10) 9 ≡ brokenBy (cond a (cond b (cond c (Resolution.Resolved k) Resolution.BadDecimal) Resolution.Misplaced) Resolution.Disagreement) f
+broken-cases : (a b c : Bool) (k : Kind) (f : Kind → ℕ) → cond a (cond b (cond c (f k) 11) 10) 9 ≡ brokenBy (cond a (cond b (cond c (Resolution.Resolved k) (Resolution.Refused 11)) (Resolution.Refused 10)) (Resolution.Refused 9)) f
 unfolding brokenBy
 broken-cases true true true k f = refl
 broken-cases true true false k f = refl
@@ -45,19 +43,11 @@ broken-cases false b c k f = refl
 brokenBy-refused : (r : Resolution) (f : Kind → ℕ) → (refusalOf r ≡ 0 → ⊥) → brokenBy r f ≡ refusalOf r
 unfolding brokenBy
 brokenBy-refused (Resolution.Resolved k) f n = absurd (n refl)
-brokenBy-refused Resolution.Disagreement f n = refl
-brokenBy-refused Resolution.Misplaced f n = refl
-brokenBy-refused Resolution.BadDecimal f n = refl
+brokenBy-refused (Resolution.Refused number) f n = refl
 
 brokenBy-resolved : (n : Annotated) (u : Bool) (f : Kind → ℕ) → refusalOf (resolutionOf n u) ≡ 0 → brokenBy (resolutionOf n u) f ≡ f (kindOf n u)
 unfolding brokenBy
-brokenBy-resolved n u f z = on (resolutionOf n u) refl z
-  where
-    on : (r : Resolution) → resolutionOf n u ≡ r → refusalOf r ≡ 0 → brokenBy r f ≡ f (kindOf n u)
-    on (Resolution.Resolved k) e q = ap f (sym (kind-of-resolved n u k e))
-    on Resolution.Disagreement e q = absurd (omega arith)
-    on Resolution.Misplaced e q = absurd (omega arith)
-    on Resolution.BadDecimal e q = absurd (omega arith)
+brokenBy-resolved n u f z = rw (resolved-of-refusal n u (sym z))
 
 -- rule 12 at what is written of a node is rule 12 at its kind
 listBroken-kind : (n : Annotated) (u : Bool) (s : SlotBytes) (fs : Fields) → listBroken (writtenOf n u .logical) s fs ≡ listBroken (kindOf n u .kind) s fs
