@@ -2,6 +2,7 @@
 use mathlib.Core.Path.{_≡_, refl}
 use mathlib.Core.Bool.{Bool, true, false, cond, _&&_}
 use lib.Dec.{eqb}
+use Rattle.refusal.specs.Numbers.{DISAGREEMENT, MISPLACED, BAD-DECIMAL}
 use Rattle.annotation.specs.Rule9.{rule9}
 use Rattle.annotation.specs.Rule10.{rule10}
 use Rattle.annotation.specs.Rule11.{rule11}
@@ -16,7 +17,7 @@ pub annotationRight-unrefused : (n : Annotated) → eqb (refusalOf (resolutionOf
 unfolding resolutionOf
 annotationRight-unrefused n = cases (rule9 n) (rule10 n false) (rule11 n false) (kindOf n false)
   where
-    cases : (nine ten eleven : Bool) (k : Kind) → eqb (refusalOf (cond nine (cond ten (cond eleven (Resolution.Resolved k) Resolution.BadDecimal) Resolution.Misplaced) Resolution.Disagreement)) 0 ≡ nine && ten && eleven
+    cases : (nine ten eleven : Bool) (k : Kind) → eqb (refusalOf (cond nine (cond ten (cond eleven (Resolution.Resolved k) (Resolution.Refused BAD-DECIMAL)) (Resolution.Refused MISPLACED)) (Resolution.Refused DISAGREEMENT))) 0 ≡ nine && ten && eleven
     cases true true true k = refl
     cases true true false k = refl
     cases true false eleven k = refl

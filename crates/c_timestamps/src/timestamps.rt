@@ -7,12 +7,14 @@ ghost use Prim.Native.Nat.{ℕ};
 ghost use lib.ListN.{length};
 ghost use lib.Signed.{leZ};
 ghost use Rattle.timestamp.specs.Units.{TimeUnit};
-ghost use Rattle.griffeljol.specs.Answers.{counted, within, answer, left};
-ghost use Rattle.griffeljol.specs.Timestamps.{fieldNumbers, Decoding, areFields, fieldsOf, encodingOf, encoding};
-use crate::answers::NO_PLACE;
-use crate::answers::RESULT;
-use crate::answers::SHORT_OUTPUT;
-use crate::answers::packed;
+ghost use Rattle.refusal.specs.Numbers.{UNKNOWN-TYPE};
+ghost use Rattle.c_answer.specs.Answers.{refusalAnswer, listed, within, answer, left};
+ghost use Rattle.c_answer.specs.Packing.{Bounded};
+ghost use Rattle.c_timestamps.specs.Timestamps.{fieldNumbers, Decoding, areFields, fieldsOf, encodingOf, encoding};
+use c_answer::RESULT;
+use c_answer::packed;
+use refusal::Refusal;
+use refusal::numbers;
 use timestamp::Decoded;
 use timestamp::Encoded;
 use timestamp::Fields;
@@ -23,13 +25,6 @@ const FIELDS: usize = 7;
 
 // How many numbers are written of a count.
 const COUNT_NUMBERS: usize = 1;
-
-// Document 01's numbers of the refusals.
-const NO_DATE_TIME: u32 = 18;
-
-const NOT_REPRESENTABLE: u32 = 19;
-
-const UNKNOWN_UNIT: u32 = 20;
 
 // The greatest numbers that a date and time has, in any month and unit.
 const GREATEST_MONTH: i64 = 12;
@@ -48,19 +43,17 @@ const GREATEST_FRACTION: i64 = 999_999_999;
 const FIRST_TICK: u64 = 0;
 
 // Writes the fields of a count: year, month, day, hour, minute, second, fraction. The value is 7.
-#[no_mangle]
-pub extern "C" fn griffeljol_decode(unit: u32, count: i64, fields: &mut [i64]) -> u64
+pub fn decode(unit: u32, count: i64, fields: &mut [i64]) -> u64
     ensures { λ r. ⌜ Decoding unit count (now (fields .entry)) r (now (fields .exit)) ⌝ }
 {
     match timestamp::decode(unit, count) {
         Decoded::Fields(f) => write_fields(f, fields),
-        Decoded::UnknownUnit => packed(UNKNOWN_UNIT, NO_PLACE),
+        Decoded::Refused(r) => refused(r),
     }
 }
 
 // Writes the count of fields, of which there are seven in the order of decoding; further numbers are not looked at. The value is 1.
-#[no_mangle]
-pub extern "C" fn griffeljol_encode(unit: u32, fields: &[i64], count: &mut [i64]) -> u64
+pub fn encode(unit: u32, fields: &[i64], count: &mut [i64]) -> u64
     ensures { λ r. ⌜ r ≡ answer (encoding unit (now (fields .entry)) (length (now (count .entry)))) ⌝ }
     ensures { λ _. ⌜ now (count .exit) ≡ left (encoding unit (now (fields .entry)) (length (now (count .entry)))) (now (count .entry)) ⌝ }
 {
@@ -69,19 +62,17 @@ pub extern "C" fn griffeljol_encode(unit: u32, fields: &[i64], count: &mut [i64]
     }
     match timestamp::encode(unit, fields_of(fields)) {
         Encoded::Count(n) => write_count(n, count),
-        Encoded::NoDateTime => packed(NO_DATE_TIME, NO_PLACE),
-        Encoded::NotRepresentable => packed(NOT_REPRESENTABLE, NO_PLACE),
-        Encoded::UnknownUnit => packed(UNKNOWN_UNIT, NO_PLACE),
+        Encoded::Refused(r) => refused(r),
     }
 }
 
 // Writes fields, where they fit.
 fn write_fields(f: Fields, fields: &mut [i64]) -> u64
-    ensures { λ r. ⌜ r ≡ answer (within (length (now (fields .entry))) (counted (fieldNumbers f))) ⌝ }
-    ensures { λ _. ⌜ now (fields .exit) ≡ left (within (length (now (fields .entry))) (counted (fieldNumbers f))) (now (fields .entry)) ⌝ }
+    ensures { λ r. ⌜ r ≡ answer (within (length (now (fields .entry))) (listed (fieldNumbers f))) ⌝ }
+    ensures { λ _. ⌜ now (fields .exit) ≡ left (within (length (now (fields .entry))) (listed (fieldNumbers f))) (now (fields .entry)) ⌝ }
 {
     if fields.len() < FIELDS {
-        return packed(SHORT_OUTPUT, NO_PLACE);
+        return packed(numbers::SHORT_OUTPUT, 0);
     }
     let year = f.year;
     fields[0] = year;
@@ -96,11 +87,11 @@ fn write_fields(f: Fields, fields: &mut [i64]) -> u64
 
 // Writes a count, where it fits.
 fn write_count(n: i64, count: &mut [i64]) -> u64
-    ensures { λ r. ⌜ r ≡ answer (within (length (now (count .entry))) (counted (n ∷ []))) ⌝ }
-    ensures { λ _. ⌜ now (count .exit) ≡ left (within (length (now (count .entry))) (counted (n ∷ []))) (now (count .entry)) ⌝ }
+    ensures { λ r. ⌜ r ≡ answer (within (length (now (count .entry))) (listed (n ∷ []))) ⌝ }
+    ensures { λ _. ⌜ now (count .exit) ≡ left (within (length (now (count .entry))) (listed (n ∷ []))) (now (count .entry)) ⌝ }
 {
     if count.len() < COUNT_NUMBERS {
-        return packed(SHORT_OUTPUT, NO_PLACE);
+        return packed(numbers::SHORT_OUTPUT, 0);
     }
     count[0] = n;
     packed(RESULT, COUNT_NUMBERS as u32)
@@ -160,8 +151,16 @@ fn no_date_time(unit: u32) -> u64
     ensures { λ r. ⌜ ((lent : ℕ) → r ≡ answer (encoding unit [] lent)) ⌝ }
 {
     match timestamp::in_day(unit, FIRST_TICK) {
-        InDay::Within => packed(NO_DATE_TIME, NO_PLACE),
-        InDay::Beyond => packed(NO_DATE_TIME, NO_PLACE),
-        InDay::UnknownUnit => packed(UNKNOWN_UNIT, NO_PLACE),
+        InDay::Within => packed(numbers::NO_DATE_TIME, 0),
+        InDay::Beyond => packed(numbers::NO_DATE_TIME, 0),
+        InDay::Refused(r) => refused(r),
     }
+}
+
+// The answer of a refusal, which has no place.
+fn refused(refusal: Refusal) -> u64
+    requires { ⌜ Bounded UNKNOWN-TYPE 0 refusal ⌝ }
+    ensures { λ r. ⌜ r ≡ refusalAnswer refusal ⌝ }
+{
+    packed(refusal.number, refusal.place as u32)
 }

@@ -16,19 +16,23 @@ use mir.Val.{Fits, SFits, toZ, ofZ}
 use mir.ValLaws.{toZ-ofZ}
 use Rattle.laws.proofs.BoolLaws.{and-both, both-and, by-test}
 use Rattle.timestamp.specs.Calendar.{months, isLeap, daysOfMonth}
-use Rattle.timestamp.specs.Units.{TimeUnit, millis, micros, nanos, ticksPerSecond, unitOf}
+use Rattle.timestamp.specs.Units.{TimeUnit, ticksPerSecond, unitOf}
 use Rattle.timestamp.specs.Count.{isDateTime}
-use Rattle.timestamp.specs.Outcomes.{Outcome, noDateTime, unknownUnit, dayHas, Decodes, decoded, encoded, encodingIn}
+use Rattle.refusal.specs.Numbers.{UNKNOWN-TYPE}
+use Rattle.refusal.specs.Outcome.{Outcome, given, refused, unplaced}
+use Rattle.refusal.specs.declared.answers.Refusal.{Refusal}
+use Rattle.timestamp.specs.Outcomes.{noDateTime, unknownUnit, dayHas, Decodes, decoded, encoded, encodingIn}
 use Rattle.timestamp.specs.Outcomes as timestamp
 use Rattle.timestamp.specs.declared.fields.Fields.{Fields}
 use Rattle.timestamp.specs.declared.decoding.Decoded.{Decoded}
 use Rattle.timestamp.specs.declared.encoding.Encoded.{Encoded}
+use Rattle.timestamp.proofs.UnitLaws.{ticks-most}
 use Rattle.timestamp.proofs.ClockLaws.{Time, time-parts}
 use Rattle.timestamp.proofs.CountLaws.{date-time-parts, decodes-one, encoding-none}
 use Rattle.timestamp.proofs.DateLaws.{Date, date-parts}
-use Rattle.griffeljol.specs.Answers.{within, answer, left}
-use Rattle.griffeljol.specs.Timestamps.{fieldNumbers, decodeEffect, Decoding, FIELDS, at, isField, areFields, fieldsOf, encodingOf, encodeEffect, encoding}
-use Rattle.griffeljol.proofs.MostLaws.{AtMost, atMost-test, atMost-getD}
+use Rattle.c_answer.specs.Answers.{within, answer, left}
+use Rattle.c_timestamps.specs.Timestamps.{fieldNumbers, decodeEffect, Decoding, FIELDS, at, isField, areFields, fieldsOf, encodingOf, encodeEffect, encoding}
+use Rattle.laws.proofs.MostLaws.{AtMost, atMost-test, atMost-getD}
 
 -- ---- one field
 
@@ -80,11 +84,6 @@ months-most false = atMost-test 31 (months false) refl
 days-most : (year : ℤ) (month : ℕ) → daysOfMonth year month ≤ 31
 unfolding daysOfMonth
 days-most year month = atMost-getD 31 (months (isLeap year)) (month - 1) (months-most (isLeap year))
-
-ticks-most : (unit : TimeUnit) → ticksPerSecond unit ≤ 1000000000
-ticks-most millis = omega arith
-ticks-most micros = omega arith
-ticks-most nanos = omega arith
 
 -- no numbers are no fields
 no-numbers : (unit : TimeUnit) → encodingOf (some unit) [] ≡ noDateTime
@@ -160,20 +159,20 @@ module _ (numbers : List ℤ) where
 -- ---- no numbers
 
 -- by whether a unit is named
-pub unformed-known : (unit tick lent : ℕ) (b : Bool) → timestamp.given b ≡ dayHas (unitOf unit) tick → encoding unit [] lent ≡ within lent (encodeEffect noDateTime)
+pub unformed-known : (unit tick lent : ℕ) (b : Bool) → given b ≡ dayHas (unitOf unit) tick → encoding unit [] lent ≡ within lent (encodeEffect noDateTime)
 unfolding encoding
 unformed-known unit tick lent b = known (unitOf unit)
   where
-    known : (u : Option TimeUnit) → timestamp.given b ≡ dayHas u tick → within lent (encodeEffect (encodingOf u [])) ≡ within lent (encodeEffect noDateTime)
+    known : (u : Option TimeUnit) → given b ≡ dayHas u tick → within lent (encodeEffect (encodingOf u [])) ≡ within lent (encodeEffect noDateTime)
     known none q = absurd (let z : _≡_ {A = ℕ} 0 1 = cc in omega arith)
     known (some unit) q = rw (no-numbers unit)
 
-pub unformed-unknown : (unit tick lent : ℕ) → unknownUnit ≡ dayHas (unitOf unit) tick → encoding unit [] lent ≡ within lent (encodeEffect unknownUnit)
+pub unformed-unknown : (unit tick lent : ℕ) (r : Refusal) → refused r ≡ dayHas (unitOf unit) tick → (encoding unit [] lent ≡ refused r) × (r ≡ unplaced UNKNOWN-TYPE)
 unfolding encoding
-unformed-unknown unit tick lent = unknown (unitOf unit)
+unformed-unknown unit tick lent r = unknown (unitOf unit)
   where
-    unknown : (u : Option TimeUnit) → unknownUnit ≡ dayHas u tick → within lent (encodeEffect (encodingOf u [])) ≡ within lent (encodeEffect unknownUnit)
-    unknown none q = refl
+    unknown : (u : Option TimeUnit) → refused r ≡ dayHas u tick → (within lent (encodeEffect (encodingOf u [])) ≡ refused r) × (r ≡ unplaced UNKNOWN-TYPE)
+    unknown none q = let same : r ≡ unplaced UNKNOWN-TYPE = cc in (ap refused (sym same), same)
     unknown (some unit) q = absurd (let z : _≡_ {A = ℕ} 0 1 = cc in omega arith)
 
 -- and so is what numbers come to that are encoded as none are

@@ -1,13 +1,13 @@
--- `griffeljol::timestamps::write_count` meets its contract: 14, or the count at the start of the output.
+-- `c_timestamps::timestamps::write_count` meets its contract: 14, or the count at the start of the output.
 use mathlib.Core.Path.{ap}
 use mathlib.Core.List.{[], _∷_}
 use borrow.Author.Needs.{needs}
 use lib.IntN.{ℤ}
 use mir.Syntax.{w64}
 use mir.ValLaws.{toZ-ofZ}
-use Rattle.griffeljol.proofs.OutputLaws.{short, enough}
-use Rattle.griffeljol.proofs.timestamps.write_count.Statement.{statement}
-use Rattle.griffeljol.proofs.timestamps.write_count.Tie as tie
+use Rattle.c_answer.proofs.OutputLaws.{short, enough}
+use Rattle.c_timestamps.proofs.timestamps.write_count.Statement.{statement}
+use Rattle.c_timestamps.proofs.timestamps.write_count.Tie as tie
 
 returns : tie.Need-returns
 returns c =

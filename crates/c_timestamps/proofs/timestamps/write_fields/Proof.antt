@@ -1,12 +1,12 @@
--- `griffeljol::timestamps::write_fields` meets its contract: 14, or the seven fields at the start of the output.
+-- `c_timestamps::timestamps::write_fields` meets its contract: 14, or the seven fields at the start of the output.
 use native.Mathlib.Omega.{arith}
 use borrow.Author.Needs.{needs}
 use lib.ListN.{length-set}
-use Rattle.griffeljol.specs.Timestamps.{fieldNumbers}
-use Rattle.griffeljol.proofs.FieldLaws.{stored-fields}
-use Rattle.griffeljol.proofs.OutputLaws.{short, enough}
-use Rattle.griffeljol.proofs.timestamps.write_fields.Statement.{statement}
-use Rattle.griffeljol.proofs.timestamps.write_fields.Tie as tie
+use Rattle.c_timestamps.specs.Timestamps.{fieldNumbers}
+use Rattle.c_timestamps.proofs.FieldLaws.{stored-fields}
+use Rattle.c_answer.proofs.OutputLaws.{short, enough}
+use Rattle.c_timestamps.proofs.timestamps.write_fields.Statement.{statement}
+use Rattle.c_timestamps.proofs.timestamps.write_fields.Tie as tie
 
 returns : tie.Need-returns
 returns c =

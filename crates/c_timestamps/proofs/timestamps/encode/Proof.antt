@@ -1,5 +1,5 @@
--- `griffeljol::timestamps::griffeljol_encode` meets its contract: the count is written where it fits, and a refusal leaves the output as it was.
-use mathlib.Core.Path.{_≡_, sym, ap, _∙_}
+-- `c_timestamps::timestamps::encode` meets its contract: the count is written where it fits, and a refusal leaves the output as it was.
+use mathlib.Core.Path.{_≡_, sym, ap, _∙_, subst}
 use mathlib.Core.Bool.{true}
 use mathlib.Core.List.{[], _∷_}
 use borrow.Author.Needs.{needs}
@@ -8,13 +8,15 @@ use lib.IntN.{ℤ}
 use lib.ListN.{length}
 use mir.Syntax.{w64}
 use mir.ValLaws.{toZ-ofZ}
+use Rattle.refusal.specs.Outcome.{refused}
 use Rattle.timestamp.specs.Units.{unitOf}
 use Rattle.timestamp.specs.Outcomes.{encoded}
-use Rattle.griffeljol.specs.Answers.{Effect, counted, within, answer, left}
-use Rattle.griffeljol.specs.Timestamps.{areFields, encodingOf}
-use Rattle.griffeljol.proofs.FieldLaws.{encoding-fields, unformed-encoding, unformed-left, encoding-of}
-use Rattle.griffeljol.proofs.timestamps.griffeljol_encode.Statement.{statement}
-use Rattle.griffeljol.proofs.timestamps.griffeljol_encode.Tie as tie
+use Rattle.c_answer.specs.Answers.{Effect, listed, within, answer, left}
+use Rattle.c_timestamps.specs.Timestamps.{areFields, encodingOf}
+use Rattle.c_timestamps.proofs.BoundLaws.{OutcomeBounded, encoded-bounded}
+use Rattle.c_timestamps.proofs.FieldLaws.{encoding-fields, unformed-encoding, unformed-left, encoding-of}
+use Rattle.c_timestamps.proofs.timestamps.encode.Statement.{statement}
+use Rattle.c_timestamps.proofs.timestamps.encode.Tie as tie
 
 -- numbers that form no date or time
 returns : tie.Need-returns
@@ -45,36 +47,30 @@ returns-2 c =
     let count = args .count .now in
     let e = encoding-of (args .unit) (args .fields .now) (length count) (encoded-is at-encode) (at-n .n .given .1) in
     let back = toZ-ofZ w64 _ (record { sfits = at-known-told .known-told .given .0 .1 }) in (
-      written .0 ∙ ap (λ (z : ℤ). answer (within (length count) (counted (z ∷ [])))) back ∙ ap answer (sym e),
-      written .1 ∙ ap (λ (z : ℤ). left (within (length count) (counted (z ∷ []))) count) back ∙ ap (λ (f : Effect ℤ). left f count) (sym e),
+      written .0 ∙ ap (λ (z : ℤ). answer (within (length count) (listed (z ∷ [])))) back ∙ ap answer (sym e),
+      written .1 ∙ ap (λ (z : ℤ). left (within (length count) (listed (z ∷ []))) count) back ∙ ap (λ (f : Effect ℤ). left f count) (sym e),
     )
+
+-- a refusal that was told is that of the numbers
+refused-is : (c : tie.After-r) → let args = c .before .before .before .before .before .before .args in refused (c .r .given .0 .0) ≡ encodingOf (unitOf (args .unit)) (args .fields .now)
+refused-is c = ap encoded (sym (c .r .given .1)) ∙ encoded-is (c .before .before)
+
+refused-requires : tie.Need-refused-requires
+refused-requires c κs =
+    let args = c .before .before .before .before .before .before .before .args in
+    subst OutcomeBounded (sym (refused-is (c .before))) (encoded-bounded (unitOf (args .unit)) (args .fields .now))
 
 returns-3 : tie.Need-returns-3
 returns-3 c =
-    let at-encode = c .before .before .before in
+    let at-r = c .before .before in
+    let at-encode = at-r .before .before in
     let args = at-encode .before .before .before .before .args in
     let count = args .count .now in
-    let e = encoding-of (args .unit) (args .fields .now) (length count) (encoded-is at-encode) (c .before .enum-told .given .1) in
-    (c .packed .ensures ∙ ap answer (sym e), ap (λ (f : Effect ℤ). left f count) (sym e))
+    let e = encoding-of (args .unit) (args .fields .now) (length count) (encoded-is at-encode) (at-r .r .given .1) in
+    (c .refused .ensures ∙ ap answer (sym e), ap (λ (f : Effect ℤ). left f count) (sym e))
 
-returns-4 : tie.Need-returns-4
-returns-4 c =
-    let at-encode = c .before .before .before in
-    let args = at-encode .before .before .before .before .args in
-    let count = args .count .now in
-    let e = encoding-of (args .unit) (args .fields .now) (length count) (encoded-is at-encode) (c .before .enum-told2 .given .1) in
-    (c .packed2 .ensures ∙ ap answer (sym e), ap (λ (f : Effect ℤ). left f count) (sym e))
-
-returns-5 : tie.Need-returns-5
-returns-5 c =
-    let at-encode = c .before .before .before in
-    let args = at-encode .before .before .before .before .args in
-    let count = args .count .now in
-    let e = encoding-of (args .unit) (args .fields .now) (length count) (encoded-is at-encode) (c .before .enum-told3 .given .1) in
-    (c .packed3 .ensures ∙ ap answer (sym e), ap (λ (f : Effect ℤ). left f count) (sym e))
-
-pub griffeljol-encode-spec : {M : Type 1} → statement M
-griffeljol-encode-spec =
+pub encode-spec : {M : Type 1} → statement M
+encode-spec =
     tie.close
     (tie.spec
     (λ c κs. search needs)
@@ -85,13 +81,7 @@ griffeljol-encode-spec =
     (λ c. search needs)
     (λ c κs. search needs)
     (λ c. search needs)
-    (λ c κs. search needs)
-    (λ c. search needs)
-    (λ c κs. search needs)
-    (λ c. search needs)
-    (λ c κs. search needs)
+    refused-requires
     (λ c. search needs)
     returns-2
-    returns-3
-    returns-4
-    returns-5)
+    returns-3)

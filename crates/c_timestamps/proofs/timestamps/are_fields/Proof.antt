@@ -1,4 +1,4 @@
--- `griffeljol::timestamps::are_fields` meets its contract: numbers that pass every test are fields, and one that fails a test forms no date or time.
+-- `c_timestamps::timestamps::are_fields` meets its contract: numbers that pass every test are fields, and one that fails a test forms no date or time.
 use Prim.Native.Nat.{ℕ, _<_, _≤_, _^_}
 use native.Mathlib.Omega.{arith}
 use mathlib.Core.Path.{_≡_, sym, ap, _∙_}
@@ -13,10 +13,10 @@ use mir.Syntax.{w64}
 use mir.Val.{toZ, ofZ}
 use mir.ValLaws.{toZ-ofZ}
 use Rattle.timestamp.specs.Units.{TimeUnit}
-use Rattle.griffeljol.specs.Timestamps.{at, areFields, encodingOf}
-use Rattle.griffeljol.proofs.FieldLaws.{ranged, InRange, each, ranged-are, encoding-unformed}
-use Rattle.griffeljol.proofs.timestamps.are_fields.Statement.{statement}
-use Rattle.griffeljol.proofs.timestamps.are_fields.Tie as tie
+use Rattle.c_timestamps.specs.Timestamps.{at, areFields, encodingOf}
+use Rattle.c_timestamps.proofs.FieldLaws.{ranged, InRange, each, ranged-are, encoding-unformed}
+use Rattle.c_timestamps.proofs.timestamps.are_fields.Statement.{statement}
+use Rattle.c_timestamps.proofs.timestamps.are_fields.Tie as tie
 
 -- a number of the slice is tested as it is read back from its bits
 told : (i least most : ℕ) (numbers : List ℤ) {r : Bool} → mag (at numbers i) < 2 ^ 63 → r ≡ ranged least most (toZ w64 (ofZ w64 (at numbers i))) → r ≡ ranged least most (at numbers i)

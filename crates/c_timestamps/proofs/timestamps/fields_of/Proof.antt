@@ -1,4 +1,4 @@
--- `griffeljol::timestamps::fields_of` meets its contract: each number but the year is one of 32 bits.
+-- `c_timestamps::timestamps::fields_of` meets its contract: each number but the year is one of 32 bits.
 use Prim.Native.Nat.{ℕ, _<_, _^_}
 use native.Mathlib.Omega.{arith}
 use mathlib.Core.Path.{_≡_, sym, ap, subst}
@@ -10,10 +10,10 @@ use lib.Signed.{mag, nonNeg}
 use mir.Syntax.{w32, w64}
 use mir.Val.{Fits, toZ, ofZ}
 use mir.ValLaws.{toZ-ofZ}
-use Rattle.griffeljol.specs.Timestamps.{at, isField, fieldsOf}
-use Rattle.griffeljol.proofs.FieldLaws.{Each, each, field-cast}
-use Rattle.griffeljol.proofs.timestamps.fields_of.Statement.{statement}
-use Rattle.griffeljol.proofs.timestamps.fields_of.Tie as tie
+use Rattle.c_timestamps.specs.Timestamps.{at, isField, fieldsOf}
+use Rattle.c_timestamps.proofs.FieldLaws.{Each, each, field-cast}
+use Rattle.c_timestamps.proofs.timestamps.fields_of.Statement.{statement}
+use Rattle.c_timestamps.proofs.timestamps.fields_of.Tie as tie
 
 -- a number of the slice is what is read back from its bits
 back : (i : ℕ) (numbers : List ℤ) → mag (at numbers i) < 2 ^ 63 → toZ w64 (ofZ w64 (at numbers i)) ≡ at numbers i

@@ -9,10 +9,10 @@ use lib.IntN.{ℤ, pos, natAbs}
 use lib.ListN.{length, getD}
 use lib.Signed.{leZ, ltZ}
 use Rattle.timestamp.specs.Units.{TimeUnit, ticksPerSecond, unitOf}
-use Rattle.timestamp.specs.Outcomes.{Outcome, noDateTime, unknownUnit, Decodes, encodingIn}
-use Rattle.timestamp.specs.Outcomes as timestamp
+use Rattle.refusal.specs.Outcome.{Outcome, given, refused}
+use Rattle.timestamp.specs.Outcomes.{noDateTime, unknownUnit, Decodes, encodingIn}
 use Rattle.timestamp.specs.declared.fields.Fields.{Fields}
-use Rattle.griffeljol.specs.Answers.{Effect, refused, counted, within, answer, left}
+use Rattle.c_answer.specs.Answers.{Effect, listed, within, answer, left}
 
 -- "year, month, day, hour, minute, second, fraction"
 abbrev pub fieldNumbers : Fields → List ℤ
@@ -21,8 +21,8 @@ fieldNumbers f =
 
 -- what each outcome of decoding comes to: its value is how many numbers are written, 7
 abbrev pub decodeEffect : Outcome Fields → Effect ℤ
-decodeEffect (timestamp.refused number place) = refused number place
-decodeEffect (timestamp.given f) = counted (fieldNumbers f)
+decodeEffect (refused r) = refused r
+decodeEffect (given f) = listed (fieldNumbers f)
 
 -- what decoding answers and leaves: there is an outcome that it may have (`Decodes`), and both are those of every such outcome
 pub record Decoding (unit : ℕ) (count : ℤ) (lent : List ℤ) (answered : ℕ) (held : List ℤ) : Type 0 where
@@ -73,8 +73,8 @@ encodingOf (some unit) numbers = cond (areFields numbers) (encodingIn (ticksPerS
 
 -- what each outcome of encoding comes to: its value is how many numbers are written, 1
 abbrev pub encodeEffect : Outcome ℤ → Effect ℤ
-encodeEffect (timestamp.refused number place) = refused number place
-encodeEffect (timestamp.given count) = counted (count ∷ [])
+encodeEffect (refused r) = refused r
+encodeEffect (given count) = listed (count ∷ [])
 
 -- what encoding comes to for any unit, any numbers and any number of lent places
 unfoldable pub encoding : ℕ → List ℤ → ℕ → Effect ℤ

@@ -1,0 +1,4 @@
+-- Laws of calls on timestamps.
+pub mod FieldLaws
+pub mod BoundLaws
+pub mod PromiseLaws

@@ -1,0 +1,3 @@
+-- What calls on timestamps answer and leave in lent memory.
+pub mod Timestamps
+pub mod Promises
