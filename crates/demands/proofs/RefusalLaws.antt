@@ -8,6 +8,7 @@ use native.Mathlib.Omega.{arith}
 use borrow.Author.Tests.{lt-ltb, le-ltb, leb-true, leb-false}
 use lib.Dec.{leb, ltb}
 use lib.ListN.{length}
+use Rattle.refusal.specs.Outcome.{Outcome, given, refused, refusal, shortOutput, counted}
 use Rattle.sheet.specs.Block.{slotsInBlock, blockCount, totalOf}
 use Rattle.sheet.specs.First.{firstWrongFrom, firstWrong}
 use Rattle.sheet.specs.Header.{lengthRight, headerRight}
@@ -15,19 +16,18 @@ use Rattle.sheet.specs.Check.{checkRight}
 use Rattle.sheet.specs.Sound.{slotRight}
 use Rattle.sheet.specs.Slot.{slots}
 use Rattle.sheet.specs.Opening as opened
-use Rattle.sheet.specs.declared.opening.Opened.{Opened}
-use Rattle.sheet.specs.declared.opening.Opened.the-variants.{Nodes, BadLength, BadCheck, BadHeader, BadSlot}
+use Rattle.sheet.specs.Opening.{atFirst, openOf}
+use Rattle.sheet.proofs.OpeningLaws.{refused-other}
 use Rattle.tree.specs.Annotated.{rule9, rule10, rule11}
 use Rattle.tree.specs.Tree.{SlotBytes, Tree, Fields, node, empty, field, size, depths, mostDepth}
 use Rattle.tree.specs.Rules.{underMap, placeBelow, rule8, rule12, rule13}
 use Rattle.tree.specs.Faults.{broken, faults, runFaults}
 use Rattle.tree.specs.OpenPlaces.{openPlaces, isNoPlace}
 use Rattle.tree.specs.Reading.{treeOf}
-use Rattle.tree.specs.Judgement as tree
-use Rattle.tree.specs.Judgement.{orElse, leftOver, missing, firstFault, deepness, tooDeep, unlawful, treeRefusal, judgedAs, judgement}
+use Rattle.tree.specs.Judgement.{orElse, leftOver, missing, firstFault, deepness, tooDeep, unlawful, treeRefusal, judgedAs, judgement, judgedNodes, judgementOf}
 use Rattle.tree.specs.declared.place.Place.{Place}
 use Rattle.tree.specs.declared.place.Place.the-variants.{Root}
-use Rattle.tree.specs.declared.refusal.Verdict.{Verdict}
+use Rattle.refusal.specs.declared.answers.Verdict.{Verdict}
 use Rattle.tree.proofs.FaultLaws.{firstFault-append}
 use Rattle.tree.proofs.JudgingLaws.{length-faults}
 use Rattle.laws.proofs.BoolLaws.{by-test}
@@ -40,24 +40,21 @@ use Rattle.annotation.specs.Rule10 as ten
 use Rattle.annotation.specs.Rule11 as eleven
 use Rattle.annotation.specs.declared.slot.Annotated.{Annotated}
 use Rattle.schema.specs.Outcome as schema
-use Rattle.schema.specs.Outcome.{shortOutput}
 use Rattle.schema.specs.Rewriting.{rewriteAnswer, rewriteOutcome}
-use Rattle.schema.specs.declared.rewriting.Rewritten.{Rewritten}
 use mathlib.Core.Option.{Option, none, some}
 use Rattle.text.specs.Placing.{placedText}
-use Rattle.schema.specs.declared.resolving.Resolved.{Resolved}
+use Rattle.refusal.specs.declared.answers.Counted.{Counted}
 use Rattle.schema_text.specs.Rows.{rowsText, rowsTextOf, refusalLine, answerText}
-use Rattle.schema_text.specs.Making as text
-use Rattle.tree.specs.declared.refusal.Refusal.{Refusal}
-use Rattle.demands.specs.Refusals.{End, result, refusal, Ground, ground, first, none as noneHolds, eachFrom, each, openingGrounds, leftOverGrounds, missingGround, deepGrounds, nodeGrounds, ruleGrounds, runGrounds, treeGrounds, judgingGrounds, resolvingGrounds, rewritingGrounds, slotGrounds, rowsTextGrounds, shortFor}
-use Rattle.demands.specs.Ends.{openingEnd, judgingEnd, resolvingEnd, rewritingEnd, slotEnd, textEnd}
+use Rattle.schema_text.specs.Making.{made, madeIn}
+use Rattle.refusal.specs.declared.answers.Refusal.{Refusal}
+use Rattle.demands.specs.Refusals.{Ground, ground, first, none as noneHolds, eachFrom, each, openingGrounds, leftOverGrounds, missingGround, deepGrounds, nodeGrounds, ruleGrounds, runGrounds, treeGrounds, judgingGrounds, resolvingGrounds, rewritingGrounds, slotGrounds, rowsTextGrounds, shortFor}
 
 -- lists of refusals ----------------------------------------------------------------------------------------------------------------
 
 -- the refusal of a call, or what another ends with
-abbrev pub andThen : {A B : Type 0} → End A → End B → End B
-andThen (result a) e = e
-andThen (refusal number place) e = refusal number place
+abbrev pub andThen : {A B : Type 0} → Outcome A → Outcome B → Outcome B
+andThen (given a) e = e
+andThen (refused r) e = refused r
 
 pub first-append : {A : Type 0} (gs hs : List Ground) (a : A) → first (gs ++ hs) a ≡ andThen (first gs a) (first hs a)
 unfolding first
@@ -66,7 +63,7 @@ first-append (g ∷ gs) hs a = by-test (g .holds) (λ e. rw e) (λ e. rw e (firs
 
 -- what holds at no place, and what holds first at one
 module _ (number : ℕ) (right holds : ℕ → Bool) (opposite : (k : ℕ) → holds k ≡ not (right k)) where
-  first-each : {A : Type 0} (n k : ℕ) (a : A) → first (eachFrom number holds k n) a ≡ cond (ltb (firstWrongFrom right k n) (k + n)) (refusal number (firstWrongFrom right k n)) (result a)
+  first-each : {A : Type 0} (n k : ℕ) (a : A) → first (eachFrom number holds k n) a ≡ cond (ltb (firstWrongFrom right k n) (k + n)) (refused (refusal number (firstWrongFrom right k n))) (given a)
   unfolding first eachFrom firstWrongFrom
   first-each zero k a = rw (add-zero, le-ltb k k (omega arith))
   first-each (suc n) k a =
@@ -92,45 +89,29 @@ none-all number n right holds opposite = none-each number right holds opposite n
 
 -- opening --------------------------------------------------------------------------------------------------------------------------
 
--- what opening accepts are the sheet's slots
-abbrev Accepts : List ℕ → opened.Outcome → Type 0
-Accepts sheet (opened.accepted t ss) = ss ≡ slots sheet
-Accepts sheet (opened.refused number place) = Unit {0}
-
-accepted-slots : (sheet : List ℕ) → Accepts sheet (opened.outcome sheet)
-unfolding opened.outcome opened.outcomeOf
-accepted-slots sheet = by-answer (opened.openOf sheet)
-  where
-    by-answer : (o : Opened) → Accepts sheet (opened.outcomeOf sheet o)
-    by-answer (Nodes t) = refl
-    by-answer BadLength = tt
-    by-answer (BadCheck block) = tt
-    by-answer (BadHeader block) = tt
-    by-answer (BadSlot k) = tt
-
 -- one refusal at each place, and others behind it
-each-then : {A : Type 0} (number n : ℕ) (right holds : ℕ → Bool) → ((k : ℕ) → holds k ≡ not (right k)) → (gs : List Ground) (a : A) → first (each number holds n ++ gs) a ≡ cond (ltb (firstWrong right n) n) (refusal number (firstWrong right n)) (first gs a)
+each-then : {A : Type 0} (number n : ℕ) (right holds : ℕ → Bool) → ((k : ℕ) → holds k ≡ not (right k)) → (gs : List Ground) (a : A) → first (each number holds n ++ gs) a ≡ cond (ltb (firstWrong right n) n) (refused (refusal number (firstWrong right n))) (first gs a)
 unfolding firstWrong
 each-then {A} number n right holds opposite gs a =
     first-append (each number holds n) gs a
-    ∙ ap (λ (e : End A). andThen e (first gs a)) (first-each number right holds opposite n 0 a ∙ ap (λ (m : ℕ). cond (ltb (firstWrongFrom right 0 n) m) (refusal number (firstWrongFrom right 0 n)) (result a)) (zero-add n))
+    ∙ ap (λ (e : Outcome A). andThen e (first gs a)) (first-each number right holds opposite n 0 a ∙ ap (λ (m : ℕ). cond (ltb (firstWrongFrom right 0 n) m) (refused (refusal number (firstWrongFrom right 0 n))) (given a)) (zero-add n))
     ∙ either (ltb (firstWrongFrom right 0 n) n)
   where
-    either : (b : Bool) → andThen (cond b (refusal number (firstWrongFrom right 0 n)) (result a)) (first gs a) ≡ cond b (refusal number (firstWrongFrom right 0 n)) (first gs a)
+    either : (b : Bool) → andThen (cond b (refused (refusal number (firstWrongFrom right 0 n))) (given a)) (first gs a) ≡ cond b (refused (refusal number (firstWrongFrom right 0 n))) (first gs a)
     either true = refl
     either false = refl
 
-opened-first : (sheet : List ℕ) (number n : ℕ) (right : ℕ → Bool) (answer : ℕ → Opened) (next : Opened) (gs : List Ground) → ((k : ℕ) → openingEnd (opened.outcomeOf sheet (answer k)) ≡ refusal number k) → openingEnd (opened.outcomeOf sheet next) ≡ first gs (totalOf sheet) → openingEnd (opened.outcomeOf sheet (opened.atFirst right n answer next)) ≡ first (each number (λ k. not (right k)) n ++ gs) (totalOf sheet)
-unfolding opened.atFirst
-opened-first sheet number n right answer next gs says rest = either (ltb (firstWrong right n) n) ∙ sym (each-then number n right (λ k. not (right k)) (λ k. refl) gs (totalOf sheet))
+opened-first : (number n : ℕ) (right : ℕ → Bool) (next : Counted) (gs : List Ground) (a : ℕ) → counted next ≡ first gs a → counted (atFirst right n number next) ≡ first (each number (λ k. not (right k)) n ++ gs) a
+unfolding atFirst
+opened-first number n right next gs a rest = either (ltb (firstWrong right n) n) ∙ sym (each-then number n right (λ k. not (right k)) (λ k. refl) gs a)
   where
-    either : (b : Bool) → openingEnd (opened.outcomeOf sheet (cond b (answer (firstWrong right n)) next)) ≡ cond b (refusal number (firstWrong right n)) (first gs (totalOf sheet))
-    either true = says (firstWrong right n)
+    either : (b : Bool) → counted (cond b (Counted.Refused (refusal number (firstWrong right n))) next) ≡ cond b (refused (refusal number (firstWrong right n))) (first gs a)
+    either true = refl
     either false = rest
 
 -- 1 to 4
-pub opening-first : (sheet : List ℕ) → openingEnd (opened.outcome sheet) ≡ first (openingGrounds sheet) (totalOf sheet)
-unfolding opened.outcome opened.openOf opened.outcomeOf first
+pub opening-first : (sheet : List ℕ) → counted (openOf sheet) ≡ first (openingGrounds sheet) (totalOf sheet)
+unfolding openOf first
 opening-first sheet = by-length (lengthRight (length sheet))
   where
     checks : List Ground
@@ -142,25 +123,30 @@ opening-first sheet = by-length (lengthRight (length sheet))
     unsound : List Ground
     unsound = each 4 (λ k. not (slotRight sheet k)) (slotsInBlock * blockCount sheet)
 
-    slots-opened : Opened
-    slots-opened = opened.atFirst (slotRight sheet) (slotsInBlock * blockCount sheet) BadSlot (Nodes (totalOf sheet))
+    slots-opened : Counted
+    slots-opened = atFirst (slotRight sheet) (slotsInBlock * blockCount sheet) 4 (Counted.Count (totalOf sheet))
 
-    headers-opened : Opened
-    headers-opened = opened.atFirst (headerRight sheet) (blockCount sheet) BadHeader slots-opened
+    headers-opened : Counted
+    headers-opened = atFirst (headerRight sheet) (blockCount sheet) 3 slots-opened
 
-    behind : openingEnd (opened.outcomeOf sheet (opened.atFirst (checkRight sheet) (blockCount sheet) BadCheck headers-opened)) ≡ first ((checks ++ headers) ++ unsound) (totalOf sheet)
+    behind : counted (atFirst (checkRight sheet) (blockCount sheet) 2 headers-opened) ≡ first ((checks ++ headers) ++ unsound) (totalOf sheet)
     behind =
-        opened-first sheet 2 (blockCount sheet) (checkRight sheet) BadCheck headers-opened (headers ++ unsound) (λ k. refl)
-        (opened-first sheet 3 (blockCount sheet) (headerRight sheet) BadHeader slots-opened unsound (λ k. refl)
-        (opened-first sheet 4 (slotsInBlock * blockCount sheet) (slotRight sheet) BadSlot (Nodes (totalOf sheet)) [] (λ k. refl) refl
+        opened-first 2 (blockCount sheet) (checkRight sheet) headers-opened (headers ++ unsound) (totalOf sheet)
+        (opened-first 3 (blockCount sheet) (headerRight sheet) slots-opened unsound (totalOf sheet)
+        (opened-first 4 (slotsInBlock * blockCount sheet) (slotRight sheet) (Counted.Count (totalOf sheet)) [] (totalOf sheet) refl
         ∙ ap (λ (gs : List Ground). first gs (totalOf sheet)) (append-nil unsound)))
         ∙ ap (λ (gs : List Ground). first gs (totalOf sheet)) (sym (append-assoc checks headers unsound))
 
-    by-length : (b : Bool) → openingEnd (opened.outcomeOf sheet (cond b (opened.atFirst (checkRight sheet) (blockCount sheet) BadCheck headers-opened) BadLength)) ≡ cond (not b) (refusal 1 0) (first ((checks ++ headers) ++ unsound) (totalOf sheet))
+    by-length : (b : Bool) → counted (cond b (atFirst (checkRight sheet) (blockCount sheet) 2 headers-opened) (Counted.Refused (refusal 1 0))) ≡ cond (not b) (refused (refusal 1 0)) (first ((checks ++ headers) ++ unsound) (totalOf sheet))
     by-length true = behind
     by-length false = refl
 
 -- the tree -------------------------------------------------------------------------------------------------------------------------
+
+-- what judging ends with, for a result
+abbrev judgingEnd : Verdict → ℕ → Outcome ℕ
+judgingEnd Verdict.Lawful a = given a
+judgingEnd (Verdict.Refused r) a = refused r
 
 end-orElse : (v w : Verdict) (a : ℕ) → judgingEnd (orElse v w) a ≡ andThen (judgingEnd v a) (judgingEnd w a)
 unfolding orElse
@@ -227,7 +213,7 @@ places-first ss rest gs a e =
     none-left : noneHolds (leftOverGrounds ss) ≡ not (ltb (firstWrong right n) n)
     none-left = none-all 6 n right (λ k. isNoPlace (openPlaces ss k)) opposite
 
-    either : (some full : Bool) → judgingEnd (orElse (cond some (Verdict.Refused (tree.refusal 6 (firstWrong right n))) Verdict.Lawful) (orElse (cond full Verdict.Lawful (Verdict.Refused (tree.refusal 5 n))) rest)) a ≡ cond (not some && not full) (refusal 5 n) (cond some (refusal 6 (firstWrong right n)) (first gs a))
+    either : (some full : Bool) → judgingEnd (orElse (cond some (Verdict.Refused (refusal 6 (firstWrong right n))) Verdict.Lawful) (orElse (cond full Verdict.Lawful (Verdict.Refused (refusal 5 n))) rest)) a ≡ cond (not some && not full) (refused (refusal 5 n)) (cond some (refused (refusal 6 (firstWrong right n))) (first gs a))
     either true full = refl
     either false true = e
     either false false = refl
@@ -241,51 +227,59 @@ tree-first ss a =
     ∙ ap (λ (gs : List Ground). first (missingGround ss ∷ gs) a) (sym (append-assoc (leftOverGrounds ss) (deepGrounds 0 (depths 0 (treeOf ss))) (ruleGrounds 0 Root (treeOf ss))))
 
 -- 1 to 13
-pub judging-first : (sheet : List ℕ) → judgingEnd (judgement sheet) (totalOf sheet) ≡ first (judgingGrounds sheet) (totalOf sheet)
-unfolding judgement judgedAs
-judging-first sheet =
-    behind (opened.outcome sheet) (accepted-slots sheet)
-    ∙ ap (λ (e : End ℕ). andThen e (first (treeGrounds (slots sheet)) (totalOf sheet))) (opening-first sheet)
+judgement-first : (sheet : List ℕ) → judgingEnd (judgement sheet) (totalOf sheet) ≡ first (judgingGrounds sheet) (totalOf sheet)
+unfolding judgement judgedAs opened.outcome opened.outcomeOf
+judgement-first sheet =
+    behind (openOf sheet)
+    ∙ ap (λ (e : Outcome ℕ). andThen e (first (treeGrounds (slots sheet)) (totalOf sheet))) (opening-first sheet)
     ∙ sym (first-append (openingGrounds sheet) (treeGrounds (slots sheet)) (totalOf sheet))
   where
-    behind : (o : opened.Outcome) → Accepts sheet o → judgingEnd (judgedAs o) (totalOf sheet) ≡ andThen (openingEnd o) (first (treeGrounds (slots sheet)) (totalOf sheet))
-    behind (opened.accepted t ss) e = ap (λ (us : List SlotBytes). judgingEnd (treeRefusal us) (totalOf sheet)) e ∙ tree-first (slots sheet) (totalOf sheet)
-    behind (opened.refused number place) e = refl
+    behind : (o : Counted) → judgingEnd (judgedAs (opened.outcomeOf sheet o)) (totalOf sheet) ≡ andThen (counted o) (first (treeGrounds (slots sheet)) (totalOf sheet))
+    behind (Counted.Count t) = tree-first (slots sheet) (totalOf sheet)
+    behind (Counted.Refused r) = refl
+
+pub judging-first : (sheet : List ℕ) → counted (judgementOf sheet) ≡ first (judgingGrounds sheet) (totalOf sheet)
+unfolding judgementOf judgedNodes
+judging-first sheet = by-verdict (judgement sheet) ∙ judgement-first sheet
+  where
+    by-verdict : (v : Verdict) → counted (judgedNodes v (totalOf sheet)) ≡ judgingEnd v (totalOf sheet)
+    by-verdict Verdict.Lawful = refl
+    by-verdict (Verdict.Refused r) = refl
 
 -- 14 behind them ---------------------------------------------------------------------------------------------------------------------
 
-pub resolving-first : (sheet : List ℕ) (lent : ℕ) → resolvingEnd (schema.outcome sheet lent) ≡ first (resolvingGrounds sheet lent) (totalOf sheet)
+pub resolving-first : (sheet : List ℕ) (lent : ℕ) → counted (schema.outcome sheet lent) ≡ first (resolvingGrounds sheet lent) (totalOf sheet)
 unfolding schema.outcome schema.answer first
 resolving-first sheet lent =
     behind (judgement sheet)
-    ∙ ap (λ (e : End ℕ). andThen e (first (ground 14 0 (ltb lent (11 * totalOf sheet)) ∷ []) (totalOf sheet))) (judging-first sheet)
+    ∙ ap (λ (e : Outcome ℕ). andThen e (first (ground 14 0 (ltb lent (11 * totalOf sheet)) ∷ []) (totalOf sheet))) (judgement-first sheet)
     ∙ sym (first-append (judgingGrounds sheet) (ground 14 0 (ltb lent (11 * totalOf sheet)) ∷ []) (totalOf sheet))
   where
-    behind : (v : Verdict) → resolvingEnd (schema.answer v (totalOf sheet) lent) ≡ andThen (judgingEnd v (totalOf sheet)) (first (ground 14 0 (ltb lent (11 * totalOf sheet)) ∷ []) (totalOf sheet))
+    behind : (v : Verdict) → counted (schema.answer v (totalOf sheet) lent) ≡ andThen (judgingEnd v (totalOf sheet)) (first (ground 14 0 (ltb lent (11 * totalOf sheet)) ∷ []) (totalOf sheet))
     behind (Verdict.Refused r) = refl
     behind Verdict.Lawful = by-test (ltb lent (11 * totalOf sheet)) (λ e. rw e) (λ e. rw e)
 
-pub rewriting-first : (sheet : List ℕ) (lent start : ℕ) → rewritingEnd (rewriteOutcome sheet lent start) ≡ first (rewritingGrounds sheet lent start) (length sheet)
+pub rewriting-first : (sheet : List ℕ) (lent start : ℕ) → counted (rewriteOutcome sheet lent start) ≡ first (rewritingGrounds sheet lent start) (length sheet)
 unfolding rewriteOutcome rewriteAnswer first
 rewriting-first sheet lent start =
     behind (judgement sheet)
-    ∙ ap (λ (e : End ℕ). andThen e short) (sized (judgement sheet) (judgingGrounds sheet) (judging-first sheet))
+    ∙ ap (λ (e : Outcome ℕ). andThen e short) (sized (judgement sheet) (judgingGrounds sheet) (judgement-first sheet))
     ∙ sym (first-append (judgingGrounds sheet) grounds (length sheet))
   where
     grounds : List Ground
     grounds = ground 14 0 (ltb lent (start + length sheet)) ∷ ground 14 0 (ltb lent start) ∷ []
 
-    short : End ℕ
+    short : Outcome ℕ
     short = first grounds (length sheet)
 
     -- a sheet that fits starts within the output
-    fits-or-not : rewritingEnd (cond (leb (start + length sheet) lent) (Rewritten.Bytes (length sheet)) (Rewritten.Refused shortOutput)) ≡ short
+    fits-or-not : counted (cond (leb (start + length sheet) lent) (Counted.Count (length sheet)) (Counted.Refused shortOutput)) ≡ short
     fits-or-not =
         by-test (leb (start + length sheet) lent)
         (λ e. let l = leb-true (start + length sheet) lent e in rw (e, le-ltb lent (start + length sheet) l, le-ltb lent start (omega (arith, l))))
         (λ e. rw (e, lt-ltb lent (start + length sheet) (leb-false (start + length sheet) lent e)))
 
-    behind : (v : Verdict) → rewritingEnd (rewriteAnswer v (leb (start + length sheet) lent) (length sheet)) ≡ andThen (judgingEnd v (length sheet)) short
+    behind : (v : Verdict) → counted (rewriteAnswer v (leb (start + length sheet) lent) (length sheet)) ≡ andThen (judgingEnd v (length sheet)) short
     behind (Verdict.Refused r) = refl
     behind Verdict.Lawful = fits-or-not
 
@@ -295,7 +289,7 @@ rewriting-first sheet lent start =
     other-result [] m n (Verdict.Refused r) e = absurd (let z : _≡_ {A = ℕ} 0 1 = cc in omega arith)
     other-result (g ∷ gs) m n v e = by-test (g .holds) (λ h. held v h (rw h at e)) (λ h. rw h (other-result gs m n v (rw h at e)))
       where
-        held : (v : Verdict) → g .holds ≡ true → judgingEnd v m ≡ refusal (g .number) (g .place) → judgingEnd v n ≡ cond (g .holds) (refusal (g .number) (g .place)) (first gs n)
+        held : (v : Verdict) → g .holds ≡ true → judgingEnd v m ≡ refused (refusal (g .number) (g .place)) → judgingEnd v n ≡ cond (g .holds) (refused (refusal (g .number) (g .place))) (first gs n)
         held Verdict.Lawful h f = absurd (let z : _≡_ {A = ℕ} 0 1 = cc in omega arith)
         held (Verdict.Refused r) h f = rw h f
 
@@ -304,14 +298,14 @@ rewriting-first sheet lent start =
 
 -- slots --------------------------------------------------------------------------------------------------------------------------------
 
-pub slot-first : (k : ℕ) (n : Annotated) (under : Bool) → slotEnd k (annotation.outcome n under) ≡ first (slotGrounds k n under) (kindOf n under)
+pub slot-first : (k : ℕ) (n : Annotated) (under : Bool) → annotation.outcome k n under ≡ first (slotGrounds k n under) (kindOf n under)
 unfolding annotation.outcome annotation.resolutionOf first
 slot-first k n under =
     by-test (nine.rule9 n)
     (λ e. by-test (ten.rule10 n under) (λ f. by-test (eleven.rule11 n under) (λ g. rw (e, f, g)) (λ g. rw (e, f, g))) (λ f. rw (e, f)))
     (λ e. rw e)
 
-pub slot-rewriting-first : (k : ℕ) (n : Annotated) (under : Bool) → slotEnd k (slot_rewriting.outcome n under) ≡ first (slotGrounds k n under) (writtenOf n under)
+pub slot-rewriting-first : (k : ℕ) (n : Annotated) (under : Bool) → slot_rewriting.outcome k n under ≡ first (slotGrounds k n under) (writtenOf n under)
 unfolding slot_rewriting.outcome slot_rewriting.rewritingOf annotation.resolutionOf first
 slot-rewriting-first k n under =
     by-test (nine.rule9 n)
@@ -321,29 +315,29 @@ slot-rewriting-first k n under =
 -- texts ------------------------------------------------------------------------------------------------------------------------------
 
 -- a text that is there fits or not
-fits-first : (bytes : List ℕ) (room : ℕ) → textEnd (text.outcome (some bytes) room) ≡ first (shortFor (length bytes) room ∷ []) (length bytes)
-unfolding text.outcome text.made first
+fits-first : (bytes : List ℕ) (room : ℕ) → counted (made (some bytes) room) ≡ first (shortFor (length bytes) room ∷ []) (length bytes)
+unfolding made first
 fits-first bytes room =
     by-test (leb (0 + length bytes) room)
     (λ e. rw (e, le-ltb room (length bytes) (omega (arith, leb-true (0 + length bytes) room e))))
     (λ e. rw (e, lt-ltb room (length bytes) (omega (arith, leb-false (0 + length bytes) room e))))
 
-pub rows-text-first : (total : ℕ) (numbers : List ℕ) (room : ℕ) → textEnd (text.outcome (rowsTextOf total numbers) room) ≡ first (rowsTextGrounds total numbers room) (length (rowsText total numbers))
-unfolding rowsTextOf first text.outcome text.made
+pub rows-text-first : (total : ℕ) (numbers : List ℕ) (room : ℕ) → counted (made (rowsTextOf total numbers) room) ≡ first (rowsTextGrounds total numbers room) (length (rowsText total numbers))
+unfolding rowsTextOf first made
 rows-text-first total numbers room =
     by-test (ltb (length numbers) (11 * total)) (λ e. rw e) (λ e. rw e (fits-first (rowsText total numbers) room))
 
-pub answer-rows-first : (total : ℕ) (numbers : List ℕ) (room : ℕ) → textEnd (text.outcome (answerText (Resolved.Rows total) numbers) room) ≡ first (rowsTextGrounds total numbers room) (length (rowsText total numbers))
+pub answer-rows-first : (total : ℕ) (numbers : List ℕ) (room : ℕ) → counted (made (answerText (Counted.Count total) numbers) room) ≡ first (rowsTextGrounds total numbers room) (length (rowsText total numbers))
 unfolding answerText
 answer-rows-first total numbers room = rows-text-first total numbers room
 
-pub answer-refusal-first : (r : Refusal) (numbers : List ℕ) (room : ℕ) → textEnd (text.outcome (answerText (Resolved.Refused r) numbers) room) ≡ first (shortFor (length (refusalLine r)) room ∷ []) (length (refusalLine r))
+pub answer-refusal-first : (r : Refusal) (numbers : List ℕ) (room : ℕ) → counted (made (answerText (Counted.Refused r) numbers) room) ≡ first (shortFor (length (refusalLine r)) room ∷ []) (length (refusalLine r))
 unfolding answerText
 answer-refusal-first r numbers room = fits-first (refusalLine r) room
 
 -- a buffer for which a text is too long stays
-pub text-left : (may : Option (List ℕ)) (lent : List ℕ) (r : Refusal) → text.outcome may (length lent) ≡ text.refused r → text.madeIn may lent ≡ lent
-unfolding text.outcome text.made text.madeIn placedText
+pub text-left : (may : Option (List ℕ)) (lent : List ℕ) (r : Refusal) → made may (length lent) ≡ Counted.Refused r → madeIn may lent ≡ lent
+unfolding made madeIn placedText
 text-left none lent r e = refl
 text-left (some bytes) lent r e =
-    by-test (leb (0 + length bytes) (length lent)) (λ f. absurd (let given : _≡_ {A = text.Outcome} (text.given (length bytes)) (text.refused r) = rw f at e in let z : _≡_ {A = ℕ} 0 1 = cc in omega arith)) (λ f. rw f)
+    by-test (leb (0 + length bytes) (length lent)) (λ f. absurd (refused-other r (length bytes) (sym (rw f at e)))) (λ f. rw f)

@@ -2,8 +2,8 @@
 -- order document 01 states. A refusal changes no lent buffer."
 --
 -- "Any bytes may be offered to any public entry, with no condition on the caller": no public function has a `requires`, and `proofs/Entries` cites each entry's
--- contract for any arguments. The contract gives the answer, and what lent memory holds at the end, as the outcome that is named here; `Ends` says what
--- each outcome ends with.
+-- contract for any arguments. The contract gives the answer, and what lent memory holds at the end, as the outcome that is named here: what was asked for, or
+-- a refusal (`refusal/specs/Outcome`).
 use Prim.Native.Nat.{ℕ, _*_}
 use mathlib.Core.Path.{_≡_}
 use mathlib.Core.Bool.{Bool}
@@ -12,20 +12,20 @@ use mathlib.Core.Option.{Option}
 use lib.Dec.{ltb}
 use lib.IntN.{ℤ}
 use lib.ListN.{length}
+use Rattle.refusal.specs.Outcome.{Outcome, refused, counted}
+use Rattle.refusal.specs.declared.answers.Counted.{Counted}
+use Rattle.refusal.specs.declared.answers.Refusal.{Refusal}
 use Rattle.sheet.specs.Block.{totalOf}
-use Rattle.sheet.specs.Opening as opened
+use Rattle.sheet.specs.Opening.{openOf}
 use Rattle.annotation.specs.Kinds.{kindOf}
 use Rattle.annotation.specs.Rewriting.{writtenOf}
 use Rattle.annotation.specs.Rewriting as annotation_rewriting
 use Rattle.annotation.specs.Outcome as annotation
 use Rattle.annotation.specs.declared.slot.Annotated.{Annotated}
-use Rattle.tree.specs.Judgement.{judgement}
-use Rattle.tree.specs.declared.refusal.Refusal.{Refusal}
+use Rattle.tree.specs.Judgement.{judgementOf}
 use Rattle.schema.specs.Outcome as schema
 use Rattle.schema.specs.Outcome.{written}
 use Rattle.schema.specs.Rewriting.{rewriteOutcome, rewriteWritten}
-use Rattle.schema.specs.declared.resolving.Resolved.{Resolved}
-use Rattle.schema.specs.declared.rewriting.Rewritten.{Rewritten}
 use Rattle.column_type.specs.declared.types.ColumnType.{ColumnType}
 use Rattle.column.specs.Outcome as column
 use Rattle.column.specs.Reading.{valueOf}
@@ -34,66 +34,64 @@ use Rattle.column_order.specs.Outcome.{Relation}
 use Rattle.timestamp.specs.Units.{unitOf}
 use Rattle.timestamp.specs.Count.{countOf}
 use Rattle.timestamp.specs.Outcomes as timestamp
-use Rattle.timestamp.specs.Outcomes.{Outcome, Decodes}
+use Rattle.timestamp.specs.Outcomes.{Decodes}
 use Rattle.timestamp.specs.declared.fields.Fields.{Fields}
 use Rattle.schema_text.specs.Rows.{rowsText, rowsTextOf, refusalLine, answerText}
-use Rattle.schema_text.specs.Making as text
-use Rattle.schema_text.specs.Making.{madeIn}
-use Rattle.griffeljol.specs.Answers.{refused, within, left}
-use Rattle.griffeljol.specs.Values as c_values
-use Rattle.griffeljol.specs.Values.{caseOf, numbersOf}
-use Rattle.griffeljol.specs.Timestamps.{fieldNumbers, fieldsOf, decodeEffect, Decoding}
-use Rattle.griffeljol.specs.Timestamps as c_timestamps
+use Rattle.schema_text.specs.Making.{made, madeIn}
+use Rattle.c_answer.specs.Answers.{within, left}
+use Rattle.c_values.specs.Values as c_values
+use Rattle.c_values.specs.Values.{caseOf, numbersOf}
+use Rattle.c_timestamps.specs.Timestamps.{fieldNumbers, fieldsOf, decodeEffect, Decoding}
+use Rattle.c_timestamps.specs.Timestamps as c_timestamps
 use Rattle.griffeljol.specs.Promises.{Promises}
 use Rattle.demands.specs.Refusals.{first, openingGrounds, judgingGrounds, resolvingGrounds, rewritingGrounds, slotGrounds, readingGrounds, orderingGrounds, unknownUnit, ticks, encodingGrounds, rowsTextGrounds, shortFor, cReadingGrounds, cDecodingGrounds, cEncodingGrounds}
-use Rattle.demands.specs.Ends.{openingEnd, judgingEnd, resolvingEnd, rewritingEnd, slotEnd, readingEnd, orderingEnd, timestampEnd, textEnd, cEnd}
 
 -- "Each call ends with the result or one numbered refusal, chosen in the order document 01 states"
 pub record Chosen : Type 1 where
   -- `sheet::open`, and `sheet_reader::open`, which keeps what it answers
-  pub opening : (sheet : List ℕ) → openingEnd (opened.outcome sheet) ≡ first (openingGrounds sheet) (totalOf sheet)
+  pub opening : (sheet : List ℕ) → counted (openOf sheet) ≡ first (openingGrounds sheet) (totalOf sheet)
   -- `tree::judge`
-  pub judging : (sheet : List ℕ) → judgingEnd (judgement sheet) (totalOf sheet) ≡ first (judgingGrounds sheet) (totalOf sheet)
+  pub judging : (sheet : List ℕ) → counted (judgementOf sheet) ≡ first (judgingGrounds sheet) (totalOf sheet)
   -- `schema::resolve`, and in C, which answers the same outcome as one number
-  pub resolving : (sheet : List ℕ) (lent : ℕ) → resolvingEnd (schema.outcome sheet lent) ≡ first (resolvingGrounds sheet lent) (totalOf sheet)
+  pub resolving : (sheet : List ℕ) (lent : ℕ) → counted (schema.outcome sheet lent) ≡ first (resolvingGrounds sheet lent) (totalOf sheet)
   -- `schema::rewrite`, and in C
-  pub rewriting : (sheet : List ℕ) (lent start : ℕ) → rewritingEnd (rewriteOutcome sheet lent start) ≡ first (rewritingGrounds sheet lent start) (length sheet)
+  pub rewriting : (sheet : List ℕ) (lent start : ℕ) → counted (rewriteOutcome sheet lent start) ≡ first (rewritingGrounds sheet lent start) (length sheet)
   -- `annotation::resolve` and `annotation::rewrite`, of a slot that is node k's
-  pub slot-resolving : (k : ℕ) (n : Annotated) (under : Bool) → slotEnd k (annotation.outcome n under) ≡ first (slotGrounds k n under) (kindOf n under)
-  pub slot-rewriting : (k : ℕ) (n : Annotated) (under : Bool) → slotEnd k (annotation_rewriting.outcome n under) ≡ first (slotGrounds k n under) (writtenOf n under)
+  pub slot-resolving : (k : ℕ) (n : Annotated) (under : Bool) → annotation.outcome k n under ≡ first (slotGrounds k n under) (kindOf n under)
+  pub slot-rewriting : (k : ℕ) (n : Annotated) (under : Bool) → annotation_rewriting.outcome k n under ≡ first (slotGrounds k n under) (writtenOf n under)
   -- `column::read`
-  pub reading : (c : ColumnType) (bs : List ℕ) → readingEnd (column.outcome c bs) ≡ first (readingGrounds c bs) (valueOf c bs)
+  pub reading : (c : ColumnType) (bs : List ℕ) → column.outcome c bs ≡ first (readingGrounds c bs) (valueOf c bs)
   -- `column_order::order`, and in C: there is a relation, and it is answered where nothing is refused
   pub ordering : (c : ColumnType) (a b : List ℕ) → (r : Relation) × (orderingEnd (column_order.outcome c a b) ≡ first (orderingGrounds c a b) r)
   -- `timestamp::decode`, whose outcome is stated by a relation that one outcome meets
-  pub decoding : (unit : ℕ) (count : ℤ) (o : Outcome Fields) → Decodes (unitOf unit) count o → (f : Fields) × (timestampEnd o ≡ first (unknownUnit unit ∷ []) f)
+  pub decoding : (unit : ℕ) (count : ℤ) (o : Outcome Fields) → Decodes (unitOf unit) count o → (f : Fields) × (o ≡ first (unknownUnit unit ∷ []) f)
   pub decoding-one : (unit : ℕ) (count : ℤ) (o o′ : Outcome Fields) → Decodes (unitOf unit) count o → Decodes (unitOf unit) count o′ → o ≡ o′
   -- `timestamp::encode`
-  pub encoding : (unit : ℕ) (f : Fields) → timestampEnd (timestamp.encoding (unitOf unit) f) ≡ first (encodingGrounds unit f) (countOf (ticks unit) f)
+  pub encoding : (unit : ℕ) (f : Fields) → timestamp.encoding (unitOf unit) f ≡ first (encodingGrounds unit f) (countOf (ticks unit) f)
   -- `timestamp::in_day`, by which TIME is held to its day
-  pub in-day : (unit tick : ℕ) → timestampEnd (timestamp.dayHas (unitOf unit) tick) ≡ first (unknownUnit unit ∷ []) (ltb tick (86400 * ticks unit))
+  pub in-day : (unit tick : ℕ) → timestamp.dayHas (unitOf unit) tick ≡ first (unknownUnit unit ∷ []) (ltb tick (86400 * ticks unit))
   -- `schema_text::rows_text`, and `schema_text::answer_text` of rows and of a refusal
-  pub rows-text : (total : ℕ) (numbers : List ℕ) (room : ℕ) → textEnd (text.outcome (rowsTextOf total numbers) room) ≡ first (rowsTextGrounds total numbers room) (length (rowsText total numbers))
-  pub answer-rows : (total : ℕ) (numbers : List ℕ) (room : ℕ) → textEnd (text.outcome (answerText (Resolved.Rows total) numbers) room) ≡ first (rowsTextGrounds total numbers room) (length (rowsText total numbers))
-  pub answer-refusal : (r : Refusal) (numbers : List ℕ) (room : ℕ) → textEnd (text.outcome (answerText (Resolved.Refused r) numbers) room) ≡ first (shortFor (length (refusalLine r)) room ∷ []) (length (refusalLine r))
+  pub rows-text : (total : ℕ) (numbers : List ℕ) (room : ℕ) → counted (made (rowsTextOf total numbers) room) ≡ first (rowsTextGrounds total numbers room) (length (rowsText total numbers))
+  pub answer-rows : (total : ℕ) (numbers : List ℕ) (room : ℕ) → counted (made (answerText (Counted.Count total) numbers) room) ≡ first (rowsTextGrounds total numbers room) (length (rowsText total numbers))
+  pub answer-refusal : (r : Refusal) (numbers : List ℕ) (room : ℕ) → counted (made (answerText (Counted.Refused r) numbers) room) ≡ first (shortFor (length (refusalLine r)) room ∷ []) (length (refusalLine r))
   -- `griffeljol_read`, `griffeljol_decode` and `griffeljol_encode`
-  pub c-reading : (c : ColumnType) (bs : List ℕ) (lent : ℕ) → cEnd (c_values.reading c bs lent) ≡ first (cReadingGrounds c bs lent) (caseOf (valueOf c bs), numbersOf (valueOf c bs))
-  pub c-decoding : (unit : ℕ) (count : ℤ) (lent : ℕ) (o : Outcome Fields) → Decodes (unitOf unit) count o → (f : Fields) × (cEnd (within lent (decodeEffect o)) ≡ first (cDecodingGrounds unit lent) (7, fieldNumbers f))
-  pub c-encoding : (unit : ℕ) (numbers : List ℤ) (lent : ℕ) → cEnd (c_timestamps.encoding unit numbers lent) ≡ first (cEncodingGrounds unit numbers lent) (1, countOf (ticks unit) (fieldsOf numbers) ∷ [])
+  pub c-reading : (c : ColumnType) (bs : List ℕ) (lent : ℕ) → c_values.reading c bs lent ≡ first (cReadingGrounds c bs lent) (record { value = caseOf (valueOf c bs); numbers = numbersOf (valueOf c bs) })
+  pub c-decoding : (unit : ℕ) (count : ℤ) (lent : ℕ) (o : Outcome Fields) → Decodes (unitOf unit) count o → (f : Fields) × (o ≡ first (unknownUnit unit ∷ []) f) × (within lent (decodeEffect o) ≡ first (cDecodingGrounds unit lent) (record { value = 7; numbers = fieldNumbers f }))
+  pub c-encoding : (unit : ℕ) (numbers : List ℤ) (lent : ℕ) → c_timestamps.encoding unit numbers lent ≡ first (cEncodingGrounds unit numbers lent) (record { value = 1; numbers = countOf (ticks unit) (fieldsOf numbers) ∷ [] })
 
 -- "A refusal changes no lent buffer"
 pub record Unchanged : Type 1 where
   -- the rows of `schema::resolve`, and in C
-  pub rows : (sheet lent : List ℕ) (r : Refusal) → schema.outcome sheet (length lent) ≡ Resolved.Refused r → written (schema.outcome sheet (length lent)) sheet lent ≡ lent
+  pub rows : (sheet lent : List ℕ) (r : Refusal) → schema.outcome sheet (length lent) ≡ Counted.Refused r → written (schema.outcome sheet (length lent)) sheet lent ≡ lent
   -- the output of `schema::rewrite`, and in C
-  pub output : (sheet lent : List ℕ) (start : ℕ) (r : Refusal) → rewriteOutcome sheet (length lent) start ≡ Rewritten.Refused r → rewriteWritten (rewriteOutcome sheet (length lent) start) sheet lent start ≡ lent
+  pub output : (sheet lent : List ℕ) (start : ℕ) (r : Refusal) → rewriteOutcome sheet (length lent) start ≡ Counted.Refused r → rewriteWritten (rewriteOutcome sheet (length lent) start) sheet lent start ≡ lent
   -- the buffer of a text
-  pub text-buffer : (may : Option (List ℕ)) (lent : List ℕ) (r : Refusal) → text.outcome may (length lent) ≡ text.refused r → madeIn may lent ≡ lent
+  pub text-buffer : (may : Option (List ℕ)) (lent : List ℕ) (r : Refusal) → made may (length lent) ≡ Counted.Refused r → madeIn may lent ≡ lent
   -- the outputs of `griffeljol_read` and `griffeljol_encode`
-  pub c-value : (c : ColumnType) (bs lent : List ℕ) (number place : ℕ) → c_values.reading c bs (length lent) ≡ refused number place → left (c_values.reading c bs (length lent)) lent ≡ lent
-  pub c-count : (unit : ℕ) (numbers lent : List ℤ) (number place : ℕ) → c_timestamps.encoding unit numbers (length lent) ≡ refused number place → left (c_timestamps.encoding unit numbers (length lent)) lent ≡ lent
+  pub c-value : (c : ColumnType) (bs lent : List ℕ) (r : Refusal) → c_values.reading c bs (length lent) ≡ refused r → left (c_values.reading c bs (length lent)) lent ≡ lent
+  pub c-count : (unit : ℕ) (numbers lent : List ℤ) (r : Refusal) → c_timestamps.encoding unit numbers (length lent) ≡ refused r → left (c_timestamps.encoding unit numbers (length lent)) lent ≡ lent
   -- the output of `griffeljol_decode`, whatever meets its contract
-  pub c-fields : (unit : ℕ) (count : ℤ) (lent held : List ℤ) (answered : ℕ) (o : Outcome Fields) (number place : ℕ) → Decoding unit count lent answered held → Decodes (unitOf unit) count o → within (length lent) (decodeEffect o) ≡ refused number place → held ≡ lent
+  pub c-fields : (unit : ℕ) (count : ℤ) (lent held : List ℤ) (answered : ℕ) (o : Outcome Fields) (r : Refusal) → Decoding unit count lent answered held → Decodes (unitOf unit) count o → within (length lent) (decodeEffect o) ≡ refused r → held ≡ lent
   -- every C answer tells whether it is a refusal, and which
   pub c-interface : Promises
 

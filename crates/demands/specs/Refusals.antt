@@ -6,6 +6,7 @@ use mathlib.Core.List.{List, [], _∷_, _++_}
 use lib.Dec.{leb, ltb}
 use lib.IntN.{ℤ}
 use lib.ListN.{length}
+use Rattle.refusal.specs.Outcome.{Outcome, given, refused, refusal}
 use Rattle.sheet.specs.Block.{slotsInBlock, blockCount, totalOf}
 use Rattle.sheet.specs.Header.{lengthRight, headerRight}
 use Rattle.sheet.specs.Check.{checkRight}
@@ -31,12 +32,7 @@ use Rattle.timestamp.specs.Count.{isDateTime, countOf}
 use Rattle.timestamp.specs.Outcomes.{isSigned64}
 use Rattle.timestamp.specs.declared.fields.Fields.{Fields as DateTime}
 use Rattle.schema_text.specs.Rows.{rowsText}
-use Rattle.griffeljol.specs.Timestamps.{areFields, fieldsOf}
-
--- what a call ends with: "the result or one numbered refusal", which has a place
-pub data End (A : Type 0) : Type 0 where
-  result : A → End A
-  refusal : ℕ → ℕ → End A
+use Rattle.c_timestamps.specs.Timestamps.{areFields, fieldsOf}
 
 -- a refusal's number and place, and whether its own condition holds
 pub record Ground : Type 0 where
@@ -48,9 +44,9 @@ abbrev pub ground : ℕ → ℕ → Bool → Ground
 ground number place holds = record { number = number; place = place; holds = holds }
 
 -- the first of some refusals that holds, and the result where none does
-unfoldable pub first : {A : Type 0} → List Ground → A → End A
-first [] a = result a
-first (g ∷ gs) a = cond (g .holds) (refusal (g .number) (g .place)) (first gs a)
+unfoldable pub first : {A : Type 0} → List Ground → A → Outcome A
+first [] a = given a
+first (g ∷ gs) a = cond (g .holds) (refused (refusal (g .number) (g .place))) (first gs a)
 
 -- none of them holds
 unfoldable pub none : List Ground → Bool
