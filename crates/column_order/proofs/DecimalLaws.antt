@@ -38,19 +38,21 @@ use Rattle.column.specs.Reading.{checked, readOf}
 use Rattle.column.specs.declared.value.Read.{Read}
 use Rattle.column.specs.declared.value.Value.{Value}
 use Rattle.column.proofs.ReadingLaws.{read-lawful, bytes-read}
-use Rattle.column_order.specs.Keys.{whole, keyOf, wholeOrder, keyOrder}
+use Rattle.float_order.specs.Keys.{wholeOrder}
+use Rattle.float_order.specs.declared.relation.Relation.the-variants.{Less, Equal, Greater, Unordered}
+use Rattle.column_order.specs.Keys.{Key, whole, keyOf, keyOrder}
 use Rattle.column_order.specs.Order.{FIRST, SECOND, unlessRefused, valuesOrder, orderOf}
 use Rattle.column_order.specs.declared.answer.Order.{Order}
-use Rattle.column_order.specs.declared.answer.Order.the-variants.{Less, Equal, Greater, Unordered, NoOrder}
+use Rattle.column_order.specs.declared.answer.Order.the-variants.{Related, NoOrder}
 use Rattle.column_order.proofs.KeyLaws.{byte-number}
 use Rattle.column_order.proofs.RefusalLaws.{order-lawful}
 use Rattle.column_order.proofs.OrderLaws.{takes-decimal, decimal-ordered, decimal-key}
 
 -- the answers of comparing within a precision, as answers here; whatever is no order comes to `refused`
 abbrev pub asOrder : Order → Compared → Order
-asOrder refused compared.Less = Less
-asOrder refused compared.Equal = Equal
-asOrder refused compared.Greater = Greater
+asOrder refused compared.Less = Related Less
+asOrder refused compared.Equal = Related Equal
+asOrder refused compared.Greater = Related Greater
 asOrder refused compared.Beyond = refused
 asOrder refused compared.WrongLength = refused
 
@@ -62,11 +64,11 @@ not-ordered refused compared.Greater h = absurd (⊎-elim (λ e. omega arith) (�
 not-ordered refused compared.Beyond h = refl
 not-ordered refused compared.WrongLength h = refl
 
-whole-as : (refused : Order) (x y : ℤ) → asOrder refused (asCompared (order x y)) ≡ wholeOrder x y
+whole-as : (refused : Order) (x y : ℤ) → asOrder refused (asCompared (order x y)) ≡ Related (wholeOrder x y)
 unfolding wholeOrder
 whole-as refused x y = go (ltZ x y) (ltZ y x)
   where
-    go : (t u : Bool) → asOrder refused (asCompared (cond t decimal.Order.Less (cond u decimal.Order.Greater decimal.Order.Equal))) ≡ cond t Less (cond u Greater Equal)
+    go : (t u : Bool) → asOrder refused (asCompared (cond t decimal.Order.Less (cond u decimal.Order.Greater decimal.Order.Equal))) ≡ Related (cond t Less (cond u Greater Equal))
     go true u = refl
     go false true = refl
     go false false = refl
@@ -91,7 +93,7 @@ both-false false = refl
 
 -- the refusal of the first value, or else that of the second
 abbrev pub refusal : ColumnType → List ℕ → List ℕ → Order
-refusal c a b = unlessRefused FIRST (readOf c a) (unlessRefused SECOND (readOf c b) Unordered)
+refusal c a b = unlessRefused FIRST (readOf c a) (unlessRefused SECOND (readOf c b) (Related Unordered))
 
 -- a byte form that is not FIXED has no width
 pub array-width : (c : ColumnType) → isByteDecimal c ≡ true → (c .physical ≡ FIXED-LEN-BYTE-ARRAY → ⊥) → widthOf c ≡ none
@@ -165,12 +167,12 @@ module _ (c : ColumnType) (lawful : isLawful c ≡ true) (is : isByteDecimal c �
     pub wrong-second : isWidth (widthOf c) (length b) ≡ false → refusal c a b ≡ orderOf c a b
     wrong-second w = let e : refusal c a b ≡ valuesOrder c a b = rw (other-width b w) in e ∙ judged
 
-    keys : fitOf a (c .p1) ≡ fit.Within → fitOf b (c .p1) ≡ fit.Within → (refused : Order) → asOrder refused (asCompared (decimalOrder a b)) ≡ keyOrder (keyOf c a) (keyOf c b)
+    keys : fitOf a (c .p1) ≡ fit.Within → fitOf b (c .p1) ≡ fit.Within → (refused : Order) → asOrder refused (asCompared (decimalOrder a b)) ≡ Related (keyOrder (keyOf c a) (keyOf c b))
     unfolding keyOrder
     keys e f refused =
         ap (λ (o : decimal.Order). asOrder refused (asCompared o)) (orderOf-order a b (within-length a (c .p1) e) (within-length b (c .p1) f))
         ∙ whole-as refused (number a) (number b)
-        ∙ sym (ap₂ keyOrder (key a) (key b))
+        ∙ sym (ap₂ (λ (k l : Key). Related (keyOrder k l)) (key a) (key b))
 
     pub own-widths : isWidth (widthOf c) (length a) ≡ true → isWidth (widthOf c) (length b) ≡ true → asOrder (refusal c a b) (orderWithin a b (c .p1)) ≡ orderOf c a b
     unfolding orderWithin
@@ -179,9 +181,9 @@ module _ (c : ColumnType) (lawful : isLawful c ≡ true) (is : isByteDecimal c �
         e ∙ judged
       where
         go : (f g : Fit) → fitOf a (c .p1) ≡ f → fitOf b (c .p1) ≡ g
-            → asOrder (unlessRefused FIRST (asRead (length a) f) (unlessRefused SECOND (asRead (length b) g) Unordered)) (within.unlessRefused f (within.unlessRefused g (asCompared (decimalOrder a b))))
-            ≡ unlessRefused FIRST (asRead (length a) f) (unlessRefused SECOND (asRead (length b) g) (keyOrder (keyOf c a) (keyOf c b)))
-        go fit.Within fit.Within p q = keys p q Unordered
+            → asOrder (unlessRefused FIRST (asRead (length a) f) (unlessRefused SECOND (asRead (length b) g) (Related Unordered))) (within.unlessRefused f (within.unlessRefused g (asCompared (decimalOrder a b))))
+            ≡ unlessRefused FIRST (asRead (length a) f) (unlessRefused SECOND (asRead (length b) g) (Related (keyOrder (keyOf c a) (keyOf c b))))
+        go fit.Within fit.Within p q = keys p q (Related Unordered)
         go fit.Within fit.Beyond p q = refl
         go fit.Within fit.WrongLength p q = refl
         go fit.Beyond g p q = refl

@@ -1,12 +1,10 @@
 -- Which value a refusal is laid on, and that it is then what reading answers for that value. Assumes nothing.
 use mathlib.Core.Path.{_≡_, refl, sym, ap, _∙_}
 use mathlib.Core.Bool.{Bool, true, false, not, cond}
-use mathlib.Core.List.{List, [], _∷_}
+use mathlib.Core.List.{List}
 use mathlib.Core.Logic.{_↔_, _⊎_, inl, inr}
 use Prim.Native.Nat.{ℕ, _≤_}
 use native.Mathlib.Omega.{arith}
-use lib.Dec.{ltb}
-use lib.Signed.{ltZ}
 use Rattle.column_type.specs.Lawful.{isLawful}
 use Rattle.column_type.specs.declared.types.ColumnType.{ColumnType}
 use Rattle.column.specs.Lengths.{mostBytes}
@@ -17,44 +15,13 @@ use Rattle.column.specs.declared.value.Read.the-variants as read
 use Rattle.column.specs.declared.value.Value.{Value}
 use Rattle.column.proofs.PlaceLaws as reading
 use Rattle.column.proofs.ReadingLaws.{isUnlawful, unlawful-exactly}
-use Rattle.column_order.specs.Keys.{Key, whole, bytes, none, keyOf, wholeOrder, byteOrder, keyOrder}
+use Rattle.float_order.specs.declared.relation.Relation.{Relation}
+use Rattle.column_order.specs.Keys.{keyOf, keyOrder}
 use Rattle.column_order.specs.Order.{FIRST, SECOND, hasOrder, unlessRefused, valuesOrder, orderOf}
 use Rattle.column_order.specs.Comparison.{Valid}
-use Rattle.column_order.specs.Outcome.{Relation, less, equal, greater, unordered, Outcome, refused, given, NEITHER, placeIn, faultIn, placeOf, faultOf, outcomeOf, outcome}
+use Rattle.column_order.specs.Outcome.{Outcome, refused, given, NEITHER, placeIn, faultIn, placeOf, faultOf, outcomeOf, outcome}
 use Rattle.column_order.specs.declared.answer.Order.{Order}
-use Rattle.column_order.specs.declared.answer.Order.the-variants.{Less, Equal, Greater, Unlawful, NoOrder}
-
--- ---- keys are ordered and never refused
-
-abbrev Ordered : Order → Type 0
-Ordered o = (r : Relation) × (outcomeOf o ≡ given r)
-
-three : (t u : Bool) → Ordered (cond t Less (cond u Greater Equal))
-three true u = (less, refl)
-three false true = (greater, refl)
-three false false = (equal, refl)
-
-bytes-ordered : (a b : List ℕ) → Ordered (byteOrder a b)
-unfolding byteOrder
-bytes-ordered [] [] = (equal, refl)
-bytes-ordered [] (y ∷ ys) = (less, refl)
-bytes-ordered (x ∷ xs) [] = (greater, refl)
-bytes-ordered (x ∷ xs) (y ∷ ys) = go (ltb x y) (ltb y x) (bytes-ordered xs ys)
-  where
-    go : (t u : Bool) → Ordered (byteOrder xs ys) → Ordered (cond t Less (cond u Greater (byteOrder xs ys)))
-    go true u rest = (less, refl)
-    go false true rest = (greater, refl)
-    go false false rest = rest
-
-keys-ordered : (k l : Key) → Ordered (keyOrder k l)
-unfolding keyOrder wholeOrder
-keys-ordered (whole x) (whole y) = three (ltZ x y) (ltZ y x)
-keys-ordered (whole x) (bytes b) = (unordered, refl)
-keys-ordered (whole x) none = (unordered, refl)
-keys-ordered (bytes a) (whole y) = (unordered, refl)
-keys-ordered (bytes a) (bytes b) = bytes-ordered a b
-keys-ordered (bytes a) none = (unordered, refl)
-keys-ordered none l = (unordered, refl)
+use Rattle.column_order.specs.declared.answer.Order.the-variants.{Unlawful, NoOrder}
 
 -- ---- what an order comes to, by what reading its values comes to
 
@@ -89,7 +56,7 @@ given-read c bs v = go (readOf c bs)
 
 module _ (c : ColumnType) (a b : List ℕ) where
   abbrev relation : Relation
-  relation = keys-ordered (keyOf c a) (keyOf c b) .0
+  relation = keyOrder (keyOf c a) (keyOf c b)
 
   -- 20, 17, the first value, the second value
   abbrev steps : Bool → Bool → column.Outcome Value → column.Outcome Value → Outcome
@@ -100,7 +67,7 @@ module _ (c : ColumnType) (a b : List ℕ) where
   values-is l =
       unless-outcome FIRST (readOf c a) _ (never-unlawful c a l)
       ∙ ap (after FIRST (column.outcomeOf (readOf c a)))
-      (unless-outcome SECOND (readOf c b) _ (never-unlawful c b l) ∙ ap (after SECOND (column.outcomeOf (readOf c b))) (keys-ordered (keyOf c a) (keyOf c b) .1))
+      (unless-outcome SECOND (readOf c b) _ (never-unlawful c b l))
 
   outcome-is : outcome c a b ≡ steps (isLawful c) (hasOrder c) (column.outcome c a) (column.outcome c b)
   unfolding outcome orderOf

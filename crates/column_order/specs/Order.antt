@@ -11,7 +11,7 @@ use Rattle.column.specs.Reading.{readOf}
 use Rattle.column.specs.declared.value.Read.{Read}
 use Rattle.column.specs.declared.value.Read.the-variants as read
 use Rattle.column_order.specs.declared.answer.Order.{Order}
-use Rattle.column_order.specs.declared.answer.Order.the-variants.{Unlawful, NoOrder, WrongLength, BreaksAnnotation}
+use Rattle.column_order.specs.declared.answer.Order.the-variants.{Related, Unlawful, NoOrder, WrongLength, BreaksAnnotation}
 use Rattle.column_order.specs.Keys.{keyOf, keyOrder}
 
 -- "INTERVAL and INT96 have none", INT96 whatever its kind is
@@ -34,7 +34,7 @@ unlessRefused value (read.BreaksAnnotation place) next = BreaksAnnotation value 
 
 -- two values of a column that has an order: the refusal of the first, that of the second, or the order of their keys
 abbrev pub valuesOrder : ColumnType → List ℕ → List ℕ → Order
-valuesOrder c a b = unlessRefused FIRST (readOf c a) (unlessRefused SECOND (readOf c b) (keyOrder (keyOf c a) (keyOf c b)))
+valuesOrder c a b = unlessRefused FIRST (readOf c a) (unlessRefused SECOND (readOf c b) (Related (keyOrder (keyOf c a) (keyOf c b))))
 
 -- "Checks: 20, 17, first value, second value"
 unfoldable pub orderOf : ColumnType → List ℕ → List ℕ → Order

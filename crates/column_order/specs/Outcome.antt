@@ -3,13 +3,10 @@ use Prim.Native.Nat.{ℕ}
 use mathlib.Core.List.{List}
 use Rattle.column_type.specs.declared.types.ColumnType.{ColumnType}
 use Rattle.column.specs.Outcome.{UNLAWFUL, WRONG-LENGTH, BREAKS-ANNOTATION}
+use Rattle.float_order.specs.declared.relation.Relation.{Relation}
 use Rattle.column_order.specs.declared.answer.Order.{Order}
 use Rattle.column_order.specs.declared.answer.Order.the-variants as order
 use Rattle.column_order.specs.Order.{orderOf}
-
--- the first value against the second
-pub data Relation : Type 0 where
-  less equal greater unordered : Relation
 
 -- a refusal, by its number, its place and the number of the value at fault, or how the values stand
 pub data Outcome : Type 0 where
@@ -39,10 +36,7 @@ NEITHER = 0
 
 -- what each answer of ordering stands for
 abbrev pub outcomeOf : Order → Outcome
-outcomeOf order.Less = given less
-outcomeOf order.Equal = given equal
-outcomeOf order.Greater = given greater
-outcomeOf order.Unordered = given unordered
+outcomeOf (order.Related r) = given r
 outcomeOf order.Unlawful = refused UNLAWFUL 0 NEITHER
 outcomeOf order.NoOrder = refused NO-ORDER 0 NEITHER
 outcomeOf (order.WrongLength value) = refused WRONG-LENGTH 0 value

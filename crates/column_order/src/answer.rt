@@ -1,14 +1,11 @@
 // What ordering two values answers.
 ghost use mathlib.Core.Path.{_≡_};
 ghost use Rattle.column_order.specs.Outcome.{refusalOf, placeOf, faultOf};
+use float_order::Relation;
 
-// The first value against the second, or the first refusal that holds.
+// How the first value stands to the second, or the first refusal that holds.
 pub enum Order {
-    Less,
-    Equal,
-    Greater,
-    // One of them is a NaN.
-    Unordered,
+    Related(Relation),
     // Refusal 20: no accepted sheet has a leaf of this column type.
     Unlawful,
     // Refusal 17: this column has no order.
@@ -46,10 +43,7 @@ pub fn refusal(o: Order) -> u32
     ensures { λ number. ⌜ number ≡ refusalOf o ⌝ }
 {
     match o {
-        Order::Less => NO_REFUSAL,
-        Order::Equal => NO_REFUSAL,
-        Order::Greater => NO_REFUSAL,
-        Order::Unordered => NO_REFUSAL,
+        Order::Related(_) => NO_REFUSAL,
         Order::Unlawful => UNLAWFUL,
         Order::NoOrder => NO_ORDER,
         Order::WrongLength { value: _ } => WRONG_LENGTH,
@@ -62,10 +56,7 @@ pub fn place(o: Order) -> u32
     ensures { λ place. ⌜ place ≡ placeOf o ⌝ }
 {
     match o {
-        Order::Less => NO_PLACE,
-        Order::Equal => NO_PLACE,
-        Order::Greater => NO_PLACE,
-        Order::Unordered => NO_PLACE,
+        Order::Related(_) => NO_PLACE,
         Order::Unlawful => NO_PLACE,
         Order::NoOrder => NO_PLACE,
         Order::WrongLength { value: _ } => NO_PLACE,
@@ -78,10 +69,7 @@ pub fn fault(o: Order) -> u8
     ensures { λ value. ⌜ value ≡ faultOf o ⌝ }
 {
     match o {
-        Order::Less => NEITHER,
-        Order::Equal => NEITHER,
-        Order::Greater => NEITHER,
-        Order::Unordered => NEITHER,
+        Order::Related(_) => NEITHER,
         Order::Unlawful => NEITHER,
         Order::NoOrder => NEITHER,
         Order::WrongLength { value } => value,

@@ -7,6 +7,7 @@ ghost use Rattle.column.specs.declared.value.Read as declared;
 ghost use Rattle.column_order.specs.Keys.{keyOf, keyOrder};
 ghost use Rattle.column_order.specs.Order.{SECOND, hasOrder, unlessRefused, valuesOrder, orderOf};
 ghost use Rattle.column_order.specs.Outcome.{outcomeOf, outcome};
+ghost use Rattle.column_order.specs.declared.answer.Order as order;
 use crate::answer::FIRST;
 use crate::answer::Order;
 use crate::answer::SECOND;
@@ -23,6 +24,7 @@ use column::Read;
 use column::Value;
 use column::codes;
 use column_type::ColumnType;
+use float_order::Relation;
 
 // The order of two values in a column of this type.
 pub fn order(c: ColumnType, a: &[u8], b: &[u8]) -> Order
@@ -74,23 +76,23 @@ fn order_first(c: ColumnType, first: Read, a: &[u8], second: Read, b: &[u8]) -> 
 {
     match first {
         Read::Value(x) => order_second(c, x, a, second, b),
-        _ => unless_refused(FIRST, first, Order::Unordered),
+        _ => unless_refused(FIRST, first, Order::Related(Relation::Unordered)),
     }
 }
 
 // The refusal of the second value, or its order against a first that was read.
 fn order_second(c: ColumnType, x: Value, a: &[u8], second: Read, b: &[u8]) -> Order
     requires { ⌜ (readOf c (now a) ≡ declared.Read.Value x) × (second ≡ readOf c (now b)) × (isByteDecimal c ≡ false) ⌝ }
-    ensures { λ r. ⌜ r ≡ unlessRefused SECOND (readOf c (now (b .entry))) (keyOrder (keyOf c (now (a .entry))) (keyOf c (now (b .entry)))) ⌝ }
+    ensures { λ r. ⌜ r ≡ unlessRefused SECOND (readOf c (now (b .entry))) (order.Order.Related (keyOrder (keyOf c (now (a .entry))) (keyOf c (now (b .entry))))) ⌝ }
 {
     match second {
-        Read::Value(y) => order_read(c, x, a, y, b),
-        _ => unless_refused(SECOND, second, Order::Unordered),
+        Read::Value(y) => Order::Related(order_read(c, x, a, y, b)),
+        _ => unless_refused(SECOND, second, Order::Related(Relation::Unordered)),
     }
 }
 
 // The order of two values that were read, by their cases.
-fn order_read(c: ColumnType, x: Value, a: &[u8], y: Value, b: &[u8]) -> Order
+fn order_read(c: ColumnType, x: Value, a: &[u8], y: Value, b: &[u8]) -> Relation
     requires { ⌜ (readOf c (now a) ≡ declared.Read.Value x) × (readOf c (now b) ≡ declared.Read.Value y) × (isByteDecimal c ≡ false) ⌝ }
     ensures { λ r. ⌜ r ≡ keyOrder (keyOf c (now (a .entry))) (keyOf c (now (b .entry))) ⌝ }
 {

@@ -1,8 +1,9 @@
 -- `column_order::ordering::order_second` meets its contract: the refusal of the second value, or the order.
 -- Assumes nothing.
-use mathlib.Core.Path.{sym, _∙_}
+use mathlib.Core.Path.{sym, ap, _∙_}
 use borrow.Author.Needs.{needs}
 use Rattle.column_order.specs.Order.{SECOND}
+use Rattle.column_order.specs.declared.answer.Order.the-variants.{Related}
 use Rattle.column_order.proofs.RefusalLaws.{refused-alike}
 use Rattle.column_order.proofs.ordering.order_second.Statement.{statement}
 use Rattle.column_order.proofs.ordering.order_second.Tie as tie
@@ -21,7 +22,7 @@ unless-refused-requires c κs = search needs
 returns : tie.Need-returns
 returns c =
     let s = c .before .before .before .before .before .before in
-    rw (sym (s .pre .1) ∙ c .before .before .second .given .1) (c .order-read .ensures)
+    rw (sym (s .pre .1) ∙ c .before .before .second .given .1) (ap Related (c .order-read .ensures))
 
 returns-2 : tie.Need-returns-2
 returns-2 c =
