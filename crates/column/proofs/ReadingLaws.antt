@@ -1,6 +1,6 @@
 -- What it says of bytes that a value is read of them. Assumes nothing.
 use mathlib.Core.Path.{_≡_, refl}
-use mathlib.Core.Bool.{Bool, true, false, not, cond, _||_}
+use mathlib.Core.Bool.{Bool, true, false, cond, _||_}
 use mathlib.Core.List.{List}
 use Prim.Native.Nat.{ℕ, _*_, _^_, _≤_}
 use native.Mathlib.Omega.{arith}
@@ -58,21 +58,6 @@ read-lawful c bs e = rw e
 pub read-unlawful : (c : ColumnType) (bs : List ℕ) → isLawful c ≡ false → read.Refused (unplaced UNKNOWN-TYPE) ≡ readOf c bs
 unfolding readOf
 read-unlawful c bs e = rw e
-
--- 20 is the answer for an unlawful column type alone
-abbrev pub isUnlawful : Read → Bool
-isUnlawful (read.Value v) = false
-isUnlawful (read.Refused r) = eqb (r .number) UNKNOWN-TYPE
-
-pub unlawful-exactly : (c : ColumnType) (bs : List ℕ) → isUnlawful (readOf c bs) ≡ not (isLawful c)
-unfolding readOf
-unlawful-exactly c bs = go (isLawful c) (lengthRight c (length bs)) (keeps c bs)
-  where
-    go : (l r k : Bool) → isUnlawful (tested c bs l r k) ≡ not l
-    go true true true = refl
-    go true true false = refl
-    go true false k = refl
-    go false r k = refl
 
 -- a value under UNKNOWN is refused at no byte
 pub unknown-place : (c : ColumnType) (bs : List ℕ) → c .kind ≡ UNKNOWN → annotationPlace c bs ≡ 0

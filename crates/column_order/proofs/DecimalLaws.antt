@@ -14,6 +14,8 @@ use types.Run.{OneOf}
 use denote.Enum.Declared.{tagOf}
 use borrow.Author.Tests.{eqb-true, le-leb}
 use Rattle.laws.proofs.BoolLaws.{and-left, and-right}
+use Rattle.refusal.specs.Numbers.{WRONG-LENGTH, BREAKS-ANNOTATION, NO-ORDER}
+use Rattle.refusal.specs.Outcome.{unplaced}
 use Rattle.parquet.specs.Physical.{BYTE-ARRAY, FIXED-LEN-BYTE-ARRAY}
 use Rattle.parquet.specs.Logical.{DECIMAL, UNKNOWN}
 use Rattle.decimal.specs.Number.{number}
@@ -41,9 +43,9 @@ use Rattle.column.proofs.ReadingLaws.{read-lawful, bytes-read}
 use Rattle.float_order.specs.Keys.{wholeOrder}
 use Rattle.float_order.specs.declared.relation.Relation.the-variants.{Less, Equal, Greater, Unordered}
 use Rattle.column_order.specs.Keys.{Key, whole, keyOf, keyOrder}
-use Rattle.column_order.specs.Order.{FIRST, SECOND, unlessRefused, valuesOrder, orderOf}
+use Rattle.column_order.specs.Order.{FIRST, SECOND, ofNeither, unlessRefused, valuesOrder, orderOf}
 use Rattle.column_order.specs.declared.answer.Order.{Order}
-use Rattle.column_order.specs.declared.answer.Order.the-variants.{Related, NoOrder}
+use Rattle.column_order.specs.declared.answer.Order.the-variants.{Related, Refused}
 use Rattle.column_order.proofs.KeyLaws.{byte-number}
 use Rattle.column_order.proofs.RefusalLaws.{order-lawful}
 use Rattle.column_order.proofs.OrderLaws.{takes-decimal, decimal-ordered, decimal-key}
@@ -76,8 +78,8 @@ whole-as refused x y = go (ltZ x y) (ltZ y x)
 -- what reading answers for so many bytes of a number, by how it fits its precision
 abbrev asRead : ℕ → Fit → Read
 asRead len fit.Within = Read.Value (Value.Bytes 0 len)
-asRead len fit.Beyond = Read.BreaksAnnotation 0
-asRead len fit.WrongLength = Read.WrongLength
+asRead len fit.Beyond = Read.Refused (unplaced BREAKS-ANNOTATION)
+asRead len fit.WrongLength = Read.Refused (unplaced WRONG-LENGTH)
 
 within-length : (bs : List ℕ) (p : ℕ) → fitOf bs p ≡ fit.Within → isLength (length bs) ≡ true
 unfolding fitOf
@@ -123,11 +125,11 @@ module _ (c : ColumnType) (lawful : isLawful c ≡ true) (is : isByteDecimal c �
   no-place bs = rw (eqb-true (c .kind) DECIMAL kind)
 
   -- a value by its length and its number
-  read : (bs : List ℕ) → readOf c bs ≡ cond (lengthRight c (length bs)) (checked (inDigits (c .p1) (number bs)) 0 (Value.Bytes 0 (length bs))) Read.WrongLength
+  read : (bs : List ℕ) → readOf c bs ≡ cond (lengthRight c (length bs)) (checked (inDigits (c .p1) (number bs)) 0 (Value.Bytes 0 (length bs))) (Read.Refused (unplaced WRONG-LENGTH))
   read bs =
       let known : eqb (c .kind) UNKNOWN ≡ false = ap (λ (n : ℕ). eqb n UNKNOWN) (eqb-true (c .kind) DECIMAL kind) in
       sym (read-lawful c bs lawful)
-      ∙ ap (λ (r : Read). cond (lengthRight c (length bs)) r Read.WrongLength)
+      ∙ ap (λ (r : Read). cond (lengthRight c (length bs)) r (Read.Refused (unplaced WRONG-LENGTH)))
       (sym (bytes-read c bs known form) ∙ ap₂ (λ (t : Bool) (place : ℕ). checked t place (Value.Bytes 0 (length bs))) (keeps-digits bs) (no-place bs))
 
   wide : (n : ℕ) → isWidth (widthOf c) n ≡ true → lengthRight c n ≡ isLength n
@@ -143,14 +145,14 @@ module _ (c : ColumnType) (lawful : isLawful c ≡ true) (is : isByteDecimal c �
   not-wide n w = rw (w, both-false (leb n mostBytes))
 
   -- a value of any other width, and one of its column's, by how its number fits the precision
-  other-width : (bs : List ℕ) → isWidth (widthOf c) (length bs) ≡ false → readOf c bs ≡ Read.WrongLength
+  other-width : (bs : List ℕ) → isWidth (widthOf c) (length bs) ≡ false → readOf c bs ≡ Read.Refused (unplaced WRONG-LENGTH)
   other-width bs w = read bs ∙ rw (not-wide (length bs) w)
 
   own-width : (bs : List ℕ) → isWidth (widthOf c) (length bs) ≡ true → readOf c bs ≡ asRead (length bs) (fitOf bs (c .p1))
   unfolding fitOf
   own-width bs w = read bs ∙ rw (wide (length bs) w) (go (isLength (length bs)) (inDigits (c .p1) (number bs)))
     where
-      go : (l t : Bool) → cond l (checked t 0 (Value.Bytes 0 (length bs))) Read.WrongLength ≡ asRead (length bs) (cond l (cond t fit.Within fit.Beyond) fit.WrongLength)
+      go : (l t : Bool) → cond l (checked t 0 (Value.Bytes 0 (length bs))) (Read.Refused (unplaced WRONG-LENGTH)) ≡ asRead (length bs) (cond l (cond t fit.Within fit.Beyond) fit.WrongLength)
       go true true = refl
       go true false = refl
       go false t = refl
@@ -159,7 +161,7 @@ module _ (c : ColumnType) (lawful : isLawful c ≡ true) (is : isByteDecimal c �
     judged : valuesOrder c a b ≡ orderOf c a b
     judged =
         let k = eqb-true (c .kind) DECIMAL kind in
-        ap (λ (t : Bool). cond t (valuesOrder c a b) NoOrder) (sym (decimal-ordered c k (takes-decimal c lawful k))) ∙ order-lawful c a b lawful
+        ap (λ (t : Bool). cond t (valuesOrder c a b) (Refused (ofNeither NO-ORDER))) (sym (decimal-ordered c k (takes-decimal c lawful k))) ∙ order-lawful c a b lawful
 
     pub wrong-first : isWidth (widthOf c) (length a) ≡ false → refusal c a b ≡ orderOf c a b
     wrong-first w = let e : refusal c a b ≡ valuesOrder c a b = rw (other-width a w) in e ∙ judged

@@ -11,6 +11,8 @@ use lib.Ieee.{Format, binary32, binary64, hid, ones, top}
 use lib.IntN.{ℤ, pos}
 use lib.Signed.{ltZ}
 use Rattle.laws.proofs.BoolLaws.{by-test}
+use Rattle.refusal.specs.Numbers.{NO-ORDER}
+use Rattle.refusal.specs.declared.answers.Fault.{Fault}
 use Rattle.parquet.specs.Physical.{BOOLEAN, INT96, FLOAT, DOUBLE}
 use Rattle.parquet.specs.Converted.{INTERVAL}
 use Rattle.parquet.specs.Logical.{DECIMAL, INTEGER}
@@ -24,11 +26,12 @@ use Rattle.float_order.specs.declared.relation.Relation.{Relation}
 use Rattle.float_order.specs.declared.relation.Relation.the-variants.{Less, Equal, Greater, Unordered}
 use Rattle.float_order.proofs.FloatLaws as float
 use Rattle.column_order.specs.Keys.{Key, whole, bytes, none, numberOf, numberKey, keyOf, byteOrder, keyOrder}
-use Rattle.column_order.specs.Order.{hasOrder, orderOf}
+use Rattle.column_order.specs.Order.{ofNeither, hasOrder, orderOf}
 use Rattle.column_order.specs.Comparison.{Valid, reversed}
-use Rattle.column_order.specs.Outcome.{refused, outcome}
+use Rattle.column_order.specs.Outcome.{given, refused, outcomeOf, outcome}
 use Rattle.column_order.specs.Promises.{AsNumbers, Before, prefix, lower, further, AsBytes, bitsBelow, FLOAT-SIGN, FLOAT-INFINITY, DOUBLE-SIGN, DOUBLE-INFINITY, IsNan}
-use Rattle.column_order.specs.declared.answer.Order.the-variants.{Related}
+use Rattle.column_order.specs.declared.answer.Order.{Order}
+use Rattle.column_order.specs.declared.answer.Order.the-variants.{Related, Refused}
 use Rattle.column_order.proofs.Turning.{related-is, related-as}
 use Rattle.column_order.proofs.WholeLaws.{whole-less, whole-equal, whole-greater}
 use Rattle.column_order.proofs.ByteLaws.{byte-refl, byte-turned}
@@ -217,13 +220,13 @@ pub tested-no-order : (c : ColumnType) → (c .physical ≡ INT96) ⊎ (c .kind 
 tested-no-order c (inl e) = rw e
 tested-no-order c (inr e) = by-test (eqb (c .physical) INT96) (λ i. rw i) (λ i. rw (i, e))
 
-pub no-order-exactly : (c : ColumnType) (a b : List ℕ) → (outcome c a b ≡ refused 17 0 0) ↔ ((isLawful c ≡ true) × ((c .physical ≡ INT96) ⊎ (c .kind ≡ INTERVAL)))
+pub no-order-exactly : (c : ColumnType) (a b : List ℕ) → (outcome c a b ≡ refused (ofNeither NO-ORDER)) ↔ ((isLawful c ≡ true) × ((c .physical ≡ INT96) ⊎ (c .kind ≡ INTERVAL)))
 no-order-exactly c a b = (
-  λ e. by-cases (neither-exactly c a b 17 0 .0 e),
-  λ h. neither-exactly c a b 17 0 .1 (inr (h .0, tested-no-order c (h .1), refl, refl)),
+  λ e. by-cases (neither-exactly c a b NO-ORDER 0 .0 e),
+  λ h. neither-exactly c a b NO-ORDER 0 .1 (inr (h .0, tested-no-order c (h .1), refl, refl)),
 )
   where
-    by-cases : OfNeither c a b 17 0 → (isLawful c ≡ true) × ((c .physical ≡ INT96) ⊎ (c .kind ≡ INTERVAL))
+    by-cases : OfNeither c a b NO-ORDER 0 → (isLawful c ≡ true) × ((c .physical ≡ INT96) ⊎ (c .kind ≡ INTERVAL))
     by-cases (inl h) = absurd (omega (arith, h .1))
     by-cases (inr h) = (h .0, no-order-tested c (h .1))
 
@@ -231,3 +234,24 @@ no-order-exactly c a b = (
 
 pub decimals-order : (c : ColumnType) (a b : List ℕ) → Valid c a → Valid c b → c .kind ≡ DECIMAL → AsNumbers c a b (numberOf c a) (numberOf c b)
 decimals-order c a b p q k = record { less = decimal-less c a b p q k; equal = decimal-equal c a b p q k; greater = decimal-greater c a b p q k }
+
+-- outcomes and answers ------------------------------------------------------------------------------------------------------------------
+
+module _ (c : ColumnType) (a b : List ℕ) where
+  -- a relation is given exactly where it is answered
+  pub given-exactly : (r : Relation) → (outcome c a b ≡ given r) ↔ (orderOf c a b ≡ Related r)
+  unfolding outcome
+  given-exactly r = (go (orderOf c a b), λ e. ap outcomeOf e)
+    where
+      go : (o : Order) → outcomeOf o ≡ given r → o ≡ Related r
+      go (Related s) e = cc
+      go (Refused f) e = absurd (let z : _≡_ {A = ℕ} 0 1 = cc in omega arith)
+
+  -- and so is a refusal
+  pub refused-exactly : (f : Fault) → (outcome c a b ≡ refused f) ↔ (orderOf c a b ≡ Refused f)
+  unfolding outcome
+  refused-exactly f = (go (orderOf c a b), λ e. ap outcomeOf e)
+    where
+      go : (o : Order) → outcomeOf o ≡ refused f → o ≡ Refused f
+      go (Related s) e = absurd (let z : _≡_ {A = ℕ} 0 1 = cc in omega arith)
+      go (Refused g) e = cc

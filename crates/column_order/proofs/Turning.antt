@@ -6,7 +6,7 @@ use Rattle.float_order.specs.declared.relation.Relation.{Relation}
 use Rattle.float_order.specs.declared.relation.Relation.the-variants.{Less, Equal, Greater, Unordered}
 use Rattle.column_order.specs.Comparison.{turned, atMost}
 use Rattle.column_order.specs.declared.answer.Order.{Order}
-use Rattle.column_order.specs.declared.answer.Order.the-variants.{Related, Unlawful, NoOrder, WrongLength, BreaksAnnotation}
+use Rattle.column_order.specs.declared.answer.Order.the-variants.{Related, Refused}
 
 -- at most both ways is equal
 pub at-most-both : (o : Order) → atMost o ≡ true → atMost (turned o) ≡ true → o ≡ Related Equal
@@ -14,10 +14,7 @@ at-most-both (Related Less) p q = cc
 at-most-both (Related Equal) p q = refl
 at-most-both (Related Greater) p q = cc
 at-most-both (Related Unordered) p q = cc
-at-most-both Unlawful p q = cc
-at-most-both NoOrder p q = cc
-at-most-both (WrongLength value) p q = cc
-at-most-both (BreaksAnnotation value place) p q = cc
+at-most-both (Refused f) p q = cc
 
 -- an answer says a relation exactly where it is that one
 pub related-is : {r s : Relation} → Related r ≡ Related s → r ≡ s

@@ -11,7 +11,7 @@ use Rattle.float_order.specs.declared.relation.Relation.{Relation}
 use Rattle.float_order.specs.declared.relation.Relation.the-variants.{Less, Equal, Greater, Unordered}
 use Rattle.column_order.specs.Keys.{none, keyOf}
 use Rattle.column_order.specs.declared.answer.Order.{Order}
-use Rattle.column_order.specs.declared.answer.Order.the-variants.{Related, Unlawful, NoOrder, WrongLength, BreaksAnnotation}
+use Rattle.column_order.specs.declared.answer.Order.the-variants.{Related, Refused}
 
 -- bytes that a value is read of
 abbrev pub Valid : ColumnType → List ℕ → Type 0
@@ -31,10 +31,7 @@ reversed Unordered = Unordered
 -- the answer with the values exchanged; a refusal, which valid values do not get, stays
 abbrev pub turned : Order → Order
 turned (Related r) = Related (reversed r)
-turned Unlawful = Unlawful
-turned NoOrder = NoOrder
-turned (WrongLength value) = WrongLength value
-turned (BreaksAnnotation value place) = BreaksAnnotation value place
+turned (Refused f) = Refused f
 
 -- less or equal
 abbrev pub lessOrEqual : Relation → Bool
@@ -46,7 +43,4 @@ lessOrEqual Unordered = false
 -- the first value is at most the second
 abbrev pub atMost : Order → Bool
 atMost (Related r) = lessOrEqual r
-atMost Unlawful = false
-atMost NoOrder = false
-atMost (WrongLength value) = false
-atMost (BreaksAnnotation value place) = false
+atMost (Refused f) = false

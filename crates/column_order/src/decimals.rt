@@ -10,11 +10,12 @@ ghost use Rattle.column_order.specs.declared.answer.Order as declared;
 use crate::answer::FIRST;
 use crate::answer::Order;
 use crate::answer::SECOND;
-use crate::refusals::unless_refused;
+use column::Read;
 use column::codes;
 use column_type::ColumnType;
 use decimal::Compared;
 use float_order::Relation;
+use refusal::Fault;
 
 // Whether the column holds decimals in bytes.
 pub(crate) fn is_byte_decimal(c: ColumnType) -> bool
@@ -61,9 +62,17 @@ fn refused(c: ColumnType, a: &[u8], b: &[u8]) -> Order
     let both = column::read_both(c, a, b);
     let first = both.first;
     let second = both.second;
-    unless_refused(
-        FIRST,
-        first,
-        unless_refused(SECOND, second, Order::Related(Relation::Unordered)),
-    )
+    if let Read::Refused(refusal) = first {
+        return Order::Refused(Fault {
+            side: FIRST,
+            refusal,
+        });
+    }
+    if let Read::Refused(refusal) = second {
+        return Order::Refused(Fault {
+            side: SECOND,
+            refusal,
+        });
+    }
+    Order::Related(Relation::Unordered)
 }
