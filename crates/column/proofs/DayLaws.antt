@@ -1,12 +1,16 @@
 -- Laws of the ticks of a day. Assumes nothing.
-use mathlib.Core.Path.{_≡_, refl, ap, _∙_}
+use mathlib.Core.Path.{_≡_, refl, ap, subst, _∙_}
 use mathlib.Core.Bool.{Bool, false}
+use mathlib.Core.Logic.{inl, inr}
 use mathlib.Core.Option.{Option, none, some}
 use Prim.Native.Nat.{ℕ, _*_, _<_, _≤_}
-use lib.Dec.{leb·zero}
+use lib.Dec.{eqb, leb·zero}
 use lib.IntN.{pos, negsuc}
+use denote.Enum.Declared.{Choice, tagOf}
 use Rattle.timestamp.specs.Units.{TimeUnit}
-use Rattle.timestamp.specs.Outcomes.{given, unknownUnit, dayHas}
+use Rattle.timestamp.specs.Outcomes.{dayAnswer, dayHas}
+use Rattle.timestamp.specs.declared.units.InDay.{InDay}
+use Rattle.timestamp.proofs.units.InDay as InDay′
 use Rattle.column.specs.Numbers.{twosComplement}
 use Rattle.column.specs.Annotations.{inDay}
 use Rattle.column.proofs.NumberLaws.{twos-below, twos-above}
@@ -16,15 +20,23 @@ unfolding inDay
 inDay-negative none k = refl
 inDay-negative (some unit) k = refl
 
-inDay-pos : (unit : Option TimeUnit) (n : ℕ) (b : Bool) → given b ≡ dayHas unit n → inDay unit (pos n) ≡ b
-unfolding inDay
-inDay-pos none n b e = cc
-inDay-pos (some unit) n b e = rw (leb·zero n) (cc)
+-- the answer `Within`, which is the first
+abbrev pub isWithin : InDay → Bool
+isWithin k = eqb (tagOf InDay′.the-type k) 0
 
-inDay-unknown : (unit : Option TimeUnit) (n : ℕ) → unknownUnit ≡ dayHas unit n → inDay unit (pos n) ≡ false
+-- a number from 0 on is a tick of the day where that is the answer for it; it is none where no unit is named
+inDay-pos : (unit : Option TimeUnit) (n : ℕ) (k : InDay) → dayAnswer k ≡ dayHas unit n → inDay unit (pos n) ≡ isWithin k
 unfolding inDay
-inDay-unknown none n e = refl
-inDay-unknown (some unit) n e = cc
+inDay-pos unit n k e = subst (λ (a : InDay). inDay unit (pos n) ≡ isWithin a) (InDay′.eta k) (go (InDay′.as-values k) unit (ap dayAnswer (InDay′.eta k) ∙ e))
+  where
+    go : (v : Choice InDay′.parts) (u : Option TimeUnit) → dayAnswer (InDay′.make v) ≡ dayHas u n → inDay u (pos n) ≡ isWithin (InDay′.make v)
+    go (inl v) none f = cc
+    go (inl v) (some u) f = rw (leb·zero n) (cc)
+    go (inr (inl v)) none f = refl
+    go (inr (inl v)) (some u) f = rw (leb·zero n) (cc)
+    go (inr (inr (inl v))) none f = refl
+    go (inr (inr (inl v))) (some u) f = cc
+    go (inr (inr (inr z))) u f = absurd z
 
 module _ (unit : Option TimeUnit) (weight n : ℕ) where
   -- a number below 0 is no tick of a day
@@ -32,9 +44,5 @@ module _ (unit : Option TimeUnit) (weight n : ℕ) where
   day-negative h k = ap (inDay unit) (twos-above weight n h k) ∙ inDay-negative unit _
 
   -- one from 0 on is a tick of it where the day has it
-  pub day-known : (b : Bool) → given b ≡ dayHas unit n → n < weight → inDay unit (twosComplement weight n) ≡ b
-  day-known b e h = ap (inDay unit) (twos-below weight n h) ∙ inDay-pos unit n b e
-
-  -- and none is where no unit is named
-  pub day-unknown : unknownUnit ≡ dayHas unit n → n < weight → inDay unit (twosComplement weight n) ≡ false
-  day-unknown e h = ap (inDay unit) (twos-below weight n h) ∙ inDay-unknown unit n e
+  pub day-told : (k : InDay) → dayAnswer k ≡ dayHas unit n → n < weight → inDay unit (twosComplement weight n) ≡ isWithin k
+  day-told k e h = ap (inDay unit) (twos-below weight n h) ∙ inDay-pos unit n k e

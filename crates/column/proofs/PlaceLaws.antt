@@ -1,17 +1,17 @@
--- The places of refusals: where text goes bad, and 0 for everything else. Assumes nothing.
-use mathlib.Core.Path.{_≡_, refl, sym, subst, _∙_}
+-- The numbers and places of refusals: where text goes bad, and 0 for everything else. Assumes nothing.
+use mathlib.Core.Path.{_≡_, refl, sym, ap, subst, _∙_}
 use mathlib.Core.Bool.{Bool, true, false, cond}
-use mathlib.Core.List.{List, [], _∷_}
-use mathlib.Core.Logic.{⊎-elim}
+use mathlib.Core.List.{List}
 use Prim.Native.Nat.{ℕ, _≤_, _<_}
 use native.Mathlib.Omega.{arith}
-use lib.Dec.{leb, eqb}
+use lib.Dec.{eqb}
 use lib.ListN.{length}
-use types.Run.{OneOf}
-use denote.Enum.Declared.{tagOf}
 use borrow.Author.Tests.{le-leb, eqb-true, eqb-false, ne-eqb}
 use Rattle.utf8.specs.Valid.{validUpTo, Stops}
 use Rattle.utf8.proofs.ValidLaws.{validUpTo-stops, stops-unique}
+use Rattle.refusal.specs.Numbers.{WRONG-LENGTH, BREAKS-ANNOTATION, UNKNOWN-TYPE}
+use Rattle.refusal.specs.Outcome.{Outcome, refused, refusal, unplaced}
+use Rattle.refusal.specs.declared.answers.Refusal.{Refusal}
 use Rattle.parquet.specs.Physical.{BYTE-ARRAY}
 use Rattle.parquet.specs.Logical.{STRING, ENUM, DECIMAL, UNKNOWN, JSON}
 use Rattle.column_type.specs.Lawful.{isLawful}
@@ -19,13 +19,12 @@ use Rattle.column_type.specs.declared.types.ColumnType.{ColumnType}
 use Rattle.column_type.proofs.PlacementLaws.{string-bytes, enum-bytes, json-bytes}
 use Rattle.column.specs.Lengths.{mostBytes, isByteForm, lengthRight}
 use Rattle.column.specs.Annotations.{isText, bytesKeep, annotationPlace, keeps}
-use Rattle.column.specs.Reading.{valueOf, checked, readOf}
-use Rattle.column.specs.Outcome.{Outcome, refused, refusalOf, placeOf, outcomeOf, outcome}
-use Rattle.column.specs.declared.value.Read.{Read}
+use Rattle.column.specs.Reading.{readOf}
+use Rattle.column.specs.Outcome.{outcomeOf, outcome}
 use Rattle.column.specs.declared.value.Read.the-variants as read
 use Rattle.column.specs.declared.value.Value.{Value}
-use Rattle.column.proofs.value.Read as Read′
 use Rattle.column.proofs.LengthLaws.{length-most}
+use Rattle.column.proofs.ReadingLaws.{tested, refused-is}
 
 -- ---- how great a place is
 
@@ -38,52 +37,53 @@ place-within c bs = go (isByteForm c) (isText (c .kind))
     go true false = omega arith
     go true true = validUpTo-stops bs .within
 
--- no place lies past the longest value
-pub place-most : (c : ColumnType) (bs : List ℕ) → placeOf (readOf c bs) ≤ mostBytes
+-- a number and a place that are no greater than those of any refusal here: no place lies past the longest value
+pub record Small (r : Refusal) : Type 0 where
+  pub number : r .number ≤ UNKNOWN-TYPE
+  pub place : r .place ≤ mostBytes
+
+pub refusal-small : (c : ColumnType) (bs : List ℕ) (r : Refusal) → readOf c bs ≡ read.Refused r → Small r
 unfolding readOf
-place-most c bs = go (isLawful c) (lengthRight c (length bs)) refl (keeps c bs)
+refusal-small c bs r = go (isLawful c) (lengthRight c (length bs)) refl (keeps c bs)
   where
-    go : (l r : Bool) → lengthRight c (length bs) ≡ r → (k : Bool) → placeOf (cond l (cond r (checked k (annotationPlace c bs) (valueOf c bs)) read.WrongLength) read.Unlawful) ≤ mostBytes
-    go false r e k = omega arith
-    go true false e k = omega arith
-    go true true e true = omega arith
-    go true true e false = omega (arith, place-within c bs, length-most c (length bs) e)
+    same : (q : Refusal) → Small q → read.Refused q ≡ read.Refused r → Small r
+    same q h e = let f : q ≡ r = cc in subst Small f h
+
+    go : (l w : Bool) → lengthRight c (length bs) ≡ w → (k : Bool) → tested c bs l w k ≡ read.Refused r → Small r
+    go false w p k e = same (unplaced UNKNOWN-TYPE) (record { number = omega arith; place = omega arith }) e
+    go true false p k e = same (unplaced WRONG-LENGTH) (record { number = omega arith; place = omega arith }) e
+    go true true p true e = absurd (let z : _≡_ {A = ℕ} 0 1 = cc in omega arith)
+    go true true p false e =
+        same (refusal BREAKS-ANNOTATION (annotationPlace c bs)) (record { number = omega arith; place = omega (arith, place-within c bs, length-most c (length bs) p) }) e
 
 -- ---- what a refusal says
 
 -- 16 and its place; every other refusal is at 0
 record Refuses (c : ColumnType) (bs : List ℕ) (number place : ℕ) : Type 0 where
-  lawful : number ≡ 16 → isLawful c ≡ true
-  broken : number ≡ 16 → keeps c bs ≡ false
-  placed : number ≡ 16 → place ≡ annotationPlace c bs
-  elsewhere : (number ≡ 16 → ⊥) → place ≡ 0
+  lawful : number ≡ BREAKS-ANNOTATION → isLawful c ≡ true
+  broken : number ≡ BREAKS-ANNOTATION → keeps c bs ≡ false
+  placed : number ≡ BREAKS-ANNOTATION → place ≡ annotationPlace c bs
+  elsewhere : (number ≡ BREAKS-ANNOTATION → ⊥) → place ≡ 0
 
-refuses : (c : ColumnType) (bs : List ℕ) (number place : ℕ) → outcome c bs ≡ refused number place → Refuses c bs number place
+refuses : (c : ColumnType) (bs : List ℕ) (number place : ℕ) → outcome c bs ≡ refused (refusal number place) → Refuses c bs number place
 unfolding outcome readOf
 refuses c bs number place = go (isLawful c) refl (lengthRight c (length bs)) (keeps c bs) refl
   where
-    other : (n : ℕ) → (n ≡ 16 → ⊥) → _≡_ {A = Outcome Value} (refused n 0) (refused number place) → Refuses c bs number place
+    other : (n : ℕ) → (n ≡ BREAKS-ANNOTATION → ⊥) → _≡_ {A = Outcome Value} (refused (unplaced n)) (refused (refusal number place)) → Refuses c bs number place
     other n h e =
-        let m : n ≡ number = cc in
-        let p : 0 ≡ place = cc in
+        let m : n ≡ number = ap (λ (r : Refusal). r .number) (refused-is e) in
+        let p : 0 ≡ place = ap (λ (r : Refusal). r .place) (refused-is e) in
         record { lawful = λ k. absurd (h (m ∙ k)); broken = λ k. absurd (h (m ∙ k)); placed = λ k. absurd (h (m ∙ k)); elsewhere = λ k. sym p }
 
     go : (l : Bool) → isLawful c ≡ l → (r k : Bool) → keeps c bs ≡ k
-        → outcomeOf (cond l (cond r (checked k (annotationPlace c bs) (valueOf c bs)) read.WrongLength) read.Unlawful) ≡ refused number place → Refuses c bs number place
-    go false p r k q e = other 20 (λ h. omega (arith, h)) e
-    go true p false k q e = other 15 (λ h. omega (arith, h)) e
+        → outcomeOf (tested c bs l r k) ≡ refused (refusal number place) → Refuses c bs number place
+    go false p r k q e = other UNKNOWN-TYPE (λ h. omega (arith, h)) e
+    go true p false k q e = other WRONG-LENGTH (λ h. omega (arith, h)) e
     go true p true true q e = absurd (let z : _≡_ {A = ℕ} 0 1 = cc in omega arith)
     go true p true false q e =
-        let m : 16 ≡ number = cc in
-        let at : annotationPlace c bs ≡ place = cc in
+        let m : BREAKS-ANNOTATION ≡ number = ap (λ (r : Refusal). r .number) (refused-is e) in
+        let at : annotationPlace c bs ≡ place = ap (λ (r : Refusal). r .place) (refused-is e) in
         record { lawful = λ h. p; broken = λ h. q; placed = λ h. sym at; elsewhere = λ h. absurd (h (sym m)) }
-
--- an answer that is no value stands for its number and its place
-pub refused-outcome : (r : Read) → OneOf (1 ∷ 2 ∷ 3 ∷ []) (tagOf Read′.the-type r) → outcomeOf r ≡ refused (refusalOf r) (placeOf r)
-refused-outcome (read.Value v) h = ⊎-elim (λ e. absurd (omega arith)) (⊎-elim (λ e. absurd (omega arith)) (λ e. absurd (omega arith))) h
-refused-outcome read.Unlawful h = refl
-refused-outcome read.WrongLength h = refl
-refused-outcome (read.BreaksAnnotation place) h = refl
 
 -- ---- text
 
@@ -119,9 +119,9 @@ module _ (c : ColumnType) (bs : List ℕ) (lawful : isLawful c ≡ true) (text :
   text-right most = rw (le-leb (length bs) mostBytes most, text-form c lawful text, text-kind (c .kind) text .0)
 
 -- the place of a text's 16: whole sequences stop there, short of the end
-pub text-stops : (c : ColumnType) (bs : List ℕ) (place : ℕ) → isText (c .kind) ≡ true → outcome c bs ≡ refused 16 place → Stops bs place × (place < length bs)
+pub text-stops : (c : ColumnType) (bs : List ℕ) (place : ℕ) → isText (c .kind) ≡ true → outcome c bs ≡ refused (refusal BREAKS-ANNOTATION place) → Stops bs place × (place < length bs)
 text-stops c bs place text e =
-    let r = refuses c bs 16 place e in
+    let r = refuses c bs BREAKS-ANNOTATION place e in
     let lawful = r .lawful refl in
     let at : place ≡ validUpTo bs = r .placed refl ∙ text-place c bs lawful text in
     let short = eqb-false (validUpTo bs) (length bs) (sym (text-keeps c bs lawful text) ∙ r .broken refl) in
@@ -129,9 +129,9 @@ text-stops c bs place text e =
     (stops, omega (arith, stops .within, short, at))
 
 -- and 0 is the place of every other 16, and of every other refusal
-pub other-place : (c : ColumnType) (bs : List ℕ) (number place : ℕ) → outcome c bs ≡ refused number place → ((number ≡ 16) × (isText (c .kind) ≡ true) → ⊥) → place ≡ 0
+pub other-place : (c : ColumnType) (bs : List ℕ) (number place : ℕ) → outcome c bs ≡ refused (refusal number place) → ((number ≡ BREAKS-ANNOTATION) × (isText (c .kind) ≡ true) → ⊥) → place ≡ 0
 unfolding annotationPlace
-other-place c bs number place e h = by-number (eqb number 16) refl
+other-place c bs number place e h = by-number (eqb number BREAKS-ANNOTATION) refl
   where
     r : Refuses c bs number place
     r = refuses c bs number place e
@@ -141,12 +141,12 @@ other-place c bs number place e h = by-number (eqb number 16) refl
     no-text true true k = absurd (k refl)
     no-text true false k = refl
 
-    by-number : (b : Bool) → eqb number 16 ≡ b → place ≡ 0
-    by-number true p = let n = eqb-true number 16 p in r .placed n ∙ no-text (isByteForm c) (isText (c .kind)) (λ k. h (n, k))
-    by-number false p = r .elsewhere (eqb-false number 16 p)
+    by-number : (b : Bool) → eqb number BREAKS-ANNOTATION ≡ b → place ≡ 0
+    by-number true p = let n = eqb-true number BREAKS-ANNOTATION p in r .placed n ∙ no-text (isByteForm c) (isText (c .kind)) (λ k. h (n, k))
+    by-number false p = r .elsewhere (eqb-false number BREAKS-ANNOTATION p)
 
 -- text of a lawful column that stops short of its end is refused there
-pub text-refused : (c : ColumnType) (bs : List ℕ) (place : ℕ) → isLawful c ≡ true → isText (c .kind) ≡ true → length bs ≤ mostBytes → Stops bs place → place < length bs → outcome c bs ≡ refused 16 place
+pub text-refused : (c : ColumnType) (bs : List ℕ) (place : ℕ) → isLawful c ≡ true → isText (c .kind) ≡ true → length bs ≤ mostBytes → Stops bs place → place < length bs → outcome c bs ≡ refused (refusal BREAKS-ANNOTATION place)
 unfolding outcome readOf
 text-refused c bs place lawful text most stops short =
     let at : validUpTo bs ≡ place = stops-unique (validUpTo-stops bs) stops in

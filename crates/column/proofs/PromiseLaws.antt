@@ -1,6 +1,6 @@
 -- Each sentence of "Single values" holds of the outcome of reading, both ways.
 use Prim.Native.Nat.{ℕ, _*_, _-_, _^_, _<_, _≤_}
-use mathlib.Core.Path.{_≡_, refl, sym, _∙_}
+use mathlib.Core.Path.{_≡_, refl, sym, ap, _∙_}
 use mathlib.Core.Bool.{Bool, true, false, false≢true, cond, not, _&&_, _||_}
 use mathlib.Core.List.{List}
 use mathlib.Core.Logic.{_⊎_, inl, inr, _↔_}
@@ -13,6 +13,9 @@ use lib.ListN.{length}
 use lib.Signed.{leZ, ltZ, _≤ℤ_, _<ℤ_, leZ-yes, ltZ-yes}
 use Rattle.timestamp.specs.Units.{unitOf}
 use Rattle.laws.proofs.BoolLaws.{by-test, and-left, and-right, both-and, T-true}
+use Rattle.refusal.specs.Numbers.{WRONG-LENGTH, BREAKS-ANNOTATION, UNKNOWN-TYPE}
+use Rattle.refusal.specs.Outcome.{given, refused, refusal, unplaced}
+use Rattle.refusal.specs.declared.answers.Refusal.{Refusal}
 use Rattle.parquet.specs.Physical.{BOOLEAN, INT32, INT64, INT96, FLOAT, DOUBLE, BYTE-ARRAY, FIXED-LEN-BYTE-ARRAY}
 use Rattle.parquet.specs.Logical.{DECIMAL, TIME, INTEGER, UNKNOWN}
 use Rattle.decimal.specs.Precision.{isLength}
@@ -29,14 +32,14 @@ use Rattle.column.specs.Numbers.{little, signed}
 use Rattle.column.specs.Lengths.{mostBytes, widthOf, isWidth, isByteForm, isByteDecimal, lengthRight}
 use Rattle.column.specs.Annotations.{isUnsigned, inBits, inSignedBits, inDay, inDigits, wholeKeeps, isText, bytesKeep, annotationPlace, keeps}
 use Rattle.column.specs.Reading.{valueOf, checked, readOf}
-use Rattle.column.specs.Outcome.{refused, given, outcomeOf, outcome}
+use Rattle.column.specs.Outcome.{outcomeOf, outcome}
 use Rattle.column.specs.Promises.{Whole, ByteForm, RightLength, Held, InWidth, InDay}
 use Rattle.column.specs.declared.value.Read.the-variants as read
 use Rattle.column.specs.declared.value.Value.{Value}
 use Rattle.column.specs.declared.value.Value.the-variants.{Truth, Signed, Unsigned, Float, Double, Bytes}
 use Rattle.column.proofs.LengthLaws.{length-most, width-right, decimal-right}
 use Rattle.column.proofs.PlaceLaws.{text-form, text-place, text-keeps}
-use Rattle.column.proofs.ReadingLaws.{unknown-place}
+use Rattle.column.proofs.ReadingLaws.{refused-is, unknown-place}
 
 -- lengths --------------------------------------------------------------------------------------------------------------------
 
@@ -89,29 +92,29 @@ module _ (c : ColumnType) (n : ℕ) (r : RightLength c n) where
       (both-and (leb n mostBytes) (isWidth (widthOf c) n) (le-leb n mostBytes (r .most)) width-tested) decimal-tested
 
 -- "20": no accepted sheet has a leaf of this column type
-pub refused-unlawful : (c : ColumnType) (bs : List ℕ) → (outcome c bs ≡ refused 20 0) ↔ (HasLeaf c → ⊥)
+pub refused-unlawful : (c : ColumnType) (bs : List ℕ) → (outcome c bs ≡ refused (unplaced UNKNOWN-TYPE)) ↔ (HasLeaf c → ⊥)
 unfolding outcome readOf
 refused-unlawful c bs = (
   λ e. unlawful-exactly c .0 (by-test (isLawful c) (λ l. absurd (other (lengthRight c (length bs)) (keeps c bs) (rw l at e))) (λ l. l)),
   λ h. rw (unlawful-exactly c .1 h),
 )
   where
-    other : (r k : Bool) → outcomeOf (cond r (checked k (annotationPlace c bs) (valueOf c bs)) read.WrongLength) ≡ refused 20 0 → ⊥
-    other false k e = let z : _≡_ {A = ℕ} 15 20 = cc in omega arith
+    other : (r k : Bool) → outcomeOf (cond r (checked k (annotationPlace c bs) (valueOf c bs)) (read.Refused (unplaced WRONG-LENGTH))) ≡ refused (unplaced UNKNOWN-TYPE) → ⊥
+    other false k e = let z : WRONG-LENGTH ≡ UNKNOWN-TYPE = ap (λ (r : Refusal). r .number) (refused-is e) in omega arith
     other true true e = let z : _≡_ {A = ℕ} 0 1 = cc in omega arith
-    other true false e = let z : _≡_ {A = ℕ} 16 20 = cc in omega arith
+    other true false e = let z : BREAKS-ANNOTATION ≡ UNKNOWN-TYPE = ap (λ (r : Refusal). r .number) (refused-is e) in omega arith
 
 -- "15": a value of a lawful column, exactly where its length is not right
-pub wrong-length : (c : ColumnType) (bs : List ℕ) → isLawful c ≡ true → (outcome c bs ≡ refused 15 0) ↔ (RightLength c (length bs) → ⊥)
+pub wrong-length : (c : ColumnType) (bs : List ℕ) → isLawful c ≡ true → (outcome c bs ≡ refused (unplaced WRONG-LENGTH)) ↔ (RightLength c (length bs) → ⊥)
 unfolding outcome readOf
 wrong-length c bs lawful = (
   λ e r. other (keeps c bs) (rw (lawful, right-tested c (length bs) r) at e),
   λ h. by-test (lengthRight c (length bs)) (λ r. absurd (h (tested-right c (length bs) r))) (λ r. rw (lawful, r)),
 )
   where
-    other : (k : Bool) → outcomeOf (checked k (annotationPlace c bs) (valueOf c bs)) ≡ refused 15 0 → ⊥
+    other : (k : Bool) → outcomeOf (checked k (annotationPlace c bs) (valueOf c bs)) ≡ refused (unplaced WRONG-LENGTH) → ⊥
     other true e = let z : _≡_ {A = ℕ} 0 1 = cc in omega arith
-    other false e = let z : _≡_ {A = ℕ} 16 15 = cc in omega arith
+    other false e = let z : BREAKS-ANNOTATION ≡ WRONG-LENGTH = ap (λ (r : Refusal). r .number) (refused-is e) in omega arith
 
 -- what a test says ------------------------------------------------------------------------------------------------------------
 
@@ -158,7 +161,7 @@ module _ (c : ColumnType) (bs : List ℕ) (lawful : isLawful c ≡ true) (right 
         breaks = (λ r. absurd (let z : _≡_ {A = ℕ} 0 1 = cc in omega arith), λ no. absurd (no (exactly .0 refl)));
       }
   held false P v place k e a exactly =
-      let o : outcome c bs ≡ refused 16 place = outcome-is ∙ rw (k, a) in
+      let o : outcome c bs ≡ refused (refusal BREAKS-ANNOTATION place) = outcome-is ∙ rw (k, a) in
       record {
         reads = (λ r. absurd (let z : _≡_ {A = ℕ} 0 1 = cc in omega arith), λ p. absurd (false≢true (exactly .1 p)));
         breaks = (λ r p. false≢true (exactly .1 p), λ no. o);
@@ -262,7 +265,7 @@ module _ (c : ColumnType) (bs : List ℕ) (lawful : isLawful c ≡ true) (right 
       (λ e. validUpTo-length bs .0 (eqb-true (validUpTo bs) (length bs) e), λ h. eq-eqb (validUpTo bs) (length bs) (validUpTo-length bs .1 h))
 
   -- "UNKNOWN: no value, so 16"
-  pub unknown-refused : c .kind ≡ UNKNOWN → outcome c bs ≡ refused 16 0
+  pub unknown-refused : c .kind ≡ UNKNOWN → outcome c bs ≡ refused (unplaced BREAKS-ANNOTATION)
   unfolding keeps
   unknown-refused k = outcome-is ∙ rw (unknown-place c bs k, k)
 

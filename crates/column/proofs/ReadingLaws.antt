@@ -1,6 +1,6 @@
 -- What it says of bytes that a value is read of them. Assumes nothing.
 use mathlib.Core.Path.{_≡_, refl}
-use mathlib.Core.Bool.{Bool, true, false, not, cond, _||_}
+use mathlib.Core.Bool.{Bool, true, false, cond, _||_}
 use mathlib.Core.List.{List}
 use Prim.Native.Nat.{ℕ, _*_, _^_, _≤_}
 use native.Mathlib.Omega.{arith}
@@ -9,6 +9,9 @@ use lib.ListN.{length}
 use borrow.Author.Tests.{eqb-true}
 use Rattle.parquet.specs.Physical.{INT32, INT64, BYTE-ARRAY, FIXED-LEN-BYTE-ARRAY}
 use Rattle.parquet.specs.Logical.{UNKNOWN}
+use Rattle.refusal.specs.Numbers.{WRONG-LENGTH, UNKNOWN-TYPE}
+use Rattle.refusal.specs.Outcome.{Outcome, refused, unplaced}
+use Rattle.refusal.specs.declared.answers.Refusal.{Refusal}
 use Rattle.column_type.specs.declared.types.ColumnType.{ColumnType}
 use Rattle.column_type.specs.Lawful.{isLawful}
 use Rattle.column.specs.Numbers.{little, signWeight, twosComplement}
@@ -27,16 +30,24 @@ pub record Reads (c : ColumnType) (bs : List ℕ) (v : Value) : Type 0 where
   pub kept : keeps c bs ≡ true
   pub value : v ≡ valueOf c bs
 
+-- what reading answers, by its three tests
+abbrev pub tested : ColumnType → List ℕ → Bool → Bool → Bool → Read
+tested c bs l r k = cond l (cond r (checked k (annotationPlace c bs) (valueOf c bs)) (read.Refused (unplaced WRONG-LENGTH))) (read.Refused (unplaced UNKNOWN-TYPE))
+
 pub reads : (c : ColumnType) (bs : List ℕ) (v : Value) → readOf c bs ≡ read.Value v → Reads c bs v
 unfolding readOf
 reads c bs v = go (isLawful c) refl (lengthRight c (length bs)) refl (keeps c bs) refl
   where
     go : (l : Bool) → isLawful c ≡ l → (r : Bool) → lengthRight c (length bs) ≡ r → (k : Bool) → keeps c bs ≡ k
-        → cond l (cond r (checked k (annotationPlace c bs) (valueOf c bs)) read.WrongLength) read.Unlawful ≡ read.Value v → Reads c bs v
+        → tested c bs l r k ≡ read.Value v → Reads c bs v
     go true p true q true s e = record { lawful = p; right = q; kept = s; value = cc }
     go true p true q false s e = absurd (let z : _≡_ {A = ℕ} 0 1 = cc in omega arith)
     go true p false q k s e = absurd (let z : _≡_ {A = ℕ} 0 1 = cc in omega arith)
     go false p r q k s e = absurd (let z : _≡_ {A = ℕ} 0 1 = cc in omega arith)
+
+-- two refusals that are the same outcome are the same
+pub refused-is : {A : Type 0} {q r : Refusal} → _≡_ {A = Outcome A} (refused q) (refused r) → q ≡ r
+refused-is e = cc
 
 -- behind the check of the column type
 pub read-lawful : (c : ColumnType) (bs : List ℕ) → isLawful c ≡ true → readLawful c bs ≡ readOf c bs
@@ -44,26 +55,9 @@ unfolding readOf
 read-lawful c bs e = rw e
 
 -- and where that check refuses
-pub read-unlawful : (c : ColumnType) (bs : List ℕ) → isLawful c ≡ false → read.Unlawful ≡ readOf c bs
+pub read-unlawful : (c : ColumnType) (bs : List ℕ) → isLawful c ≡ false → read.Refused (unplaced UNKNOWN-TYPE) ≡ readOf c bs
 unfolding readOf
 read-unlawful c bs e = rw e
-
--- 20 is the answer for an unlawful column type alone
-abbrev pub isUnlawful : Read → Bool
-isUnlawful (read.Value v) = false
-isUnlawful read.Unlawful = true
-isUnlawful read.WrongLength = false
-isUnlawful (read.BreaksAnnotation place) = false
-
-pub unlawful-exactly : (c : ColumnType) (bs : List ℕ) → isUnlawful (readOf c bs) ≡ not (isLawful c)
-unfolding readOf
-unlawful-exactly c bs = go (isLawful c) (lengthRight c (length bs)) (keeps c bs)
-  where
-    go : (l r k : Bool) → isUnlawful (cond l (cond r (checked k (annotationPlace c bs) (valueOf c bs)) read.WrongLength) read.Unlawful) ≡ not l
-    go true true true = refl
-    go true true false = refl
-    go true false k = refl
-    go false r k = refl
 
 -- a value under UNKNOWN is refused at no byte
 pub unknown-place : (c : ColumnType) (bs : List ℕ) → c .kind ≡ UNKNOWN → annotationPlace c bs ≡ 0

@@ -5,11 +5,13 @@ use mathlib.Core.List.{List}
 use mathlib.Core.Logic.{_⊎_, _↔_}
 use lib.IntN.{ℤ, pos, negℤ}
 use lib.Signed.{_≤ℤ_, _<ℤ_}
+use Rattle.refusal.specs.Numbers.{BREAKS-ANNOTATION}
+use Rattle.refusal.specs.Outcome.{refusal, given, refused}
 use Rattle.column_type.specs.declared.types.ColumnType.{ColumnType}
 use Rattle.parquet.specs.Physical.{BOOLEAN, INT32, INT64, INT96, FLOAT, DOUBLE, BYTE-ARRAY, FIXED-LEN-BYTE-ARRAY}
 use Rattle.parquet.specs.Logical.{DECIMAL}
 use Rattle.column.specs.declared.value.Value.{Value}
-use Rattle.column.specs.Outcome.{refused, given, outcome}
+use Rattle.column.specs.Outcome.{outcome}
 
 -- a column of whole numbers, or of byte forms
 abbrev pub Whole : ColumnType → Type 0
@@ -34,7 +36,7 @@ pub record RightLength (c : ColumnType) (n : ℕ) : Type 0 where
 -- bytes are read as a value exactly where something holds, and refused with 16 at a place exactly where it does not
 pub record Held (c : ColumnType) (bs : List ℕ) (P : Type 0) (v : Value) (place : ℕ) : Type 0 where
   pub reads : (outcome c bs ≡ given v) ↔ P
-  pub breaks : (outcome c bs ≡ refused 16 place) ↔ (P → ⊥)
+  pub breaks : (outcome c bs ≡ refused (refusal BREAKS-ANNOTATION place)) ↔ (P → ⊥)
 
 -- "INT stays within its width": from -2^(n-1) to 2^(n-1) - 1
 pub record InWidth (n : ℕ) (z : ℤ) : Type 0 where

@@ -6,6 +6,8 @@ use lib.Dec.{eqb}
 use lib.Ieee.{binary32, binary64, ofBits}
 use lib.IntN.{ℤ}
 use lib.ListN.{length}
+use Rattle.refusal.specs.Numbers.{WRONG-LENGTH, BREAKS-ANNOTATION, UNKNOWN-TYPE}
+use Rattle.refusal.specs.Outcome.{refusal, unplaced}
 use Rattle.column_type.specs.declared.types.ColumnType.{ColumnType}
 use Rattle.column_type.specs.Lawful.{isLawful}
 use Rattle.parquet.specs.Physical.{BOOLEAN, FLOAT, DOUBLE}
@@ -33,15 +35,15 @@ valueOf c bs =
 
 -- a value of the right length: 16, with its place, where it breaks its annotation
 abbrev pub checked : Bool → ℕ → Value → Read
-checked kept place v = cond kept (read.Value v) (read.BreaksAnnotation place)
+checked kept place v = cond kept (read.Value v) (read.Refused (refusal BREAKS-ANNOTATION place))
 
 -- a value of a lawful column type: 15, then 16
 abbrev pub readLawful : ColumnType → List ℕ → Read
-readLawful c bs = cond (lengthRight c (length bs)) (checked (keeps c bs) (annotationPlace c bs) (valueOf c bs)) read.WrongLength
+readLawful c bs = cond (lengthRight c (length bs)) (checked (keeps c bs) (annotationPlace c bs) (valueOf c bs)) (read.Refused (unplaced WRONG-LENGTH))
 
 -- "One value is checked for 20, then 15, then 16"
 unfoldable pub readOf : ColumnType → List ℕ → Read
-readOf c bs = cond (isLawful c) (readLawful c bs) read.Unlawful
+readOf c bs = cond (isLawful c) (readLawful c bs) (read.Refused (unplaced UNKNOWN-TYPE))
 
 -- two values of one column, each checked so
 abbrev pub bothOf : ColumnType → List ℕ → List ℕ → Both

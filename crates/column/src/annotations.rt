@@ -65,8 +65,7 @@ fn in_day(n: u64, weight: u64, unit: u32) -> bool
     }
     match timestamp::in_day(unit, n) {
         InDay::Within => true,
-        InDay::Beyond => false,
-        InDay::UnknownUnit => false,
+        _ => false,
     }
 }
 

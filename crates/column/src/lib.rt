@@ -5,6 +5,7 @@ mod floats; // floats.rt: the floats of bit patterns
 mod lengths; // lengths.rt: the lengths that values have
 mod numbers; // numbers.rt: the numbers that bytes stand for
 pub mod reading; // reading.rt: reading a value
+mod refusals; // refusals.rt: the refusals of a value
 pub mod value; // value.rt: a value that was read, and what reading answers
 
 pub use lengths::MOST_BYTES;
@@ -13,5 +14,3 @@ pub use reading::read_both;
 pub use value::Both;
 pub use value::Read;
 pub use value::Value;
-pub use value::place;
-pub use value::refusal;

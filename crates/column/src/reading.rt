@@ -10,7 +10,7 @@ ghost use Rattle.utf8.specs.Valid.{validUpTo};
 ghost use Rattle.parquet.specs.Physical.{INT32};
 ghost use Rattle.parquet.specs.Logical.{DECIMAL, UNKNOWN};
 ghost use Rattle.column.specs.Numbers.{little, twosComplement};
-ghost use Rattle.column.specs.Lengths.{mostBytes, isByteForm, lengthRight};
+ghost use Rattle.column.specs.Lengths.{isByteForm, lengthRight};
 ghost use Rattle.column.specs.Annotations.{isWhole, isTruth, inDigits, wholeKeeps, bytesKeep, textPlace, annotationPlace, keeps};
 ghost use Rattle.column.specs.Reading.{wholeValue, valueOf, checked, readOf, bothOf, readLawful};
 ghost use Rattle.column.specs.Outcome.{outcomeOf, outcome};
@@ -27,8 +27,9 @@ use crate::numbers::INT32_SIGN;
 use crate::numbers::INT64_SIGN;
 use crate::numbers::little;
 use crate::numbers::signed;
+use crate::refusals;
+use crate::refusals::breaks_annotation_at;
 use crate::value::Both;
-use crate::value::NO_PLACE;
 use crate::value::Read;
 use crate::value::Value;
 use column_type::ColumnType;
@@ -39,7 +40,7 @@ pub fn read(c: ColumnType, value: &[u8]) -> Read
     ensures { λ r. ⌜ outcomeOf r ≡ outcome c (now (value .entry)) ⌝ }
 {
     if !column_type::is_lawful(c) {
-        return Read::Unlawful;
+        return Read::Refused(refusals::UNKNOWN_TYPE);
     }
     read_lawful(c, value)
 }
@@ -52,8 +53,8 @@ pub fn read_both(c: ColumnType, a: &[u8], b: &[u8]) -> Both
 {
     if !column_type::is_lawful(c) {
         return Both {
-            first: Read::Unlawful,
-            second: Read::Unlawful,
+            first: Read::Refused(refusals::UNKNOWN_TYPE),
+            second: Read::Refused(refusals::UNKNOWN_TYPE),
         };
     }
     let first = read_lawful(c, a);
@@ -66,10 +67,10 @@ fn read_lawful(c: ColumnType, value: &[u8]) -> Read
     ensures { λ r. ⌜ r ≡ readLawful c (now (value .entry)) ⌝ }
 {
     if !length_right(c, value.len()) {
-        return Read::WrongLength;
+        return Read::Refused(refusals::WRONG_LENGTH);
     }
     if c.kind == codes::UNKNOWN {
-        return Read::BreaksAnnotation { place: NO_PLACE };
+        return Read::Refused(refusals::BREAKS_ANNOTATION);
     }
     read_present(c, value)
 }
@@ -90,7 +91,7 @@ fn read_present(c: ColumnType, value: &[u8]) -> Read
 
 // Reads a byte form: a decimal is held to its precision, and text to UTF-8.
 fn read_bytes(c: ColumnType, value: &[u8]) -> Read
-    requires { ⌜ (length (now value) ≤ mostBytes) × ((eqb (c .kind) DECIMAL ≡ true) → isLength (length (now value)) ≡ true) ⌝ }
+    requires { ⌜ ((eqb (c .kind) DECIMAL ≡ true) → isLength (length (now value)) ≡ true) ⌝ }
     ensures { λ r. ⌜ r ≡ checked (bytesKeep c (now (value .entry))) (textPlace (c .kind) (now (value .entry))) (Value.Bytes 0 (length (now (value .entry)))) ⌝ }
 {
     if c.kind == codes::DECIMAL {
@@ -108,20 +109,18 @@ fn read_decimal(value: &[u8], precision: u32) -> Read
     ensures { λ r. ⌜ r ≡ checked (inDigits precision (number (now (value .entry)))) 0 (Value.Bytes 0 (length (now (value .entry)))) ⌝ }
 {
     if !decimal_keeps(value, precision) {
-        return Read::BreaksAnnotation { place: NO_PLACE };
+        return Read::Refused(refusals::BREAKS_ANNOTATION);
     }
     Read::Value(stretch(value.len()))
 }
 
 // Text, which is refused at the byte where whole sequences stop short of its end.
 fn read_text(value: &[u8]) -> Read
-    requires { ⌜ length (now value) ≤ mostBytes ⌝ }
     ensures { λ r. ⌜ r ≡ checked (eqb (validUpTo (now (value .entry))) (length (now (value .entry)))) (validUpTo (now (value .entry))) (Value.Bytes 0 (length (now (value .entry)))) ⌝ }
 {
     let stop = utf8::valid_up_to(value);
     if stop != value.len() {
-        let place = stop as u32;
-        return Read::BreaksAnnotation { place };
+        return Read::Refused(breaks_annotation_at(stop));
     }
     Read::Value(stretch(value.len()))
 }
@@ -162,7 +161,7 @@ fn read_truth(n: u64) -> Read
     ensures { λ r. ⌜ r ≡ checked (isTruth n) 0 (Value.Truth (eqb n 1)) ⌝ }
 {
     if n > 1 {
-        return Read::BreaksAnnotation { place: NO_PLACE };
+        return Read::Refused(refusals::BREAKS_ANNOTATION);
     }
     Read::Value(Value::Truth(n == 1))
 }
@@ -173,7 +172,7 @@ fn read_whole(c: ColumnType, n: u64, weight: u64) -> Read
     ensures { λ r. ⌜ r ≡ checked (wholeKeeps c n (twosComplement weight n)) 0 (wholeValue c n (twosComplement weight n)) ⌝ }
 {
     if !whole_keeps(c, n, weight) {
-        return Read::BreaksAnnotation { place: NO_PLACE };
+        return Read::Refused(refusals::BREAKS_ANNOTATION);
     }
     if is_unsigned(c) {
         return Read::Value(Value::Unsigned(n));

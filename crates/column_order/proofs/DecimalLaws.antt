@@ -14,6 +14,8 @@ use types.Run.{OneOf}
 use denote.Enum.Declared.{tagOf}
 use borrow.Author.Tests.{eqb-true, le-leb}
 use Rattle.laws.proofs.BoolLaws.{and-left, and-right}
+use Rattle.refusal.specs.Numbers.{WRONG-LENGTH, BREAKS-ANNOTATION, NO-ORDER}
+use Rattle.refusal.specs.Outcome.{unplaced}
 use Rattle.parquet.specs.Physical.{BYTE-ARRAY, FIXED-LEN-BYTE-ARRAY}
 use Rattle.parquet.specs.Logical.{DECIMAL, UNKNOWN}
 use Rattle.decimal.specs.Number.{number}
@@ -38,19 +40,21 @@ use Rattle.column.specs.Reading.{checked, readOf}
 use Rattle.column.specs.declared.value.Read.{Read}
 use Rattle.column.specs.declared.value.Value.{Value}
 use Rattle.column.proofs.ReadingLaws.{read-lawful, bytes-read}
-use Rattle.column_order.specs.Keys.{whole, keyOf, wholeOrder, keyOrder}
-use Rattle.column_order.specs.Order.{FIRST, SECOND, unlessRefused, valuesOrder, orderOf}
+use Rattle.float_order.specs.Keys.{wholeOrder}
+use Rattle.float_order.specs.declared.relation.Relation.the-variants.{Less, Equal, Greater, Unordered}
+use Rattle.column_order.specs.Keys.{Key, whole, keyOf, keyOrder}
+use Rattle.column_order.specs.Order.{FIRST, SECOND, ofNeither, unlessRefused, valuesOrder, orderOf}
 use Rattle.column_order.specs.declared.answer.Order.{Order}
-use Rattle.column_order.specs.declared.answer.Order.the-variants.{Less, Equal, Greater, Unordered, NoOrder}
+use Rattle.column_order.specs.declared.answer.Order.the-variants.{Related, Refused}
 use Rattle.column_order.proofs.KeyLaws.{byte-number}
 use Rattle.column_order.proofs.RefusalLaws.{order-lawful}
 use Rattle.column_order.proofs.OrderLaws.{takes-decimal, decimal-ordered, decimal-key}
 
 -- the answers of comparing within a precision, as answers here; whatever is no order comes to `refused`
 abbrev pub asOrder : Order → Compared → Order
-asOrder refused compared.Less = Less
-asOrder refused compared.Equal = Equal
-asOrder refused compared.Greater = Greater
+asOrder refused compared.Less = Related Less
+asOrder refused compared.Equal = Related Equal
+asOrder refused compared.Greater = Related Greater
 asOrder refused compared.Beyond = refused
 asOrder refused compared.WrongLength = refused
 
@@ -62,11 +66,11 @@ not-ordered refused compared.Greater h = absurd (⊎-elim (λ e. omega arith) (�
 not-ordered refused compared.Beyond h = refl
 not-ordered refused compared.WrongLength h = refl
 
-whole-as : (refused : Order) (x y : ℤ) → asOrder refused (asCompared (order x y)) ≡ wholeOrder x y
+whole-as : (refused : Order) (x y : ℤ) → asOrder refused (asCompared (order x y)) ≡ Related (wholeOrder x y)
 unfolding wholeOrder
 whole-as refused x y = go (ltZ x y) (ltZ y x)
   where
-    go : (t u : Bool) → asOrder refused (asCompared (cond t decimal.Order.Less (cond u decimal.Order.Greater decimal.Order.Equal))) ≡ cond t Less (cond u Greater Equal)
+    go : (t u : Bool) → asOrder refused (asCompared (cond t decimal.Order.Less (cond u decimal.Order.Greater decimal.Order.Equal))) ≡ Related (cond t Less (cond u Greater Equal))
     go true u = refl
     go false true = refl
     go false false = refl
@@ -74,8 +78,8 @@ whole-as refused x y = go (ltZ x y) (ltZ y x)
 -- what reading answers for so many bytes of a number, by how it fits its precision
 abbrev asRead : ℕ → Fit → Read
 asRead len fit.Within = Read.Value (Value.Bytes 0 len)
-asRead len fit.Beyond = Read.BreaksAnnotation 0
-asRead len fit.WrongLength = Read.WrongLength
+asRead len fit.Beyond = Read.Refused (unplaced BREAKS-ANNOTATION)
+asRead len fit.WrongLength = Read.Refused (unplaced WRONG-LENGTH)
 
 within-length : (bs : List ℕ) (p : ℕ) → fitOf bs p ≡ fit.Within → isLength (length bs) ≡ true
 unfolding fitOf
@@ -91,7 +95,7 @@ both-false false = refl
 
 -- the refusal of the first value, or else that of the second
 abbrev pub refusal : ColumnType → List ℕ → List ℕ → Order
-refusal c a b = unlessRefused FIRST (readOf c a) (unlessRefused SECOND (readOf c b) Unordered)
+refusal c a b = unlessRefused FIRST (readOf c a) (unlessRefused SECOND (readOf c b) (Related Unordered))
 
 -- a byte form that is not FIXED has no width
 pub array-width : (c : ColumnType) → isByteDecimal c ≡ true → (c .physical ≡ FIXED-LEN-BYTE-ARRAY → ⊥) → widthOf c ≡ none
@@ -121,11 +125,11 @@ module _ (c : ColumnType) (lawful : isLawful c ≡ true) (is : isByteDecimal c �
   no-place bs = rw (eqb-true (c .kind) DECIMAL kind)
 
   -- a value by its length and its number
-  read : (bs : List ℕ) → readOf c bs ≡ cond (lengthRight c (length bs)) (checked (inDigits (c .p1) (number bs)) 0 (Value.Bytes 0 (length bs))) Read.WrongLength
+  read : (bs : List ℕ) → readOf c bs ≡ cond (lengthRight c (length bs)) (checked (inDigits (c .p1) (number bs)) 0 (Value.Bytes 0 (length bs))) (Read.Refused (unplaced WRONG-LENGTH))
   read bs =
       let known : eqb (c .kind) UNKNOWN ≡ false = ap (λ (n : ℕ). eqb n UNKNOWN) (eqb-true (c .kind) DECIMAL kind) in
       sym (read-lawful c bs lawful)
-      ∙ ap (λ (r : Read). cond (lengthRight c (length bs)) r Read.WrongLength)
+      ∙ ap (λ (r : Read). cond (lengthRight c (length bs)) r (Read.Refused (unplaced WRONG-LENGTH)))
       (sym (bytes-read c bs known form) ∙ ap₂ (λ (t : Bool) (place : ℕ). checked t place (Value.Bytes 0 (length bs))) (keeps-digits bs) (no-place bs))
 
   wide : (n : ℕ) → isWidth (widthOf c) n ≡ true → lengthRight c n ≡ isLength n
@@ -141,14 +145,14 @@ module _ (c : ColumnType) (lawful : isLawful c ≡ true) (is : isByteDecimal c �
   not-wide n w = rw (w, both-false (leb n mostBytes))
 
   -- a value of any other width, and one of its column's, by how its number fits the precision
-  other-width : (bs : List ℕ) → isWidth (widthOf c) (length bs) ≡ false → readOf c bs ≡ Read.WrongLength
+  other-width : (bs : List ℕ) → isWidth (widthOf c) (length bs) ≡ false → readOf c bs ≡ Read.Refused (unplaced WRONG-LENGTH)
   other-width bs w = read bs ∙ rw (not-wide (length bs) w)
 
   own-width : (bs : List ℕ) → isWidth (widthOf c) (length bs) ≡ true → readOf c bs ≡ asRead (length bs) (fitOf bs (c .p1))
   unfolding fitOf
   own-width bs w = read bs ∙ rw (wide (length bs) w) (go (isLength (length bs)) (inDigits (c .p1) (number bs)))
     where
-      go : (l t : Bool) → cond l (checked t 0 (Value.Bytes 0 (length bs))) Read.WrongLength ≡ asRead (length bs) (cond l (cond t fit.Within fit.Beyond) fit.WrongLength)
+      go : (l t : Bool) → cond l (checked t 0 (Value.Bytes 0 (length bs))) (Read.Refused (unplaced WRONG-LENGTH)) ≡ asRead (length bs) (cond l (cond t fit.Within fit.Beyond) fit.WrongLength)
       go true true = refl
       go true false = refl
       go false t = refl
@@ -157,7 +161,7 @@ module _ (c : ColumnType) (lawful : isLawful c ≡ true) (is : isByteDecimal c �
     judged : valuesOrder c a b ≡ orderOf c a b
     judged =
         let k = eqb-true (c .kind) DECIMAL kind in
-        ap (λ (t : Bool). cond t (valuesOrder c a b) NoOrder) (sym (decimal-ordered c k (takes-decimal c lawful k))) ∙ order-lawful c a b lawful
+        ap (λ (t : Bool). cond t (valuesOrder c a b) (Refused (ofNeither NO-ORDER))) (sym (decimal-ordered c k (takes-decimal c lawful k))) ∙ order-lawful c a b lawful
 
     pub wrong-first : isWidth (widthOf c) (length a) ≡ false → refusal c a b ≡ orderOf c a b
     wrong-first w = let e : refusal c a b ≡ valuesOrder c a b = rw (other-width a w) in e ∙ judged
@@ -165,12 +169,12 @@ module _ (c : ColumnType) (lawful : isLawful c ≡ true) (is : isByteDecimal c �
     pub wrong-second : isWidth (widthOf c) (length b) ≡ false → refusal c a b ≡ orderOf c a b
     wrong-second w = let e : refusal c a b ≡ valuesOrder c a b = rw (other-width b w) in e ∙ judged
 
-    keys : fitOf a (c .p1) ≡ fit.Within → fitOf b (c .p1) ≡ fit.Within → (refused : Order) → asOrder refused (asCompared (decimalOrder a b)) ≡ keyOrder (keyOf c a) (keyOf c b)
+    keys : fitOf a (c .p1) ≡ fit.Within → fitOf b (c .p1) ≡ fit.Within → (refused : Order) → asOrder refused (asCompared (decimalOrder a b)) ≡ Related (keyOrder (keyOf c a) (keyOf c b))
     unfolding keyOrder
     keys e f refused =
         ap (λ (o : decimal.Order). asOrder refused (asCompared o)) (orderOf-order a b (within-length a (c .p1) e) (within-length b (c .p1) f))
         ∙ whole-as refused (number a) (number b)
-        ∙ sym (ap₂ keyOrder (key a) (key b))
+        ∙ sym (ap₂ (λ (k l : Key). Related (keyOrder k l)) (key a) (key b))
 
     pub own-widths : isWidth (widthOf c) (length a) ≡ true → isWidth (widthOf c) (length b) ≡ true → asOrder (refusal c a b) (orderWithin a b (c .p1)) ≡ orderOf c a b
     unfolding orderWithin
@@ -179,9 +183,9 @@ module _ (c : ColumnType) (lawful : isLawful c ≡ true) (is : isByteDecimal c �
         e ∙ judged
       where
         go : (f g : Fit) → fitOf a (c .p1) ≡ f → fitOf b (c .p1) ≡ g
-            → asOrder (unlessRefused FIRST (asRead (length a) f) (unlessRefused SECOND (asRead (length b) g) Unordered)) (within.unlessRefused f (within.unlessRefused g (asCompared (decimalOrder a b))))
-            ≡ unlessRefused FIRST (asRead (length a) f) (unlessRefused SECOND (asRead (length b) g) (keyOrder (keyOf c a) (keyOf c b)))
-        go fit.Within fit.Within p q = keys p q Unordered
+            → asOrder (unlessRefused FIRST (asRead (length a) f) (unlessRefused SECOND (asRead (length b) g) (Related Unordered))) (within.unlessRefused f (within.unlessRefused g (asCompared (decimalOrder a b))))
+            ≡ unlessRefused FIRST (asRead (length a) f) (unlessRefused SECOND (asRead (length b) g) (Related (keyOrder (keyOf c a) (keyOf c b))))
+        go fit.Within fit.Within p q = keys p q (Related Unordered)
         go fit.Within fit.Beyond p q = refl
         go fit.Within fit.WrongLength p q = refl
         go fit.Beyond g p q = refl

@@ -2,11 +2,12 @@
 use mathlib.Core.Path.{_≡_, refl, sym, ap, ap₂, _∙_}
 use mathlib.Core.Bool.{Bool, true, false, not, cond, _||_}
 use mathlib.Core.List.{List}
+use mathlib.Core.Option.{Option, none, some}
 use Prim.Native.Nat.{ℕ, _≤_}
 use native.Mathlib.Omega.{arith}
 use lib.Dec.{eqb}
 use lib.Ieee.{binary32, binary64, ofBits}
-use lib.IntN.{pos}
+use lib.IntN.{ℤ, pos}
 use lib.ListN.{length}
 use lib.Seq.{take-length}
 use borrow.Author.Tests.{leb-true, eqb-true, eqb-false}
@@ -23,13 +24,15 @@ use Rattle.column.specs.declared.value.Value.the-variants.{Truth, Signed, Unsig
 use Rattle.column.specs.declared.value.Read.{Read}
 use Rattle.laws.proofs.BoolLaws.{and-left, and-right}
 use Rattle.column.proofs.ReadingLaws.{reads}
-use Rattle.column_order.specs.Keys.{Key, whole, bytes, numberOf, floatKey, keyOf, wholeOrder, byteOrder, keyOrder}
+use Rattle.float_order.specs.Keys as float
+use Rattle.float_order.specs.Keys.{floatKey, wholeOrder}
+use Rattle.float_order.specs.declared.relation.Relation.{Relation}
+use Rattle.float_order.proofs.FloatLaws.{floatOrder-bits}
+use Rattle.column_order.specs.Keys.{Key, whole, bytes, numberOf, numberKey, keyOf, byteOrder, keyOrder}
 use Rattle.column_order.specs.Values.{flag, truthOrder, signedOrder, unsignedOrder, singleOrder, doubleOrder, stretch, stretchEnd, bytesOrder}
-use Rattle.column_order.specs.declared.answer.Order.{Order}
-use Rattle.column_order.proofs.FloatLaws.{floatOrder-bits}
 
 -- two values by their cases, whose stretches are those of the bytes `a` and `b`
-abbrev pub valueOrder : List ℕ → List ℕ → Value → Value → Order
+abbrev pub valueOrder : List ℕ → List ℕ → Value → Value → Relation
 valueOrder a b (Truth p) v = truthOrder p v
 valueOrder a b (Signed x) v = signedOrder x v
 valueOrder a b (Unsigned m) v = unsignedOrder m v
@@ -44,6 +47,13 @@ flag-truth n e = go (eqb n 1) refl
     go : (t : Bool) → eqb n 1 ≡ t → flag t ≡ n
     go true p = sym (eqb-true n 1 p)
     go false p = let h = leb-true n 1 e in let k = eqb-false n 1 p in omega arith
+
+-- the keys of floats are ordered as the keys of their column
+float-keys : (k l : Option ℤ) → float.keyOrder k l ≡ keyOrder (numberKey k) (numberKey l)
+unfolding float.keyOrder keyOrder
+float-keys none l = refl
+float-keys (some x) none = refl
+float-keys (some x) (some y) = refl
 
 module _ (c : ColumnType) where
   whole-signed : (bs : List ℕ) → isWhole c ≡ true → numberOf c bs ≡ signed bs
@@ -101,15 +111,15 @@ module _ (c : ColumnType) (a b : List ℕ) where
       key t w f d bs =
           cond t (whole (pos (little bs)))
           (cond w (whole (cond (isUnsigned c) (pos (little bs)) (numberOf c bs)))
-          (cond f (floatKey binary32 (little bs))
-          (cond d (floatKey binary64 (little bs)) (cond (isByteDecimal c) (whole (numberOf c bs)) (bytes bs)))))
+          (cond f (numberKey (floatKey binary32 (little bs)))
+          (cond d (numberKey (floatKey binary64 (little bs))) (cond (isByteDecimal c) (whole (numberOf c bs)) (bytes bs)))))
 
       go : (t : Bool) → eqb (c .physical) BOOLEAN ≡ t → (w : Bool) → isWhole c ≡ w → (f d : Bool)
           → valueOrder a b (value t w f d a) (value t w f d b) ≡ keyOrder (key t w f d a) (key t w f d b)
       go true e w i f d = truths p q e
       go false e true i f d = wholes i
-      go false e false i true d = floatOrder-bits binary32 (little a) (little b)
-      go false e false i false true = floatOrder-bits binary64 (little a) (little b)
+      go false e false i true d = floatOrder-bits binary32 (little a) (little b) ∙ float-keys (floatKey binary32 (little a)) (floatKey binary32 (little b))
+      go false e false i false true = floatOrder-bits binary64 (little a) (little b) ∙ float-keys (floatKey binary64 (little a)) (floatKey binary64 (little b))
       go false e false i false false = stretches d
 
 -- the stretch of a read value lies within the bytes that were read

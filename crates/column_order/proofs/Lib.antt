@@ -2,7 +2,6 @@
 pub mod Turning
 pub mod WholeLaws
 pub mod ByteLaws
-pub mod FloatLaws
 pub mod KeyLaws
 pub mod RefusalLaws
 pub mod OrderLaws

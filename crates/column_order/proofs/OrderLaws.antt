@@ -3,6 +3,7 @@
 use mathlib.Core.Path.{_≡_, refl, sym, ap, ap₂, _∙_}
 use mathlib.Core.Bool.{Bool, true, false, cond, _||_}
 use mathlib.Core.List.{List}
+use mathlib.Core.Option.{Option}
 use mathlib.Core.Logic.{_↔_, _⊎_, inl, inr, ⊎-elim}
 use Prim.Native.Nat.{ℕ}
 use lib.Dec.{eqb}
@@ -23,17 +24,19 @@ use Rattle.column.specs.Numbers.{little}
 use Rattle.column.specs.Lengths.{isByteDecimal}
 use Rattle.column.specs.Annotations.{isWhole, isUnsigned}
 use Rattle.column.proofs.ReadingLaws.{reads}
-use Rattle.column_order.specs.Keys.{Key, whole, bytes, none, numberOf, floatKey, keyOf, wholeOrder, keyOrder}
+use Rattle.float_order.specs.Keys.{floatKey, wholeOrder}
+use Rattle.float_order.specs.declared.relation.Relation.the-variants.{Less, Equal, Greater, Unordered}
+use Rattle.column_order.specs.Keys.{Key, whole, bytes, none, numberOf, numberKey, keyOf, keyOrder}
 use Rattle.column_order.specs.Order.{hasOrder, orderOf}
-use Rattle.column_order.specs.declared.answer.Order.the-variants.{Less, Equal, Greater, Unordered}
-use Rattle.column_order.specs.Comparison.{Valid, NotANumber, turned, atMost}
-use Rattle.column_order.proofs.Turning.{at-most-both}
+use Rattle.column_order.specs.declared.answer.Order.the-variants.{Related}
+use Rattle.column_order.specs.Comparison.{Valid, NotANumber, reversed, turned, lessOrEqual, atMost}
+use Rattle.column_order.proofs.Turning.{at-most-both, related-as}
 use Rattle.column_order.proofs.WholeLaws.{whole-less, whole-equal, whole-greater, whole-turned, whole-trans, whole-total}
 use Rattle.column_order.proofs.ByteLaws.{byte-refl, byte-turned, byte-trans, byte-total}
 
 -- ---- keys
 
-pub key-turned : (k l : Key) → keyOrder l k ≡ turned (keyOrder k l)
+pub key-turned : (k l : Key) → keyOrder l k ≡ reversed (keyOrder k l)
 unfolding keyOrder
 key-turned (whole x) (whole y) = whole-turned x y
 key-turned (whole x) (bytes b) = refl
@@ -51,7 +54,7 @@ key-refl (whole x) h = whole-equal x x .1 refl
 key-refl (bytes a) h = byte-refl a
 key-refl none h = absurd (h refl)
 
-pub key-trans : (k l m : Key) → atMost (keyOrder k l) ≡ true → atMost (keyOrder l m) ≡ true → atMost (keyOrder k m) ≡ true
+pub key-trans : (k l m : Key) → lessOrEqual (keyOrder k l) ≡ true → lessOrEqual (keyOrder l m) ≡ true → lessOrEqual (keyOrder k m) ≡ true
 unfolding keyOrder
 key-trans (whole x) (whole y) (whole z) p q = whole-trans x y z p q
 key-trans (whole x) (whole y) (bytes c) p q = q
@@ -75,7 +78,7 @@ comparable (bytes a) (bytes b) = true
 comparable (bytes a) none = true
 comparable none l = true
 
-key-total : (k l : Key) → comparable k l ≡ true → (k ≡ none → ⊥) → (l ≡ none → ⊥) → (atMost (keyOrder k l) || atMost (turned (keyOrder k l))) ≡ true
+key-total : (k l : Key) → comparable k l ≡ true → (k ≡ none → ⊥) → (l ≡ none → ⊥) → (lessOrEqual (keyOrder k l) || lessOrEqual (reversed (keyOrder k l))) ≡ true
 unfolding keyOrder
 key-total (whole x) (whole y) e h k = whole-total x y
 key-total (whole x) (bytes b) e h k = cc
@@ -85,11 +88,11 @@ key-total (bytes a) (bytes b) e h k = byte-total a b
 key-total (bytes a) none e h k = absurd (k refl)
 key-total none l e h k = absurd (h refl)
 
-float-comparable : (f : Format) (a b : ℕ) → comparable (floatKey f a) (floatKey f b) ≡ true
+float-comparable : (f : Format) (a b : ℕ) → comparable (numberKey (floatKey f a)) (numberKey (floatKey f b)) ≡ true
 unfolding floatKey
 float-comparable f a b = go (nanBits f a) (nanBits f b) _ _
   where
-    go : (t u : Bool) (x y : ℤ) → comparable (cond t none (whole x)) (cond u none (whole y)) ≡ true
+    go : (t u : Bool) (x y : ℤ) → comparable (numberKey (cond t Option.none (Option.some x))) (numberKey (cond u Option.none (Option.some y))) ≡ true
     go true u x y = refl
     go false true x y = refl
     go false false x y = refl
@@ -102,7 +105,7 @@ keys-comparable c a b = go (eqb (c .physical) BOOLEAN) (isWhole c) (eqb (c .phys
     key t w f d s bs =
         cond t (whole (pos (little bs)))
         (cond w (whole (cond (isUnsigned c) (pos (little bs)) (numberOf c bs)))
-        (cond f (floatKey binary32 (little bs)) (cond d (floatKey binary64 (little bs)) (cond s (whole (numberOf c bs)) (bytes bs)))))
+        (cond f (numberKey (floatKey binary32 (little bs))) (cond d (numberKey (floatKey binary64 (little bs))) (cond s (whole (numberOf c bs)) (bytes bs)))))
 
     go : (t w f d s : Bool) → comparable (key t w f d s a) (key t w f d s b) ≡ true
     go true w f d s = refl
@@ -116,17 +119,17 @@ keys-comparable c a b = go (eqb (c .physical) BOOLEAN) (isWhole c) (eqb (c .phys
 
 module _ (c : ColumnType) (ordered : hasOrder c ≡ true) where
   -- valid values are ordered by their keys
-  pub order-keys : (a b : List ℕ) → Valid c a → Valid c b → orderOf c a b ≡ keyOrder (keyOf c a) (keyOf c b)
+  pub order-keys : (a b : List ℕ) → Valid c a → Valid c b → orderOf c a b ≡ Related (keyOrder (keyOf c a) (keyOf c b))
   unfolding orderOf
   order-keys a b p q = rw (reads c a (p .0) (p .1) .lawful, ordered, p .1, q .1)
 
   -- exchanged values are answered the other way round
   pub order-turned : (a b : List ℕ) → Valid c a → Valid c b → orderOf c b a ≡ turned (orderOf c a b)
-  order-turned a b p q = rw (order-keys b a q p, order-keys a b p q) (key-turned (keyOf c a) (keyOf c b))
+  order-turned a b p q = rw (order-keys b a q p, order-keys a b p q) (ap Related (key-turned (keyOf c a) (keyOf c b)))
 
   -- a value that is no NaN equals itself
-  pub order-refl : (a : List ℕ) → Valid c a → (NotANumber c a → ⊥) → orderOf c a a ≡ Equal
-  order-refl a p h = order-keys a a p p ∙ key-refl (keyOf c a) h
+  pub order-refl : (a : List ℕ) → Valid c a → (NotANumber c a → ⊥) → orderOf c a a ≡ Related Equal
+  order-refl a p h = order-keys a a p p ∙ ap Related (key-refl (keyOf c a) h)
 
   -- transitive
   pub order-trans : (a b d : List ℕ) → Valid c a → Valid c b → Valid c d
@@ -136,7 +139,7 @@ module _ (c : ColumnType) (ordered : hasOrder c ≡ true) where
       ∙ key-trans (keyOf c a) (keyOf c b) (keyOf c d) (ap atMost (sym (order-keys a b p q)) ∙ e) (ap atMost (sym (order-keys b d q r)) ∙ f)
 
   -- antisymmetric, up to equal
-  pub order-antisym : (a b : List ℕ) → Valid c a → Valid c b → atMost (orderOf c a b) ≡ true → atMost (orderOf c b a) ≡ true → orderOf c a b ≡ Equal
+  pub order-antisym : (a b : List ℕ) → Valid c a → Valid c b → atMost (orderOf c a b) ≡ true → atMost (orderOf c b a) ≡ true → orderOf c a b ≡ Related Equal
   order-antisym a b p q e f = at-most-both (orderOf c a b) e (ap atMost (sym (order-turned a b p q)) ∙ f)
 
   -- total, where neither is a NaN
@@ -146,10 +149,10 @@ module _ (c : ColumnType) (ordered : hasOrder c ≡ true) where
       rw (order-turned a b p q, order-keys a b p q) (key-total (keyOf c a) (keyOf c b) (keys-comparable c a b) h k)
 
   -- a NaN is unordered, to itself too
-  pub order-nan : (a b : List ℕ) → Valid c a → Valid c b → NotANumber c a → (orderOf c a b ≡ Unordered) × (orderOf c b a ≡ Unordered)
+  pub order-nan : (a b : List ℕ) → Valid c a → Valid c b → NotANumber c a → (orderOf c a b ≡ Related Unordered) × (orderOf c b a ≡ Related Unordered)
   unfolding keyOrder
   order-nan a b p q e =
-      let u : orderOf c a b ≡ Unordered = order-keys a b p q ∙ ap (λ (k : Key). keyOrder k (keyOf c b)) e in
+      let u : orderOf c a b ≡ Related Unordered = order-keys a b p q ∙ ap (λ (k : Key). Related (keyOrder k (keyOf c b))) e in
       (u, order-turned a b p q ∙ ap turned u)
 
 -- ---- decimals
@@ -198,16 +201,16 @@ module _ (c : ColumnType) (a b : List ℕ) (p : Valid c a) (q : Valid c b) (kind
   physical : TakesDecimal c
   physical = takes-decimal c (reads c a (p .0) (p .1) .lawful) kind
 
-  pub decimal-order : orderOf c a b ≡ wholeOrder (numberOf c a) (numberOf c b)
+  pub decimal-order : orderOf c a b ≡ Related (wholeOrder (numberOf c a) (numberOf c b))
   unfolding keyOrder
-  decimal-order = order-keys c (decimal-ordered c kind physical) a b p q ∙ ap₂ keyOrder (decimal-key c a kind physical) (decimal-key c b kind physical)
+  decimal-order = order-keys c (decimal-ordered c kind physical) a b p q ∙ ap₂ (λ (k l : Key). Related (keyOrder k l)) (decimal-key c a kind physical) (decimal-key c b kind physical)
 
-  pub decimal-less : (orderOf c a b ≡ Less) ↔ (numberOf c a <ℤ numberOf c b)
-  decimal-less = rw decimal-order (whole-less (numberOf c a) (numberOf c b))
+  pub decimal-less : (orderOf c a b ≡ Related Less) ↔ (numberOf c a <ℤ numberOf c b)
+  decimal-less = rw decimal-order (related-as (whole-less (numberOf c a) (numberOf c b)))
 
   -- equal exactly when the numbers are
-  pub decimal-equal : (orderOf c a b ≡ Equal) ↔ (numberOf c a ≡ numberOf c b)
-  decimal-equal = rw decimal-order (whole-equal (numberOf c a) (numberOf c b))
+  pub decimal-equal : (orderOf c a b ≡ Related Equal) ↔ (numberOf c a ≡ numberOf c b)
+  decimal-equal = rw decimal-order (related-as (whole-equal (numberOf c a) (numberOf c b)))
 
-  pub decimal-greater : (orderOf c a b ≡ Greater) ↔ (numberOf c b <ℤ numberOf c a)
-  decimal-greater = rw decimal-order (whole-greater (numberOf c a) (numberOf c b))
+  pub decimal-greater : (orderOf c a b ≡ Related Greater) ↔ (numberOf c b <ℤ numberOf c a)
+  decimal-greater = rw decimal-order (related-as (whole-greater (numberOf c a) (numberOf c b)))

@@ -1,5 +1,5 @@
 -- Each sentence of "Order" holds of `orderOf`, both ways.
-use Prim.Native.Nat.{ℕ, _%_, _*_, _<_, _≤_}
+use Prim.Native.Nat.{ℕ, _%_, _*_, _<_}
 use mathlib.Core.Path.{_≡_, refl, sym, ap, ap₂, _∙_}
 use mathlib.Core.Bool.{Bool, true, false, false≢true, cond, _&&_}
 use mathlib.Core.List.{List, [], _∷_}
@@ -8,10 +8,11 @@ use native.Mathlib.Omega.{arith}
 use borrow.Author.Tests.{ne-eqb, eqb-true, lt-ltb, le-ltb, ltb-true, ltb-false}
 use lib.Dec.{ltb, eqb}
 use lib.Ieee.{Format, binary32, binary64, hid, ones, top}
-use lib.Ieee.Bits.{nanBits-above}
 use lib.IntN.{ℤ, pos}
 use lib.Signed.{ltZ}
 use Rattle.laws.proofs.BoolLaws.{by-test}
+use Rattle.refusal.specs.Numbers.{NO-ORDER}
+use Rattle.refusal.specs.declared.answers.Fault.{Fault}
 use Rattle.parquet.specs.Physical.{BOOLEAN, INT96, FLOAT, DOUBLE}
 use Rattle.parquet.specs.Converted.{INTERVAL}
 use Rattle.parquet.specs.Logical.{DECIMAL, INTEGER}
@@ -20,13 +21,18 @@ use Rattle.column_type.specs.Lawful.{isLawful}
 use Rattle.column_type.specs.declared.types.ColumnType.{ColumnType}
 use Rattle.column.specs.Numbers.{little, signed}
 use Rattle.column.specs.Promises.{Whole, ByteForm}
-use Rattle.column_order.specs.Keys.{Key, whole, bytes, none, numberOf, floatKey, keyOf, wholeOrder, byteOrder, keyOrder}
-use Rattle.column_order.specs.Order.{hasOrder, orderOf}
-use Rattle.column_order.specs.Comparison.{Valid, turned}
-use Rattle.column_order.specs.Outcome.{refused, outcome}
+use Rattle.float_order.specs.Keys.{floatKey, wholeOrder}
+use Rattle.float_order.specs.declared.relation.Relation.{Relation}
+use Rattle.float_order.specs.declared.relation.Relation.the-variants.{Less, Equal, Greater, Unordered}
+use Rattle.float_order.proofs.FloatLaws as float
+use Rattle.column_order.specs.Keys.{Key, whole, bytes, none, numberOf, numberKey, keyOf, byteOrder, keyOrder}
+use Rattle.column_order.specs.Order.{ofNeither, hasOrder, orderOf}
+use Rattle.column_order.specs.Comparison.{Valid, reversed}
+use Rattle.column_order.specs.Outcome.{given, refused, outcomeOf, outcome}
 use Rattle.column_order.specs.Promises.{AsNumbers, Before, prefix, lower, further, AsBytes, bitsBelow, FLOAT-SIGN, FLOAT-INFINITY, DOUBLE-SIGN, DOUBLE-INFINITY, IsNan}
 use Rattle.column_order.specs.declared.answer.Order.{Order}
-use Rattle.column_order.specs.declared.answer.Order.the-variants.{Less, Equal, Greater, Unordered, Unlawful, NoOrder, WrongLength, BreaksAnnotation}
+use Rattle.column_order.specs.declared.answer.Order.the-variants.{Related, Refused}
+use Rattle.column_order.proofs.Turning.{related-is, related-as}
 use Rattle.column_order.proofs.WholeLaws.{whole-less, whole-equal, whole-greater}
 use Rattle.column_order.proofs.ByteLaws.{byte-refl, byte-turned}
 use Rattle.column_order.proofs.OrderLaws.{order-keys, decimal-less, decimal-equal, decimal-greater}
@@ -69,15 +75,11 @@ equal-same (x ∷ xs) (y ∷ ys) e = go (ltb x y) refl (ltb y x) refl (equal-sam
         ap₂ _∷_ same (rest f)
 
 -- an answer turned round twice
-turned-less : (o : Order) → turned o ≡ Less → o ≡ Greater
-turned-less Less e = absurd (let z : _≡_ {A = ℕ} 0 1 = cc in omega arith)
-turned-less Equal e = absurd (let z : _≡_ {A = ℕ} 0 1 = cc in omega arith)
-turned-less Greater e = refl
-turned-less Unordered e = absurd (let z : _≡_ {A = ℕ} 0 1 = cc in omega arith)
-turned-less Unlawful e = absurd (let z : _≡_ {A = ℕ} 0 1 = cc in omega arith)
-turned-less NoOrder e = absurd (let z : _≡_ {A = ℕ} 0 1 = cc in omega arith)
-turned-less (WrongLength v) e = absurd (let z : _≡_ {A = ℕ} 0 1 = cc in omega arith)
-turned-less (BreaksAnnotation v p) e = absurd (let z : _≡_ {A = ℕ} 0 1 = cc in omega arith)
+reversed-less : (r : Relation) → reversed r ≡ Less → r ≡ Greater
+reversed-less Less e = absurd (let z : _≡_ {A = ℕ} 0 1 = cc in omega arith)
+reversed-less Equal e = absurd (let z : _≡_ {A = ℕ} 0 1 = cc in omega arith)
+reversed-less Greater e = refl
+reversed-less Unordered e = absurd (let z : _≡_ {A = ℕ} 0 1 = cc in omega arith)
 
 -- valid values of a column that has an order ---------------------------------------------------------------------------------------
 
@@ -85,8 +87,8 @@ module _ (c : ColumnType) (ordered : hasOrder c ≡ true) (a b : List ℕ) (p : 
   as-numbers : (x y : ℤ) → keyOf c a ≡ whole x → keyOf c b ≡ whole y → AsNumbers c a b x y
   unfolding keyOrder
   as-numbers x y e f =
-      let o : orderOf c a b ≡ wholeOrder x y = order-keys c ordered a b p q ∙ ap₂ keyOrder e f in
-      record { less = rw o (whole-less x y); equal = rw o (whole-equal x y); greater = rw o (whole-greater x y) }
+      let o : orderOf c a b ≡ Related (wholeOrder x y) = order-keys c ordered a b p q ∙ ap₂ (λ (k l : Key). Related (keyOrder k l)) e f in
+      record { less = rw o (related-as (whole-less x y)); equal = rw o (related-as (whole-equal x y)); greater = rw o (related-as (whole-greater x y)) }
 
   -- "signed for numbers, dates, times, decimals"
   pub signed-order : Whole c → ((c .kind ≡ INTEGER) × (c .p2 ≡ 0) → ⊥) → AsNumbers c a b (signed a) (signed b)
@@ -123,11 +125,11 @@ module _ (c : ColumnType) (ordered : hasOrder c ≡ true) (a b : List ℕ) (p : 
   pub bytes-order : ByteForm c → ((c .kind ≡ DECIMAL) → ⊥) → AsBytes c a b
   unfolding keyOf keyOrder
   bytes-order form d =
-      let o : orderOf c a b ≡ byteOrder a b = order-keys c ordered a b p q ∙ ap₂ keyOrder (key form a) (key form b) in
+      let o : orderOf c a b ≡ Related (byteOrder a b) = order-keys c ordered a b p q ∙ ap₂ (λ (k l : Key). Related (keyOrder k l)) (key form a) (key form b) in
       record {
-        less = rw o (less-before a b, before-less a b);
-        equal = rw o (equal-same a b, λ e. rw (← e) (byte-refl a));
-        greater = rw o (λ e. less-before b a (byte-turned a b ∙ ap turned e), λ h. turned-less (byteOrder a b) (sym (byte-turned a b) ∙ before-less b a h));
+        less = rw o (related-as (less-before a b, before-less a b));
+        equal = rw o (related-as (equal-same a b, λ e. rw (← e) (byte-refl a)));
+        greater = rw o (related-as (λ e. less-before b a (byte-turned a b ∙ ap reversed e), λ h. reversed-less (byteOrder a b) (sym (byte-turned a b) ∙ before-less b a h)));
       }
     where
       key : ByteForm c → (bs : List ℕ) → keyOf c bs ≡ bytes bs
@@ -135,19 +137,15 @@ module _ (c : ColumnType) (ordered : hasOrder c ≡ true) (a b : List ℕ) (p : 
       key (inr e) bs = rw (e, ne-eqb (c .kind) DECIMAL d)
 
   -- "FLOAT, DOUBLE numeric, stated over their bits", once for both formats
-  module _ (f : Format) (key : (bs : List ℕ) → keyOf c bs ≡ floatKey f (little bs)) where
+  module _ (f : Format) (key : (bs : List ℕ) → keyOf c bs ≡ numberKey (floatKey f (little bs))) where
     abbrev Nan : List ℕ → Type 0
     Nan bs = IsNan (top f) (ones f * hid f) (little bs)
 
     nan-key : (bs : List ℕ) → Nan bs → keyOf c bs ≡ none
-    unfolding floatKey
-    nan-key bs h = key bs ∙ rw (nanBits-above f (little bs), lt-ltb (ones f * hid f) (little bs % top f) h)
+    nan-key bs h = key bs ∙ ap numberKey (float.nan-key f (little bs) h)
 
     number-key : (bs : List ℕ) → (Nan bs → ⊥) → keyOf c bs ≡ whole (bitsBelow (top f) (little bs))
-    unfolding floatKey
-    number-key bs h =
-        let l : little bs % top f ≤ ones f * hid f = omega (arith, h) in
-        key bs ∙ rw (nanBits-above f (little bs), le-ltb (ones f * hid f) (little bs % top f) l)
+    number-key bs h = key bs ∙ ap numberKey (float.number-key f (little bs) (omega (arith, h)))
 
     format-numbers : (Nan a → ⊥) → (Nan b → ⊥) → AsNumbers c a b (bitsBelow (top f) (little a)) (bitsBelow (top f) (little b))
     format-numbers h k = as-numbers (bitsBelow (top f) (little a)) (bitsBelow (top f) (little b)) (number-key a h) (number-key b k)
@@ -169,46 +167,46 @@ module _ (c : ColumnType) (ordered : hasOrder c ≡ true) (a b : List ℕ) (p : 
     nan-second (bytes x) = refl
     nan-second none = refl
 
-    format-unordered : (orderOf c a b ≡ Unordered) ↔ (Nan a ⊎ Nan b)
+    format-unordered : (orderOf c a b ≡ Related Unordered) ↔ (Nan a ⊎ Nan b)
     unfolding keyOrder
     format-unordered = (
       λ e. by-test (ltb (ones f * hid f) (little a % top f)) (λ t. inl (ltb-true (ones f * hid f) (little a % top f) t))
           (λ t. by-test (ltb (ones f * hid f) (little b % top f)) (λ u. inr (ltb-true (ones f * hid f) (little b % top f) u))
           (λ u. absurd
           (ordered-numbers (bitsBelow (top f) (little a)) (bitsBelow (top f) (little b))
-          (sym (ap₂ keyOrder (number-key a (λ h. ltb-no (ones f * hid f) (little a % top f) t h)) (number-key b (λ h. ltb-no (ones f * hid f) (little b % top f) u h)))
+          (related-is (sym (ap₂ (λ (k l : Key). Related (keyOrder k l)) (number-key a (λ h. ltb-no (ones f * hid f) (little a % top f) t h)) (number-key b (λ h. ltb-no (ones f * hid f) (little b % top f) u h)))
           ∙ sym (order-keys c ordered a b p q)
-          ∙ e)))),
+          ∙ e))))),
       nan-either,
     )
       where
         ltb-no : (m n : ℕ) → ltb m n ≡ false → m < n → ⊥
         ltb-no m n t h = omega (arith, ltb-false m n t, h)
 
-        nan-either : Nan a ⊎ Nan b → orderOf c a b ≡ Unordered
-        nan-either (inl h) = order-keys c ordered a b p q ∙ ap (λ (k : Key). keyOrder k (keyOf c b)) (nan-key a h)
-        nan-either (inr h) = order-keys c ordered a b p q ∙ ap (keyOrder (keyOf c a)) (nan-key b h) ∙ nan-second (keyOf c a)
+        nan-either : Nan a ⊎ Nan b → orderOf c a b ≡ Related Unordered
+        nan-either (inl h) = order-keys c ordered a b p q ∙ ap (λ (k : Key). Related (keyOrder k (keyOf c b))) (nan-key a h)
+        nan-either (inr h) = order-keys c ordered a b p q ∙ ap Related (ap (keyOrder (keyOf c a)) (nan-key b h) ∙ nan-second (keyOf c a))
 
   module _ (e : c .physical ≡ FLOAT) where
-    float-key : (bs : List ℕ) → keyOf c bs ≡ floatKey binary32 (little bs)
+    float-key : (bs : List ℕ) → keyOf c bs ≡ numberKey (floatKey binary32 (little bs))
     unfolding keyOf
     float-key bs = rw e
 
     pub float-order : (IsNan FLOAT-SIGN FLOAT-INFINITY (little a) → ⊥) → (IsNan FLOAT-SIGN FLOAT-INFINITY (little b) → ⊥) → AsNumbers c a b (bitsBelow FLOAT-SIGN (little a)) (bitsBelow FLOAT-SIGN (little b))
     float-order = format-numbers binary32 float-key
 
-    pub float-unordered : (orderOf c a b ≡ Unordered) ↔ (IsNan FLOAT-SIGN FLOAT-INFINITY (little a) ⊎ IsNan FLOAT-SIGN FLOAT-INFINITY (little b))
+    pub float-unordered : (orderOf c a b ≡ Related Unordered) ↔ (IsNan FLOAT-SIGN FLOAT-INFINITY (little a) ⊎ IsNan FLOAT-SIGN FLOAT-INFINITY (little b))
     float-unordered = format-unordered binary32 float-key
 
   module _ (e : c .physical ≡ DOUBLE) where
-    double-key : (bs : List ℕ) → keyOf c bs ≡ floatKey binary64 (little bs)
+    double-key : (bs : List ℕ) → keyOf c bs ≡ numberKey (floatKey binary64 (little bs))
     unfolding keyOf
     double-key bs = rw e
 
     pub double-order : (IsNan DOUBLE-SIGN DOUBLE-INFINITY (little a) → ⊥) → (IsNan DOUBLE-SIGN DOUBLE-INFINITY (little b) → ⊥) → AsNumbers c a b (bitsBelow DOUBLE-SIGN (little a)) (bitsBelow DOUBLE-SIGN (little b))
     double-order = format-numbers binary64 double-key
 
-    pub double-unordered : (orderOf c a b ≡ Unordered) ↔ (IsNan DOUBLE-SIGN DOUBLE-INFINITY (little a) ⊎ IsNan DOUBLE-SIGN DOUBLE-INFINITY (little b))
+    pub double-unordered : (orderOf c a b ≡ Related Unordered) ↔ (IsNan DOUBLE-SIGN DOUBLE-INFINITY (little a) ⊎ IsNan DOUBLE-SIGN DOUBLE-INFINITY (little b))
     double-unordered = format-unordered binary64 double-key
 
 -- "INTERVAL and INT96 have none" ---------------------------------------------------------------------------------------------------
@@ -222,13 +220,13 @@ pub tested-no-order : (c : ColumnType) → (c .physical ≡ INT96) ⊎ (c .kind 
 tested-no-order c (inl e) = rw e
 tested-no-order c (inr e) = by-test (eqb (c .physical) INT96) (λ i. rw i) (λ i. rw (i, e))
 
-pub no-order-exactly : (c : ColumnType) (a b : List ℕ) → (outcome c a b ≡ refused 17 0 0) ↔ ((isLawful c ≡ true) × ((c .physical ≡ INT96) ⊎ (c .kind ≡ INTERVAL)))
+pub no-order-exactly : (c : ColumnType) (a b : List ℕ) → (outcome c a b ≡ refused (ofNeither NO-ORDER)) ↔ ((isLawful c ≡ true) × ((c .physical ≡ INT96) ⊎ (c .kind ≡ INTERVAL)))
 no-order-exactly c a b = (
-  λ e. by-cases (neither-exactly c a b 17 0 .0 e),
-  λ h. neither-exactly c a b 17 0 .1 (inr (h .0, tested-no-order c (h .1), refl, refl)),
+  λ e. by-cases (neither-exactly c a b NO-ORDER 0 .0 e),
+  λ h. neither-exactly c a b NO-ORDER 0 .1 (inr (h .0, tested-no-order c (h .1), refl, refl)),
 )
   where
-    by-cases : OfNeither c a b 17 0 → (isLawful c ≡ true) × ((c .physical ≡ INT96) ⊎ (c .kind ≡ INTERVAL))
+    by-cases : OfNeither c a b NO-ORDER 0 → (isLawful c ≡ true) × ((c .physical ≡ INT96) ⊎ (c .kind ≡ INTERVAL))
     by-cases (inl h) = absurd (omega (arith, h .1))
     by-cases (inr h) = (h .0, no-order-tested c (h .1))
 
@@ -236,3 +234,24 @@ no-order-exactly c a b = (
 
 pub decimals-order : (c : ColumnType) (a b : List ℕ) → Valid c a → Valid c b → c .kind ≡ DECIMAL → AsNumbers c a b (numberOf c a) (numberOf c b)
 decimals-order c a b p q k = record { less = decimal-less c a b p q k; equal = decimal-equal c a b p q k; greater = decimal-greater c a b p q k }
+
+-- outcomes and answers ------------------------------------------------------------------------------------------------------------------
+
+module _ (c : ColumnType) (a b : List ℕ) where
+  -- a relation is given exactly where it is answered
+  pub given-exactly : (r : Relation) → (outcome c a b ≡ given r) ↔ (orderOf c a b ≡ Related r)
+  unfolding outcome
+  given-exactly r = (go (orderOf c a b), λ e. ap outcomeOf e)
+    where
+      go : (o : Order) → outcomeOf o ≡ given r → o ≡ Related r
+      go (Related s) e = cc
+      go (Refused f) e = absurd (let z : _≡_ {A = ℕ} 0 1 = cc in omega arith)
+
+  -- and so is a refusal
+  pub refused-exactly : (f : Fault) → (outcome c a b ≡ refused f) ↔ (orderOf c a b ≡ Refused f)
+  unfolding outcome
+  refused-exactly f = (go (orderOf c a b), λ e. ap outcomeOf e)
+    where
+      go : (o : Order) → outcomeOf o ≡ refused f → o ≡ Refused f
+      go (Related s) e = absurd (let z : _≡_ {A = ℕ} 0 1 = cc in omega arith)
+      go (Refused g) e = cc

@@ -10,20 +10,19 @@ use lib.Signed.{ltZ, _<ℤ_, ltZ-yes, ltZ-no, <ℤ-≤ℤ-trans, clashℤ}
 use Rattle.decimal.specs.declared.order.Order as decimal
 use Rattle.decimal.specs.Order.{order}
 use Rattle.decimal.proofs.OrderLaws.{order-less, order-equal, order-greater}
-use Rattle.column_order.specs.Keys.{wholeOrder}
-use Rattle.column_order.specs.declared.answer.Order.{Order}
-use Rattle.column_order.specs.declared.answer.Order.the-variants.{Less, Equal, Greater, WrongLength}
-use Rattle.column_order.specs.Comparison.{turned, atMost}
-use Rattle.column_order.specs.Order.{FIRST}
+use Rattle.float_order.specs.Keys.{wholeOrder}
+use Rattle.float_order.specs.declared.relation.Relation.{Relation}
+use Rattle.float_order.specs.declared.relation.Relation.the-variants.{Less, Equal, Greater, Unordered}
+use Rattle.column_order.specs.Comparison.{reversed, lessOrEqual}
 
 -- ---- decimals
 
 -- the answers of the crate `decimal`, as answers here
-abbrev pub named : decimal.Order → Order
+abbrev pub named : decimal.Order → Relation
 named decimal.Order.Less = Less
 named decimal.Order.Equal = Equal
 named decimal.Order.Greater = Greater
-named decimal.Order.WrongLength = WrongLength FIRST
+named decimal.Order.WrongLength = Unordered
 
 order-named : (x y : ℤ) → named (order x y) ≡ wholeOrder x y
 unfolding wholeOrder
@@ -75,39 +74,39 @@ ltZ-asym x y p q =
     let z : _≡_ {A = ℕ} 0 1 = cc in
     omega arith
 
-pub whole-turned : (x y : ℤ) → wholeOrder y x ≡ turned (wholeOrder x y)
+pub whole-turned : (x y : ℤ) → wholeOrder y x ≡ reversed (wholeOrder x y)
 unfolding wholeOrder
 whole-turned x y = go (ltZ x y) refl (ltZ y x) refl
   where
-    go : (t : Bool) → ltZ x y ≡ t → (u : Bool) → ltZ y x ≡ u → cond u Less (cond t Greater Equal) ≡ turned (cond t Less (cond u Greater Equal))
+    go : (t : Bool) → ltZ x y ≡ t → (u : Bool) → ltZ y x ≡ u → cond u Less (cond t Greater Equal) ≡ reversed (cond t Less (cond u Greater Equal))
     go true p true q = absurd (ltZ-asym x y p q)
     go true p false q = refl
     go false p true q = refl
     go false p false q = refl
 
 -- at most is not above
-whole-at-most : (x y : ℤ) → atMost (wholeOrder x y) ≡ not (ltZ y x)
+whole-at-most : (x y : ℤ) → lessOrEqual (wholeOrder x y) ≡ not (ltZ y x)
 unfolding wholeOrder
 whole-at-most x y = go (ltZ x y) refl (ltZ y x) refl
   where
-    go : (t : Bool) → ltZ x y ≡ t → (u : Bool) → ltZ y x ≡ u → atMost (cond t Less (cond u Greater Equal)) ≡ not u
+    go : (t : Bool) → ltZ x y ≡ t → (u : Bool) → ltZ y x ≡ u → lessOrEqual (cond t Less (cond u Greater Equal)) ≡ not u
     go true p true q = absurd (ltZ-asym x y p q)
     go true p false q = refl
     go false p true q = refl
     go false p false q = refl
 
-pub whole-trans : (x y z : ℤ) → atMost (wholeOrder x y) ≡ true → atMost (wholeOrder y z) ≡ true → atMost (wholeOrder x z) ≡ true
+pub whole-trans : (x y z : ℤ) → lessOrEqual (wholeOrder x y) ≡ true → lessOrEqual (wholeOrder y z) ≡ true → lessOrEqual (wholeOrder x z) ≡ true
 whole-trans x y z p q = whole-at-most x z ∙ go (ltZ z x) refl
   where
     go : (t : Bool) → ltZ z x ≡ t → not t ≡ true
     go true e = clashℤ (<ℤ-≤ℤ-trans (ltZ-yes (holds e)) (ltZ-no {a = y} {b = x} (holds (sym (whole-at-most x y) ∙ p)))) (ltZ-no {a = z} {b = y} (holds (sym (whole-at-most y z) ∙ q)))
     go false e = refl
 
-pub whole-total : (x y : ℤ) → (atMost (wholeOrder x y) || atMost (turned (wholeOrder x y))) ≡ true
+pub whole-total : (x y : ℤ) → (lessOrEqual (wholeOrder x y) || lessOrEqual (reversed (wholeOrder x y))) ≡ true
 unfolding wholeOrder
 whole-total x y = go (ltZ x y) (ltZ y x)
   where
-    go : (t u : Bool) → (atMost (cond t Less (cond u Greater Equal)) || atMost (turned (cond t Less (cond u Greater Equal)))) ≡ true
+    go : (t u : Bool) → (lessOrEqual (cond t Less (cond u Greater Equal)) || lessOrEqual (reversed (cond t Less (cond u Greater Equal)))) ≡ true
     go true u = refl
     go false true = refl
     go false false = refl

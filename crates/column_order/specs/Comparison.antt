@@ -7,9 +7,11 @@ use Rattle.column.specs.Reading.{readOf}
 use Rattle.column.specs.declared.value.Read.{Read}
 use Rattle.column.specs.declared.value.Value.{Value}
 use Rattle.column_type.specs.declared.types.ColumnType.{ColumnType}
+use Rattle.float_order.specs.declared.relation.Relation.{Relation}
+use Rattle.float_order.specs.declared.relation.Relation.the-variants.{Less, Equal, Greater, Unordered}
 use Rattle.column_order.specs.Keys.{none, keyOf}
 use Rattle.column_order.specs.declared.answer.Order.{Order}
-use Rattle.column_order.specs.declared.answer.Order.the-variants.{Less, Equal, Greater, Unordered, Unlawful, NoOrder, WrongLength, BreaksAnnotation}
+use Rattle.column_order.specs.declared.answer.Order.the-variants.{Related, Refused}
 
 -- bytes that a value is read of
 abbrev pub Valid : ColumnType → List ℕ → Type 0
@@ -19,24 +21,26 @@ Valid c bs = (x : Value) × (readOf c bs ≡ Read.Value x)
 abbrev pub NotANumber : ColumnType → List ℕ → Type 0
 NotANumber c bs = keyOf c bs ≡ none
 
+-- how the second value stands to the first
+abbrev pub reversed : Relation → Relation
+reversed Less = Greater
+reversed Equal = Equal
+reversed Greater = Less
+reversed Unordered = Unordered
+
 -- the answer with the values exchanged; a refusal, which valid values do not get, stays
 abbrev pub turned : Order → Order
-turned Less = Greater
-turned Equal = Equal
-turned Greater = Less
-turned Unordered = Unordered
-turned Unlawful = Unlawful
-turned NoOrder = NoOrder
-turned (WrongLength value) = WrongLength value
-turned (BreaksAnnotation value place) = BreaksAnnotation value place
+turned (Related r) = Related (reversed r)
+turned (Refused f) = Refused f
+
+-- less or equal
+abbrev pub lessOrEqual : Relation → Bool
+lessOrEqual Less = true
+lessOrEqual Equal = true
+lessOrEqual Greater = false
+lessOrEqual Unordered = false
 
 -- the first value is at most the second
 abbrev pub atMost : Order → Bool
-atMost Less = true
-atMost Equal = true
-atMost Greater = false
-atMost Unordered = false
-atMost Unlawful = false
-atMost NoOrder = false
-atMost (WrongLength value) = false
-atMost (BreaksAnnotation value place) = false
+atMost (Related r) = lessOrEqual r
+atMost (Refused f) = false

@@ -1,19 +1,20 @@
 -- What a value is ordered by (document 01, "Order"), over its bytes alone.
-use Prim.Native.Nat.{ℕ, _%_}
+use Prim.Native.Nat.{ℕ}
 use mathlib.Core.Bool.{cond}
 use mathlib.Core.List.{List, [], _∷_}
-use lib.Dec.{leb, ltb, eqb}
-use lib.Ieee.{Format, binary32, binary64, top, nanBits}
-use lib.IntN.{ℤ, pos, negℤ}
-use lib.Signed.{ltZ}
+use mathlib.Core.Option.{Option}
+use lib.Dec.{ltb, eqb}
+use lib.Ieee.{binary32, binary64}
+use lib.IntN.{ℤ, pos}
 use Rattle.column_type.specs.declared.types.ColumnType.{ColumnType}
 use Rattle.decimal.specs.Number.{number}
 use Rattle.parquet.specs.Physical.{BOOLEAN, FLOAT, DOUBLE}
 use Rattle.column.specs.Numbers.{little, signed}
 use Rattle.column.specs.Lengths.{isByteForm, isByteDecimal}
 use Rattle.column.specs.Annotations.{isWhole, isUnsigned}
-use Rattle.column_order.specs.declared.answer.Order.{Order}
-use Rattle.column_order.specs.declared.answer.Order.the-variants.{Less, Equal, Greater, Unordered}
+use Rattle.float_order.specs.Keys.{floatKey, wholeOrder}
+use Rattle.float_order.specs.declared.relation.Relation.{Relation}
+use Rattle.float_order.specs.declared.relation.Relation.the-variants.{Less, Equal, Greater, Unordered}
 
 -- a whole number, or bytes; a NaN has no key
 pub data Key : Type 0 where
@@ -26,34 +27,29 @@ pub data Key : Type 0 where
 unfoldable pub numberOf : ColumnType → List ℕ → ℤ
 numberOf c bs = cond (isByteForm c) (number bs) (signed bs)
 
--- "FLOAT, DOUBLE numeric, stated over their bits (those below the sign as a whole number, negated where the sign is set)": 0 and -0 have
--- one key
-unfoldable pub floatKey : Format → ℕ → Key
-floatKey f bits =
-    cond (nanBits f bits) none (whole (cond (leb (top f) bits) (negℤ (pos (bits % top f))) (pos (bits % top f))))
+-- the key of a float, over its bits
+abbrev pub numberKey : Option ℤ → Key
+numberKey Option.none = none
+numberKey (Option.some x) = whole x
 
 -- "signed for numbers, dates, times, decimals; unsigned for INT(n, false) and BOOLEAN; unsigned byte-wise for other bytes"
 unfoldable pub keyOf : ColumnType → List ℕ → Key
 keyOf c bs =
     cond (eqb (c .physical) BOOLEAN) (whole (pos (little bs)))
     (cond (isWhole c) (whole (cond (isUnsigned c) (pos (little bs)) (numberOf c bs)))
-    (cond (eqb (c .physical) FLOAT) (floatKey binary32 (little bs))
-    (cond (eqb (c .physical) DOUBLE) (floatKey binary64 (little bs))
+    (cond (eqb (c .physical) FLOAT) (numberKey (floatKey binary32 (little bs)))
+    (cond (eqb (c .physical) DOUBLE) (numberKey (floatKey binary64 (little bs)))
     (cond (isByteDecimal c) (whole (numberOf c bs)) (bytes bs)))))
 
--- the order of two whole numbers
-unfoldable pub wholeOrder : ℤ → ℤ → Order
-wholeOrder x y = cond (ltZ x y) Less (cond (ltZ y x) Greater Equal)
-
 -- "unsigned byte-wise .., a proper prefix being less"
-unfoldable pub byteOrder : List ℕ → List ℕ → Order
+unfoldable pub byteOrder : List ℕ → List ℕ → Relation
 byteOrder [] [] = Equal
 byteOrder [] (y ∷ ys) = Less
 byteOrder (x ∷ xs) [] = Greater
 byteOrder (x ∷ xs) (y ∷ ys) = cond (ltb x y) Less (cond (ltb y x) Greater (byteOrder xs ys))
 
 -- the order of two keys of one column: "NaN is answered as unordered"
-unfoldable pub keyOrder : Key → Key → Order
+unfoldable pub keyOrder : Key → Key → Relation
 keyOrder (whole x) (whole y) = wholeOrder x y
 keyOrder (whole x) (bytes b) = Unordered
 keyOrder (whole x) none = Unordered

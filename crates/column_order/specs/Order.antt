@@ -1,8 +1,13 @@
 -- What ordering two values answers, for any column type and any bytes.
 use Prim.Native.Nat.{ℕ}
-use mathlib.Core.Bool.{Bool, cond, not, _&&_}
+use mathlib.Core.Bool.{Bool, false, cond, not, _&&_}
 use mathlib.Core.List.{List}
 use lib.Dec.{eqb}
+-- types of the code: a number and a place, and a side with these
+use Rattle.refusal.specs.declared.answers.Refusal.{Refusal}
+use Rattle.refusal.specs.declared.answers.Fault.{Fault}
+use Rattle.refusal.specs.Numbers.{NO-ORDER, UNKNOWN-TYPE}
+use Rattle.refusal.specs.Outcome.{unplaced}
 use Rattle.column_type.specs.declared.types.ColumnType.{ColumnType}
 use Rattle.column_type.specs.Lawful.{isLawful}
 use Rattle.parquet.specs.Physical.{INT96}
@@ -11,31 +16,45 @@ use Rattle.column.specs.Reading.{readOf}
 use Rattle.column.specs.declared.value.Read.{Read}
 use Rattle.column.specs.declared.value.Read.the-variants as read
 use Rattle.column_order.specs.declared.answer.Order.{Order}
-use Rattle.column_order.specs.declared.answer.Order.the-variants.{Unlawful, NoOrder, WrongLength, BreaksAnnotation}
+use Rattle.column_order.specs.declared.answer.Order.the-variants.{Related, Refused}
 use Rattle.column_order.specs.Keys.{keyOf, keyOrder}
 
 -- "INTERVAL and INT96 have none", INT96 whatever its kind is
 abbrev pub hasOrder : ColumnType → Bool
 hasOrder c = not (eqb (c .physical) INT96) && not (eqb (c .kind) INTERVAL)
 
--- the numbers of the two values: document 02, R-6, "a refusal also says which value is at fault, 1 or 2"
+-- the sides of a refusal: document 02, R-6, "a refusal also says which value is at fault, 1 or 2, and 0 for neither"
 abbrev pub FIRST : ℕ
 FIRST = 1
 
 abbrev pub SECOND : ℕ
 SECOND = 2
 
--- the refusal of the value of a number, or what follows where it is read
+abbrev pub NEITHER : ℕ
+NEITHER = 0
+
+-- a refusal on a side
+abbrev pub fault : ℕ → Refusal → Fault
+fault side r = record { side = side; refusal = r }
+
+-- one of neither value, of that number
+abbrev pub ofNeither : ℕ → Fault
+ofNeither number = fault NEITHER (unplaced number)
+
+-- 20, as reading answers it
+abbrev pub isOfUnknownType : Read → Bool
+isOfUnknownType (read.Value v) = false
+isOfUnknownType (read.Refused r) = eqb (r .number) UNKNOWN-TYPE
+
+-- the refusal of the value on a side, or what follows where it is read
 abbrev pub unlessRefused : ℕ → Read → Order → Order
-unlessRefused value (read.Value v) next = next
-unlessRefused value read.Unlawful next = Unlawful
-unlessRefused value read.WrongLength next = WrongLength value
-unlessRefused value (read.BreaksAnnotation place) next = BreaksAnnotation value place
+unlessRefused side (read.Value v) next = next
+unlessRefused side (read.Refused r) next = Refused (fault side r)
 
 -- two values of a column that has an order: the refusal of the first, that of the second, or the order of their keys
 abbrev pub valuesOrder : ColumnType → List ℕ → List ℕ → Order
-valuesOrder c a b = unlessRefused FIRST (readOf c a) (unlessRefused SECOND (readOf c b) (keyOrder (keyOf c a) (keyOf c b)))
+valuesOrder c a b = unlessRefused FIRST (readOf c a) (unlessRefused SECOND (readOf c b) (Related (keyOrder (keyOf c a) (keyOf c b))))
 
 -- "Checks: 20, 17, first value, second value"
 unfoldable pub orderOf : ColumnType → List ℕ → List ℕ → Order
-orderOf c a b = cond (isLawful c) (cond (hasOrder c) (valuesOrder c a b) NoOrder) Unlawful
+orderOf c a b = cond (isLawful c) (cond (hasOrder c) (valuesOrder c a b) (Refused (ofNeither NO-ORDER))) (Refused (ofNeither UNKNOWN-TYPE))

@@ -9,13 +9,14 @@ use lib.IntN.{ℤ, pos, negℤ}
 use lib.Signed.{_<ℤ_}
 use Rattle.column_type.specs.declared.types.ColumnType.{ColumnType}
 use Rattle.column_order.specs.Order.{orderOf}
-use Rattle.column_order.specs.declared.answer.Order.the-variants.{Less, Equal, Greater}
+use Rattle.float_order.specs.declared.relation.Relation.the-variants.{Less, Equal, Greater}
+use Rattle.column_order.specs.declared.answer.Order.the-variants.{Related}
 
 -- two values stand to each other as two numbers do
 pub record AsNumbers (c : ColumnType) (a b : List ℕ) (x y : ℤ) : Type 0 where
-  pub less : (orderOf c a b ≡ Less) ↔ (x <ℤ y)
-  pub equal : (orderOf c a b ≡ Equal) ↔ (x ≡ y)
-  pub greater : (orderOf c a b ≡ Greater) ↔ (y <ℤ x)
+  pub less : (orderOf c a b ≡ Related Less) ↔ (x <ℤ y)
+  pub equal : (orderOf c a b ≡ Related Equal) ↔ (x ≡ y)
+  pub greater : (orderOf c a b ≡ Related Greater) ↔ (y <ℤ x)
 
 -- "unsigned byte-wise .., a proper prefix being less"
 pub data Before : List ℕ → List ℕ → Type 0 where
@@ -25,9 +26,9 @@ pub data Before : List ℕ → List ℕ → Type 0 where
 
 -- two values stand to each other as their bytes do
 pub record AsBytes (c : ColumnType) (a b : List ℕ) : Type 0 where
-  pub less : (orderOf c a b ≡ Less) ↔ Before a b
-  pub equal : (orderOf c a b ≡ Equal) ↔ (a ≡ b)
-  pub greater : (orderOf c a b ≡ Greater) ↔ Before b a
+  pub less : (orderOf c a b ≡ Related Less) ↔ Before a b
+  pub equal : (orderOf c a b ≡ Related Equal) ↔ (a ≡ b)
+  pub greater : (orderOf c a b ≡ Related Greater) ↔ Before b a
 
 -- a FLOAT or a DOUBLE over its bits, of which the sign has a weight: "those below the sign as a whole number, negated where the sign is set"
 abbrev pub bitsBelow : ℕ → ℕ → ℤ

@@ -8,20 +8,18 @@ use lib.IntN.{ℤ, pos}
 use lib.ListN.{take, drop}
 use Rattle.column.specs.declared.value.Value.{Value}
 use Rattle.column.specs.declared.value.Value.the-variants.{Truth, Signed, Unsigned, Float, Double, Bytes}
-use Rattle.column_order.specs.declared.answer.Order.{Order}
-use Rattle.column_order.specs.declared.answer.Order.the-variants.{Less, Equal, Greater, Unordered}
-use Rattle.column_order.specs.Keys.{wholeOrder, byteOrder}
+use Rattle.float_order.specs.Floats.{floatOrder}
+use Rattle.float_order.specs.Keys.{wholeOrder}
+use Rattle.float_order.specs.declared.relation.Relation.{Relation}
+use Rattle.float_order.specs.declared.relation.Relation.the-variants.{Unordered}
+use Rattle.column_order.specs.Keys.{byteOrder}
 
 -- a truth value as its byte has it
 abbrev pub flag : Bool → ℕ
 flag p = cond p 1 0
 
--- floats compare as numbers; a NaN is neither less, greater nor equal
-unfoldable pub floatOrder : Ieee.Float → Ieee.Float → Order
-floatOrder x y = cond (Ieee.lt x y) Less (cond (Ieee.lt y x) Greater (cond (Ieee.eq x y) Equal Unordered))
-
 -- a value of each case against any value; values of two cases are unordered
-abbrev pub truthOrder : Bool → Value → Order
+abbrev pub truthOrder : Bool → Value → Relation
 truthOrder p (Truth q) = wholeOrder (pos (flag p)) (pos (flag q))
 truthOrder p (Signed y) = Unordered
 truthOrder p (Unsigned n) = Unordered
@@ -29,7 +27,7 @@ truthOrder p (Float y) = Unordered
 truthOrder p (Double y) = Unordered
 truthOrder p (Bytes s n) = Unordered
 
-abbrev pub signedOrder : ℤ → Value → Order
+abbrev pub signedOrder : ℤ → Value → Relation
 signedOrder x (Truth q) = Unordered
 signedOrder x (Signed y) = wholeOrder x y
 signedOrder x (Unsigned n) = Unordered
@@ -37,7 +35,7 @@ signedOrder x (Float y) = Unordered
 signedOrder x (Double y) = Unordered
 signedOrder x (Bytes s n) = Unordered
 
-abbrev pub unsignedOrder : ℕ → Value → Order
+abbrev pub unsignedOrder : ℕ → Value → Relation
 unsignedOrder m (Truth q) = Unordered
 unsignedOrder m (Signed y) = Unordered
 unsignedOrder m (Unsigned n) = wholeOrder (pos m) (pos n)
@@ -45,7 +43,7 @@ unsignedOrder m (Float y) = Unordered
 unsignedOrder m (Double y) = Unordered
 unsignedOrder m (Bytes s n) = Unordered
 
-abbrev pub singleOrder : Ieee.Float → Value → Order
+abbrev pub singleOrder : Ieee.Float → Value → Relation
 singleOrder x (Truth q) = Unordered
 singleOrder x (Signed y) = Unordered
 singleOrder x (Unsigned n) = Unordered
@@ -53,7 +51,7 @@ singleOrder x (Float y) = floatOrder x y
 singleOrder x (Double y) = Unordered
 singleOrder x (Bytes s n) = Unordered
 
-abbrev pub doubleOrder : Ieee.Float → Value → Order
+abbrev pub doubleOrder : Ieee.Float → Value → Relation
 doubleOrder x (Truth q) = Unordered
 doubleOrder x (Signed y) = Unordered
 doubleOrder x (Unsigned n) = Unordered
@@ -74,7 +72,7 @@ stretchEnd (Double y) = 0
 stretchEnd (Bytes s n) = s + n
 
 -- a stretch of the bytes `a` against any value, whose stretch is one of the bytes `b`
-abbrev pub bytesOrder : List ℕ → ℕ → ℕ → Value → List ℕ → Order
+abbrev pub bytesOrder : List ℕ → ℕ → ℕ → Value → List ℕ → Relation
 bytesOrder a start len (Truth q) b = Unordered
 bytesOrder a start len (Signed y) b = Unordered
 bytesOrder a start len (Unsigned n) b = Unordered

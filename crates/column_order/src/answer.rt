@@ -1,90 +1,36 @@
-// What ordering two values answers.
-ghost use mathlib.Core.Path.{_≡_};
-ghost use Rattle.column_order.specs.Outcome.{refusalOf, placeOf, faultOf};
+// What ordering two values answers, and the refusals that are laid on neither of them.
+use float_order::Relation;
+use refusal::Fault;
+use refusal::Refusal;
+use refusal::numbers;
 
-// The first value against the second, or the first refusal that holds.
+// How the first value stands to the second, or the first refusal that holds.
 pub enum Order {
-    Less,
-    Equal,
-    Greater,
-    // One of them is a NaN.
-    Unordered,
-    // Refusal 20: no accepted sheet has a leaf of this column type.
-    Unlawful,
-    // Refusal 17: this column has no order.
-    NoOrder,
-    // Refusal 15: the value of this number has the wrong length, or more than 65,536 bytes.
-    WrongLength { value: u8 },
-    // Refusal 16: the value of this number breaks its annotation; text does at this byte, and any other value at 0.
-    BreaksAnnotation { value: u8, place: u32 },
+    Related(Relation),
+    Refused(Fault),
 }
 
-// The numbers of the two values.
-pub(crate) const FIRST: u8 = 1;
+// The sides of a refusal: the first value, the second, or neither.
+pub const FIRST: u8 = 1;
 
-pub(crate) const SECOND: u8 = 2;
+pub const SECOND: u8 = 2;
 
-// The number that stands for neither.
-const NEITHER: u8 = 0;
+pub const NEITHER: u8 = 0;
 
-// The place of every refusal but that of text.
-const NO_PLACE: u32 = 0;
+// No accepted sheet has a leaf of this column type.
+pub(crate) const UNKNOWN_TYPE: Fault = Fault {
+    side: NEITHER,
+    refusal: Refusal {
+        number: numbers::UNKNOWN_TYPE,
+        place: 0,
+    },
+};
 
-// Document 01's numbers of the refusals.
-const NO_REFUSAL: u32 = 0;
-
-const UNLAWFUL: u32 = 20;
-
-const NO_ORDER: u32 = 17;
-
-const WRONG_LENGTH: u32 = 15;
-
-const BREAKS_ANNOTATION: u32 = 16;
-
-// The number of a refusal: 20, 17, 15 or 16, and 0 for an order.
-pub fn refusal(o: Order) -> u32
-    ensures { λ number. ⌜ number ≡ refusalOf o ⌝ }
-{
-    match o {
-        Order::Less => NO_REFUSAL,
-        Order::Equal => NO_REFUSAL,
-        Order::Greater => NO_REFUSAL,
-        Order::Unordered => NO_REFUSAL,
-        Order::Unlawful => UNLAWFUL,
-        Order::NoOrder => NO_ORDER,
-        Order::WrongLength { value: _ } => WRONG_LENGTH,
-        Order::BreaksAnnotation { value: _, place: _ } => BREAKS_ANNOTATION,
-    }
-}
-
-// The place of a refusal, and 0 for an order.
-pub fn place(o: Order) -> u32
-    ensures { λ place. ⌜ place ≡ placeOf o ⌝ }
-{
-    match o {
-        Order::Less => NO_PLACE,
-        Order::Equal => NO_PLACE,
-        Order::Greater => NO_PLACE,
-        Order::Unordered => NO_PLACE,
-        Order::Unlawful => NO_PLACE,
-        Order::NoOrder => NO_PLACE,
-        Order::WrongLength { value: _ } => NO_PLACE,
-        Order::BreaksAnnotation { value: _, place } => place,
-    }
-}
-
-// The value at fault: 1 or 2, and 0 for neither and for an order.
-pub fn fault(o: Order) -> u8
-    ensures { λ value. ⌜ value ≡ faultOf o ⌝ }
-{
-    match o {
-        Order::Less => NEITHER,
-        Order::Equal => NEITHER,
-        Order::Greater => NEITHER,
-        Order::Unordered => NEITHER,
-        Order::Unlawful => NEITHER,
-        Order::NoOrder => NEITHER,
-        Order::WrongLength { value } => value,
-        Order::BreaksAnnotation { value, place: _ } => value,
-    }
-}
+// This column has no order.
+pub(crate) const NO_ORDER: Fault = Fault {
+    side: NEITHER,
+    refusal: Refusal {
+        number: numbers::NO_ORDER,
+        place: 0,
+    },
+};

@@ -5,14 +5,17 @@ ghost use Rattle.column_type.specs.Lawful.{isLawful};
 ghost use Rattle.column.specs.Lengths.{isWidth, widthOf, isByteDecimal};
 ghost use Rattle.column.specs.Reading.{readOf};
 ghost use Rattle.column_order.specs.Order.{FIRST, SECOND, unlessRefused, orderOf};
+ghost use Rattle.float_order.specs.declared.relation.Relation as relation;
 ghost use Rattle.column_order.specs.declared.answer.Order as declared;
 use crate::answer::FIRST;
 use crate::answer::Order;
 use crate::answer::SECOND;
-use crate::refusals::unless_refused;
+use column::Read;
 use column::codes;
 use column_type::ColumnType;
 use decimal::Compared;
+use float_order::Relation;
+use refusal::Fault;
 
 // Whether the column holds decimals in bytes.
 pub(crate) fn is_byte_decimal(c: ColumnType) -> bool
@@ -34,9 +37,9 @@ pub(crate) fn order_decimals(c: ColumnType, a: &[u8], b: &[u8]) -> Order
         return refused(c, a, b);
     }
     match decimal::compare_within(a, b, c.p1) {
-        Compared::Less => Order::Less,
-        Compared::Equal => Order::Equal,
-        Compared::Greater => Order::Greater,
+        Compared::Less => Order::Related(Relation::Less),
+        Compared::Equal => Order::Related(Relation::Equal),
+        Compared::Greater => Order::Related(Relation::Greater),
         _ => refused(c, a, b),
     }
 }
@@ -54,14 +57,22 @@ fn is_width(c: ColumnType, n: usize) -> bool
 
 // The refusal of the first of two values, or else that of the second.
 fn refused(c: ColumnType, a: &[u8], b: &[u8]) -> Order
-    ensures { λ r. ⌜ r ≡ unlessRefused FIRST (readOf c (now (a .entry))) (unlessRefused SECOND (readOf c (now (b .entry))) declared.Order.Unordered) ⌝ }
+    ensures { λ r. ⌜ r ≡ unlessRefused FIRST (readOf c (now (a .entry))) (unlessRefused SECOND (readOf c (now (b .entry))) (declared.Order.Related relation.Relation.Unordered)) ⌝ }
 {
     let both = column::read_both(c, a, b);
     let first = both.first;
     let second = both.second;
-    unless_refused(
-        FIRST,
-        first,
-        unless_refused(SECOND, second, Order::Unordered),
-    )
+    if let Read::Refused(refusal) = first {
+        return Order::Refused(Fault {
+            side: FIRST,
+            refusal,
+        });
+    }
+    if let Read::Refused(refusal) = second {
+        return Order::Refused(Fault {
+            side: SECOND,
+            refusal,
+        });
+    }
+    Order::Related(Relation::Unordered)
 }

@@ -2,12 +2,9 @@
 pub mod answer; // answer.rt: what ordering answers
 mod decimals; // decimals.rt: the order of two decimals in bytes
 pub mod ordering; // ordering.rt: ordering two values
-mod pairs; // pairs.rt: the order of two whole numbers, of two floats and of two runs of bytes
-mod refusals; // refusals.rt: the refusals of the two values
+mod pairs; // pairs.rt: the order of two whole numbers and of two runs of bytes
 mod values; // values.rt: the order of two read values, by their cases
 
 pub use answer::Order;
-pub use answer::fault;
-pub use answer::place;
-pub use answer::refusal;
+pub use float_order::Relation;
 pub use ordering::order;

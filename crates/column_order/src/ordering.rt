@@ -5,14 +5,16 @@ ghost use Rattle.column.specs.Lengths.{isByteDecimal};
 ghost use Rattle.column.specs.Reading.{readOf};
 ghost use Rattle.column.specs.declared.value.Read as declared;
 ghost use Rattle.column_order.specs.Keys.{keyOf, keyOrder};
-ghost use Rattle.column_order.specs.Order.{SECOND, hasOrder, unlessRefused, valuesOrder, orderOf};
+ghost use Rattle.column_order.specs.Order.{SECOND, hasOrder, isOfUnknownType, unlessRefused, valuesOrder, orderOf};
 ghost use Rattle.column_order.specs.Outcome.{outcomeOf, outcome};
+ghost use Rattle.column_order.specs.declared.answer.Order as order;
 use crate::answer::FIRST;
+use crate::answer::NO_ORDER;
 use crate::answer::Order;
 use crate::answer::SECOND;
+use crate::answer::UNKNOWN_TYPE;
 use crate::decimals::is_byte_decimal;
 use crate::decimals::order_decimals;
-use crate::refusals::unless_refused;
 use crate::values::compare_bytes;
 use crate::values::compare_double;
 use crate::values::compare_float;
@@ -23,6 +25,9 @@ use column::Read;
 use column::Value;
 use column::codes;
 use column_type::ColumnType;
+use float_order::Relation;
+use refusal::Fault;
+use refusal::numbers;
 
 // The order of two values in a column of this type.
 pub fn order(c: ColumnType, a: &[u8], b: &[u8]) -> Order
@@ -31,7 +36,7 @@ pub fn order(c: ColumnType, a: &[u8], b: &[u8]) -> Order
 {
     if is_byte_decimal(c) {
         if !column_type::is_lawful(c) {
-            return Order::Unlawful;
+            return Order::Refused(UNKNOWN_TYPE);
         }
         return order_decimals(c, a, b);
     }
@@ -46,14 +51,22 @@ fn order_others(c: ColumnType, a: &[u8], b: &[u8]) -> Order
     let both = column::read_both(c, a, b);
     let first = both.first;
     let second = both.second;
-    match first {
-        Read::Unlawful => Order::Unlawful,
-        _ => {
-            if !has_order(c) {
-                return Order::NoOrder;
-            }
-            order_first(c, first, a, second, b)
-        }
+    if is_of_unknown_type(first) {
+        return Order::Refused(UNKNOWN_TYPE);
+    }
+    if !has_order(c) {
+        return Order::Refused(NO_ORDER);
+    }
+    order_first(c, first, a, second, b)
+}
+
+// Whether a value is refused since no accepted sheet has a leaf of its column type.
+fn is_of_unknown_type(read: Read) -> bool
+    ensures { λ r. ⌜ r ≡ isOfUnknownType read ⌝ }
+{
+    match read {
+        Read::Value(_) => false,
+        Read::Refused(refusal) => refusal.number == numbers::UNKNOWN_TYPE,
     }
 }
 
@@ -74,23 +87,29 @@ fn order_first(c: ColumnType, first: Read, a: &[u8], second: Read, b: &[u8]) -> 
 {
     match first {
         Read::Value(x) => order_second(c, x, a, second, b),
-        _ => unless_refused(FIRST, first, Order::Unordered),
+        Read::Refused(refusal) => Order::Refused(Fault {
+            side: FIRST,
+            refusal,
+        }),
     }
 }
 
 // The refusal of the second value, or its order against a first that was read.
 fn order_second(c: ColumnType, x: Value, a: &[u8], second: Read, b: &[u8]) -> Order
     requires { ⌜ (readOf c (now a) ≡ declared.Read.Value x) × (second ≡ readOf c (now b)) × (isByteDecimal c ≡ false) ⌝ }
-    ensures { λ r. ⌜ r ≡ unlessRefused SECOND (readOf c (now (b .entry))) (keyOrder (keyOf c (now (a .entry))) (keyOf c (now (b .entry)))) ⌝ }
+    ensures { λ r. ⌜ r ≡ unlessRefused SECOND (readOf c (now (b .entry))) (order.Order.Related (keyOrder (keyOf c (now (a .entry))) (keyOf c (now (b .entry))))) ⌝ }
 {
     match second {
-        Read::Value(y) => order_read(c, x, a, y, b),
-        _ => unless_refused(SECOND, second, Order::Unordered),
+        Read::Value(y) => Order::Related(order_read(c, x, a, y, b)),
+        Read::Refused(refusal) => Order::Refused(Fault {
+            side: SECOND,
+            refusal,
+        }),
     }
 }
 
 // The order of two values that were read, by their cases.
-fn order_read(c: ColumnType, x: Value, a: &[u8], y: Value, b: &[u8]) -> Order
+fn order_read(c: ColumnType, x: Value, a: &[u8], y: Value, b: &[u8]) -> Relation
     requires { ⌜ (readOf c (now a) ≡ declared.Read.Value x) × (readOf c (now b) ≡ declared.Read.Value y) × (isByteDecimal c ≡ false) ⌝ }
     ensures { λ r. ⌜ r ≡ keyOrder (keyOf c (now (a .entry))) (keyOf c (now (b .entry))) ⌝ }
 {

@@ -8,7 +8,7 @@ use Rattle.column.proofs.reading.read_bytes.Statement.{statement}
 use Rattle.column.proofs.reading.read_bytes.Tie as tie
 
 read-decimal-requires : tie.Need-read-decimal-requires
-read-decimal-requires c κs = c .before .before .before .pre .1 (eq-eqb _ _ (c .if1 .taken))
+read-decimal-requires c κs = c .before .before .before .pre (eq-eqb _ _ (c .if1 .taken))
 
 returns : tie.Need-returns
 unfolding bytesKeep

@@ -11,7 +11,7 @@ use borrow.Author.Needs.{needs}
 use Rattle.column.specs.Numbers.{signWeight}
 use Rattle.column.specs.Lengths.{isByteForm}
 use Rattle.column.specs.Annotations.{isWhole}
-use Rattle.column.proofs.LengthLaws.{length-most, decimal-right}
+use Rattle.column.proofs.LengthLaws.{decimal-right}
 use Rattle.column.proofs.ReadingLaws.{bytes-read, whole-read, whole-length}
 use Rattle.column.proofs.reading.read_present.Statement.{statement}
 use Rattle.column.proofs.reading.read_present.Tie as tie
@@ -46,8 +46,7 @@ is-byte-form-requires c κs = search needs
 
 read-bytes-requires : tie.Need-read-bytes-requires
 read-bytes-requires c κs =
-    let right = c .before .before .before .pre .0 in
-    (length-most _ _ right, decimal-right _ _ right (form c))
+    decimal-right _ _ (c .before .before .before .pre .0) (form c)
 
 returns : tie.Need-returns
 returns c =

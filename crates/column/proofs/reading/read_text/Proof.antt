@@ -1,7 +1,6 @@
 -- `column::reading::read_text` meets its contract: 16 where the text stops short of its end, else the bytes.
 -- Assumes nothing.
 use mathlib.Core.Path.{sym}
-use native.Mathlib.Omega.{arith}
 use borrow.Author.Tests.{eq-eqb, ne-eqb}
 use borrow.Author.Needs.{needs}
 use Rattle.column.proofs.reading.read_text.Statement.{statement}
@@ -10,13 +9,13 @@ use Rattle.column.proofs.reading.read_text.Tie as tie
 valid-up-to-requires : tie.Need-valid-up-to-requires
 valid-up-to-requires c κs = search needs
 
-cast-place : tie.Need-cast-place
-cast-place c =
-    let start = c .before .before .before in
-    record { fits = omega (arith, c .before .valid-up-to .ensures .1 .within, start .pre) }
+breaks-annotation-at-requires : tie.Need-breaks-annotation-at-requires
+breaks-annotation-at-requires c κs = search needs
 
 returns : tie.Need-returns
-returns c = rw (sym (c .before .valid-up-to .ensures .0), ne-eqb _ _ (c .if1 .taken))
+returns c =
+    let stopped = c .before in
+    rw (c .breaks-annotation-at .ensures, sym (stopped .before .valid-up-to .ensures .0), ne-eqb _ _ (stopped .if1 .taken))
 
 stretch-requires : tie.Need-stretch-requires
 stretch-requires c κs = search needs
@@ -25,4 +24,4 @@ returns-2 : tie.Need-returns-2
 returns-2 c = rw (sym (c .before .before .valid-up-to .ensures .0), eq-eqb _ _ (c .before .if1 .left), c .stretch .ensures)
 
 pub read-text-spec : {M : Type 1} → statement M
-read-text-spec = tie.close (tie.spec valid-up-to-requires cast-place returns stretch-requires returns-2)
+read-text-spec = tie.close (tie.spec valid-up-to-requires breaks-annotation-at-requires returns stretch-requires returns-2)

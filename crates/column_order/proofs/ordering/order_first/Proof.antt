@@ -2,8 +2,6 @@
 -- Assumes nothing.
 use mathlib.Core.Path.{sym, _∙_}
 use borrow.Author.Needs.{needs}
-use Rattle.column_order.specs.Order.{FIRST}
-use Rattle.column_order.proofs.RefusalLaws.{refused-alike}
 use Rattle.column_order.proofs.ordering.order_first.Statement.{statement}
 use Rattle.column_order.proofs.ordering.order_first.Tie as tie
 
@@ -15,8 +13,8 @@ order-second-requires c κs =
     let s = c .before .before .before .before .before in
     (sym (s .pre .0) ∙ c .before .first .given .1, s .pre .1, s .pre .2)
 
-unless-refused-requires : tie.Need-unless-refused-requires
-unless-refused-requires c κs = search needs
+enum-known-first-2 : tie.Need-enum-known-first-2
+enum-known-first-2 c = search needs
 
 returns : tie.Need-returns
 returns c =
@@ -25,10 +23,10 @@ returns c =
 
 returns-2 : tie.Need-returns-2
 returns-2 c =
-    let s = c .before .before .before .before in
-    rw (sym (s .pre .0)) (c .unless-refused .ensures ∙ refused-alike FIRST (s .args .first) _ _ (c .before .match .keys2))
+    let s = c .before .before .before .before .before in
+    rw (sym (s .pre .0) ∙ c .before .first2 .given .1)
 
 pub order-first-spec : {M : Type 1} → statement M
 order-first-spec =
     tie.close
-    (tie.spec enum-known-first order-second-requires unless-refused-requires returns returns-2)
+    (tie.spec enum-known-first order-second-requires enum-known-first-2 returns returns-2)

@@ -1,17 +1,13 @@
 -- `column_order::ordering::order_others` meets its contract: 20 where no value can be read, then 17, then the values.
 -- Assumes nothing.
-use mathlib.Core.Path.{_≡_, sym, ap, subst, _∙_}
+use mathlib.Core.Path.{_≡_, sym, ap, _∙_}
 use mathlib.Core.Bool.{Bool, cond}
-use mathlib.Core.List.{[], _∷_}
-use types.Run.{OneOf}
-use denote.Enum.Declared.{tagOf}
 use borrow.Author.Needs.{needs}
 use borrow.Author.Tests.{not-true, not-false}
+use Rattle.refusal.specs.Numbers.{NO-ORDER}
 use Rattle.column.specs.Reading.{readOf}
 use Rattle.column.specs.declared.value.Both.{Both}
-use Rattle.column.specs.declared.value.Read.{Read}
-use Rattle.column.proofs.value.Read as Read′
-use Rattle.column_order.specs.Order.{valuesOrder, orderOf}
+use Rattle.column_order.specs.Order.{ofNeither, isOfUnknownType, valuesOrder, orderOf}
 use Rattle.column_order.specs.declared.answer.Order.{Order}
 use Rattle.column_order.proofs.RefusalLaws.{read-unlawful, read-lawful}
 use Rattle.column_order.proofs.ordering.order_others.Statement.{statement}
@@ -24,50 +20,53 @@ first c = ap (λ (r : Both). r .first) (c .read-both .ensures .0)
 second : (c : tie.After-read-both) → let s = c .before .before .before .args in c .read-both .result .second ≡ readOf (s .c) (s .b .now)
 second c = ap (λ (r : Both). r .second) (c .read-both .ensures .0)
 
+-- the test of 20, on the first of them
+unknown : (c : tie.After-is-of-unknown-type) → let s = c .before .before .before .before .args in c .is-of-unknown-type .result ≡ isOfUnknownType (readOf (s .c) (s .a .now))
+unknown c = c .is-of-unknown-type .ensures ∙ ap isOfUnknownType (first (c .before))
+
 -- past 20, by whether the column has an order
 lawful : (c : tie.After-has-order) (t : Bool) → c .has-order .result ≡ t
-    → let s = c .before .before .before .before .before .args in
-    cond t (valuesOrder (s .c) (s .a .now) (s .b .now)) Order.NoOrder ≡ orderOf (s .c) (s .a .now) (s .b .now)
+    → let s = c .before .before .before .before .before .before .args in
+    cond t (valuesOrder (s .c) (s .a .now) (s .b .now)) (Order.Refused (ofNeither NO-ORDER)) ≡ orderOf (s .c) (s .a .now) (s .b .now)
 lawful c t e =
-    let both = c .before .before in
-    let s = both .before .before .before .args in
-    ap (λ (u : Bool). cond u (valuesOrder (s .c) (s .a .now) (s .b .now)) Order.NoOrder) (sym e ∙ c .has-order .ensures)
-    ∙ read-lawful (s .c) (s .a .now) (s .b .now) (subst (λ (r : Read). OneOf (0 ∷ 2 ∷ 3 ∷ []) (tagOf Read′.the-type r)) (first both) (c .before .match .keys2))
+    let told = c .before .before in
+    let s = told .before .before .before .before .args in
+    ap (λ (u : Bool). cond u (valuesOrder (s .c) (s .a .now) (s .b .now)) (Order.Refused (ofNeither NO-ORDER))) (sym e ∙ c .has-order .ensures)
+    ∙ read-lawful (s .c) (s .a .now) (s .b .now) (sym (unknown told) ∙ c .before .if1 .left)
 
 read-both-requires : tie.Need-read-both-requires
 read-both-requires c κs = search needs
 
-enum-told : tie.Need-enum-told
-enum-told c = search needs
+is-of-unknown-type-requires : tie.Need-is-of-unknown-type-requires
+is-of-unknown-type-requires c κs = search needs
+
+returns : tie.Need-returns
+returns c =
+    let s = c .before .before .before .before .before .args in
+    read-unlawful (s .c) (s .a .now) (s .b .now) (sym (unknown (c .before)) ∙ c .if1 .taken)
 
 has-order-requires : tie.Need-has-order-requires
 has-order-requires c κs = search needs
 
-returns : tie.Need-returns
-returns c = lawful (c .before) _ (not-true _ (c .if1 .taken))
+returns-2 : tie.Need-returns-2
+returns-2 c = lawful (c .before) _ (not-true _ (c .if2 .taken))
 
 order-first-requires : tie.Need-order-first-requires
 order-first-requires c κs =
-    let both = c .before .before .before in
+    let both = c .before .before .before .before in
     (first both, second both, both .before .before .before .pre)
 
-returns-2 : tie.Need-returns-2
-returns-2 c =
-    let both = c .before .before in
-    let s = both .before .before .before .args in
-    read-unlawful (s .c) (s .a .now) (s .b .now) (sym (first both) ∙ c .enum-told .given .1)
-
 returns-3 : tie.Need-returns-3
-returns-3 c = c .order-first .ensures ∙ lawful (c .before .before) _ (not-false _ (c .before .if1 .left))
+returns-3 c = c .order-first .ensures ∙ lawful (c .before .before) _ (not-false _ (c .before .if2 .left))
 
 pub order-others-spec : {M : Type 1} → statement M
 order-others-spec =
     tie.close
     (tie.spec
     read-both-requires
-    enum-told
-    has-order-requires
+    is-of-unknown-type-requires
     returns
-    order-first-requires
+    has-order-requires
     returns-2
+    order-first-requires
     returns-3)

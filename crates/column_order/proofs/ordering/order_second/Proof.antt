@@ -1,9 +1,8 @@
 -- `column_order::ordering::order_second` meets its contract: the refusal of the second value, or the order.
 -- Assumes nothing.
-use mathlib.Core.Path.{sym, _∙_}
+use mathlib.Core.Path.{sym, ap, _∙_}
 use borrow.Author.Needs.{needs}
-use Rattle.column_order.specs.Order.{SECOND}
-use Rattle.column_order.proofs.RefusalLaws.{refused-alike}
+use Rattle.column_order.specs.declared.answer.Order.the-variants.{Related}
 use Rattle.column_order.proofs.ordering.order_second.Statement.{statement}
 use Rattle.column_order.proofs.ordering.order_second.Tie as tie
 
@@ -15,20 +14,20 @@ order-read-requires c κs =
     let s = c .before .before .before .before .before in
     (s .pre .0, sym (s .pre .1) ∙ c .before .second .given .1, s .pre .2)
 
-unless-refused-requires : tie.Need-unless-refused-requires
-unless-refused-requires c κs = search needs
+enum-known-second-2 : tie.Need-enum-known-second-2
+enum-known-second-2 c = search needs
 
 returns : tie.Need-returns
 returns c =
     let s = c .before .before .before .before .before .before in
-    rw (sym (s .pre .1) ∙ c .before .before .second .given .1) (c .order-read .ensures)
+    rw (sym (s .pre .1) ∙ c .before .before .second .given .1) (ap Related (c .order-read .ensures))
 
 returns-2 : tie.Need-returns-2
 returns-2 c =
-    let s = c .before .before .before .before in
-    rw (sym (s .pre .1)) (c .unless-refused .ensures ∙ refused-alike SECOND (s .args .second) _ _ (c .before .match .keys2))
+    let s = c .before .before .before .before .before in
+    rw (sym (s .pre .1) ∙ c .before .second2 .given .1)
 
 pub order-second-spec : {M : Type 1} → statement M
 order-second-spec =
     tie.close
-    (tie.spec enum-known-second order-read-requires unless-refused-requires returns returns-2)
+    (tie.spec enum-known-second order-read-requires enum-known-second-2 returns returns-2)

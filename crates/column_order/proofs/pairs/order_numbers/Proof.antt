@@ -1,7 +1,7 @@
 -- `column_order::pairs::order_numbers` meets its contract.
 -- Assumes nothing.
 use borrow.Author.Tests.{lt-ltb, le-ltb}
-use Rattle.column_order.specs.Keys.{wholeOrder}
+use Rattle.float_order.specs.Keys.{wholeOrder}
 use Rattle.column_order.proofs.pairs.order_numbers.Statement.{statement}
 use Rattle.column_order.proofs.pairs.order_numbers.Tie as tie
 

@@ -5,7 +5,7 @@ use lib.Signed.{ltZ}
 use mir.Syntax.{w64}
 use mir.Val.{toZ, ofZ}
 use mir.ValLaws.{toZ-ofZ}
-use Rattle.column_order.specs.Keys.{wholeOrder}
+use Rattle.float_order.specs.Keys.{wholeOrder}
 use Rattle.column_order.proofs.pairs.order_signed.Statement.{statement}
 use Rattle.column_order.proofs.pairs.order_signed.Tie as tie
 

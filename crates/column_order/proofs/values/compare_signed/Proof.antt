@@ -4,7 +4,7 @@ use mathlib.Core.Path.{_∙_, ap₂}
 use mir.Syntax.{w64}
 use mir.ValLaws.{toZ-ofZ}
 use borrow.Author.Needs.{needs}
-use Rattle.column_order.specs.Keys.{wholeOrder}
+use Rattle.float_order.specs.Keys.{wholeOrder}
 use Rattle.column_order.proofs.values.compare_signed.Statement.{statement}
 use Rattle.column_order.proofs.values.compare_signed.Tie as tie
 

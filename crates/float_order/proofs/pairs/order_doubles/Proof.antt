@@ -1,8 +1,8 @@
--- `column_order::pairs::order_doubles` meets its contract.
+-- `float_order::pairs::order_doubles` meets its contract.
 -- Assumes nothing.
-use Rattle.column_order.specs.Values.{floatOrder}
-use Rattle.column_order.proofs.pairs.order_doubles.Statement.{statement}
-use Rattle.column_order.proofs.pairs.order_doubles.Tie as tie
+use Rattle.float_order.specs.Floats.{floatOrder}
+use Rattle.float_order.proofs.pairs.order_doubles.Statement.{statement}
+use Rattle.float_order.proofs.pairs.order_doubles.Tie as tie
 
 returns : tie.Need-returns
 unfolding floatOrder

@@ -6,24 +6,23 @@
 use mathlib.Core.Path.{_≡_, refl, sym, ap, ap₂, subst, _∙_}
 use mathlib.Core.Bool.{Bool, true, false, not, cond, _&&_, _||_, Bool·beq}
 use mathlib.Core.Logic.{_⊎_, inl, inr, ⊎-elim}
+use mathlib.Core.Option.{none, some}
 use Prim.Native.Nat.{ℕ, zero, suc, _+_, _-_, _*_, _/_, _%_, _^_, _≤_, _<_}
 use native.Mathlib.Nat.{le-refl, le-of-lt, lt-irrefl, lt-of-lt-of-le, lt-of-mul-lt-mul-right, mul-lt-mul-of-pos-right, mul-le-mul, mul-le-mul-right, mul-pos, mul-one, zero-mul, zero-add, add-zero, mod-lt, mul-comm, mul-assoc, add-mul, mul-add, mul-right-comm, suc-mul, two-pow-succ, eq-or-lt-of-le}
 use native.Mathlib.Omega.{arith}
 use lib.Dec.{leb, ltb, eqb, leb·suc-suc}
-use lib.Ieee.{Float, nan, inf, fin, Format, binary32, binary64, up, down, low, hid, ones, top, below, level, lt, eq, ofFields, ofBits, nanBits, prec, odd}
-use lib.Ieee.Bits.{nanBits-above}
+use lib.Ieee.{Float, nan, inf, fin, Format, binary32, binary64, up, down, low, hid, ones, top, below, level, lt, eq, ofFields, ofBits, nanBits, isNan, prec, odd}
+use lib.Ieee.Bits.{nanBits-is, nanBits-above}
 use lib.Ieee.Exact.{HasValue, odd-sign}
 use lib.Ieee.Fits.{down-pos}
 use lib.Pow.{pow-pos, pow-mono}
 use lib.IntN.{ℤ, pos, negℤ}
 use lib.Signed.{ltZ}
 use borrow.Author.Tests.{not-false, lt-ltb, le-ltb, ltb-true, ltb-false, eq-eqb, ne-eqb, eqb-true, eqb-false}
-use Rattle.decimal.proofs.NumberLaws.{lt-or-ge}
-use Rattle.decimal.proofs.WordLaws.{ltb-same}
-use Rattle.column.proofs.FloatLaws.{nan-above}
-use Rattle.column_order.specs.Keys.{whole, none, floatKey, wholeOrder, keyOrder}
-use Rattle.column_order.specs.Values.{floatOrder}
-use Rattle.column_order.specs.declared.answer.Order.the-variants.{Less, Equal, Greater, Unordered}
+use Rattle.laws.proofs.DifferenceLaws.{below?}
+use Rattle.float_order.specs.Floats.{floatOrder}
+use Rattle.float_order.specs.Keys.{floatKey, wholeOrder, keyOrder}
+use Rattle.float_order.specs.declared.relation.Relation.the-variants.{Less, Equal, Greater, Unordered}
 
 -- ---- the weight of bits
 
@@ -55,7 +54,7 @@ weigh-above h x (suc y) t u l k = lt-of-lt-of-le (weigh-next h x t l) (weigh-up 
 
 -- x * h + t and y * h + u with digits below h: the exponents first, then the digits
 fields-< : (h x y t u : ℕ) → u < h → x * h + t < y * h + u → (x < y) ⊎ ((x ≡ y) × (t < u))
-fields-< h x y t u l k = ⊎-elim inl (λ m. ⊎-elim (λ e. inr (sym e, digits (sym e))) (λ n. absurd (past n)) (eq-or-lt-of-le m)) (lt-or-ge x y)
+fields-< h x y t u l k = below? x y inl (λ m. ⊎-elim (λ e. inr (sym e, digits (sym e))) (λ n. absurd (past n)) (eq-or-lt-of-le m))
   where
     digits : x ≡ y → t < u
     digits e = let s : x * h ≡ y * h = ap (λ (n : ℕ). n * h) e in omega arith
@@ -109,6 +108,12 @@ level-alike s t a b c d p =
 
 -- ---- floats compare as their weights
 
+-- two tests that hold of the same numbers are the same
+ltb-same : (a b c d : ℕ) → (a < b → c < d) → (c < d → a < b) → ltb a b ≡ ltb c d
+ltb-same a b c d f g =
+    below? a b (λ h. lt-ltb a b h ∙ sym (lt-ltb c d (f h)))
+    (λ h. le-ltb a b h ∙ sym (le-ltb c d (below? c d (λ k. absurd (let l = g k in omega arith)) (λ k. k))))
+
 scaled-< : (a b u v l k : ℕ) → 0 < l → a * l ≡ u * k → b * l ≡ v * k → a < b → u < v
 scaled-< a b u v l k L p q h = lt-of-mul-lt-mul-right k (subst (λ (n : ℕ). n < v * k) p (subst (λ (n : ℕ). a * l < n) q (mul-lt-mul-of-pos-right h L)))
 
@@ -153,7 +158,7 @@ weigh-test h x y t u l m = ltb-same _ _ _ _ back (weigh-< h x y t u l m)
     exponents p = let s : suc x * h ≤ y * h = mul-le-mul-right h p in omega (arith, suc-mul x h)
 
     digits : x ≡ y → weigh h x t < weigh h y u → x * h + t < y * h + u
-    digits e k = let s : x * h ≡ y * h = ap (λ (n : ℕ). n * h) e in ⊎-elim (λ p. omega arith) (λ p. absurd (⊎-elim same-digits more-digits (eq-or-lt-of-le p))) (lt-or-ge t u)
+    digits e k = let s : x * h ≡ y * h = ap (λ (n : ℕ). n * h) e in below? t u (λ p. omega arith) (λ p. absurd (⊎-elim same-digits more-digits (eq-or-lt-of-le p)))
       where
         same-digits : u ≡ t → ⊥
         same-digits p = lt-irrefl _ (subst (λ (n : ℕ). weigh h x t < n) (ap₂ (weigh h) (sym e) p) k)
@@ -162,7 +167,7 @@ weigh-test h x y t u l m = ltb-same _ _ _ _ back (weigh-< h x y t u l m)
         more-digits p = let j = weigh-same h x u t p in let i : weigh h x t < weigh h x u = subst (λ (n : ℕ). weigh h x t < weigh h n u) (sym e) k in omega arith
 
     back : weigh h x t < weigh h y u → x * h + t < y * h + u
-    back k = ⊎-elim exponents (λ p. ⊎-elim (λ e. digits (sym e) k) (λ n. absurd (let j = weigh-above h y x u t m n in omega arith)) (eq-or-lt-of-le p)) (lt-or-ge x y)
+    back k = below? x y exponents (λ p. ⊎-elim (λ e. digits (sym e) k) (λ n. absurd (let j = weigh-above h y x u t m n in omega arith)) (eq-or-lt-of-le p))
 
 weigh-positive : (h x t : ℕ) → t < h → ltb 0 (weigh h x t) ≡ ltb 0 (x * h + t)
 unfolding weigh
@@ -322,8 +327,14 @@ level-neither true false a b p q =
 level-neither true true a b p q = ap (λ (t : Bool). t && true) (neither a b q p)
 
 -- a pattern of a NaN is the NaN
+is-nan : (x : Float) → isNan x ≡ true → x ≡ nan
+unfolding isNan
+is-nan nan e = refl
+is-nan (inf s) e = cc
+is-nan (fin s m d) e = cc
+
 bits-nan : (f : Format) (b : ℕ) → nanBits f b ≡ true → ofBits f b ≡ nan
-bits-nan f b e = nan-above f b (ltb-true _ _ (sym (nanBits-above f b) ∙ e))
+bits-nan f b e = is-nan (ofBits f b) (sym (nanBits-is f b) ∙ e)
 
 nan-left : (y : Float) → floatOrder nan y ≡ Unordered
 unfolding floatOrder lt eq
@@ -364,7 +375,26 @@ floatOrder-bits f a b = go (nanBits f a) refl (nanBits f b) refl
   where
     go : (t : Bool) → nanBits f a ≡ t → (u : Bool) → nanBits f b ≡ u
         → floatOrder (ofBits f a) (ofBits f b)
-        ≡ keyOrder (cond t none (whole (signedKey (leb (top f) a) (a % top f)))) (cond u none (whole (signedKey (leb (top f) b) (b % top f))))
+        ≡ keyOrder (cond t none (some (signedKey (leb (top f) a) (a % top f)))) (cond u none (some (signedKey (leb (top f) b) (b % top f))))
     go true p u q = ap (λ (x : Float). floatOrder x (ofBits f b)) (bits-nan f a p) ∙ nan-left (ofBits f b)
     go false p true q = ap (floatOrder (ofBits f a)) (bits-nan f b q) ∙ nan-right (ofBits f a)
     go false p false q = numbers f a b p q
+
+-- ---- which bits have a key
+
+module _ (f : Format) (b : ℕ) where
+  -- a NaN, whose bits below the sign lie above those of infinity, has none
+  pub nan-key : ones f * hid f < b % top f → floatKey f b ≡ none
+  unfolding floatKey
+  nan-key h = rw (nanBits-above f b, lt-ltb (ones f * hid f) (b % top f) h)
+
+  -- all others have one
+  pub number-key : b % top f ≤ ones f * hid f → floatKey f b ≡ some (cond (leb (top f) b) (negℤ (pos (b % top f))) (pos (b % top f)))
+  unfolding floatKey
+  number-key h = rw (nanBits-above f b, le-ltb (ones f * hid f) (b % top f) h)
+
+-- the bits of -0 and of 0 have the same
+pub zeros-key : (f : Format) → floatKey f (top f) ≡ floatKey f 0
+unfolding floatKey nanBits
+zeros-key binary32 = refl
+zeros-key binary64 = refl
