@@ -5,6 +5,7 @@ use mathlib.Core.Path.{_≡_, refl}
 use lib.Ieee.{nan, inf}
 use lib.Ieee as Ieee
 use lib.IntN.{negsuc}
+use Rattle.refusal.specs.Outcome.{refusal}
 use Rattle.text.specs.Characters.{ascii}
 use Rattle.text.specs.Numbers.{enoughDigits, digitCount, decimalText, signedText, hexText}
 use Rattle.text.specs.Refusals.{refusalText}
@@ -33,10 +34,10 @@ unfolding valueText stretchText decimalText digitCount enoughDigits
 stretch-example = refl
 
 -- a TIME of a whole day, and text that goes bad at its thirteenth byte
-refused-example : readText (read.BreaksAnnotation 0) ≡ ascii "refused 16 at 0"
+refused-example : readText (read.Refused (refusal 16 0)) ≡ ascii "refused 16 at 0"
 unfolding outcomeText refusalText decimalText digitCount enoughDigits
 refused-example = refl
 
-placed-example : readText (read.BreaksAnnotation 12) ≡ ascii "refused 16 at 12"
+placed-example : readText (read.Refused (refusal 16 12)) ≡ ascii "refused 16 at 12"
 unfolding outcomeText refusalText decimalText digitCount enoughDigits
 placed-example = refl

@@ -36,6 +36,6 @@ pub fn put_read(out: &mut [u8], at: usize, r: Read) -> usize
             let count = make_value(v, &mut room);
             text::put(out, at, &room[..count])
         }
-        _ => text::put_refusal(out, at, column::refusal(r) as u64, column::place(r) as u64),
+        Read::Refused(refusal) => text::put_refusal(out, at, refusal),
     }
 }

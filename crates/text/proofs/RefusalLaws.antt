@@ -1,6 +1,6 @@
 -- How many bytes a refusal takes.
 -- Assumes nothing.
-use Prim.Native.Nat.{_≤_}
+use Prim.Native.Nat.{_≤_, _<_, _^_}
 use native.Mathlib.Omega.{arith}
 use lib.ListN.{length, length-append}
 use mir.Syntax.{w64}
@@ -9,12 +9,12 @@ use Rattle.refusal.specs.declared.answers.Refusal.{Refusal}
 use Rattle.text.specs.Characters.{ascii}
 use Rattle.text.specs.Numbers.{decimalText}
 use Rattle.text.specs.Refusals.{refusalText, mostRefusal}
-use Rattle.text.proofs.NumberLaws.{decimal-most}
+use Rattle.text.proofs.NumberLaws.{digits-below, decimal-most}
 
--- two numbers of 64 bits and the words before them
-pub refusal-most : (r : Refusal) → Fits w64 (r .number) → Fits w64 (r .place) → length (refusalText r) ≤ mostRefusal
+-- a number of 32 bits and one of 64, and the words before them
+pub refusal-most : (r : Refusal) → r .number < 2 ^ 32 → Fits w64 (r .place) → length (refusalText r) ≤ mostRefusal
 unfolding refusalText
 refusal-most r h k =
-    let most : length (decimalText (r .number)) ≤ 20 = decimal-most (r .number) h in
+    let most : length (decimalText (r .number)) ≤ 10 = digits-below (r .number) 10 (omega arith) (omega arith) in
     let most′ : length (decimalText (r .place)) ≤ 20 = decimal-most (r .place) k in
     simp length-append (omega arith)

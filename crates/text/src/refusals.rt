@@ -8,8 +8,8 @@ use crate::numbers::put_decimal;
 use crate::placing::put;
 use refusal::Refusal;
 
-// Room for any refusal's line: two numbers of 64 bits, the words before them and the line's end.
-pub const REFUSAL_ROOM: usize = 53;
+// Room for any refusal's line: a number of 32 bits and one of 64, the words before them and the line's end.
+pub const REFUSAL_ROOM: usize = 43;
 
 // Stores `refused N at P`.
 pub fn put_refusal(out: &mut [u8], at: usize, refusal: Refusal) -> usize

@@ -1,13 +1,9 @@
 -- `column_text::answers::put_read` meets its contract.
-use mathlib.Core.Path.{sym, ap, ap₂, subst, _∙_}
+use mathlib.Core.Path.{sym, ap, _∙_}
 use native.Mathlib.Omega.{arith}
 use lib.ListN.{length}
-use mir.Syntax.{w64}
-use mir.Val.{Fits}
-use Rattle.text.specs.Refusals.{refusalText}
 use Rattle.text.proofs.PlacingLaws.{put-as}
 use Rattle.column_text.specs.Answers.{outcomeText, readText}
-use Rattle.column_text.proofs.AnswerLaws.{read-refused, refused-most}
 use borrow.Author.Needs.{needs}
 use Rattle.column_text.proofs.answers.put_read.Statement.{statement}
 use Rattle.column_text.proofs.answers.put_read.Tie as tie
@@ -24,19 +20,14 @@ returns c =
     (put .0, (put .1, omega (arith, made .0 .1, made .1 .1, ap length text)))
 
 returns-2 : tie.Need-returns-2
+unfolding outcomeText
 returns-2 c =
     let at-put-refusal = c .before .before in
-    let at-place = at-put-refusal .before in
-    let at-refusal = at-place .before in
-    let at-match = at-refusal .before .before in
-    let start = at-match .before .before in
-    let place = at-place .place in
-    let number = at-refusal .refusal in
-    let r = start .args .r in
-    let text = ap₂ refusalText (number .ensures) (place .ensures) in
-    let read = read-refused r (at-match .match .keys2) in
-    let put = put-as _ _ (text ∙ sym read) (at-put-refusal .put-refusal .ensures) in
-    (put .0, (put .1, omega (arith, ap length read, refused-most r (subst (Fits w64) (place .ensures) (record { fits = omega (arith, place .ok) })))))
+    let at-r = at-put-refusal .before .before .before in
+    let text = ap readText (sym (at-r .r2 .given .1)) in
+    let put-refusal = at-put-refusal .put-refusal .ensures in
+    let put = put-as _ _ text (put-refusal .0, put-refusal .1 .0) in
+    (put .0, (put .1, omega (arith, put-refusal .1 .1, ap length text)))
 
 pub put-read-spec : {M : Type 1} → statement M
 put-read-spec =
@@ -45,9 +36,6 @@ put-read-spec =
     (λ c. search needs)
     (λ c κs. tt)
     (λ c. search needs)
-    (λ c. search needs)
-    (λ c κs. tt)
-    (λ c κs. tt)
     (λ c. search needs)
     (λ c κs. tt)
     (λ c. search needs)
