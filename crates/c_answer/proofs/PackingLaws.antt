@@ -10,7 +10,8 @@ use Rattle.refusal.specs.Outcome.{given, refused, shortOutput}
 use Rattle.refusal.specs.declared.answers.Counted.{Counted}
 use Rattle.refusal.specs.declared.answers.Refusal.{Refusal}
 use Rattle.c_answer.specs.Answers.{packed, packedFault, RESULT, numberIn, refusalAnswer, countedAnswer, Effect, within, answer, left}
-use Rattle.c_answer.specs.Packing.{Bounded, CountedBounded, Packs, PacksResult, PacksRefusal, PacksFault, PacksCounted, PacksEffect}
+use Rattle.refusal.specs.Bounds.{Bounded, CountedBounded}
+use Rattle.c_answer.specs.Packing.{Packs, PacksResult, PacksRefusal, PacksFault, PacksCounted, PacksEffect}
 
 -- a number below 2^8 and low bits below 2^32 are taken out again
 packs : (number low : ℕ) → number < 2 ^ 8 → low < 2 ^ 32 → Packs (packed number low) number low

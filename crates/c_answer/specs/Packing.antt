@@ -1,25 +1,10 @@
--- An answer that can be taken apart again, and the bounds within which it can.
-use Prim.Native.Nat.{ℕ, _<_, _≤_, _^_}
+-- An answer that can be taken apart again.
+use Prim.Native.Nat.{ℕ, _<_, _^_}
 use mathlib.Core.Path.{_≡_}
 use Rattle.refusal.specs.Outcome.{given, refused}
 use Rattle.refusal.specs.declared.answers.Counted.{Counted}
 use Rattle.refusal.specs.declared.answers.Refusal.{Refusal}
 use Rattle.c_answer.specs.Answers.{RESULT, numberIn, lowIn, sideIn, countedAnswer, Effect, answer}
-
--- bounds -----------------------------------------------------------------------------------------------------------------
-
--- a refusal's number is from 1 to this one, and its place at most this one
-pub record Bounded (number place : ℕ) (r : Refusal) : Type 0 where
-  pub some-number : RESULT < r .number
-  pub most-number : r .number ≤ number
-  pub most-place : r .place ≤ place
-
--- how many there are is at most this, and a refusal is within the others
-abbrev pub CountedBounded : ℕ → ℕ → ℕ → Counted → Type 0
-CountedBounded most number place (Counted.Count n) = n ≤ most
-CountedBounded most number place (Counted.Refused r) = Bounded number place r
-
--- answers ----------------------------------------------------------------------------------------------------------------
 
 -- an answer of which bits 32 to 39 are a number, bits 0 to 31 are the low bits, and no bit above is set
 pub record Packs (answered number low : ℕ) : Type 0 where

@@ -38,7 +38,7 @@ use Rattle.tree.proofs.JudgementLaws.{judgement-nodes, judgement-refused, lawfu
 use Rattle.schema.specs.Rows.{rowWidth}
 use Rattle.schema.specs.Outcome.{answer, outcome}
 use Rattle.schema.specs.Rewriting.{fits, rewriteAnswer, rewriteOutcome}
-use Rattle.c_answer.specs.Packing.{Bounded, CountedBounded}
+use Rattle.refusal.specs.Bounds.{Bounded, CountedBounded}
 use Rattle.laws.proofs.MostLaws.{AtMost, atMost-append, atMost-map, cond-most}
 
 -- a verdict whose refusal, if it is one, is within these

@@ -8,7 +8,8 @@ use Rattle.sheet.specs.Block.{mostBytes, mostNodes}
 use Rattle.schema.specs.Outcome.{outcome, written}
 use Rattle.schema.specs.Rewriting.{rewriteOutcome, rewriteWritten}
 use Rattle.c_answer.specs.Answers.{RESULT, numberIn, countedAnswer}
-use Rattle.c_answer.specs.Packing.{CountedBounded, PacksCounted}
+use Rattle.refusal.specs.Bounds.{CountedBounded}
+use Rattle.c_answer.specs.Packing.{PacksCounted}
 
 pub record Promises : Type 0 where
   -- T is at most 896, and at most 65,536 bytes are written; a refusal has a number of 1 to 14, and a place of at most 896

@@ -6,7 +6,7 @@ ghost use Rattle.refusal.specs.Numbers.{SHORT-OUTPUT};
 ghost use Rattle.schema.specs.Outcome.{outcome, written};
 ghost use Rattle.schema.specs.Rewriting.{rewriteOutcome, rewriteWritten};
 ghost use Rattle.c_answer.specs.Answers.{countedAnswer};
-ghost use Rattle.c_answer.specs.Packing.{CountedBounded};
+ghost use Rattle.refusal.specs.Bounds.{CountedBounded};
 use c_answer::RESULT;
 use c_answer::packed;
 use refusal::Counted;

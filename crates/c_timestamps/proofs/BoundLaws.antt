@@ -13,7 +13,7 @@ use Rattle.timestamp.specs.Units.{TimeUnit, ticksPerSecond}
 use Rattle.timestamp.specs.Count.{isDateTime, countOf}
 use Rattle.timestamp.specs.Outcomes.{noDateTime, notRepresentable, Decodes, isSigned64, encodingIn}
 use Rattle.timestamp.specs.declared.fields.Fields.{Fields}
-use Rattle.c_answer.specs.Packing.{Bounded}
+use Rattle.refusal.specs.Bounds.{Bounded}
 use Rattle.c_timestamps.specs.Timestamps.{areFields, fieldsOf, encodingOf}
 
 -- a refusal, if it is one, is within these

@@ -9,7 +9,7 @@ ghost use lib.Signed.{leZ};
 ghost use Rattle.timestamp.specs.Units.{TimeUnit};
 ghost use Rattle.refusal.specs.Numbers.{UNKNOWN-TYPE};
 ghost use Rattle.c_answer.specs.Answers.{refusalAnswer, listed, within, answer, left};
-ghost use Rattle.c_answer.specs.Packing.{Bounded};
+ghost use Rattle.refusal.specs.Bounds.{Bounded};
 ghost use Rattle.c_timestamps.specs.Timestamps.{fieldNumbers, Decoding, areFields, fieldsOf, encodingOf, encoding};
 use c_answer::RESULT;
 use c_answer::packed;

@@ -3,7 +3,6 @@ use Prim.Native.Nat.{ℕ, _-_, _*_, _<_, _^_}
 use mathlib.Core.Path.{_≡_, refl, sym, ap, _∙_, subst}
 use mathlib.Core.Bool.{Bool, true, false, not, cond}
 use mathlib.Core.List.{List, [], _∷_}
-use mathlib.Core.Logic.{⊎-elim}
 use native.Mathlib.Omega.{arith}
 use lib.Ieee.{Float, Format, top, isNan, ne, ofBits, nanBits, toBits}
 use lib.Ieee.Bits.{toBits-ofBits, nanBits-is}
@@ -11,8 +10,6 @@ use lib.IntN.{ℤ}
 use lib.ListN.{length}
 use lib.Signed.{mag, nonNeg}
 use mir.Val.{boolByte}
-use types.Run.{OneOf}
-use denote.Enum.Declared.{tagOf}
 use Rattle.column_type.specs.declared.types.ColumnType.{ColumnType}
 use Rattle.column.specs.Outcome as column
 use Rattle.column.specs.Reading.{readOf}
@@ -23,12 +20,9 @@ use Rattle.column.proofs.FloatLaws.{differs-nan}
 use Rattle.column_order.specs.Outcome as column_order
 use Rattle.column_order.specs.Order.{orderOf}
 use Rattle.column_order.specs.declared.answer.Order.{Order}
-use Rattle.column_order.specs.declared.answer.Order.the-variants as order
-use Rattle.column_order.proofs.answer.Order as Order′
-use Rattle.column_order.proofs.FaultLaws.{order-small}
 use Rattle.laws.proofs.SignedLaws.{negative-is, nonnegative-is}
-use Rattle.griffeljol.specs.Answers.{packed, packedFault, RESULT, within}
-use Rattle.griffeljol.specs.Values.{caseOf, twosComplement64, quietNan, floatBits, numbersOf, readEffect, reading, orderAnswer, ordering}
+use Rattle.c_answer.specs.Answers.{within}
+use Rattle.c_values.specs.Values.{caseOf, twosComplement64, quietNan, floatBits, numbersOf, readEffect, reading, orderAnswer, ordering}
 
 -- ---- bits
 
@@ -87,39 +81,3 @@ reading-of c bs lent e = ap (λ (x : Read). within lent (readEffect (column.outc
 pub ordering-of : (c : ColumnType) (a b : List ℕ) {o : Order} → o ≡ orderOf c a b → ordering c a b ≡ orderAnswer (column_order.outcomeOf o)
 unfolding ordering column_order.outcome
 ordering-of c a b e = ap (λ (x : Order). orderAnswer (column_order.outcomeOf x)) (sym e)
-
--- the value at fault fits its bits
-pub fault-fits : (c : ColumnType) (a b : List ℕ) {o : Order} → o ≡ orderOf c a b → column_order.faultOf o < 2 ^ 8
-fault-fits c a b e = omega (arith, ap column_order.faultOf e, order-small c a b .1)
-
--- and so does the number
-pub order-number : (o : Order) → column_order.refusalOf o < 2 ^ 8
-order-number order.Less = omega arith
-order-number order.Equal = omega arith
-order-number order.Greater = omega arith
-order-number order.Unordered = omega arith
-order-number order.Unlawful = omega arith
-order-number order.NoOrder = omega arith
-order-number (order.WrongLength value) = omega arith
-order-number (order.BreaksAnnotation value place) = omega arith
-
--- the answer of a refusal
-pub order-refused : (o : column_order.Outcome) → (column_order.refusalIn o ≡ RESULT → ⊥) → packedFault (column_order.faultIn o) (column_order.refusalIn o) (column_order.placeIn o) ≡ orderAnswer o
-order-refused (column_order.refused number place value) h = refl
-order-refused (column_order.given r) h = absurd (h refl)
-
--- such an answer comes behind the first three
-above : (tag : ℕ) → tag < 3 → OneOf (3 ∷ 4 ∷ 5 ∷ 6 ∷ 7 ∷ []) tag → ⊥
-above tag h =
-    ⊎-elim (λ e. omega (arith, h, e)) (⊎-elim (λ e. omega (arith, h, e)) (⊎-elim (λ e. omega (arith, h, e)) (⊎-elim (λ e. omega (arith, h, e)) (λ e. omega (arith, h, e)))))
-
--- what is neither less, equal nor greater is unordered, unless it is refused
-pub unordered-left : (o : Order) → OneOf (3 ∷ 4 ∷ 5 ∷ 6 ∷ 7 ∷ []) (tagOf Order′.the-type o) → column_order.refusalOf o ≡ RESULT → packed RESULT 3 ≡ orderAnswer (column_order.outcomeOf o)
-unordered-left order.Less h e = absurd (above 0 (omega arith) h)
-unordered-left order.Equal h e = absurd (above 1 (omega arith) h)
-unordered-left order.Greater h e = absurd (above 2 (omega arith) h)
-unordered-left order.Unordered h e = refl
-unordered-left order.Unlawful h e = absurd (omega (arith, e))
-unordered-left order.NoOrder h e = absurd (omega (arith, e))
-unordered-left (order.WrongLength value) h e = absurd (omega (arith, e))
-unordered-left (order.BreaksAnnotation value place) h e = absurd (omega (arith, e))

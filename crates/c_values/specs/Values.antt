@@ -5,12 +5,16 @@ use mathlib.Core.List.{List, [], _∷_}
 use lib.Ieee.{Float, Format, binary32, binary64, isNan, toBits}
 use lib.IntN.{ℤ, pos, negsuc}
 use Rattle.column_type.specs.declared.types.ColumnType.{ColumnType}
+use Rattle.refusal.specs.Faults as sided
+use Rattle.refusal.specs.Faults.{Sided}
+use Rattle.refusal.specs.Outcome.{Outcome, given, refused}
+use Rattle.refusal.specs.declared.answers.Fault.{Fault}
+use Rattle.float_order.specs.declared.relation.Relation.{Relation}
 use Rattle.column.specs.Outcome as column
 use Rattle.column.specs.declared.value.Value.{Value}
 use Rattle.column.specs.declared.value.Value.the-variants as value
 use Rattle.column_order.specs.Outcome as column_order
-use Rattle.column_order.specs.Outcome.{Relation}
-use Rattle.griffeljol.specs.Answers.{packed, packedFault, RESULT, Effect, refused, given, within}
+use Rattle.c_answer.specs.Answers.{packed, packedFault, RESULT, Effect, result, within}
 
 -- a column type of its five numbers
 abbrev pub columnType : ℕ → ℕ → ℕ → ℕ → ℕ → ColumnType
@@ -49,9 +53,9 @@ numbersOf (value.Double x) = floatBits binary64 x ∷ 0 ∷ []
 numbersOf (value.Bytes start length) = start ∷ length ∷ []
 
 -- what each outcome of reading comes to
-abbrev pub readEffect : column.Outcome Value → Effect ℕ
-readEffect (column.refused number place) = refused number place
-readEffect (column.given v) = given (caseOf v) (numbersOf v)
+abbrev pub readEffect : Outcome Value → Effect ℕ
+readEffect (given v) = result (caseOf v) (numbersOf v)
+readEffect (refused r) = refused r
 
 -- what reading comes to for any column type, any bytes and any number of lent places
 unfoldable pub reading : ColumnType → List ℕ → ℕ → Effect ℕ
@@ -59,15 +63,19 @@ reading c bs lent = within lent (readEffect (column.outcome c bs))
 
 -- "0 less, 1 equal, 2 greater, 3 unordered"
 abbrev pub relationNumber : Relation → ℕ
-relationNumber column_order.less = 0
-relationNumber column_order.equal = 1
-relationNumber column_order.greater = 2
-relationNumber column_order.unordered = 3
+relationNumber Relation.Less = 0
+relationNumber Relation.Equal = 1
+relationNumber Relation.Greater = 2
+relationNumber Relation.Unordered = 3
+
+-- the answer of a refusal with its side
+abbrev pub faultAnswer : Fault → ℕ
+faultAnswer f = packedFault (f .side) (f .refusal .number) (f .refusal .place)
 
 -- the answer of each outcome of ordering, which writes nothing
-abbrev pub orderAnswer : column_order.Outcome → ℕ
-orderAnswer (column_order.refused number place value) = packedFault value number place
-orderAnswer (column_order.given r) = packed RESULT (relationNumber r)
+abbrev pub orderAnswer : Sided Relation → ℕ
+orderAnswer (sided.given r) = packed RESULT (relationNumber r)
+orderAnswer (sided.refused f) = faultAnswer f
 
 -- the answer of ordering for any column type and any two values
 unfoldable pub ordering : ColumnType → List ℕ → List ℕ → ℕ

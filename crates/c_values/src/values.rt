@@ -3,18 +3,23 @@ ghost use mathlib.Core.Path.{_≡_};
 ghost use mathlib.Core.List.{[], _∷_};
 ghost use lib.Ieee.{binary32, binary64};
 ghost use lib.ListN.{length};
-ghost use Rattle.column_order.specs.Outcome.{refusalOf, outcomeOf};
-ghost use Rattle.griffeljol.specs.Answers.{packed, RESULT, given, within, answer, left};
-ghost use Rattle.griffeljol.specs.Values.{columnType, caseOf, twosComplement64, floatBits, numbersOf, orderAnswer, reading, ordering};
-use crate::answers::NO_PLACE;
-use crate::answers::RESULT;
-use crate::answers::SHORT_OUTPUT;
-use crate::answers::packed;
-use crate::answers::packed_fault;
+ghost use Rattle.refusal.specs.Bounds.{Bounded};
+ghost use Rattle.refusal.specs.Numbers.{UNKNOWN-TYPE};
+ghost use Rattle.column.specs.Lengths.{mostBytes};
+ghost use Rattle.column_order.proofs.FaultLaws.{FaultBounded};
+ghost use Rattle.c_answer.specs.Answers.{refusalAnswer, result, within, answer, left};
+ghost use Rattle.c_values.specs.Values.{columnType, caseOf, twosComplement64, floatBits, numbersOf, relationNumber, faultAnswer, reading, ordering};
+use c_answer::RESULT;
+use c_answer::packed;
+use c_answer::packed_fault;
 use column::Read;
 use column::Value;
 use column_order::Order;
 use column_type::ColumnType;
+use float_order::Relation;
+use refusal::Fault;
+use refusal::Refusal;
+use refusal::numbers;
 
 // How many numbers are written of a value.
 const VALUE_NUMBERS: usize = 2;
@@ -58,8 +63,7 @@ struct ValueNumbers {
 
 // Reads a value. The value of the answer is its case: 0 truth, 1 signed whole, 2 unsigned whole, 3 FLOAT, 4 DOUBLE, 5 bytes.
 // Two numbers are written: its bits and 0, or start and length.
-#[no_mangle]
-pub extern "C" fn griffeljol_read(
+pub fn read(
     physical: u32,
     type_length: u32,
     kind: u32,
@@ -83,14 +87,13 @@ pub extern "C" fn griffeljol_read(
     );
     match read {
         Read::Value(v) => write_value(v, out),
-        _ => packed(column::refusal(read), column::place(read)),
+        Read::Refused(r) => refused(r),
     }
 }
 
 // Orders two values. The value of the answer is 0 less, 1 equal, 2 greater or 3 unordered. A refusal has besides the value at
 // fault: 1 or 2, and 0 for neither.
-#[no_mangle]
-pub extern "C" fn griffeljol_order(
+pub fn order(
     physical: u32,
     type_length: u32,
     kind: u32,
@@ -112,36 +115,51 @@ pub extern "C" fn griffeljol_order(
         a,
         b,
     );
-    let number = column_order::refusal(order);
-    if number == RESULT {
-        return packed(RESULT, relation(order));
+    match order {
+        Order::Related(r) => packed(RESULT, relation(r)),
+        Order::Refused(f) => fault(f),
     }
-    packed_fault(
-        column_order::fault(order) as u32,
-        number,
-        column_order::place(order),
-    )
 }
 
-// The number of an order, which is not asked of a refusal.
-fn relation(o: Order) -> u32
-    ensures { λ r. ⌜ (refusalOf o ≡ RESULT → packed RESULT r ≡ orderAnswer (outcomeOf o)) ⌝ }
+// The number of how two values stand.
+fn relation(relation: Relation) -> u32
+    ensures { λ r. ⌜ r ≡ relationNumber relation ⌝ }
 {
-    match o {
-        Order::Less => LESS,
-        Order::Equal => EQUAL,
-        Order::Greater => GREATER,
-        _ => UNORDERED,
+    match relation {
+        Relation::Less => LESS,
+        Relation::Equal => EQUAL,
+        Relation::Greater => GREATER,
+        Relation::Unordered => UNORDERED,
     }
+}
+
+// The answer of a value's refusal.
+fn refused(refusal: Refusal) -> u64
+    requires { ⌜ Bounded UNKNOWN-TYPE mostBytes refusal ⌝ }
+    ensures { λ r. ⌜ r ≡ refusalAnswer refusal ⌝ }
+{
+    packed(refusal.number, refusal.place as u32)
+}
+
+// And of the refusal of one of two, or of neither.
+fn fault(fault: Fault) -> u64
+    requires { ⌜ FaultBounded fault ⌝ }
+    ensures { λ r. ⌜ r ≡ faultAnswer fault ⌝ }
+{
+    packed_fault(
+        fault.side,
+        fault.refusal.number as u8,
+        fault.refusal.place as u32,
+    )
 }
 
 // Writes a value that was read, where its numbers fit.
 fn write_value(v: Value, out: &mut [u64]) -> u64
-    ensures { λ r. ⌜ r ≡ answer (within (length (now (out .entry))) (given (caseOf v) (numbersOf v))) ⌝ }
-    ensures { λ _. ⌜ now (out .exit) ≡ left (within (length (now (out .entry))) (given (caseOf v) (numbersOf v))) (now (out .entry)) ⌝ }
+    ensures { λ r. ⌜ r ≡ answer (within (length (now (out .entry))) (result (caseOf v) (numbersOf v))) ⌝ }
+    ensures { λ _. ⌜ now (out .exit) ≡ left (within (length (now (out .entry))) (result (caseOf v) (numbersOf v))) (now (out .entry)) ⌝ }
 {
     if out.len() < VALUE_NUMBERS {
-        return packed(SHORT_OUTPUT, NO_PLACE);
+        return packed(numbers::SHORT_OUTPUT, 0);
     }
     let w = numbers(v);
     out[0] = w.first;

@@ -9,6 +9,7 @@ use lib.ListN.{length}
 use borrow.Author.Tests.{le-leb, eqb-true, eqb-false, ne-eqb}
 use Rattle.utf8.specs.Valid.{validUpTo, Stops}
 use Rattle.utf8.proofs.ValidLaws.{validUpTo-stops, stops-unique}
+use Rattle.refusal.specs.Bounds.{Bounded}
 use Rattle.refusal.specs.Numbers.{WRONG-LENGTH, BREAKS-ANNOTATION, UNKNOWN-TYPE}
 use Rattle.refusal.specs.Outcome.{Outcome, refused, refusal, unplaced}
 use Rattle.refusal.specs.declared.answers.Refusal.{Refusal}
@@ -37,24 +38,20 @@ place-within c bs = go (isByteForm c) (isText (c .kind))
     go true false = omega arith
     go true true = validUpTo-stops bs .within
 
--- a number and a place that are no greater than those of any refusal here: no place lies past the longest value
-pub record Small (r : Refusal) : Type 0 where
-  pub number : r .number ≤ UNKNOWN-TYPE
-  pub place : r .place ≤ mostBytes
-
-pub refusal-small : (c : ColumnType) (bs : List ℕ) (r : Refusal) → readOf c bs ≡ read.Refused r → Small r
+-- no number is greater than 20, and no place lies past the longest value
+pub refusal-bounded : (c : ColumnType) (bs : List ℕ) (r : Refusal) → readOf c bs ≡ read.Refused r → Bounded UNKNOWN-TYPE mostBytes r
 unfolding readOf
-refusal-small c bs r = go (isLawful c) (lengthRight c (length bs)) refl (keeps c bs)
+refusal-bounded c bs r = go (isLawful c) (lengthRight c (length bs)) refl (keeps c bs)
   where
-    same : (q : Refusal) → Small q → read.Refused q ≡ read.Refused r → Small r
-    same q h e = let f : q ≡ r = cc in subst Small f h
+    same : (q : Refusal) → Bounded UNKNOWN-TYPE mostBytes q → read.Refused q ≡ read.Refused r → Bounded UNKNOWN-TYPE mostBytes r
+    same q h e = let f : q ≡ r = cc in subst (Bounded UNKNOWN-TYPE mostBytes) f h
 
-    go : (l w : Bool) → lengthRight c (length bs) ≡ w → (k : Bool) → tested c bs l w k ≡ read.Refused r → Small r
-    go false w p k e = same (unplaced UNKNOWN-TYPE) (record { number = omega arith; place = omega arith }) e
-    go true false p k e = same (unplaced WRONG-LENGTH) (record { number = omega arith; place = omega arith }) e
+    go : (l w : Bool) → lengthRight c (length bs) ≡ w → (k : Bool) → tested c bs l w k ≡ read.Refused r → Bounded UNKNOWN-TYPE mostBytes r
+    go false w p k e = same (unplaced UNKNOWN-TYPE) (record { some-number = omega arith; most-number = omega arith; most-place = omega arith }) e
+    go true false p k e = same (unplaced WRONG-LENGTH) (record { some-number = omega arith; most-number = omega arith; most-place = omega arith }) e
     go true true p true e = absurd (let z : _≡_ {A = ℕ} 0 1 = cc in omega arith)
     go true true p false e =
-        same (refusal BREAKS-ANNOTATION (annotationPlace c bs)) (record { number = omega arith; place = omega (arith, place-within c bs, length-most c (length bs) p) }) e
+        same (refusal BREAKS-ANNOTATION (annotationPlace c bs)) (record { some-number = omega arith; most-number = omega arith; most-place = omega (arith, place-within c bs, length-most c (length bs) p) }) e
 
 -- ---- what a refusal says
 

@@ -13,6 +13,7 @@ use lib.Signed.{ltZ}
 use types.Run.{OneOf}
 use denote.Enum.Declared.{tagOf}
 use borrow.Author.Tests.{eqb-true, le-leb}
+use Rattle.refusal.specs.Faults.{FIRST, SECOND, ofNeither}
 use Rattle.laws.proofs.BoolLaws.{and-left, and-right}
 use Rattle.refusal.specs.Numbers.{WRONG-LENGTH, BREAKS-ANNOTATION, NO-ORDER}
 use Rattle.refusal.specs.Outcome.{unplaced}
@@ -43,7 +44,7 @@ use Rattle.column.proofs.ReadingLaws.{read-lawful, bytes-read}
 use Rattle.float_order.specs.Keys.{wholeOrder}
 use Rattle.float_order.specs.declared.relation.Relation.the-variants.{Less, Equal, Greater, Unordered}
 use Rattle.column_order.specs.Keys.{Key, whole, keyOf, keyOrder}
-use Rattle.column_order.specs.Order.{FIRST, SECOND, ofNeither, unlessRefused, valuesOrder, orderOf}
+use Rattle.column_order.specs.Order.{unlessRefused, valuesOrder, orderOf}
 use Rattle.column_order.specs.declared.answer.Order.{Order}
 use Rattle.column_order.specs.declared.answer.Order.the-variants.{Related, Refused}
 use Rattle.column_order.proofs.KeyLaws.{byte-number}

@@ -3,37 +3,41 @@ use mathlib.Core.Path.{_≡_, refl, sym, ap, subst, _∙_}
 use mathlib.Core.Bool.{Bool, true, false, cond}
 use mathlib.Core.List.{List}
 use mathlib.Core.Logic.{_↔_, _⊎_, inl, inr}
-use Prim.Native.Nat.{ℕ, _≤_}
+use Prim.Native.Nat.{ℕ, _<_, _≤_}
 use native.Mathlib.Omega.{arith}
+use Rattle.refusal.specs.Faults.{FIRST, SECOND, NEITHER, fault, ofNeither, Sided, given, refused}
+use Rattle.refusal.specs.Bounds.{Bounded}
 use Rattle.refusal.specs.Numbers.{NO-ORDER, UNKNOWN-TYPE}
 use Rattle.refusal.specs.Outcome.{refusal}
 use Rattle.refusal.specs.Outcome as reading
 use Rattle.refusal.specs.declared.answers.Refusal.{Refusal}
 use Rattle.refusal.specs.declared.answers.Fault.{Fault}
+use Rattle.float_order.specs.declared.relation.Relation.{Relation}
 use Rattle.column_type.specs.Lawful.{isLawful}
 use Rattle.column_type.specs.declared.types.ColumnType.{ColumnType}
+use Rattle.column.specs.Lengths.{mostBytes}
 use Rattle.column.specs.Reading.{readOf}
 use Rattle.column.specs.Outcome as column
 use Rattle.column.specs.declared.value.Read.{Read}
 use Rattle.column.specs.declared.value.Read.the-variants as read
 use Rattle.column.specs.declared.value.Value.{Value}
-use Rattle.column.proofs.PlaceLaws.{Small, refusal-small}
+use Rattle.column.proofs.PlaceLaws.{refusal-bounded}
 use Rattle.column_order.specs.Keys.{keyOf, keyOrder}
-use Rattle.column_order.specs.Order.{FIRST, SECOND, NEITHER, fault, ofNeither, hasOrder, unlessRefused, orderOf}
+use Rattle.column_order.specs.Order.{hasOrder, unlessRefused, orderOf}
 use Rattle.column_order.specs.Comparison.{Valid}
-use Rattle.column_order.specs.Outcome.{Outcome, given, refused, outcomeOf, outcome}
+use Rattle.column_order.specs.Outcome.{outcomeOf, outcome}
 use Rattle.column_order.specs.declared.answer.Order.{Order}
 use Rattle.column_order.specs.declared.answer.Order.the-variants.{Related, Refused}
 
 -- ---- what an outcome says, field by field
 
-fault-is : {f g : Fault} → refused f ≡ refused g → f ≡ g
+fault-is : {f g : Fault} → _≡_ {A = Sided Relation} (refused f) (refused g) → f ≡ g
 fault-is e = cc
 
-side-is : {f g : Fault} → refused f ≡ refused g → f .side ≡ g .side
+side-is : {f g : Fault} → _≡_ {A = Sided Relation} (refused f) (refused g) → f .side ≡ g .side
 side-is e = ap (λ (x : Fault). x .side) (fault-is e)
 
-refusal-is : {f g : Fault} → refused f ≡ refused g → f .refusal ≡ g .refusal
+refusal-is : {f g : Fault} → _≡_ {A = Sided Relation} (refused f) (refused g) → f .refusal ≡ g .refusal
 refusal-is e = ap (λ (x : Fault). x .refusal) (fault-is e)
 
 -- a value that is given was read
@@ -47,38 +51,38 @@ given-read c bs v = go (readOf c bs)
 
 -- ---- how great a refusal's side, number and place are
 
-pub record SmallFault (f : Fault) : Type 0 where
+pub record FaultBounded (f : Fault) : Type 0 where
   pub side : f .side ≤ SECOND
-  pub refusal : Small (f .refusal)
+  pub refusal : Bounded UNKNOWN-TYPE mostBytes (f .refusal)
 
-pub order-small : (c : ColumnType) (a b : List ℕ) (f : Fault) → orderOf c a b ≡ Refused f → SmallFault f
+pub order-bounded : (c : ColumnType) (a b : List ℕ) (f : Fault) → orderOf c a b ≡ Refused f → FaultBounded f
 unfolding orderOf
-order-small c a b f = go (isLawful c) (hasOrder c) (readOf c a) refl (readOf c b) refl
+order-bounded c a b f = go (isLawful c) (hasOrder c) (readOf c a) refl (readOf c b) refl
   where
-    same : (g : Fault) → SmallFault g → Refused g ≡ Refused f → SmallFault f
-    same g h e = let i : g ≡ f = cc in subst SmallFault i h
+    same : (g : Fault) → FaultBounded g → Refused g ≡ Refused f → FaultBounded f
+    same g h e = let i : g ≡ f = cc in subst FaultBounded i h
 
-    neither : (number : ℕ) → number ≤ UNKNOWN-TYPE → SmallFault (ofNeither number)
-    neither number h = record { side = omega arith; refusal = record { number = h; place = omega arith } }
+    neither : (number : ℕ) → 0 < number → number ≤ UNKNOWN-TYPE → FaultBounded (ofNeither number)
+    neither number some h = record { side = omega arith; refusal = record { some-number = some; most-number = h; most-place = omega arith } }
 
     go : (l h : Bool) (x : Read) → readOf c a ≡ x → (y : Read) → readOf c b ≡ y
-        → cond l (cond h (unlessRefused FIRST x (unlessRefused SECOND y (Related (keyOrder (keyOf c a) (keyOf c b))))) (Refused (ofNeither NO-ORDER))) (Refused (ofNeither UNKNOWN-TYPE)) ≡ Refused f → SmallFault f
-    go false h x p y q e = same (ofNeither UNKNOWN-TYPE) (neither UNKNOWN-TYPE (omega arith)) e
-    go true false x p y q e = same (ofNeither NO-ORDER) (neither NO-ORDER (omega arith)) e
-    go true true (read.Refused r) p y q e = same (fault FIRST r) (record { side = omega arith; refusal = refusal-small c a r p }) e
-    go true true (read.Value v) p (read.Refused r) q e = same (fault SECOND r) (record { side = omega arith; refusal = refusal-small c b r q }) e
+        → cond l (cond h (unlessRefused FIRST x (unlessRefused SECOND y (Related (keyOrder (keyOf c a) (keyOf c b))))) (Refused (ofNeither NO-ORDER))) (Refused (ofNeither UNKNOWN-TYPE)) ≡ Refused f → FaultBounded f
+    go false h x p y q e = same (ofNeither UNKNOWN-TYPE) (neither UNKNOWN-TYPE (omega arith) (omega arith)) e
+    go true false x p y q e = same (ofNeither NO-ORDER) (neither NO-ORDER (omega arith) (omega arith)) e
+    go true true (read.Refused r) p y q e = same (fault FIRST r) (record { side = omega arith; refusal = refusal-bounded c a r p }) e
+    go true true (read.Value v) p (read.Refused r) q e = same (fault SECOND r) (record { side = omega arith; refusal = refusal-bounded c b r q }) e
     go true true (read.Value v) p (read.Value w) q e = absurd (let z : _≡_ {A = ℕ} 0 1 = cc in omega arith)
 
 -- ---- what ordering comes to, by what reading its values comes to
 
 -- the refusal of the value on a side, or what follows where it is read
-abbrev after : ℕ → reading.Outcome Value → Outcome → Outcome
+abbrev after : ℕ → reading.Outcome Value → Sided Relation → Sided Relation
 after side (reading.refused r) next = refused (fault side r)
 after side (reading.given v) next = next
 
 module _ (c : ColumnType) (a b : List ℕ) where
   -- 20, 17, the first value, the second value
-  abbrev steps : Bool → Bool → reading.Outcome Value → reading.Outcome Value → Outcome
+  abbrev steps : Bool → Bool → reading.Outcome Value → reading.Outcome Value → Sided Relation
   steps l h x y = cond l (cond h (after FIRST x (after SECOND y (given (keyOrder (keyOf c a) (keyOf c b))))) (refused (ofNeither NO-ORDER))) (refused (ofNeither UNKNOWN-TYPE))
 
   outcome-is : outcome c a b ≡ steps (isLawful c) (hasOrder c) (column.outcome c a) (column.outcome c b)
@@ -100,7 +104,7 @@ module _ (c : ColumnType) (a b : List ℕ) where
     -- the side is 1 or 2, or 0
     pub fault-most : (side : ℕ) → outcome c a b ≡ refused (fault side (refusal number place)) → side ≤ 2
     unfolding outcome
-    fault-most side e = order-small c a b (fault side (refusal number place)) (go (orderOf c a b) e) .side
+    fault-most side e = order-bounded c a b (fault side (refusal number place)) (go (orderOf c a b) e) .side
       where
         go : (o : Order) → outcomeOf o ≡ refused (fault side (refusal number place)) → o ≡ Refused (fault side (refusal number place))
         go (Related r) f = absurd (let z : _≡_ {A = ℕ} 0 1 = cc in omega arith)

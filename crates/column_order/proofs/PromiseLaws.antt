@@ -10,6 +10,7 @@ use lib.Dec.{ltb, eqb}
 use lib.Ieee.{Format, binary32, binary64, hid, ones, top}
 use lib.IntN.{ℤ, pos}
 use lib.Signed.{ltZ}
+use Rattle.refusal.specs.Faults.{ofNeither, given, refused}
 use Rattle.laws.proofs.BoolLaws.{by-test}
 use Rattle.refusal.specs.Numbers.{NO-ORDER}
 use Rattle.refusal.specs.declared.answers.Fault.{Fault}
@@ -26,9 +27,9 @@ use Rattle.float_order.specs.declared.relation.Relation.{Relation}
 use Rattle.float_order.specs.declared.relation.Relation.the-variants.{Less, Equal, Greater, Unordered}
 use Rattle.float_order.proofs.FloatLaws as float
 use Rattle.column_order.specs.Keys.{Key, whole, bytes, none, numberOf, numberKey, keyOf, byteOrder, keyOrder}
-use Rattle.column_order.specs.Order.{ofNeither, hasOrder, orderOf}
+use Rattle.column_order.specs.Order.{hasOrder, orderOf}
 use Rattle.column_order.specs.Comparison.{Valid, reversed}
-use Rattle.column_order.specs.Outcome.{given, refused, outcomeOf, outcome}
+use Rattle.column_order.specs.Outcome.{outcomeOf, outcome}
 use Rattle.column_order.specs.Promises.{AsNumbers, Before, prefix, lower, further, AsBytes, bitsBelow, FLOAT-SIGN, FLOAT-INFINITY, DOUBLE-SIGN, DOUBLE-INFINITY, IsNan}
 use Rattle.column_order.specs.declared.answer.Order.{Order}
 use Rattle.column_order.specs.declared.answer.Order.the-variants.{Related, Refused}

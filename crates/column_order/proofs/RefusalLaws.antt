@@ -5,6 +5,7 @@ use mathlib.Core.List.{List}
 use Prim.Native.Nat.{ℕ}
 use lib.ListN.{length}
 use borrow.Author.Tests.{not-true, not-false}
+use Rattle.refusal.specs.Faults.{ofNeither}
 use Rattle.refusal.specs.Numbers.{NO-ORDER, UNKNOWN-TYPE}
 use Rattle.column_type.specs.Lawful.{isLawful}
 use Rattle.column_type.specs.declared.types.ColumnType.{ColumnType}
@@ -12,7 +13,7 @@ use Rattle.column.specs.Lengths.{lengthRight}
 use Rattle.column.specs.Annotations.{keeps}
 use Rattle.column.specs.Reading.{readOf}
 use Rattle.column.proofs.ReadingLaws.{tested}
-use Rattle.column_order.specs.Order.{hasOrder, ofNeither, isOfUnknownType, valuesOrder, orderOf}
+use Rattle.column_order.specs.Order.{hasOrder, isOfUnknownType, valuesOrder, orderOf}
 use Rattle.column_order.specs.declared.answer.Order.the-variants.{Refused}
 
 -- 20 is the answer for an unlawful column type alone

@@ -3,11 +3,8 @@ use Prim.Native.Nat.{ℕ}
 use mathlib.Core.Bool.{Bool, false, cond, not, _&&_}
 use mathlib.Core.List.{List}
 use lib.Dec.{eqb}
--- types of the code: a number and a place, and a side with these
-use Rattle.refusal.specs.declared.answers.Refusal.{Refusal}
-use Rattle.refusal.specs.declared.answers.Fault.{Fault}
+use Rattle.refusal.specs.Faults.{FIRST, SECOND, fault, ofNeither}
 use Rattle.refusal.specs.Numbers.{NO-ORDER, UNKNOWN-TYPE}
-use Rattle.refusal.specs.Outcome.{unplaced}
 use Rattle.column_type.specs.declared.types.ColumnType.{ColumnType}
 use Rattle.column_type.specs.Lawful.{isLawful}
 use Rattle.parquet.specs.Physical.{INT96}
@@ -22,24 +19,6 @@ use Rattle.column_order.specs.Keys.{keyOf, keyOrder}
 -- "INTERVAL and INT96 have none", INT96 whatever its kind is
 abbrev pub hasOrder : ColumnType → Bool
 hasOrder c = not (eqb (c .physical) INT96) && not (eqb (c .kind) INTERVAL)
-
--- the sides of a refusal: document 02, R-6, "a refusal also says which value is at fault, 1 or 2, and 0 for neither"
-abbrev pub FIRST : ℕ
-FIRST = 1
-
-abbrev pub SECOND : ℕ
-SECOND = 2
-
-abbrev pub NEITHER : ℕ
-NEITHER = 0
-
--- a refusal on a side
-abbrev pub fault : ℕ → Refusal → Fault
-fault side r = record { side = side; refusal = r }
-
--- one of neither value, of that number
-abbrev pub ofNeither : ℕ → Fault
-ofNeither number = fault NEITHER (unplaced number)
 
 -- 20, as reading answers it
 abbrev pub isOfUnknownType : Read → Bool

@@ -1,23 +1,18 @@
 -- The outcome of ordering two values: how they stand, or a numbered refusal, its place and the value at fault.
 use Prim.Native.Nat.{ℕ}
 use mathlib.Core.List.{List}
-use Rattle.refusal.specs.declared.answers.Fault.{Fault}
+use Rattle.refusal.specs.Faults.{Sided, given, refused}
 use Rattle.float_order.specs.declared.relation.Relation.{Relation}
 use Rattle.column_type.specs.declared.types.ColumnType.{ColumnType}
 use Rattle.column_order.specs.declared.answer.Order.{Order}
 use Rattle.column_order.specs.declared.answer.Order.the-variants as order
 use Rattle.column_order.specs.Order.{orderOf}
 
--- how the first value stands to the second, or a refusal
-pub data Outcome : Type 0 where
-  given : Relation → Outcome
-  refused : Fault → Outcome
-
 -- what each answer of ordering stands for
-abbrev pub outcomeOf : Order → Outcome
+abbrev pub outcomeOf : Order → Sided Relation
 outcomeOf (order.Related r) = given r
 outcomeOf (order.Refused f) = refused f
 
 -- the outcome of ordering any two values in any column
-unfoldable pub outcome : ColumnType → List ℕ → List ℕ → Outcome
+unfoldable pub outcome : ColumnType → List ℕ → List ℕ → Sided Relation
 outcome c a b = outcomeOf (orderOf c a b)

@@ -1,6 +1,7 @@
 // What ordering two values answers, and the refusals that are laid on neither of them.
 use float_order::Relation;
 use refusal::Fault;
+use refusal::NEITHER;
 use refusal::Refusal;
 use refusal::numbers;
 
@@ -9,13 +10,6 @@ pub enum Order {
     Related(Relation),
     Refused(Fault),
 }
-
-// The sides of a refusal: the first value, the second, or neither.
-pub const FIRST: u8 = 1;
-
-pub const SECOND: u8 = 2;
-
-pub const NEITHER: u8 = 0;
 
 // No accepted sheet has a leaf of this column type.
 pub(crate) const UNKNOWN_TYPE: Fault = Fault {

@@ -1,21 +1,22 @@
 // The order of decimals in bytes, whose refusals and numbers are judged together.
 ghost use mathlib.Core.Path.{_≡_};
 ghost use mathlib.Core.Bool.{true};
+ghost use Rattle.refusal.specs.Faults.{FIRST, SECOND};
 ghost use Rattle.column_type.specs.Lawful.{isLawful};
 ghost use Rattle.column.specs.Lengths.{isWidth, widthOf, isByteDecimal};
 ghost use Rattle.column.specs.Reading.{readOf};
-ghost use Rattle.column_order.specs.Order.{FIRST, SECOND, unlessRefused, orderOf};
+ghost use Rattle.column_order.specs.Order.{unlessRefused, orderOf};
 ghost use Rattle.float_order.specs.declared.relation.Relation as relation;
 ghost use Rattle.column_order.specs.declared.answer.Order as declared;
-use crate::answer::FIRST;
 use crate::answer::Order;
-use crate::answer::SECOND;
 use column::Read;
 use column::codes;
 use column_type::ColumnType;
 use decimal::Compared;
 use float_order::Relation;
+use refusal::FIRST;
 use refusal::Fault;
+use refusal::SECOND;
 
 // Whether the column holds decimals in bytes.
 pub(crate) fn is_byte_decimal(c: ColumnType) -> bool

@@ -1,17 +1,16 @@
 // Ordering two values of a column.
 ghost use mathlib.Core.Path.{_≡_};
 ghost use mathlib.Core.Bool.{false};
+ghost use Rattle.refusal.specs.Faults.{SECOND};
 ghost use Rattle.column.specs.Lengths.{isByteDecimal};
 ghost use Rattle.column.specs.Reading.{readOf};
 ghost use Rattle.column.specs.declared.value.Read as declared;
 ghost use Rattle.column_order.specs.Keys.{keyOf, keyOrder};
-ghost use Rattle.column_order.specs.Order.{SECOND, hasOrder, isOfUnknownType, unlessRefused, valuesOrder, orderOf};
+ghost use Rattle.column_order.specs.Order.{hasOrder, isOfUnknownType, unlessRefused, valuesOrder, orderOf};
 ghost use Rattle.column_order.specs.Outcome.{outcomeOf, outcome};
 ghost use Rattle.column_order.specs.declared.answer.Order as order;
-use crate::answer::FIRST;
 use crate::answer::NO_ORDER;
 use crate::answer::Order;
-use crate::answer::SECOND;
 use crate::answer::UNKNOWN_TYPE;
 use crate::decimals::is_byte_decimal;
 use crate::decimals::order_decimals;
@@ -26,7 +25,9 @@ use column::Value;
 use column::codes;
 use column_type::ColumnType;
 use float_order::Relation;
+use refusal::FIRST;
 use refusal::Fault;
+use refusal::SECOND;
 use refusal::numbers;
 
 // The order of two values in a column of this type.

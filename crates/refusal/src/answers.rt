@@ -9,7 +9,14 @@ pub struct Refusal {
     pub place: usize,
 }
 
-// A refusal of one of two things that were handed in together: 1 or 2, and 0 for neither.
+// The sides of a refusal of one of two things that were handed in together.
+pub const NEITHER: u8 = 0;
+
+pub const FIRST: u8 = 1;
+
+pub const SECOND: u8 = 2;
+
+// A refusal of one of two things, with its side.
 pub struct Fault {
     pub side: u8,
     pub refusal: Refusal,

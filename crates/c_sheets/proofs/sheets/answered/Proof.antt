@@ -6,7 +6,7 @@ use Rattle.refusal.specs.Numbers.{SHORT-OUTPUT}
 use Rattle.refusal.specs.declared.answers.Counted.{Counted}
 use Rattle.sheet.specs.Block.{mostBytes, mostNodes}
 use Rattle.c_answer.specs.Answers.{countedAnswer}
-use Rattle.c_answer.specs.Packing.{CountedBounded}
+use Rattle.refusal.specs.Bounds.{CountedBounded}
 use Rattle.c_sheets.proofs.sheets.answered.Statement.{statement}
 use Rattle.c_sheets.proofs.sheets.answered.Tie as tie
 

@@ -4,7 +4,7 @@ use borrow.Author.Needs.{needs}
 use Rattle.refusal.specs.Numbers.{SHORT-OUTPUT}
 use Rattle.sheet.specs.Block.{mostBytes, mostNodes}
 use Rattle.c_answer.specs.Answers.{countedAnswer}
-use Rattle.c_answer.specs.Packing.{CountedBounded}
+use Rattle.refusal.specs.Bounds.{CountedBounded}
 use Rattle.c_sheets.proofs.BoundLaws.{rewritten-bounded}
 use Rattle.c_sheets.proofs.sheets.rewrite.Statement.{statement}
 use Rattle.c_sheets.proofs.sheets.rewrite.Tie as tie

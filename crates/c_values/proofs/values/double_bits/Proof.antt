@@ -1,9 +1,9 @@
--- `griffeljol::values::double_bits` meets its contract: a float that differs from itself is the NaN, and any other has bits.
+-- `c_values::values::double_bits` meets its contract: a float that differs from itself is the NaN, and any other has bits.
 use lib.Ieee.{binary64}
 use Rattle.column.proofs.FloatLaws.{has-bits}
-use Rattle.griffeljol.proofs.ValueLaws.{nan-bits, number-bits}
-use Rattle.griffeljol.proofs.values.double_bits.Statement.{statement}
-use Rattle.griffeljol.proofs.values.double_bits.Tie as tie
+use Rattle.c_values.proofs.ValueLaws.{nan-bits, number-bits}
+use Rattle.c_values.proofs.values.double_bits.Statement.{statement}
+use Rattle.c_values.proofs.values.double_bits.Tie as tie
 
 returns : tie.Need-returns
 returns c = nan-bits binary64 (c .before .args .x) (c .if1 .taken)

@@ -1,13 +1,13 @@
--- `griffeljol::values::float_bits` meets its contract: a float that differs from itself is the NaN, and any other has bits.
+-- `c_values::values::float_bits` meets its contract: a float that differs from itself is the NaN, and any other has bits.
 use native.Mathlib.Omega.{arith}
 use borrow.Author.Needs.{needs}
 use lib.Dec.{T}
 use lib.Ieee.{binary32, fits}
 use lib.Ieee.Bits.{toBits-lt}
 use Rattle.column.proofs.FloatLaws.{has-bits}
-use Rattle.griffeljol.proofs.ValueLaws.{nan-bits, number-bits}
-use Rattle.griffeljol.proofs.values.float_bits.Statement.{statement}
-use Rattle.griffeljol.proofs.values.float_bits.Tie as tie
+use Rattle.c_values.proofs.ValueLaws.{nan-bits, number-bits}
+use Rattle.c_values.proofs.values.float_bits.Statement.{statement}
+use Rattle.c_values.proofs.values.float_bits.Tie as tie
 
 returns : tie.Need-returns
 returns c = nan-bits binary32 (c .before .args .x) (c .if1 .taken)

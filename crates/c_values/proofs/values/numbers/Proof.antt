@@ -1,14 +1,14 @@
--- `griffeljol::values::numbers` meets its contract, case by case.
+-- `c_values::values::numbers` meets its contract, case by case.
 use Prim.Native.Nat.{ℕ}
 use mathlib.Core.Path.{refl, sym, ap, _∙_}
 use mathlib.Core.List.{[], _∷_}
 use borrow.Author.Needs.{needs}
 use mir.Syntax.{w64}
 use mir.ValLaws.{toZ-ofZ}
-use Rattle.griffeljol.specs.Values.{caseOf, twosComplement64, numbersOf}
-use Rattle.griffeljol.proofs.ValueLaws.{written-of, truth-bits}
-use Rattle.griffeljol.proofs.values.numbers.Statement.{statement}
-use Rattle.griffeljol.proofs.values.numbers.Tie as tie
+use Rattle.c_values.specs.Values.{caseOf, twosComplement64, numbersOf}
+use Rattle.c_values.proofs.ValueLaws.{written-of, truth-bits}
+use Rattle.c_values.proofs.values.numbers.Statement.{statement}
+use Rattle.c_values.proofs.values.numbers.Tie as tie
 
 returns : tie.Need-returns
 returns c =

@@ -1,4 +1,4 @@
--- `griffeljol::values::twos_complement` meets its contract: the bits of a number below 0 are those of -1 less its magnitude.
+-- `c_values::values::twos_complement` meets its contract: the bits of a number below 0 are those of -1 less its magnitude.
 use Prim.Native.Nat.{ℕ, _-_}
 use mathlib.Core.Path.{_≡_, sym, ap, subst, _∙_}
 use mathlib.Core.Bool.{true, false, not}
@@ -8,9 +8,9 @@ use lib.Signed.{mag, nonNeg}
 use mir.Syntax.{w64}
 use mir.Val.{SFits, toZ, ofZ}
 use Rattle.laws.proofs.SignedLaws.{below-zero, read-back, cast-fits, sign-told, complement-read, nonnegative-read}
-use Rattle.griffeljol.proofs.ValueLaws.{negative-bits, nonnegative-bits}
-use Rattle.griffeljol.proofs.values.twos_complement.Statement.{statement}
-use Rattle.griffeljol.proofs.values.twos_complement.Tie as tie
+use Rattle.c_values.proofs.ValueLaws.{negative-bits, nonnegative-bits}
+use Rattle.c_values.proofs.values.twos_complement.Statement.{statement}
+use Rattle.c_values.proofs.values.twos_complement.Tie as tie
 
 is-negative : (c : tie.Then1) → not (nonNeg (c .before .args .x)) ≡ true
 is-negative c = sign-told (c .before .fits .x) (below-zero (toZ w64 (ofZ w64 (c .before .args .x)))) (c .if1 .taken)

@@ -1,14 +1,14 @@
--- `griffeljol::values::write_value` meets its contract: 14, or the two numbers at the start of the output.
+-- `c_values::values::write_value` meets its contract: 14, or the two numbers at the start of the output.
 use Prim.Native.Nat.{ℕ}
 use mathlib.Core.Path.{ap, _∙_}
 use native.Mathlib.Omega.{arith}
 use borrow.Author.Needs.{needs}
-use Rattle.griffeljol.specs.Answers.{packed, RESULT}
-use Rattle.griffeljol.specs.Values.{caseOf, numbersOf}
-use Rattle.griffeljol.proofs.OutputLaws.{short, enough}
-use Rattle.griffeljol.proofs.ValueLaws.{numbersOf-length}
-use Rattle.griffeljol.proofs.values.write_value.Statement.{statement}
-use Rattle.griffeljol.proofs.values.write_value.Tie as tie
+use Rattle.c_answer.specs.Answers.{packed, RESULT}
+use Rattle.c_values.specs.Values.{caseOf, numbersOf}
+use Rattle.c_answer.proofs.OutputLaws.{short, enough}
+use Rattle.c_values.proofs.ValueLaws.{numbersOf-length}
+use Rattle.c_values.proofs.values.write_value.Statement.{statement}
+use Rattle.c_values.proofs.values.write_value.Tie as tie
 
 returns : tie.Need-returns
 returns c =

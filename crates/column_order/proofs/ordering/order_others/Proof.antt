@@ -4,10 +4,11 @@ use mathlib.Core.Path.{_≡_, sym, ap, _∙_}
 use mathlib.Core.Bool.{Bool, cond}
 use borrow.Author.Needs.{needs}
 use borrow.Author.Tests.{not-true, not-false}
+use Rattle.refusal.specs.Faults.{ofNeither}
 use Rattle.refusal.specs.Numbers.{NO-ORDER}
 use Rattle.column.specs.Reading.{readOf}
 use Rattle.column.specs.declared.value.Both.{Both}
-use Rattle.column_order.specs.Order.{ofNeither, isOfUnknownType, valuesOrder, orderOf}
+use Rattle.column_order.specs.Order.{isOfUnknownType, valuesOrder, orderOf}
 use Rattle.column_order.specs.declared.answer.Order.{Order}
 use Rattle.column_order.proofs.RefusalLaws.{read-unlawful, read-lawful}
 use Rattle.column_order.proofs.ordering.order_others.Statement.{statement}

@@ -1,0 +1,3 @@
+-- Laws of calls on single values.
+pub mod ValueLaws
+pub mod PromiseLaws
