@@ -1,7 +1,2 @@
--- Laws of the C interface.
-pub mod MostLaws
-pub mod RefusalLaws
-pub mod OutputLaws
-pub mod ValueLaws
-pub mod FieldLaws
+-- The promises to a C caller.
 pub mod PromiseLaws

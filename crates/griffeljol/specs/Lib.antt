@@ -1,6 +1,2 @@
--- What the C interface answers and leaves in lent memory, entry by entry.
-pub mod Answers
-pub mod Sheets
-pub mod Values
-pub mod Timestamps
+-- What a C caller may rely on of the whole library.
 pub mod Promises

@@ -1,12 +1,10 @@
-// The C interface: every public entry under a plain name, with a pointer and a length for each slice and one number for an answer.
-mod answers; // answers.rt: a refusal or a result in one number
-mod sheets; // sheets.rt: a sheet resolved and rewritten
-mod timestamps; // timestamps.rt: counts decoded and fields encoded
-mod values; // values.rt: values read and ordered
+// The C library: every entry under a plain name, with a pointer and a length for each slice and one number for an answer. What an entry
+// does stands in the crate of its family: `c_sheets`, `c_values`, `c_timestamps`.
+mod exports; // exports.rt: the entries
 
-pub use sheets::griffeljol_resolve;
-pub use sheets::griffeljol_rewrite;
-pub use timestamps::griffeljol_decode;
-pub use timestamps::griffeljol_encode;
-pub use values::griffeljol_order;
-pub use values::griffeljol_read;
+pub use exports::griffeljol_decode;
+pub use exports::griffeljol_encode;
+pub use exports::griffeljol_order;
+pub use exports::griffeljol_read;
+pub use exports::griffeljol_resolve;
+pub use exports::griffeljol_rewrite;

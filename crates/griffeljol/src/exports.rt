@@ -1,0 +1,78 @@
+// The entries of the C library.
+ghost use mathlib.Core.Path.{_≡_};
+ghost use lib.ListN.{length};
+ghost use Rattle.schema.specs.Outcome.{outcome, written};
+ghost use Rattle.schema.specs.Rewriting.{rewriteOutcome, rewriteWritten};
+ghost use Rattle.c_answer.specs.Answers.{countedAnswer, answer, left};
+ghost use Rattle.c_values.specs.Values.{columnType, reading, ordering};
+ghost use Rattle.c_timestamps.specs.Timestamps.{Decoding, encoding};
+
+// Resolves a sheet into rows. The value is T, the number of its nodes.
+#[no_mangle]
+pub extern "C" fn griffeljol_resolve(sheet: &[u8], rows: &mut [u32]) -> u64
+    ensures { λ r. ⌜ r ≡ countedAnswer (outcome (now (sheet .entry)) (length (now (rows .entry)))) ⌝ }
+    ensures { λ _. ⌜ now (rows .exit) ≡ written (outcome (now (sheet .entry)) (length (now (rows .entry)))) (now (sheet .entry)) (now (rows .entry)) ⌝ }
+{
+    c_sheets::resolve(sheet, rows)
+}
+
+// Rewrites a sheet with both annotations into the output from start on. The value is the number of bytes written.
+#[no_mangle]
+pub extern "C" fn griffeljol_rewrite(sheet: &[u8], out: &mut [u8], start: usize) -> u64
+    ensures { λ r. ⌜ r ≡ countedAnswer (rewriteOutcome (now (sheet .entry)) (length (now (out .entry))) start) ⌝ }
+    ensures { λ _. ⌜ now (out .exit) ≡ rewriteWritten (rewriteOutcome (now (sheet .entry)) (length (now (out .entry))) start) (now (sheet .entry)) (now (out .entry)) start ⌝ }
+{
+    c_sheets::rewrite(sheet, out, start)
+}
+
+// Reads a value. The value of the answer is its case: 0 truth, 1 signed whole, 2 unsigned whole, 3 FLOAT, 4 DOUBLE, 5 bytes.
+// Two numbers are written: its bits and 0, or start and length.
+#[no_mangle]
+pub extern "C" fn griffeljol_read(
+    physical: u32,
+    type_length: u32,
+    kind: u32,
+    p1: u32,
+    p2: u32,
+    value: &[u8],
+    out: &mut [u64],
+) -> u64
+    ensures { λ r. ⌜ r ≡ answer (reading (columnType physical «type_length» kind p1 p2) (now (value .entry)) (length (now (out .entry)))) ⌝ }
+    ensures { λ _. ⌜ now (out .exit) ≡ left (reading (columnType physical «type_length» kind p1 p2) (now (value .entry)) (length (now (out .entry)))) (now (out .entry)) ⌝ }
+{
+    c_values::read(physical, type_length, kind, p1, p2, value, out)
+}
+
+// Orders two values. The value of the answer is 0 less, 1 equal, 2 greater or 3 unordered. A refusal has besides the value at
+// fault: 1 or 2, and 0 for neither.
+#[no_mangle]
+pub extern "C" fn griffeljol_order(
+    physical: u32,
+    type_length: u32,
+    kind: u32,
+    p1: u32,
+    p2: u32,
+    a: &[u8],
+    b: &[u8],
+) -> u64
+    ensures { λ r. ⌜ r ≡ ordering (columnType physical «type_length» kind p1 p2) (now (a .entry)) (now (b .entry)) ⌝ }
+{
+    c_values::order(physical, type_length, kind, p1, p2, a, b)
+}
+
+// Writes the fields of a count: year, month, day, hour, minute, second, fraction. The value is 7.
+#[no_mangle]
+pub extern "C" fn griffeljol_decode(unit: u32, count: i64, fields: &mut [i64]) -> u64
+    ensures { λ r. ⌜ Decoding unit count (now (fields .entry)) r (now (fields .exit)) ⌝ }
+{
+    c_timestamps::decode(unit, count, fields)
+}
+
+// Writes the count of fields, of which there are seven in the order of decoding; further numbers are not looked at. The value is 1.
+#[no_mangle]
+pub extern "C" fn griffeljol_encode(unit: u32, fields: &[i64], count: &mut [i64]) -> u64
+    ensures { λ r. ⌜ r ≡ answer (encoding unit (now (fields .entry)) (length (now (count .entry)))) ⌝ }
+    ensures { λ _. ⌜ now (count .exit) ≡ left (encoding unit (now (fields .entry)) (length (now (count .entry)))) (now (count .entry)) ⌝ }
+{
+    c_timestamps::encode(unit, fields, count)
+}
