@@ -1,5 +1,6 @@
 -- `timestamp::decoding::decode` meets its contract, unit by unit.
 use mathlib.Core.Path.{_≡_}
+use native.Mathlib.Omega.{arith}
 use borrow.Author.Needs.{needs}
 use Rattle.refusal.specs.Outcome.{Outcome}
 use Rattle.timestamp.specs.declared.fields.Fields.{Fields}
@@ -24,13 +25,13 @@ decode-spec =
     (λ c κs. search needs)
     (λ c. search needs)
     (λ c κs. search needs)
-    (λ c κs. search (needs, division-days))
+    (λ c κs. (omega arith, omega arith, search (needs, division-days), search))
     (λ c. search needs)
     (λ c κs. search needs)
-    (λ c κs. search (needs, division-days))
+    (λ c κs. (omega arith, omega arith, search (needs, division-days), search))
     (λ c. search needs)
     (λ c κs. search needs)
-    (λ c κs. search (needs, division-days))
+    (λ c κs. (omega arith, omega arith, search (needs, division-days), search))
     (λ c. search needs)
     (λ c κs. search needs)
     (λ c. told (c .before .before .before .before) FoundUnit.Millis _ (search) (c .decode-in .ensures _ (search division-told)))

@@ -111,5 +111,5 @@ second-of-spec =
     day-number-requires
     (λ c κs. clock-parts _ _ _ (search clock-held))
     (λ c. search needs)
-    (λ c κs. search (needs, seconds-asked))
+    (λ c κs. (search, search seconds-asked))
     returns-7)
