@@ -1,6 +1,8 @@
 -- `timestamp::decoding::decode` meets its contract, unit by unit.
 use mathlib.Core.Path.{_≡_}
+use native.Mathlib.Omega.{arith}
 use borrow.Author.Needs.{needs}
+use Rattle.calendar.proofs.FloorLaws.{division-days, division-told}
 use Rattle.refusal.specs.Outcome.{Outcome}
 use Rattle.timestamp.specs.declared.fields.Fields.{Fields}
 use Rattle.timestamp.specs.declared.units.FoundUnit
@@ -8,7 +10,6 @@ use Rattle.timestamp.specs.declared.units.FoundUnit.{FoundUnit}
 use Rattle.timestamp.specs.Units.{unitOf}
 use Rattle.timestamp.specs.Outcomes.{Decodes}
 use Rattle.timestamp.specs.Steps.{unitFound}
-use Rattle.timestamp.proofs.FloorLaws.{division-days, division-told}
 use Rattle.timestamp.proofs.UnitLaws.{decodes-told}
 use Rattle.timestamp.proofs.decoding.decode.Statement.{statement}
 use Rattle.timestamp.proofs.decoding.decode.Tie as tie
@@ -24,13 +25,13 @@ decode-spec =
     (λ c κs. search needs)
     (λ c. search needs)
     (λ c κs. search needs)
-    (λ c κs. search (needs, division-days))
+    (λ c κs. (omega arith, omega arith, search (needs, division-days), search))
     (λ c. search needs)
     (λ c κs. search needs)
-    (λ c κs. search (needs, division-days))
+    (λ c κs. (omega arith, omega arith, search (needs, division-days), search))
     (λ c. search needs)
     (λ c κs. search needs)
-    (λ c κs. search (needs, division-days))
+    (λ c κs. (omega arith, omega arith, search (needs, division-days), search))
     (λ c. search needs)
     (λ c κs. search needs)
     (λ c. told (c .before .before .before .before) FoundUnit.Millis _ (search) (c .decode-in .ensures _ (search division-told)))

@@ -1,8 +1,8 @@
 -- `timestamp::moment::moment_of` meets its contract: no date or time and far years test by test, and else the second of the day number.
+use Prim.Native.Nat.{ℕ, suc, _+_, _*_, _<_, _≤_, _^_}
 use native.Mathlib.Omega.{arith}
-use Prim.Native.Nat.{_<_, _^_}
 use mathlib.Core.Path.{_≡_, sym, ap, ap₂, subst, _∙_}
-use mathlib.Core.Bool.{true, _&&_}
+use mathlib.Core.Bool.{Bool, true, false, not, _&&_}
 use borrow.Author.Needs.{needs}
 use borrow.Author.Tests.{not-true, not-false}
 use lib.IntN.{ℤ}
@@ -11,74 +11,53 @@ use mir.Syntax.{w64}
 use mir.Val.{toZ, ofZ}
 use mir.ValLaws.{toZ-ofZ}
 use Rattle.laws.proofs.BoolLaws.{and-both}
-use Rattle.timestamp.specs.Calendar.{isDate, dayNumber}
-use Rattle.timestamp.specs.Steps.{isClock, isFormed}
+use Rattle.calendar.specs.Calendar.{isDate, dayNumber}
+use Rattle.calendar.specs.Steps.{yearsReached}
+use Rattle.calendar.proofs.FloorLaws.{joined}
+use Rattle.timestamp.specs.declared.fields.Fields.{Fields}
+use Rattle.timestamp.specs.Clock.{minutesPerHour, secondsPerMinute, secondsPerDay}
+use Rattle.timestamp.specs.Steps.{isClock, isFormed, secondOf}
 use Rattle.timestamp.proofs.ClockLaws.{clock-parts}
 use Rattle.timestamp.proofs.MomentLaws.{second-told}
 use Rattle.timestamp.proofs.moment.moment_of.Statement.{statement}
 use Rattle.timestamp.proofs.moment.moment_of.Tie as tie
 
--- what is passed in, and the year as it is passed on
-abbrev start : tie.After-is-clock → tie.Start
-start c = c .before .before .before
+module _ (f : Fields) (fits : mag (f .year) < 2 ^ 63) where
+  -- the year as it is passed on
+  year-back : toZ w64 (ofZ w64 (f .year)) ≡ f .year
+  year-back = toZ-ofZ w64 (f .year) (record { sfits = fits })
 
-year-back : (c : tie.After-is-clock) → toZ w64 (ofZ w64 (start c .args .fields .year)) ≡ start c .args .fields .year
-year-back c = toZ-ofZ w64 (start c .args .fields .year) (record { sfits = c .before .before .struct-told .given .0 .1 })
+  -- the first test is whether the fields form a date and time
+  module _ (date clock : Bool) (is-date : date ≡ isDate (toZ w64 (ofZ w64 (f .year))) (f .month) (f .day)) (is-clock : clock ≡ isClock (f .hour) (f .minute) (f .second)) where
+    formed-told : (date && clock) ≡ isFormed f
+    formed-told = ap₂ _&&_ (is-date ∙ ap (λ (y : ℤ). isDate y (f .month) (f .day)) year-back) is-clock
 
--- the first test is whether the fields form a date and time
-formed-told : (c : tie.After-is-clock) → (c .before .is-date .result && c .is-clock .result) ≡ isFormed (start c .args .fields)
-formed-told c =
-    let f = start c .args .fields in
-    ap₂ _&&_ (c .before .is-date .ensures ∙ ap (λ (y : ℤ). isDate y (f .month) (f .day)) (year-back c)) (c .is-clock .ensures)
+    unformed : not (date && clock) ≡ true → isFormed f ≡ false
+    unformed e = sym formed-told ∙ not-true _ e
 
-formed : (c : tie.Else1) → isFormed (start (c .before) .args .fields) ≡ true
-formed c = sym (formed-told (c .before)) ∙ not-false _ (c .if1 .left)
+    formed : not (date && clock) ≡ false → isFormed f ≡ true
+    formed e = sym formed-told ∙ not-false _ e
 
-returns : tie.Need-returns
-returns c = sym (formed-told (c .before)) ∙ not-true _ (c .if1 .taken)
+  -- the second is whether the year is far
+  year-far : (n : ℕ) → n ≡ mag (toZ w64 (ofZ w64 (f .year))) → yearsReached ≤ n → yearsReached ≤ mag (f .year)
+  year-far n e h = omega (arith, e ∙ ap mag year-back)
 
--- the second is whether the year is far
-abbrev passed : tie.After-folded → tie.Else1
-passed c = c .before .before
+  -- and else there is a second
+  second-is : (day z : ℤ) (n : ℕ) → mag day < 2 ^ 63 → mag z < 2 ^ 63 → day ≡ dayNumber (toZ w64 (ofZ w64 (f .year))) (f .month) (f .day) → n ≡ (f .hour * minutesPerHour + f .minute) * secondsPerMinute + f .second → z ≡ joined (toZ w64 (ofZ w64 day)) secondsPerDay n → toZ w64 (ofZ w64 z) ≡ secondOf f
+  second-is day z n h k d e p =
+      toZ-ofZ w64 z (record { sfits = k }) ∙ second-told f (record { sfits = h }) (d ∙ ap (λ (y : ℤ). dayNumber y (f .month) (f .day)) year-back) e p
 
-abbrev given-at : tie.After-folded → tie.Start
-given-at c = start (passed c .before)
+-- what the first test holds of the date and of the time
+module _ (date clock : Bool) (left : not (date && clock) ≡ false) where
+  date-held : (y : ℤ) (m d : ℕ) → date ≡ isDate y m d → isDate y m d ≡ true
+  date-held y m d e = sym e ∙ and-both date clock (not-false _ left) .0
 
-year-told : (c : tie.After-folded) → c .folded .result ≡ mag (given-at c .args .fields .year)
-year-told c = c .folded .ensures ∙ ap mag (year-back (passed c .before))
+  clock-held : (h m s : ℕ) → clock ≡ isClock h m s → isClock h m s ≡ true
+  clock-held h m s e = sym e ∙ and-both date clock (not-false _ left) .1
 
-returns-2 : tie.Need-returns-2
-returns-2 c = (formed (passed (c .before)), omega (arith, year-told (c .before), c .if2 .taken))
-
--- the date and the time
-parts : (c : tie.After-folded) → let f = given-at c .args .fields in (isDate (f .year) (f .month) (f .day) ≡ true) × (isClock (f .hour) (f .minute) (f .second) ≡ true)
-parts c =
-    let f = given-at c .args .fields in
-    and-both (isDate (f .year) (f .month) (f .day)) (isClock (f .hour) (f .minute) (f .second)) (formed (passed c))
-
-day-number-requires : tie.Need-day-number-requires
-day-number-requires c κs =
-    let f = given-at (c .before) .args .fields in
-    subst (λ (y : ℤ). (mag y < 300000000) × (isDate y (f .month) (f .day) ≡ true)) (sym (year-back (passed (c .before) .before))) (omega (arith, year-told (c .before), c .if2 .left), parts (c .before) .0)
-
-second-of-day-requires : tie.Need-second-of-day-requires
-second-of-day-requires c κs =
-    let f = given-at (c .before .before) .args .fields in
-    clock-parts (f .hour) (f .minute) (f .second) (parts (c .before .before) .1)
-
-joined-requires : tie.Need-joined-requires
-joined-requires c κs =
-    let d = c .before in
-    let back = toZ-ofZ w64 (d .day-number .result) (record { sfits = d .day-number .ok }) in
-    (c .second-of-day .ensures .1, omega (arith, subst (λ (z : ℤ). mag z < 2 ^ 43) (sym back) (d .day-number .ensures .1)))
-
-returns-3 : tie.Need-returns-3
-returns-3 c =
-    let d = c .before .before in
-    let k = d .before .before in
-    let f = given-at k .args .fields in
-    let day = d .day-number .ensures .0 ∙ ap (λ (y : ℤ). dayNumber y (f .month) (f .day)) (year-back (passed k .before)) in
-    (formed (passed k), toZ-ofZ w64 (c .joined .result) (record { sfits = c .joined .ok }) ∙ second-told f (record { sfits = d .day-number .ok }) day (c .before .second-of-day .ensures .0) (c .joined .ensures))
+-- the seconds of a day that is near fit
+seconds-asked : (day : ℤ) → mag day < 2 ^ 63 → mag day < 2 ^ 43 → suc (mag (toZ w64 (ofZ w64 day))) * secondsPerDay < 2 ^ 63
+seconds-asked day h k = omega (arith, ap mag (toZ-ofZ w64 day (record { sfits = h })))
 
 pub moment-of-spec : {M : Type 1} → statement M
 moment-of-spec =
@@ -86,11 +65,11 @@ moment-of-spec =
     (tie.spec
     (λ c κs. search needs)
     (λ c κs. search needs)
-    returns
+    (λ c. search unformed)
     (λ c κs. search needs)
-    returns-2
-    day-number-requires
-    second-of-day-requires
+    (λ c. (search formed, search year-far))
+    (λ c κs. (search needs, search date-held))
+    (λ c κs. clock-parts _ _ _ (search clock-held))
     (λ c. search needs)
-    joined-requires
-    returns-3)
+    (λ c κs. (search, search seconds-asked))
+    (λ c. (search formed, search second-is)))
