@@ -13,7 +13,9 @@ use Rattle.logical_type.specs.Spelling.{namedOf, statedOf}
 use Rattle.column.specs.Annotations.{inSignedBits, wholeKeeps, bytesKeep, annotationPlace, keeps}
 use Rattle.column.specs.Lengths.{lengthRight}
 use Rattle.column.specs.Numbers.{little, twosComplement}
-use Rattle.column.specs.Outcome.{Outcome, refused, given}
+use Rattle.refusal.specs.Faults as sided
+use Rattle.refusal.specs.Faults.{Sided, fault}
+use Rattle.refusal.specs.Outcome.{Outcome, given, refused, refusal}
 use Rattle.column.specs.Outcome as reading
 use Rattle.column.specs.Reading.{valueOf, readOf}
 use Rattle.column.specs.declared.value.Value.{Value}
@@ -23,10 +25,12 @@ use Rattle.column_type.specs.declared.types.ColumnType.{ColumnType}
 use Rattle.decimal.specs.Number.{number}
 use Rattle.tree.specs.Rules.{isNought, lengthShape}
 use Rattle.sheet.specs.Sound.{listed, physicalListed}
-use Rattle.column_order.specs.Keys.{numberOf, keyOf, wholeOrder, keyOrder}
+use Rattle.float_order.specs.Keys.{wholeOrder}
+use Rattle.float_order.specs.declared.relation.Relation.{Relation}
+use Rattle.float_order.specs.declared.relation.Relation.the-variants.{Less, Equal, Greater}
+use Rattle.column_order.specs.Keys.{numberOf, keyOf, keyOrder}
 use Rattle.column_order.specs.Order.{orderOf}
-use Rattle.column_order.specs.Outcome as ordering
-use Rattle.column_order.specs.Outcome.{less, equal, greater, outcome}
+use Rattle.column_order.specs.Outcome.{outcome}
 use Rattle.utf8.specs.Sequence.{inside, spells, utf8-1, utf8-2, utf8-3, utf8-4, utf8-char}
 use Rattle.utf8.specs.Valid.{matched, leading, validUpTo}
 use Rattle.utf8.specs.Valid as utf8
@@ -38,7 +42,7 @@ read : ColumnType → List ℕ → Outcome Value
 unfolding reading.outcome readOf valueOf annotationPlace keeps wholeKeeps bytesKeep inSignedBits lengthRight little twosComplement number isLawful fits isLeaf physicalListed listed lengthShape isNought slotOf rule9 rule10 rule11 decimalHolds ordered physicalHolds annotationOf backwardOf statedOf namedOf validParameters unitOf bitWidthOf natural
 read = reading.outcome
 
-order : ColumnType → List ℕ → List ℕ → ordering.Outcome
+order : ColumnType → List ℕ → List ℕ → Sided Relation
 unfolding read outcome orderOf keyOrder keyOf wholeOrder numberOf
 order = outcome
 
@@ -52,7 +56,7 @@ pub uint8-255 : reading.outcome uint8 (255 ∷ 0 ∷ 0 ∷ 0 ∷ []) ≡ given (
 unfolding read
 uint8-255 = refl
 
-pub uint8-256 : reading.outcome uint8 (0 ∷ 1 ∷ 0 ∷ 0 ∷ []) ≡ refused 16 0
+pub uint8-256 : reading.outcome uint8 (0 ∷ 1 ∷ 0 ∷ 0 ∷ []) ≡ refused (refusal 16 0)
 unfolding read
 uint8-256 = refl
 
@@ -61,32 +65,32 @@ pub two-digits : reading.outcome (decimals 2) (0x63 ∷ []) ≡ given (Bytes 0 1
 unfolding read
 two-digits = refl
 
-pub three-digits : reading.outcome (decimals 2) (0x64 ∷ []) ≡ refused 16 0
+pub three-digits : reading.outcome (decimals 2) (0x64 ∷ []) ≡ refused (refusal 16 0)
 unfolding read
 three-digits = refl
 
 -- "BYTE_ARRAY decimals of precision 3: *FF and FFFF equal; *80 below 7F; *00FF above 7F"
-pub ff-ffff : outcome (decimals 3) (0xFF ∷ []) (0xFF ∷ 0xFF ∷ []) ≡ ordering.given equal
+pub ff-ffff : outcome (decimals 3) (0xFF ∷ []) (0xFF ∷ 0xFF ∷ []) ≡ sided.given Equal
 unfolding order
 ff-ffff = refl
 
-pub minus-below-plus : outcome (decimals 3) (0x80 ∷ []) (0x7F ∷ []) ≡ ordering.given less
+pub minus-below-plus : outcome (decimals 3) (0x80 ∷ []) (0x7F ∷ []) ≡ sided.given Less
 unfolding order
 minus-below-plus = refl
 
-pub longer-above : outcome (decimals 3) (0x00 ∷ 0xFF ∷ []) (0x7F ∷ []) ≡ ordering.given greater
+pub longer-above : outcome (decimals 3) (0x00 ∷ 0xFF ∷ []) (0x7F ∷ []) ≡ sided.given Greater
 unfolding order
 longer-above = refl
 
 -- document 02, R-6
-pub cut-off : reading.outcome strings (0x6B ∷ 0xC3 ∷ 0xA9 ∷ 0xE2 ∷ 0x82 ∷ []) ≡ refused 16 3
+pub cut-off : reading.outcome strings (0x6B ∷ 0xC3 ∷ 0xA9 ∷ 0xE2 ∷ 0x82 ∷ []) ≡ refused (refusal 16 3)
 unfolding text
 cut-off = refl
 
-pub second-bad : outcome strings (0x6B ∷ []) (0x6B ∷ 0xFF ∷ []) ≡ ordering.refused 16 1 2
+pub second-bad : outcome strings (0x6B ∷ []) (0x6B ∷ 0xFF ∷ []) ≡ sided.refused (fault 2 (refusal 16 1))
 unfolding text
 second-bad = refl
 
-pub both-bad : outcome strings (0x6B ∷ 0x6B ∷ 0x80 ∷ []) (0xFF ∷ []) ≡ ordering.refused 16 2 1
+pub both-bad : outcome strings (0x6B ∷ 0x6B ∷ 0x80 ∷ []) (0xFF ∷ []) ≡ sided.refused (fault 1 (refusal 16 2))
 unfolding text
 both-bad = refl

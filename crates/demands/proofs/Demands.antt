@@ -31,11 +31,12 @@ use Rattle.schema.specs.Roles.{ascent, isUnderMap}
 use Rattle.schema.specs.Demand.{kindIn, ResolvesTo}
 use Rattle.schema.proofs.ResolvesLaws.{node-resolves}
 use Rattle.timestamp.specs.Units.{TimeUnit}
-use Rattle.timestamp.specs.Outcomes.{Outcome, given, Decodes}
+use Rattle.refusal.specs.Outcome.{Outcome, given}
+use Rattle.timestamp.specs.Outcomes.{Decodes}
 use Rattle.timestamp.specs.declared.fields.Fields.{Fields}
 use Rattle.timestamp.specs.Units.{unitOf}
-use Rattle.griffeljol.specs.Values.{reading}
-use Rattle.griffeljol.specs.Timestamps.{encoding}
+use Rattle.c_values.specs.Values.{reading}
+use Rattle.c_timestamps.specs.Timestamps.{encoding}
 use Rattle.griffeljol.proofs.PromiseLaws.{promised}
 use Rattle.demands.proofs.RefusalLaws as sheets
 use Rattle.demands.proofs.ValueRefusalLaws as values
@@ -143,6 +144,7 @@ demand2 =
           };
       ordering =
           record {
+            given-exactly = ordered.given-exactly;
             no-order = ordered.no-order-exactly;
             has-order = λ c. (ordered.no-order-tested c, ordered.tested-no-order c);
             signed = ordered.signed-order;

@@ -6,14 +6,15 @@ use native.Mathlib.Omega.{arith}
 use borrow.Author.Tests.{lt-ltb}
 use lib.ListN.{length, drop}
 use lib.Seq.{drop-at}
+use Rattle.refusal.specs.Outcome.{refusal}
 use Rattle.sheet.specs.Block.{totalOf}
 use Rattle.tree.specs.Tree.{Tree}
-use Rattle.tree.specs.Judgement.{refusal, judgement}
-use Rattle.tree.specs.declared.refusal.Verdict.{Verdict}
+use Rattle.tree.specs.Judgement.{judgement}
+use Rattle.refusal.specs.declared.answers.Verdict.{Verdict}
 use Rattle.schema.specs.Rows.{rowWidth, rows}
 use Rattle.schema.specs.Outcome.{answer, outcome}
 use Rattle.schema.specs.Demand.{IsTreeOf, Accepted}
-use Rattle.schema.specs.declared.resolving.Resolved.{Resolved}
+use Rattle.refusal.specs.declared.answers.Counted.{Counted}
 use Rattle.schema.proofs.AcceptedLaws.{accepted-rows}
 use Rattle.schema.proofs.DemandLaws.{no-refusal-rows, size-is, rows-length, refused-unchanged}
 use Rattle.schema.proofs.NodeLevelsLaws.{InRow, root-levels, field-levels}
@@ -79,24 +80,24 @@ module _ (sheet lent : List ℕ) (a : Accepted (outcome sheet (length lent))) wh
       ap (drop (11 * totalOf sheet)) (tree .2)
       ∙ drop-at (rows (tree .0)) (drop (11 * totalOf sheet) lent) (11 * totalOf sheet) (rows-length sheet (tree .0) (tree .1))
 
-short-output : (sheet : List ℕ) (lent : ℕ) → judgement sheet ≡ Verdict.Lawful → lent < 11 * totalOf sheet → outcome sheet lent ≡ Resolved.Refused (refusal 14 0)
+short-output : (sheet : List ℕ) (lent : ℕ) → judgement sheet ≡ Verdict.Lawful → lent < 11 * totalOf sheet → outcome sheet lent ≡ Counted.Refused (refusal 14 0)
 unfolding outcome answer
 short-output sheet lent e h = rw (e, lt-ltb lent (rowWidth * totalOf sheet) h)
 
-enough-output : (sheet : List ℕ) (lent : ℕ) → judgement sheet ≡ Verdict.Lawful → 11 * totalOf sheet ≤ lent → outcome sheet lent ≡ Resolved.Rows (totalOf sheet)
+enough-output : (sheet : List ℕ) (lent : ℕ) → judgement sheet ≡ Verdict.Lawful → 11 * totalOf sheet ≤ lent → outcome sheet lent ≡ Counted.Count (totalOf sheet)
 unfolding outcome
 enough-output sheet lent e h = no-refusal-rows (judgement sheet) (totalOf sheet) lent e h
 
-accepted-answer : (o : Resolved) (n : ℕ) → o ≡ Resolved.Rows n → Accepted o
+accepted-answer : (o : Counted) (n : ℕ) → o ≡ Counted.Count n → Accepted o
 unfolding Accepted
 accepted-answer o n e = rw e tt
 
 past-left : (sheet lent : List ℕ) → drop (11 * totalOf sheet) (left sheet lent) ≡ drop (11 * totalOf sheet) lent
 past-left sheet lent = cases (outcome sheet (length lent)) refl
   where
-    cases : (o : Resolved) → outcome sheet (length lent) ≡ o → drop (11 * totalOf sheet) (left sheet lent) ≡ drop (11 * totalOf sheet) lent
-    cases (Resolved.Rows n) e = rows-past sheet lent (accepted-answer (outcome sheet (length lent)) n e)
-    cases (Resolved.Refused r) e = ap (drop (11 * totalOf sheet)) (refused-unchanged sheet lent r e)
+    cases : (o : Counted) → outcome sheet (length lent) ≡ o → drop (11 * totalOf sheet) (left sheet lent) ≡ drop (11 * totalOf sheet) lent
+    cases (Counted.Count n) e = rows-past sheet lent (accepted-answer (outcome sheet (length lent)) n e)
+    cases (Counted.Refused r) e = ap (drop (11 * totalOf sheet)) (refused-unchanged sheet lent r e)
 
 pub request8 : Request8
 request8 =

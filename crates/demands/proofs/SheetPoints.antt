@@ -4,6 +4,7 @@ use mathlib.Core.Path.{_≡_, refl}
 use mathlib.Core.Bool.{Bool, true}
 use mathlib.Core.List.{List}
 use lib.ListN.{replicate}
+use Rattle.refusal.specs.Outcome.{Outcome, refusal}
 use Rattle.sheet.specs.Number.{numberAt, signed32}
 use Rattle.sheet.specs.Block.{blockCount, blockAt, blockNumber, nodesHere, version, total, storedCheck, totalOf}
 use Rattle.sheet.specs.Check.{sumBelow, weighted, check, checkRight}
@@ -31,7 +32,7 @@ use Rattle.logical_type.specs.declared.types.TimeUnit.{TimeUnit}
 use Rattle.tree.specs.Annotated.{annotated, kind, rule9, rule10, rule11}
 use Rattle.annotation.specs.declared.resolution.Kind.{Kind}
 use Rattle.tree.specs.declared.place.Place.{Place}
-use Rattle.tree.specs.declared.refusal.Verdict.{Verdict}
+use Rattle.refusal.specs.declared.answers.Verdict.{Verdict}
 use Rattle.tree.specs.Tree.{SlotBytes, Fields, listing, count, size, depths}
 use Rattle.tree.specs.Rules.{isList, isMap, placeBelow, isNought, lengthShape, decimalShape, shape, rule8, namedElement, isRepeated, isElementGroup, holdsElement, listChild, listRun, listKept, rule12, rule13}
 use Rattle.tree.specs.Faults.{broken, faults}
@@ -39,9 +40,9 @@ use Rattle.schema.specs.Levels.{howMany}
 use Rattle.schema.specs.Rows.{listRole, role, parentBy, row, parentOf, rowsFrom, rows, rowWidth}
 use Rattle.tree.specs.Reading.{takeFields, dropFields, trees, firstTree, treeOf}
 use Rattle.tree.specs.OpenPlaces.{sum, openPlaces, isNoPlace}
-use Rattle.tree.specs.Judgement.{refusal, orElse, leftOver, missing, firstFault, deepness, tooDeep, unlawful, treeRefusal, judgedAs, judgement}
+use Rattle.tree.specs.Judgement.{orElse, leftOver, missing, firstFault, deepness, tooDeep, unlawful, treeRefusal, judgedAs, judgement}
 use Rattle.schema.specs.Outcome.{answer, outcome, written}
-use Rattle.schema.specs.declared.resolving.Resolved.{Resolved}
+use Rattle.refusal.specs.declared.answers.Counted.{Counted}
 use Rattle.demands.specs.Sheets.{sheetOf, rootSlot, leafSheet, exampleSheet, repeatedSheet}
 use Rattle.demands.specs.Requests.{repeatedRows, exampleRows}
 
@@ -58,7 +59,7 @@ unfolding slotRight slotSound codesListed listed physicalListed repetitionListed
 slot-layer = slotRight
 
 -- what opening answers
-sheet-layer : List ℕ → sheet.Outcome
+sheet-layer : List ℕ → Outcome sheet.Nodes
 unfolding sheet.outcome sheet.outcomeOf sheet.openOf sheet.atFirst firstWrong firstWrongFrom block-layer slot-layer
 sheet-layer = sheet.outcome
 
@@ -77,26 +78,26 @@ tree-layer : List ℕ → Verdict
 unfolding judgement judgedAs treeRefusal orElse leftOver missing openPlaces sum isNoPlace tooDeep deepness firstFault unlawful faults treeOf firstTree trees takeFields dropFields depths count sheet-layer rule-layer
 tree-layer = judgement
 
-opened : List ℕ → ℕ → Resolved
+opened : List ℕ → ℕ → Counted
 unfolding outcome answer sheetOf tree-layer
 opened = outcome
 
 -- "One root alone: accepted"
-pub root-alone : outcome (sheetOf 1 (rootSlot 0)) rowWidth ≡ Resolved.Rows 1
+pub root-alone : outcome (sheetOf 1 (rootSlot 0)) rowWidth ≡ Counted.Count 1
 unfolding opened
 root-alone = refl
 
 -- "Scale = precision: 11"
-pub scale-is-precision : outcome (leafSheet physical.INT32 converted.NONE logical.DECIMAL UNUSED UNUSED 0 3 3) (rowWidth * 2) ≡ Resolved.Refused (refusal 11 1)
+pub scale-is-precision : outcome (leafSheet physical.INT32 converted.NONE logical.DECIMAL UNUSED UNUSED 0 3 3) (rowWidth * 2) ≡ Counted.Refused (refusal 11 1)
 unfolding opened
 scale-is-precision = refl
 
 -- "TIME_MILLIS with TIME(NANOS): 9"
-pub time-millis-with-nanos : outcome (leafSheet physical.INT64 converted.TIME-MILLIS logical.TIME (unitCode TimeUnit.Nanos) (flagCode true) 0 0 0) (rowWidth * 2) ≡ Resolved.Refused (refusal 9 1)
+pub time-millis-with-nanos : outcome (leafSheet physical.INT64 converted.TIME-MILLIS logical.TIME (unitCode TimeUnit.Nanos) (flagCode true) 0 0 0) (rowWidth * 2) ≡ Counted.Refused (refusal 9 1)
 unfolding opened
 time-millis-with-nanos = refl
 
-pub example-accepted : outcome exampleSheet (rowWidth * 4) ≡ Resolved.Rows 4
+pub example-accepted : outcome exampleSheet (rowWidth * 4) ≡ Counted.Count 4
 unfolding opened
 example-accepted = refl
 
@@ -111,6 +112,6 @@ unfolding opened written rows rowsFrom row parentOf parentBy role listRole howMa
 repeated-rows = refl
 
 -- "FIXED 1 precision 3: 11"
-pub fixed-1-precision-3 : outcome (leafSheet physical.FIXED-LEN-BYTE-ARRAY converted.NONE logical.DECIMAL UNUSED UNUSED 1 0 3) (rowWidth * 2) ≡ Resolved.Refused (refusal 11 1)
+pub fixed-1-precision-3 : outcome (leafSheet physical.FIXED-LEN-BYTE-ARRAY converted.NONE logical.DECIMAL UNUSED UNUSED 1 0 3) (rowWidth * 2) ≡ Counted.Refused (refusal 11 1)
 unfolding opened greatestPrecision greatest
 fixed-1-precision-3 = refl

@@ -6,7 +6,8 @@ use Rattle.calendar.specs.Calendar.{isLeap, sum, daysOfMonth, daysBeforeMonth, 
 use Rattle.timestamp.specs.Clock.{isTime, tickOfDay}
 use Rattle.timestamp.specs.Units.{unitOf}
 use Rattle.timestamp.specs.Count.{isDateTime, countOf, FieldsOf}
-use Rattle.timestamp.specs.Outcomes.{given, Decodes, encodingIn}
+use Rattle.refusal.specs.Outcome.{given}
+use Rattle.timestamp.specs.Outcomes.{Decodes, encodingIn}
 use Rattle.timestamp.specs.declared.fields.Fields.{Fields}
 use Rattle.demands.specs.Points.{fields, MILLIS, MICROS, NANOS, NoSuchDay}
 

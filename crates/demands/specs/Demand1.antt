@@ -30,7 +30,7 @@ use Rattle.column_type.specs.declared.types.ColumnType.{ColumnType}
 use Rattle.column.specs.Outcome as column
 use Rattle.column.specs.Reading.{valueOf}
 use Rattle.column_order.specs.Outcome as column_order
-use Rattle.column_order.specs.Outcome.{Relation}
+use Rattle.column_order.specs.Keys.{keyOf, keyOrder}
 use Rattle.timestamp.specs.Units.{unitOf}
 use Rattle.timestamp.specs.Count.{countOf}
 use Rattle.timestamp.specs.Outcomes as timestamp
@@ -44,7 +44,7 @@ use Rattle.c_values.specs.Values.{caseOf, numbersOf}
 use Rattle.c_timestamps.specs.Timestamps.{fieldNumbers, fieldsOf, decodeEffect, Decoding}
 use Rattle.c_timestamps.specs.Timestamps as c_timestamps
 use Rattle.griffeljol.specs.Promises.{Promises}
-use Rattle.demands.specs.Refusals.{first, openingGrounds, judgingGrounds, resolvingGrounds, rewritingGrounds, slotGrounds, readingGrounds, orderingGrounds, unknownUnit, ticks, encodingGrounds, rowsTextGrounds, shortFor, cReadingGrounds, cDecodingGrounds, cEncodingGrounds}
+use Rattle.demands.specs.Refusals.{unsided, first, openingGrounds, judgingGrounds, resolvingGrounds, rewritingGrounds, slotGrounds, readingGrounds, orderingGrounds, unknownUnit, ticks, encodingGrounds, rowsTextGrounds, shortFor, cReadingGrounds, cDecodingGrounds, cEncodingGrounds}
 
 -- "Each call ends with the result or one numbered refusal, chosen in the order document 01 states"
 pub record Chosen : Type 1 where
@@ -61,8 +61,8 @@ pub record Chosen : Type 1 where
   pub slot-rewriting : (k : ℕ) (n : Annotated) (under : Bool) → annotation_rewriting.outcome k n under ≡ first (slotGrounds k n under) (writtenOf n under)
   -- `column::read`
   pub reading : (c : ColumnType) (bs : List ℕ) → column.outcome c bs ≡ first (readingGrounds c bs) (valueOf c bs)
-  -- `column_order::order`, and in C: there is a relation, and it is answered where nothing is refused
-  pub ordering : (c : ColumnType) (a b : List ℕ) → (r : Relation) × (orderingEnd (column_order.outcome c a b) ≡ first (orderingGrounds c a b) r)
+  -- `column_order::order`, and in C: how the values' keys stand, where nothing is refused
+  pub ordering : (c : ColumnType) (a b : List ℕ) → unsided (column_order.outcome c a b) ≡ first (orderingGrounds c a b) (keyOrder (keyOf c a) (keyOf c b))
   -- `timestamp::decode`, whose outcome is stated by a relation that one outcome meets
   pub decoding : (unit : ℕ) (count : ℤ) (o : Outcome Fields) → Decodes (unitOf unit) count o → (f : Fields) × (o ≡ first (unknownUnit unit ∷ []) f)
   pub decoding-one : (unit : ℕ) (count : ℤ) (o o′ : Outcome Fields) → Decodes (unitOf unit) count o → Decodes (unitOf unit) count o′ → o ≡ o′

@@ -19,12 +19,15 @@ use Rattle.logical_type.specs.Backward.{backwardOf}
 use Rattle.logical_type.specs.declared.types.LogicalType.{LogicalType}
 use Rattle.logical_type.specs.declared.types.Annotation.{Annotation}
 use Rattle.logical_type.proofs.ConversionLaws.{adjusted}
+use Rattle.refusal.specs.Faults as sided
+use Rattle.refusal.specs.Faults.{fault}
+use Rattle.refusal.specs.Outcome.{Outcome, given, refused, refusal}
 use Rattle.sheet.specs.Slot.{slotAt, slots}
 use Rattle.tree.specs.Tree.{Tree, size}
 use Rattle.tree.specs.Rules.{judgedKinds}
 use Rattle.tree.specs.Judgement.{judgement}
 use Rattle.tree.specs.declared.place.Place.the-variants.{Root}
-use Rattle.tree.specs.declared.refusal.Verdict.{Verdict}
+use Rattle.refusal.specs.declared.answers.Verdict.{Verdict}
 use Rattle.schema.specs.Rows.{rows, kindsIn, numberIn, KEY-VALUE-LAYER}
 use Rattle.schema.specs.Outcome.{outcome, written}
 use Rattle.schema.specs.Rewriting.{rewritten, rewriteOutcome, rewriteWritten}
@@ -44,7 +47,9 @@ use Rattle.column_order.specs.Order.{hasOrder, orderOf}
 use Rattle.column_order.specs.Outcome as order
 use Rattle.column_order.specs.Promises.{AsNumbers, AsBytes, bitsBelow, FLOAT-SIGN, FLOAT-INFINITY, DOUBLE-SIGN, DOUBLE-INFINITY, IsNan}
 use Rattle.column_order.specs.Comparison.{Valid, NotANumber, turned, atMost}
-use Rattle.column_order.specs.declared.answer.Order.the-variants.{Equal, Unordered}
+use Rattle.column_order.specs.declared.answer.Order.the-variants.{Related}
+use Rattle.float_order.specs.declared.relation.Relation.{Relation}
+use Rattle.float_order.specs.declared.relation.Relation.the-variants.{Equal, Unordered}
 use Rattle.decimal.specs.Precision.{isLength}
 use Rattle.decimal.specs.Number.{number}
 use Rattle.decimal.specs.Fit.{fitOf}
@@ -53,7 +58,7 @@ use Rattle.utf8.specs.Text.{Text}
 use Rattle.utf8.specs.Valid.{validUpTo}
 use Rattle.timestamp.specs.Units.{TimeUnit, ticksPerSecond}
 use Rattle.timestamp.specs.Count.{isDateTime, countOf}
-use Rattle.timestamp.specs.Outcomes.{Outcome, refused, given, Decodes, isSigned64, encoding}
+use Rattle.timestamp.specs.Outcomes.{Decodes, isSigned64, encoding}
 use Rattle.timestamp.specs.declared.fields.Fields.{Fields}
 
 -- "Annotations, old and new, resolve": forward and backward, and the kind in a row
@@ -99,9 +104,9 @@ pub record Values : Type 1 where
   -- 20: "no accepted sheet has a leaf of this column type", and given for no other
   pub lawful-exactly : (c : ColumnType) → (isLawful c ≡ true) ↔ HasLeaf c
   pub unlawful-exactly : (c : ColumnType) → (isLawful c ≡ false) ↔ (HasLeaf c → ⊥)
-  pub refused-unlawful : (c : ColumnType) (bs : List ℕ) → (read.outcome c bs ≡ read.refused 20 0) ↔ (HasLeaf c → ⊥)
+  pub refused-unlawful : (c : ColumnType) (bs : List ℕ) → (read.outcome c bs ≡ refused (refusal 20 0)) ↔ (HasLeaf c → ⊥)
   -- 15: "value of wrong length, or over 65,536 bytes"
-  pub wrong-length : (c : ColumnType) (bs : List ℕ) → isLawful c ≡ true → (read.outcome c bs ≡ read.refused 15 0) ↔ (RightLength c (length bs) → ⊥)
+  pub wrong-length : (c : ColumnType) (bs : List ℕ) → isLawful c ≡ true → (read.outcome c bs ≡ refused (refusal 15 0)) ↔ (RightLength c (length bs) → ⊥)
   -- "BOOLEAN one byte, 0 or 1 (else 16)"
   pub boolean : (c : ColumnType) (bs : List ℕ) → isLawful c ≡ true → RightLength c (length bs) → c .physical ≡ BOOLEAN → (c .kind ≡ logical.UNKNOWN → ⊥) → Held c bs (little bs ≤ 1) (Truth (eqb (little bs) 1)) 0
   -- "INT(n, false) reads its bytes unsigned; INT stays within its width": n is p1, and p2 is 0
@@ -118,18 +123,20 @@ pub record Values : Type 1 where
   pub text-exactly : (s : List ℕ) → (validUpTo s ≡ length s) ↔ Text s
   pub fits-exactly : (bs : List ℕ) (precision : ℕ) → isLength (length bs) ≡ true → (fitOf bs precision ≡ Within) ↔ (natAbs (number bs) < 10 ^ precision)
   -- "UNKNOWN: no value, so 16"
-  pub unknown : (c : ColumnType) (bs : List ℕ) → isLawful c ≡ true → RightLength c (length bs) → c .kind ≡ logical.UNKNOWN → read.outcome c bs ≡ read.refused 16 0
+  pub unknown : (c : ColumnType) (bs : List ℕ) → isLawful c ≡ true → RightLength c (length bs) → c .kind ≡ logical.UNKNOWN → read.outcome c bs ≡ refused (refusal 16 0)
   -- "Others: any"; "a whole number, a FLOAT, a DOUBLE or, for INT96 and all byte forms, a stretch of bytes (start and length)"
-  pub any-whole : (c : ColumnType) (bs : List ℕ) → isLawful c ≡ true → RightLength c (length bs) → Whole c → (c .kind ≡ logical.UNKNOWN → ⊥) → (c .kind ≡ logical.INTEGER → ⊥) → (c .kind ≡ logical.TIME → ⊥) → (c .kind ≡ logical.DECIMAL → ⊥) → read.outcome c bs ≡ read.given (Signed (number.signed bs))
-  pub any-float : (c : ColumnType) (bs : List ℕ) → isLawful c ≡ true → RightLength c (length bs) → c .physical ≡ FLOAT → (c .kind ≡ logical.UNKNOWN → ⊥) → read.outcome c bs ≡ read.given (Float (ofBits binary32 (little bs)))
-  pub any-double : (c : ColumnType) (bs : List ℕ) → isLawful c ≡ true → RightLength c (length bs) → c .physical ≡ DOUBLE → (c .kind ≡ logical.UNKNOWN → ⊥) → read.outcome c bs ≡ read.given (Double (ofBits binary64 (little bs)))
-  pub any-int96 : (c : ColumnType) (bs : List ℕ) → isLawful c ≡ true → RightLength c (length bs) → c .physical ≡ INT96 → (c .kind ≡ logical.UNKNOWN → ⊥) → read.outcome c bs ≡ read.given (Bytes 0 (length bs))
-  pub any-bytes : (c : ColumnType) (bs : List ℕ) → isLawful c ≡ true → RightLength c (length bs) → ByteForm c → (c .kind ≡ logical.UNKNOWN → ⊥) → (c .kind ≡ logical.DECIMAL → ⊥) → isText (c .kind) ≡ false → read.outcome c bs ≡ read.given (Bytes 0 (length bs))
+  pub any-whole : (c : ColumnType) (bs : List ℕ) → isLawful c ≡ true → RightLength c (length bs) → Whole c → (c .kind ≡ logical.UNKNOWN → ⊥) → (c .kind ≡ logical.INTEGER → ⊥) → (c .kind ≡ logical.TIME → ⊥) → (c .kind ≡ logical.DECIMAL → ⊥) → read.outcome c bs ≡ given (Signed (number.signed bs))
+  pub any-float : (c : ColumnType) (bs : List ℕ) → isLawful c ≡ true → RightLength c (length bs) → c .physical ≡ FLOAT → (c .kind ≡ logical.UNKNOWN → ⊥) → read.outcome c bs ≡ given (Float (ofBits binary32 (little bs)))
+  pub any-double : (c : ColumnType) (bs : List ℕ) → isLawful c ≡ true → RightLength c (length bs) → c .physical ≡ DOUBLE → (c .kind ≡ logical.UNKNOWN → ⊥) → read.outcome c bs ≡ given (Double (ofBits binary64 (little bs)))
+  pub any-int96 : (c : ColumnType) (bs : List ℕ) → isLawful c ≡ true → RightLength c (length bs) → c .physical ≡ INT96 → (c .kind ≡ logical.UNKNOWN → ⊥) → read.outcome c bs ≡ given (Bytes 0 (length bs))
+  pub any-bytes : (c : ColumnType) (bs : List ℕ) → isLawful c ≡ true → RightLength c (length bs) → ByteForm c → (c .kind ≡ logical.UNKNOWN → ⊥) → (c .kind ≡ logical.DECIMAL → ⊥) → isText (c .kind) ≡ false → read.outcome c bs ≡ given (Bytes 0 (length bs))
 
 -- ".. column order ..": of two valid values of a column that has an order
 pub record Ordering : Type 1 where
+  -- what `column_order::order` gives (`order.outcome`) is the relation that is spoken of here
+  pub given-exactly : (c : ColumnType) (a b : List ℕ) (r : Relation) → (order.outcome c a b ≡ sided.given r) ↔ (orderOf c a b ≡ Related r)
   -- "INTERVAL and INT96 have none": 17 for these and for no others
-  pub no-order : (c : ColumnType) (a b : List ℕ) → (order.outcome c a b ≡ order.refused 17 0 0) ↔ ((isLawful c ≡ true) × ((c .physical ≡ INT96) ⊎ (c .kind ≡ converted.INTERVAL)))
+  pub no-order : (c : ColumnType) (a b : List ℕ) → (order.outcome c a b ≡ sided.refused (fault 0 (refusal 17 0))) ↔ ((isLawful c ≡ true) × ((c .physical ≡ INT96) ⊎ (c .kind ≡ converted.INTERVAL)))
   pub has-order : (c : ColumnType) → (hasOrder c ≡ false) ↔ ((c .physical ≡ INT96) ⊎ (c .kind ≡ converted.INTERVAL))
   -- "signed for numbers, dates, times, decimals", of whole numbers but INT(n, false)
   pub signed : (c : ColumnType) → hasOrder c ≡ true → (a b : List ℕ) → Valid c a → Valid c b → Whole c → ((c .kind ≡ logical.INTEGER) × (c .p2 ≡ 0) → ⊥) → AsNumbers c a b (number.signed a) (number.signed b)
@@ -147,12 +154,12 @@ pub record Ordering : Type 1 where
   pub float : (c : ColumnType) → hasOrder c ≡ true → (a b : List ℕ) → Valid c a → Valid c b → c .physical ≡ FLOAT → (IsNan FLOAT-SIGN FLOAT-INFINITY (little a) → ⊥) → (IsNan FLOAT-SIGN FLOAT-INFINITY (little b) → ⊥) → AsNumbers c a b (bitsBelow FLOAT-SIGN (little a)) (bitsBelow FLOAT-SIGN (little b))
   pub double : (c : ColumnType) → hasOrder c ≡ true → (a b : List ℕ) → Valid c a → Valid c b → c .physical ≡ DOUBLE → (IsNan DOUBLE-SIGN DOUBLE-INFINITY (little a) → ⊥) → (IsNan DOUBLE-SIGN DOUBLE-INFINITY (little b) → ⊥) → AsNumbers c a b (bitsBelow DOUBLE-SIGN (little a)) (bitsBelow DOUBLE-SIGN (little b))
   -- "NaN is answered as unordered", and nothing else is
-  pub float-unordered : (c : ColumnType) → hasOrder c ≡ true → (a b : List ℕ) → Valid c a → Valid c b → c .physical ≡ FLOAT → (orderOf c a b ≡ Unordered) ↔ (IsNan FLOAT-SIGN FLOAT-INFINITY (little a) ⊎ IsNan FLOAT-SIGN FLOAT-INFINITY (little b))
-  pub double-unordered : (c : ColumnType) → hasOrder c ≡ true → (a b : List ℕ) → Valid c a → Valid c b → c .physical ≡ DOUBLE → (orderOf c a b ≡ Unordered) ↔ (IsNan DOUBLE-SIGN DOUBLE-INFINITY (little a) ⊎ IsNan DOUBLE-SIGN DOUBLE-INFINITY (little b))
+  pub float-unordered : (c : ColumnType) → hasOrder c ≡ true → (a b : List ℕ) → Valid c a → Valid c b → c .physical ≡ FLOAT → (orderOf c a b ≡ Related Unordered) ↔ (IsNan FLOAT-SIGN FLOAT-INFINITY (little a) ⊎ IsNan FLOAT-SIGN FLOAT-INFINITY (little b))
+  pub double-unordered : (c : ColumnType) → hasOrder c ≡ true → (a b : List ℕ) → Valid c a → Valid c b → c .physical ≡ DOUBLE → (orderOf c a b ≡ Related Unordered) ↔ (IsNan DOUBLE-SIGN DOUBLE-INFINITY (little a) ⊎ IsNan DOUBLE-SIGN DOUBLE-INFINITY (little b))
   -- the order of every column that has one: the other way round for values exchanged, transitive, antisymmetric up to equal, total but for NaNs
   pub order-turned : (c : ColumnType) → hasOrder c ≡ true → (a b : List ℕ) → Valid c a → Valid c b → orderOf c b a ≡ turned (orderOf c a b)
   pub order-trans : (c : ColumnType) → hasOrder c ≡ true → (a b d : List ℕ) → Valid c a → Valid c b → Valid c d → atMost (orderOf c a b) ≡ true → atMost (orderOf c b d) ≡ true → atMost (orderOf c a d) ≡ true
-  pub order-antisym : (c : ColumnType) → hasOrder c ≡ true → (a b : List ℕ) → Valid c a → Valid c b → atMost (orderOf c a b) ≡ true → atMost (orderOf c b a) ≡ true → orderOf c a b ≡ Equal
+  pub order-antisym : (c : ColumnType) → hasOrder c ≡ true → (a b : List ℕ) → Valid c a → Valid c b → atMost (orderOf c a b) ≡ true → atMost (orderOf c b a) ≡ true → orderOf c a b ≡ Related Equal
   pub order-total : (c : ColumnType) → hasOrder c ≡ true → (a b : List ℕ) → Valid c a → Valid c b → (NotANumber c a → ⊥) → (NotANumber c b → ⊥) → (atMost (orderOf c a b) || atMost (orderOf c b a)) ≡ true
 
 -- ".. and timestamps, decoded and encoded"
@@ -161,9 +168,9 @@ pub record Timestamps : Type 1 where
   pub decodes : (unit : TimeUnit) (count : ℤ) → (f : Fields) × Decodes (some unit) count (given f)
   pub decodes-one : (unit : TimeUnit) (count : ℤ) (f g : Fields) → Decodes (some unit) count (given f) → Decodes (some unit) count (given g) → f ≡ g
   -- "Both check the unit first (20); encoding then 18, then 19": each is given exactly where it holds and none before it does
-  pub unknown-unit : (u : Option TimeUnit) (f : Fields) → (encoding u f ≡ refused 20 0) ↔ (u ≡ none)
-  pub no-date-time : (unit : TimeUnit) (f : Fields) → (encoding (some unit) f ≡ refused 18 0) ↔ (isDateTime (ticksPerSecond unit) f ≡ false)
-  pub not-representable : (unit : TimeUnit) (f : Fields) → (encoding (some unit) f ≡ refused 19 0) ↔ ((isDateTime (ticksPerSecond unit) f ≡ true) × (isSigned64 (countOf (ticksPerSecond unit) f) ≡ false))
+  pub unknown-unit : (u : Option TimeUnit) (f : Fields) → (encoding u f ≡ refused (refusal 20 0)) ↔ (u ≡ none)
+  pub no-date-time : (unit : TimeUnit) (f : Fields) → (encoding (some unit) f ≡ refused (refusal 18 0)) ↔ (isDateTime (ticksPerSecond unit) f ≡ false)
+  pub not-representable : (unit : TimeUnit) (f : Fields) → (encoding (some unit) f ≡ refused (refusal 19 0)) ↔ ((isDateTime (ticksPerSecond unit) f ≡ true) × (isSigned64 (countOf (ticksPerSecond unit) f) ≡ false))
   -- every count's fields encode to it
   pub decoded-encodes : (unit : TimeUnit) (count : ℤ) (o : Outcome Fields) → isSigned64 count ≡ true → Decodes (some unit) count o → (f : Fields) × (o ≡ given f) × (encoding (some unit) f ≡ given count)
   -- "each encodable field set decodes back"

@@ -12,10 +12,11 @@ use mathlib.Core.List.{List, _++_}
 use lib.ListN.{length, drop}
 use Rattle.sheet.specs.Block.{totalOf}
 use Rattle.sheet.specs.Opening.{openOf}
-use Rattle.sheet.specs.declared.opening.Opened.the-variants.{Nodes}
+use Rattle.refusal.specs.Outcome.{refusal}
+use Rattle.refusal.specs.declared.answers.Counted.{Counted}
 use Rattle.tree.specs.Tree.{SlotBytes, Tree, Claims, listing, size}
-use Rattle.tree.specs.Judgement.{refusal, orElse, leftOver, missing, tooDeep, unlawful, treeRefusal}
-use Rattle.tree.specs.declared.refusal.Verdict.{Verdict}
+use Rattle.tree.specs.Judgement.{orElse, leftOver, missing, tooDeep, unlawful, treeRefusal}
+use Rattle.refusal.specs.declared.answers.Verdict.{Verdict}
 use Rattle.schema.specs.Rows.{rows, rowWidth, numberIn}
 use Rattle.schema.specs.Roles.{Ascent, ascent, IsField, IsListLayer, IsElement, IsElementLayer, IsKeyValueLayer, IsKey, IsValue, IsBareRepeated}
 use Rattle.schema.specs.Outcome.{outcome, written}
@@ -45,7 +46,7 @@ pub record Demand3 : Type 1 where
   -- the roles in terms of the tree
   pub roles : (sheet : List ℕ) (t : Tree) → IsTreeOf sheet t → (k : ℕ) → k < size t → RoleIn (numberIn (rows t) k 8) (ascent t k)
   -- "blocks are sound where refusals 1 to 3 don't hold, node slots where 4 doesn't": together, exactly where opening refuses nothing
-  pub sound-exactly : (sheet : List ℕ) → Sound sheet ↔ (openOf sheet ≡ Nodes (totalOf sheet))
+  pub sound-exactly : (sheet : List ℕ) → Sound sheet ↔ (openOf sheet ≡ Counted.Count (totalOf sheet))
   -- of refusal 6, refusal 5 and a tree that claims rightly and lists the slots, one holds, with the refusal's place
   pub six-five-or-tree : (ss : List SlotBytes) → ((k : ℕ) × (k < length ss) × (leftOver ss ≡ Verdict.Refused (refusal 6 k))) ⊎ (((leftOver ss ≡ Verdict.Lawful) × (missing ss ≡ Verdict.Refused (refusal 5 (length ss)))) ⊎ ((t : Tree) × Claims t × (listing t ≡ ss)))
   -- and where there is such a tree, neither refusal is given

@@ -10,13 +10,15 @@ use Rattle.parquet.specs.Logical as logical
 use Rattle.logical_type.specs.Parameters.{UNUSED, bitWidthCode, unitCode, flagCode}
 use Rattle.logical_type.specs.declared.types.BitWidth.{BitWidth}
 use Rattle.logical_type.specs.declared.types.TimeUnit.{TimeUnit}
-use Rattle.tree.specs.Judgement.{refusal}
+use Rattle.refusal.specs.Faults as sided
+use Rattle.refusal.specs.Outcome.{given, refused, refusal}
+use Rattle.refusal.specs.declared.answers.Counted.{Counted}
 use Rattle.schema.specs.Rows.{rowWidth}
 use Rattle.schema.specs.Outcome as schema
-use Rattle.schema.specs.declared.resolving.Resolved.{Resolved}
 use Rattle.column_type.specs.declared.types.ColumnType.{ColumnType}
 use Rattle.column.specs.Outcome as reading
 use Rattle.column.specs.declared.value.Value.the-variants.{Unsigned, Bytes}
+use Rattle.float_order.specs.declared.relation.Relation.the-variants.{Less, Equal, Greater}
 use Rattle.column_order.specs.Outcome as ordering
 use Rattle.timestamp.specs.Units.{unitOf}
 use Rattle.timestamp.specs.Outcomes as timestamp
@@ -39,7 +41,7 @@ NANOS = unitCode TimeUnit.Nanos
 
 -- 29 February 1900, at any time of day, is refused with 18 in the unit of a number
 abbrev pub NoSuchDay : ℕ → Type 0
-NoSuchDay unit = (h m s f : ℕ) → timestamp.encoding (unitOf unit) (fields (pos 1900) 2 29 h m s f) ≡ timestamp.refused 18 0
+NoSuchDay unit = (h m s f : ℕ) → timestamp.encoding (unitOf unit) (fields (pos 1900) 2 29 h m s f) ≡ refused (refusal 18 0)
 
 -- BYTE_ARRAY decimals of a precision, and INT(8, false)
 abbrev pub decimals : ℕ → ColumnType
@@ -51,33 +53,33 @@ uint8 = record { physical = physical.INT32; «type_length» = 0; kind = logical.
 abbrev pub points : List (Type 0)
 points =
     -- "*172800000 ms: 1970-01-03 00:00:00"
-    timestamp.Decodes (unitOf MILLIS) (pos 172800000) (timestamp.given (fields (pos 1970) 1 3 0 0 0 0))
+    timestamp.Decodes (unitOf MILLIS) (pos 172800000) (given (fields (pos 1970) 1 3 0 0 0 0))
     -- "*-1 ms: 1969-12-31 23:59:59.999"
-    ∷ timestamp.Decodes (unitOf MILLIS) (negsuc 0) (timestamp.given (fields (pos 1969) 12 31 23 59 59 999))
+    ∷ timestamp.Decodes (unitOf MILLIS) (negsuc 0) (given (fields (pos 1969) 12 31 23 59 59 999))
     -- "*Least ns: 1677-09-21 00:12:43.145224192"
-    ∷ timestamp.Decodes (unitOf NANOS) (negsuc (2 ^ 63 - 1)) (timestamp.given (fields (pos 1677) 9 21 0 12 43 145224192))
+    ∷ timestamp.Decodes (unitOf NANOS) (negsuc (2 ^ 63 - 1)) (given (fields (pos 1677) 9 21 0 12 43 145224192))
     -- "*29 February 1900: 18"
     ∷ NoSuchDay MILLIS
     ∷ NoSuchDay MICROS
     ∷ NoSuchDay NANOS
     -- "BYTE_ARRAY decimals of precision 3: *FF and FFFF equal; *80 below 7F; *00FF above 7F"
-    ∷ (ordering.outcome (decimals 3) (0xFF ∷ []) (0xFF ∷ 0xFF ∷ []) ≡ ordering.given ordering.equal)
-    ∷ (ordering.outcome (decimals 3) (0x80 ∷ []) (0x7F ∷ []) ≡ ordering.given ordering.less)
-    ∷ (ordering.outcome (decimals 3) (0x00 ∷ 0xFF ∷ []) (0x7F ∷ []) ≡ ordering.given ordering.greater)
+    ∷ (ordering.outcome (decimals 3) (0xFF ∷ []) (0xFF ∷ 0xFF ∷ []) ≡ sided.given Equal)
+    ∷ (ordering.outcome (decimals 3) (0x80 ∷ []) (0x7F ∷ []) ≡ sided.given Less)
+    ∷ (ordering.outcome (decimals 3) (0x00 ∷ 0xFF ∷ []) (0x7F ∷ []) ≡ sided.given Greater)
     -- "*Precision 2: 63 hex valid, 64 hex 16"
-    ∷ (reading.outcome (decimals 2) (0x63 ∷ []) ≡ reading.given (Bytes 0 1))
-    ∷ (reading.outcome (decimals 2) (0x64 ∷ []) ≡ reading.refused 16 0)
+    ∷ (reading.outcome (decimals 2) (0x63 ∷ []) ≡ given (Bytes 0 1))
+    ∷ (reading.outcome (decimals 2) (0x64 ∷ []) ≡ refused (refusal 16 0))
     -- "*FIXED 1 precision 3: 11"
-    ∷ (schema.outcome (leafSheet physical.FIXED-LEN-BYTE-ARRAY converted.NONE logical.DECIMAL UNUSED UNUSED 1 0 3) (rowWidth * 2) ≡ Resolved.Refused (refusal 11 1))
+    ∷ (schema.outcome (leafSheet physical.FIXED-LEN-BYTE-ARRAY converted.NONE logical.DECIMAL UNUSED UNUSED 1 0 3) (rowWidth * 2) ≡ Counted.Refused (refusal 11 1))
     -- "*INT(8, false): 255 valid, 256: 16"
-    ∷ (reading.outcome uint8 (255 ∷ 0 ∷ 0 ∷ 0 ∷ []) ≡ reading.given (Unsigned 255))
-    ∷ (reading.outcome uint8 (0 ∷ 1 ∷ 0 ∷ 0 ∷ []) ≡ reading.refused 16 0)
+    ∷ (reading.outcome uint8 (255 ∷ 0 ∷ 0 ∷ 0 ∷ []) ≡ given (Unsigned 255))
+    ∷ (reading.outcome uint8 (0 ∷ 1 ∷ 0 ∷ 0 ∷ []) ≡ refused (refusal 16 0))
     -- "*Scale = precision: 11"
-    ∷ (schema.outcome (leafSheet physical.INT32 converted.NONE logical.DECIMAL UNUSED UNUSED 0 3 3) (rowWidth * 2) ≡ Resolved.Refused (refusal 11 1))
+    ∷ (schema.outcome (leafSheet physical.INT32 converted.NONE logical.DECIMAL UNUSED UNUSED 0 3 3) (rowWidth * 2) ≡ Counted.Refused (refusal 11 1))
     -- "*TIME_MILLIS with TIME(NANOS): 9"
-    ∷ (schema.outcome (leafSheet physical.INT64 converted.TIME-MILLIS logical.TIME (unitCode TimeUnit.Nanos) (flagCode true) 0 0 0) (rowWidth * 2) ≡ Resolved.Refused (refusal 9 1))
+    ∷ (schema.outcome (leafSheet physical.INT64 converted.TIME-MILLIS logical.TIME (unitCode TimeUnit.Nanos) (flagCode true) 0 0 0) (rowWidth * 2) ≡ Counted.Refused (refusal 9 1))
     -- "*One root alone: accepted"
-    ∷ (schema.outcome (sheetOf 1 (rootSlot 0)) rowWidth ≡ Resolved.Rows 1)
+    ∷ (schema.outcome (sheetOf 1 (rootSlot 0)) rowWidth ≡ Counted.Count 1)
     ∷ []
 
 -- all claims of a list hold

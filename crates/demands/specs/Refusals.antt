@@ -7,6 +7,8 @@ use lib.Dec.{leb, ltb}
 use lib.IntN.{ℤ}
 use lib.ListN.{length}
 use Rattle.refusal.specs.Outcome.{Outcome, given, refused, refusal}
+use Rattle.refusal.specs.Faults as sided
+use Rattle.refusal.specs.Faults.{Sided}
 use Rattle.sheet.specs.Block.{slotsInBlock, blockCount, totalOf}
 use Rattle.sheet.specs.Header.{lengthRight, headerRight}
 use Rattle.sheet.specs.Check.{checkRight}
@@ -33,6 +35,11 @@ use Rattle.timestamp.specs.Outcomes.{isSigned64}
 use Rattle.timestamp.specs.declared.fields.Fields.{Fields as DateTime}
 use Rattle.schema_text.specs.Rows.{rowsText}
 use Rattle.c_timestamps.specs.Timestamps.{areFields, fieldsOf}
+
+-- an order's refusal by its number and place alone: which value it is laid on is said under document 02's R-6 (`Requests`)
+abbrev pub unsided : {A : Type 0} → Sided A → Outcome A
+unsided (sided.given a) = given a
+unsided (sided.refused f) = refused (f .refusal)
 
 -- a refusal's number and place, and whether its own condition holds
 pub record Ground : Type 0 where

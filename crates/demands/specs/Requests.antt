@@ -5,6 +5,9 @@ use mathlib.Core.Bool.{true, false}
 use mathlib.Core.List.{List, [], _∷_, _++_}
 use mathlib.Core.Logic.{_⊎_, _↔_}
 use lib.ListN.{length, drop, replicate}
+use Rattle.refusal.specs.Faults as sided
+use Rattle.refusal.specs.Faults.{fault}
+use Rattle.refusal.specs.Outcome.{refused, refusal}
 use Rattle.sheet.specs.Block.{totalOf}
 use Rattle.sheet.specs.Slot.{physical, repetition}
 use Rattle.parquet.specs.Repetition.{REPEATED}
@@ -23,13 +26,13 @@ use Rattle.tree.specs.Tree.{SlotBytes, Fields, node, empty, field}
 use Rattle.tree.specs.Rules.{isGroup, isRequiredOrOptional, isList, namedElement, rule12, KeepsAt}
 use Rattle.tree.specs.declared.place.Place.{Place}
 use Rattle.tree.specs.declared.place.Place.the-variants.{Field}
-use Rattle.tree.specs.Judgement.{refusal, judgement}
-use Rattle.tree.specs.declared.refusal.Verdict.{Verdict}
+use Rattle.tree.specs.Judgement.{judgement}
+use Rattle.refusal.specs.declared.answers.Counted.{Counted}
+use Rattle.refusal.specs.declared.answers.Verdict.{Verdict}
 use Rattle.schema.specs.Levels.{isOptionalOrRepeated, isRepeatedCode, counted}
 use Rattle.schema.specs.Rows.{isMapParent, ELEMENT-LAYER, BARE-REPEATED, role, parentOf, rowWidth, numberIn}
 use Rattle.schema.specs.Outcome.{outcome, written}
 use Rattle.schema.specs.Demand.{Accepted}
-use Rattle.schema.specs.declared.resolving.Resolved.{Resolved}
 use Rattle.schema.specs.declared.roles.Parent.{Parent}
 use Rattle.demands.specs.Sheets.{exampleSheet, repeatedSheet}
 
@@ -79,25 +82,25 @@ pub record Request6 : Type 1 where
   pub offset : (s : List ℕ) → Stops s (validUpTo s)
   pub one-offset : (s : List ℕ) (q r : ℕ) → Stops s q → Stops s r → q ≡ r
   -- "the place of 16 is this offset for STRING, ENUM and JSON", which lies before the end
-  pub text-place : (c : ColumnType) (bs : List ℕ) (place : ℕ) → isText (c .kind) ≡ true → read.outcome c bs ≡ read.refused 16 place → Stops bs place × (place < length bs)
+  pub text-place : (c : ColumnType) (bs : List ℕ) (place : ℕ) → isText (c .kind) ≡ true → read.outcome c bs ≡ refused (refusal 16 place) → Stops bs place × (place < length bs)
   -- and text that stops there is refused so
-  pub text-refused : (c : ColumnType) (bs : List ℕ) (place : ℕ) → isLawful c ≡ true → isText (c .kind) ≡ true → length bs ≤ 65536 → Stops bs place → place < length bs → read.outcome c bs ≡ read.refused 16 place
+  pub text-refused : (c : ColumnType) (bs : List ℕ) (place : ℕ) → isLawful c ≡ true → isText (c .kind) ≡ true → length bs ≤ 65536 → Stops bs place → place < length bs → read.outcome c bs ≡ refused (refusal 16 place)
   -- "and 0 otherwise"
-  pub other-place : (c : ColumnType) (bs : List ℕ) (number place : ℕ) → read.outcome c bs ≡ read.refused number place → ((number ≡ 16) × (isText (c .kind) ≡ true) → ⊥) → place ≡ 0
+  pub other-place : (c : ColumnType) (bs : List ℕ) (number place : ℕ) → read.outcome c bs ≡ refused (refusal number place) → ((number ≡ 16) × (isText (c .kind) ≡ true) → ⊥) → place ≡ 0
   -- "In order, a refusal also says which value is at fault, 1": it is reading's for the first value, with its place
-  pub first : (c : ColumnType) (a b : List ℕ) (number place : ℕ) → (order.outcome c a b ≡ order.refused number place 1) ↔ ((isLawful c ≡ true) × (hasOrder c ≡ true) × (read.outcome c a ≡ read.refused number place))
+  pub first : (c : ColumnType) (a b : List ℕ) (number place : ℕ) → (order.outcome c a b ≡ sided.refused (fault 1 (refusal number place))) ↔ ((isLawful c ≡ true) × (hasOrder c ≡ true) × (read.outcome c a ≡ refused (refusal number place)))
   -- "or 2": the first value is read, and it is reading's for the second
-  pub second : (c : ColumnType) (a b : List ℕ) (number place : ℕ) → (order.outcome c a b ≡ order.refused number place 2) ↔ ((isLawful c ≡ true) × (hasOrder c ≡ true) × Valid c a × (read.outcome c b ≡ read.refused number place))
+  pub second : (c : ColumnType) (a b : List ℕ) (number place : ℕ) → (order.outcome c a b ≡ sided.refused (fault 2 (refusal number place))) ↔ ((isLawful c ≡ true) × (hasOrder c ≡ true) × Valid c a × (read.outcome c b ≡ refused (refusal number place)))
   -- "and 0 for neither": 20, or 17
-  pub neither : (c : ColumnType) (a b : List ℕ) (number place : ℕ) → (order.outcome c a b ≡ order.refused number place 0) ↔ (((isLawful c ≡ false) × (number ≡ 20) × (place ≡ 0)) ⊎ ((isLawful c ≡ true) × (hasOrder c ≡ false) × (number ≡ 17) × (place ≡ 0)))
+  pub neither : (c : ColumnType) (a b : List ℕ) (number place : ℕ) → (order.outcome c a b ≡ sided.refused (fault 0 (refusal number place))) ↔ (((isLawful c ≡ false) × (number ≡ 20) × (place ≡ 0)) ⊎ ((isLawful c ≡ true) × (hasOrder c ≡ false) × (number ≡ 17) × (place ≡ 0)))
   -- and there is no other number of a value
-  pub no-other : (c : ColumnType) (a b : List ℕ) (number place value : ℕ) → order.outcome c a b ≡ order.refused number place value → value ≤ 2
+  pub no-other : (c : ColumnType) (a b : List ℕ) (number place value : ℕ) → order.outcome c a b ≡ sided.refused (fault value (refusal number place)) → value ≤ 2
   -- `k`, e acute, and the beginning of a letter of three bytes: it goes bad where that begins
-  pub cut-off : read.outcome strings (0x6B ∷ 0xC3 ∷ 0xA9 ∷ 0xE2 ∷ 0x82 ∷ []) ≡ read.refused 16 3
+  pub cut-off : read.outcome strings (0x6B ∷ 0xC3 ∷ 0xA9 ∷ 0xE2 ∷ 0x82 ∷ []) ≡ refused (refusal 16 3)
   -- the first value is good, and the second goes bad at its second byte
-  pub second-bad : order.outcome strings (0x6B ∷ []) (0x6B ∷ 0xFF ∷ []) ≡ order.refused 16 1 2
+  pub second-bad : order.outcome strings (0x6B ∷ []) (0x6B ∷ 0xFF ∷ []) ≡ sided.refused (fault 2 (refusal 16 1))
   -- both are bad: the first is at fault, at its own byte
-  pub both-bad : order.outcome strings (0x6B ∷ 0x6B ∷ 0x80 ∷ []) (0xFF ∷ []) ≡ order.refused 16 2 1
+  pub both-bad : order.outcome strings (0x6B ∷ 0x6B ∷ 0x80 ∷ []) (0xFF ∷ []) ≡ sided.refused (fault 1 (refusal 16 2))
 
 -- R-8. "Levels in the rows" ------------------------------------------------------------------------------------------------
 
@@ -141,8 +144,8 @@ pub record Request8 : Type 1 where
   pub ordered : (sheet lent : List ℕ) (k : ℕ) → Accepted (outcome sheet (length lent)) → k < totalOf sheet → repetitionLevelIn (left sheet lent) k ≤ definitionIn (left sheet lent) k
   pub at-most-32 : (sheet lent : List ℕ) (k : ℕ) → Accepted (outcome sheet (length lent)) → k < totalOf sheet → definitionIn (left sheet lent) k ≤ 32
   -- "14 now compares with 11T"
-  pub short : (sheet : List ℕ) (lent : ℕ) → judgement sheet ≡ Verdict.Lawful → lent < 11 * totalOf sheet → outcome sheet lent ≡ Resolved.Refused (refusal 14 0)
-  pub enough : (sheet : List ℕ) (lent : ℕ) → judgement sheet ≡ Verdict.Lawful → 11 * totalOf sheet ≤ lent → outcome sheet lent ≡ Resolved.Rows (totalOf sheet)
+  pub short : (sheet : List ℕ) (lent : ℕ) → judgement sheet ≡ Verdict.Lawful → lent < 11 * totalOf sheet → outcome sheet lent ≡ Counted.Refused (refusal 14 0)
+  pub enough : (sheet : List ℕ) (lent : ℕ) → judgement sheet ≡ Verdict.Lawful → 11 * totalOf sheet ≤ lent → outcome sheet lent ≡ Counted.Count (totalOf sheet)
   -- "numbers beyond 11T stay"
   pub beyond : (sheet lent : List ℕ) → drop (11 * totalOf sheet) (left sheet lent) ≡ drop (11 * totalOf sheet) lent
   pub example : left exampleSheet (replicate (rowWidth * 4) 0) ≡ exampleRows

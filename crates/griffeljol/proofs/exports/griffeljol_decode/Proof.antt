@@ -17,8 +17,9 @@ same-length c = search needs
 returns : tie.Need-returns
 returns c =
     let at-decode = c .before in
-    let args = at-decode .before .args in
-    subst (λ (z : ℤ). Decoding (args .unit) z (args .fields .now) (at-decode .decode .result) _) (toZ-ofZ w64 (args .count) (at-decode .before .fits .count)) (at-decode .decode .ensures)
+    let start = at-decode .before .before in
+    let args = start .args in
+    subst (λ (z : ℤ). Decoding (args .unit) z (args .fields .now) (at-decode .decode .result) (at-decode .decode .last .0)) (toZ-ofZ w64 (args .count) (start .fits .count)) (at-decode .decode .ensures)
 
 pub griffeljol-decode-spec : {M : Type 1} → statement M
 griffeljol-decode-spec = tie.close (tie.spec decode-requires same-length returns)
