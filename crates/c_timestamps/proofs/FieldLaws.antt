@@ -15,7 +15,7 @@ use mir.Syntax.{w32, w64}
 use mir.Val.{Fits, SFits, toZ, ofZ}
 use mir.ValLaws.{toZ-ofZ}
 use Rattle.laws.proofs.BoolLaws.{and-both, both-and, by-test}
-use Rattle.calendar.specs.Calendar.{months, isLeap, daysOfMonth}
+use Rattle.timestamp.specs.Calendar.{months, isLeap, daysOfMonth}
 use Rattle.timestamp.specs.Units.{TimeUnit, ticksPerSecond, unitOf}
 use Rattle.timestamp.specs.Count.{isDateTime}
 use Rattle.refusal.specs.Numbers.{UNKNOWN-TYPE}
@@ -29,7 +29,7 @@ use Rattle.timestamp.specs.declared.encoding.Encoded.{Encoded}
 use Rattle.timestamp.proofs.UnitLaws.{ticks-most}
 use Rattle.timestamp.proofs.ClockLaws.{Time, time-parts}
 use Rattle.timestamp.proofs.CountLaws.{date-time-parts, decodes-one, encoding-none}
-use Rattle.calendar.proofs.DateLaws.{Date, date-parts}
+use Rattle.timestamp.proofs.DateLaws.{Date, date-parts}
 use Rattle.c_answer.specs.Answers.{within, answer, left}
 use Rattle.c_timestamps.specs.Timestamps.{fieldNumbers, decodeEffect, Decoding, FIELDS, at, isField, areFields, fieldsOf, encodingOf, encodeEffect, encoding}
 use Rattle.laws.proofs.MostLaws.{AtMost, atMost-test, atMost-getD}

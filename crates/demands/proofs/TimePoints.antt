@@ -2,7 +2,7 @@
 use Prim.Native.Nat.{ℕ, _-_, _^_}
 use mathlib.Core.Path.{refl}
 use lib.IntN.{ℤ, pos, negsuc}
-use Rattle.calendar.specs.Calendar.{isLeap, sum, daysOfMonth, daysBeforeMonth, daysOfYear, daysBeforeYear, dayOf, epoch, dayNumber, isDate}
+use Rattle.timestamp.specs.Calendar.{isLeap, sum, daysOfMonth, daysBeforeMonth, daysOfYear, daysBeforeYear, dayOf, epoch, dayNumber, isDate}
 use Rattle.timestamp.specs.Clock.{isTime, tickOfDay}
 use Rattle.timestamp.specs.Units.{unitOf}
 use Rattle.timestamp.specs.Count.{isDateTime, countOf, FieldsOf}

@@ -6,11 +6,11 @@ use mathlib.Core.Path.{_≡_, ap, _∙_}
 use mathlib.Core.Bool.{true, _&&_}
 use borrow.Author.Tests.{ltb-true, lt-ltb}
 use lib.Dec.{ltb}
-use Rattle.laws.proofs.BoolLaws.{and-both, both-and}
-use Rattle.calendar.proofs.DivisionLaws.{steps-one, suc-times}
 use Rattle.timestamp.specs.Clock.{hoursPerDay, minutesPerHour, secondsPerMinute, isTime, tickOfDay}
 use Rattle.timestamp.specs.Steps.{isClock}
 use Rattle.timestamp.specs.Units.{ticksPerDay}
+use Rattle.timestamp.proofs.DivisionLaws.{steps-one, suc-times}
+use Rattle.laws.proofs.BoolLaws.{and-both, both-and}
 
 pub record Time (t h m s f : ℕ) : Type 0 where
   pub hour-below : h < 24

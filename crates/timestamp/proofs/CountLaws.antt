@@ -7,22 +7,22 @@ use mathlib.Core.Bool.{Bool, true, false, not, cond}
 use mathlib.Core.Option.{Option, none, some}
 use lib.IntN.{ℤ}
 use lib.Signed.{mag, nonNeg}
-use Rattle.laws.proofs.BoolLaws.{and-both, both-and}
-use Rattle.calendar.specs.Calendar.{isDate, dayNumber}
-use Rattle.calendar.proofs.CalendarLaws.{date-some}
-use Rattle.calendar.proofs.DateLaws.{date-one}
-use Rattle.calendar.proofs.FloorLaws.{joined, joined-one, turned-of, turned-below, divided-signed}
-use Rattle.calendar.proofs.SignedLaws.{signed-of, signed-is, signed-mag}
 use Rattle.refusal.specs.declared.answers.Refusal.{Refusal}
 use Rattle.refusal.specs.Numbers.{NO-DATE-TIME, NOT-REPRESENTABLE, UNKNOWN-TYPE}
 use Rattle.refusal.specs.Outcome.{Outcome, given, refused, unplaced}
 use Rattle.timestamp.specs.declared.fields.Fields.{Fields}
+use Rattle.timestamp.specs.Calendar.{isDate, dayNumber}
 use Rattle.timestamp.specs.Clock.{isTime, tickOfDay}
 use Rattle.timestamp.specs.Units.{TimeUnit, millis, micros, nanos, ticksPerSecond, ticksPerDay}
 use Rattle.timestamp.specs.Count.{isDateTime, countOf, FieldsOf}
 use Rattle.timestamp.specs.Outcomes.{noDateTime, notRepresentable, isSigned64, Decodes, encodingIn, encoding}
-use Rattle.timestamp.proofs.ReachLaws.{signed-fits, signed-beyond, count-far}
+use Rattle.laws.proofs.BoolLaws.{and-both, both-and}
+use Rattle.timestamp.proofs.CalendarLaws.{date-some}
+use Rattle.timestamp.proofs.DateLaws.{date-one}
+use Rattle.timestamp.proofs.ReachLaws.{count-far}
 use Rattle.timestamp.proofs.ClockLaws.{time-parts, parts-time, tick-below, time-one, tick-time, tick-back}
+use Rattle.timestamp.proofs.FloorLaws.{joined, joined-one, turned-of, turned-below, divided-signed, signed-fits, signed-beyond}
+use Rattle.timestamp.proofs.SignedLaws.{signed-of, signed-is, signed-mag}
 
 -- fields that form a date and time are of a date and of a time
 pub date-time-parts : (t : ℕ) (f : Fields) → isDateTime t f ≡ true → (isDate (f .year) (f .month) (f .day) ≡ true) × (isTime t (f .hour) (f .minute) (f .second) (f .fraction) ≡ true)

@@ -10,19 +10,19 @@ use lib.Signed.{mag}
 use mir.Syntax.{w64}
 use mir.Val.{SFits, toZ, ofZ}
 use mir.ValLaws.{toZ-ofZ}
-use Rattle.laws.proofs.BoolLaws.{by-test, and-both, both-and}
-use Rattle.calendar.specs.Calendar.{isDate, dayNumber}
-use Rattle.calendar.proofs.FloorLaws.{joined, joined-told, joined-twice}
 use Rattle.refusal.specs.Outcome.{Outcome}
 use Rattle.timestamp.specs.declared.fields.Fields.{Fields}
 use Rattle.timestamp.specs.declared.moment.Moment
 use Rattle.timestamp.specs.declared.moment.Moment.{Moment}
+use Rattle.timestamp.specs.Calendar.{isDate, dayNumber}
 use Rattle.timestamp.specs.Clock.{minutesPerHour, secondsPerMinute, secondsPerDay, isTime, tickOfDay}
 use Rattle.timestamp.specs.Count.{isDateTime, countOf}
 use Rattle.timestamp.specs.Units.{TimeUnit, ticksPerSecond}
 use Rattle.timestamp.specs.Outcomes.{noDateTime, notRepresentable, encodingIn, encoding}
 use Rattle.timestamp.specs.Steps.{isClock, isFormed, secondOf, IsMoment, counting, encodingAt, encodingFor}
+use Rattle.laws.proofs.BoolLaws.{by-test, and-both, both-and}
 use Rattle.timestamp.proofs.CountLaws.{date-time-parts, encoding-none, encoding-far}
+use Rattle.timestamp.proofs.FloorLaws.{joined, joined-told, joined-twice}
 use Rattle.timestamp.proofs.UnitLaws.{ticks-least}
 
 -- the second of the fields, by what was told of the day number as the machine reads it back

@@ -6,12 +6,12 @@ use mathlib.Core.Bool.{true, false}
 use mathlib.Core.Logic.{_↔_}
 use mathlib.Core.Option.{Option, none, some}
 use lib.IntN.{ℤ}
-use Rattle.laws.proofs.BoolLaws.{by-test}
 use Rattle.refusal.specs.Outcome.{Outcome, given, refused}
 use Rattle.timestamp.specs.declared.fields.Fields.{Fields}
 use Rattle.timestamp.specs.Units.{TimeUnit, ticksPerSecond}
 use Rattle.timestamp.specs.Count.{isDateTime, countOf}
 use Rattle.timestamp.specs.Outcomes.{noDateTime, notRepresentable, unknownUnit, isSigned64, encodingIn, encoding}
+use Rattle.laws.proofs.BoolLaws.{by-test}
 use Rattle.timestamp.proofs.CountLaws.{encoding-none, encoding-beyond, encoding-good}
 
 -- the number of a refusal, and 0 of what is given

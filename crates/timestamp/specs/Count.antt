@@ -3,9 +3,9 @@ use Prim.Native.Nat.{ℕ}
 use mathlib.Core.Bool.{Bool, true, _&&_}
 use mathlib.Core.Path.{_≡_}
 use lib.IntN.{ℤ, pos, _+ℤ_, _*ℤ_}
-use Rattle.calendar.specs.Calendar.{isDate, dayNumber}
 -- a type of the code: `year`, a signed 64-bit number, and `month`, `day`, `hour`, `minute`, `second` and `fraction`, unsigned 32-bit numbers
 use Rattle.timestamp.specs.declared.fields.Fields.{Fields}
+use Rattle.timestamp.specs.Calendar.{isDate, dayNumber}
 use Rattle.timestamp.specs.Clock.{isTime, tickOfDay}
 use Rattle.timestamp.specs.Units.{ticksPerDay}
 

@@ -1,15 +1,17 @@
 -- What private functions promise each other; no public contract cites it.
-use Prim.Native.Nat.{ℕ, _+_, _*_, _<_, _≤_}
+use Prim.Native.Nat.{ℕ, _+_, _*_, _-_, _/_, _%_, _<_, _≤_}
 use mathlib.Core.Path.{_≡_}
 use mathlib.Core.Bool.{Bool, true, false, cond, _&&_}
+use mathlib.Core.List.{_∷_}
 use mathlib.Core.Option.{Option, none, some}
 use lib.Dec.{ltb}
-use lib.IntN.{ℤ, pos, _+ℤ_, _*ℤ_}
+use lib.IntN.{ℤ, pos, subℕ, _+ℤ_, _*ℤ_}
+use lib.ListN.{getD}
 use lib.Signed.{mag}
-use Rattle.calendar.specs.Calendar.{isDate, dayNumber}
-use Rattle.calendar.specs.Steps.{yearsReached}
 use Rattle.refusal.specs.Outcome.{Outcome, given}
--- types of the code: near fields' `Second`, which holds a signed 64-bit number, or `Other`; a moment's `Second`, which holds one, `Far` or `NoDateTime`
+-- types of the code: a month's `days`, an unsigned 32-bit number, and its `offset`, a signed 64-bit one
+use Rattle.timestamp.specs.declared.calendar.Month.{Month}
+-- near fields' `Second`, which holds a signed 64-bit number, or `Other`; a moment's `Second`, which holds one, `Far` or `NoDateTime`
 use Rattle.timestamp.specs.declared.near.Near
 use Rattle.timestamp.specs.declared.near.Near.{Near}
 use Rattle.timestamp.specs.declared.moment.Moment
@@ -18,9 +20,23 @@ use Rattle.timestamp.specs.declared.moment.Moment.{Moment}
 use Rattle.timestamp.specs.declared.units.FoundUnit
 use Rattle.timestamp.specs.declared.units.FoundUnit.{FoundUnit}
 use Rattle.timestamp.specs.declared.fields.Fields.{Fields}
+use Rattle.timestamp.specs.Calendar.{months, isDate, dayNumber}
 use Rattle.timestamp.specs.Clock.{hoursPerDay, minutesPerHour, secondsPerMinute, secondsPerDay}
 use Rattle.timestamp.specs.Outcomes.{isSigned64, noDateTime, notRepresentable, unknownUnit}
 use Rattle.timestamp.specs.Units.{TimeUnit, millis, micros, nanos, ticksPerSecond}
+
+-- the day number of the day before the first of a month, in the year from 1 March of year 0 on
+abbrev pub offsetOf : ℕ → ℤ
+offsetOf month = subℕ ((153 * ((month + 12 - 3) % 12) + 2) / 5) 719469
+
+-- a month's days in a common year, 0 where there is no such month, and where there is its offset
+pub record IsMonth (month : ℕ) (r : Month) : Type 0 where
+  pub days-are : r .days ≡ getD (0 ∷ months false) month 0
+  pub offset-is : 1 ≤ month → month ≤ 12 → r .offset ≡ offsetOf month
+
+-- a year as far from year 0 as this has no count in any unit
+abbrev pub yearsReached : ℕ
+yearsReached = 300000000
 
 -- a day that lies nearer to 1 January 1970 than so many has counts in every unit
 abbrev pub daysReached : ℕ

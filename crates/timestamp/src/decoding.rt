@@ -4,12 +4,14 @@ ghost use mathlib.Core.Path.{_≡_};
 ghost use Prim.Native.Nat.{_<_, _≤_, _^_};
 ghost use lib.IntN.{ℤ};
 ghost use lib.Signed.{mag};
-ghost use Rattle.calendar.specs.FloorDivision.{FloorDivision};
 ghost use Rattle.refusal.specs.Outcome.{Outcome};
 ghost use Rattle.timestamp.specs.Units.{nanos, ticksPerSecond, ticksPerDay, unitOf};
+ghost use Rattle.timestamp.specs.FloorDivision.{FloorDivision};
 ghost use Rattle.timestamp.specs.Outcomes.{Decodes, DecodesIn, decoded};
 ghost use Rattle.timestamp.specs.declared.fields.Fields.{Fields};
+use crate::calendar::date_of;
 use crate::clock::time_of;
+use crate::division::Division;
 use crate::fields::Fields;
 use crate::refusals::unknown_unit;
 use crate::units::FoundUnit;
@@ -17,8 +19,6 @@ use crate::units::Micros;
 use crate::units::Millis;
 use crate::units::Nanos;
 use crate::units::find_unit;
-use calendar::dates::date_of;
-use calendar::division::Division;
 use refusal::Refusal;
 
 // What decoding answers.

@@ -8,6 +8,8 @@ ghost use Rattle.timestamp.specs.Units.{nanos, ticksPerSecond, unitOf};
 ghost use Rattle.timestamp.specs.Outcomes.{encoded, encoding};
 ghost use Rattle.timestamp.specs.Steps.{secondsReached, counting, encodingAt, encodingFor};
 ghost use Rattle.timestamp.specs.declared.moment.Moment;
+use crate::division::joined;
+use crate::division::turned;
 use crate::fields::Fields;
 use crate::moment::Moment;
 use crate::moment::moment_of;
@@ -16,16 +18,14 @@ use crate::near::Near;
 use crate::refusals::no_date_time;
 use crate::refusals::not_representable;
 use crate::refusals::unknown_unit;
+use crate::signed::folded;
+use crate::signed::is_negative;
+use crate::signed::signed;
 use crate::units::FoundUnit;
 use crate::units::Micros;
 use crate::units::Millis;
 use crate::units::Nanos;
 use crate::units::find_unit;
-use calendar::division::joined;
-use calendar::division::turned;
-use calendar::signed::folded;
-use calendar::signed::is_negative;
-use calendar::signed::signed;
 use refusal::Refusal;
 
 // What encoding answers.

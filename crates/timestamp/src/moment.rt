@@ -1,17 +1,17 @@
 // The second of a date and time, which is the same in every unit.
 
 ghost use Rattle.timestamp.specs.Steps.{IsMoment};
+use crate::calendar::Date;
+use crate::calendar::YEARS_REACHED;
+use crate::calendar::day_number;
+use crate::calendar::is_date;
 use crate::clock::Time;
 use crate::clock::is_clock;
 use crate::clock::second_of_day;
+use crate::division::joined;
 use crate::fields::Fields;
+use crate::signed::folded;
 use crate::units::SECONDS_PER_DAY;
-use calendar::dates::Date;
-use calendar::dates::YEARS_REACHED;
-use calendar::dates::day_number;
-use calendar::dates::is_date;
-use calendar::division::joined;
-use calendar::signed::folded;
 
 // What fields are, whatever their fraction is.
 pub(crate) enum Moment {

@@ -5,20 +5,19 @@ ghost use mathlib.Core.Bool.{true};
 ghost use Prim.Native.Nat.{_<_, _≤_};
 ghost use lib.IntN.{pos};
 ghost use lib.Signed.{mag};
-ghost use Rattle.calendar.specs.Calendar.{dayNumber, isDate};
-ghost use Rattle.calendar.specs.Steps.{offsetOf};
-ghost use Rattle.timestamp.specs.Steps.{IsNear, daysReached};
+ghost use Rattle.timestamp.specs.Calendar.{dayNumber, isDate};
+ghost use Rattle.timestamp.specs.Steps.{IsNear, daysReached, offsetOf};
+use crate::calendar::month_at;
 use crate::clock::Time;
 use crate::clock::is_clock;
 use crate::clock::second_of_day;
+use crate::division::joined;
+use crate::eras::days_before_year;
+use crate::eras::years_before_march;
 use crate::fields::Fields;
+use crate::signed::folded;
+use crate::signed::is_negative;
 use crate::units::SECONDS_PER_DAY;
-use calendar::dates::month_at;
-use calendar::division::joined;
-use calendar::eras::days_before_year;
-use calendar::eras::years_before_march;
-use calendar::signed::folded;
-use calendar::signed::is_negative;
 
 // Counts of nanoseconds, which reach least far, go from September 1677 to April 2262.
 const FIRST_YEAR: u64 = 1_680;

@@ -5,20 +5,20 @@ ghost use mathlib.Core.Path.{_≡_};
 ghost use Prim.Native.Nat.{_<_};
 ghost use lib.Dec.{ltb};
 ghost use lib.Signed.{mag};
-ghost use Rattle.calendar.specs.FloorDivision.{FloorDivision};
-ghost use Rattle.calendar.specs.declared.division.Division.{Division};
 ghost use Rattle.refusal.specs.Outcome.{given};
 ghost use Rattle.timestamp.specs.Units.{millis, micros, nanos, ticksPerSecond, ticksPerDay, unitOf};
+ghost use Rattle.timestamp.specs.FloorDivision.{FloorDivision};
+ghost use Rattle.timestamp.specs.declared.division.Division.{Division};
 ghost use Rattle.timestamp.specs.Outcomes.{encoded, dayAnswer, dayHas};
 ghost use Rattle.timestamp.specs.Steps.{secondsReached, encodingAt, unitFound};
 ghost use Rattle.timestamp.specs.declared.moment.Moment;
+use crate::division::Division;
+use crate::division::floor_divide;
 use crate::encoding::Encoded;
 use crate::encoding::encode_at;
 use crate::encoding::encode_near_at;
 use crate::moment::Moment;
 use crate::refusals::unknown_unit;
-use calendar::division::Division;
-use calendar::division::floor_divide;
 use refusal::Refusal;
 
 // The seconds of a day.

@@ -10,7 +10,7 @@ use mir.Val.{SFits, toZ}
 use mir.ValLaws.{toZ-pos}
 use borrow.Author.Needs.{needs}
 use Rattle.laws.proofs.SignedLaws.{read-back}
-use Rattle.calendar.proofs.SignedLaws.{complement-nonnegative}
+use Rattle.timestamp.proofs.SignedLaws.{complement-nonnegative}
 use Rattle.column.proofs.NumberLaws.{twos-below, twos-above, twos-mag-<}
 use Rattle.column.proofs.numbers.signed.Statement.{statement}
 use Rattle.column.proofs.numbers.signed.Tie as tie

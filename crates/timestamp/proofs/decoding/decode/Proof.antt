@@ -2,7 +2,6 @@
 use mathlib.Core.Path.{_≡_}
 use native.Mathlib.Omega.{arith}
 use borrow.Author.Needs.{needs}
-use Rattle.calendar.proofs.FloorLaws.{division-days, division-told}
 use Rattle.refusal.specs.Outcome.{Outcome}
 use Rattle.timestamp.specs.declared.fields.Fields.{Fields}
 use Rattle.timestamp.specs.declared.units.FoundUnit
@@ -10,6 +9,7 @@ use Rattle.timestamp.specs.declared.units.FoundUnit.{FoundUnit}
 use Rattle.timestamp.specs.Units.{unitOf}
 use Rattle.timestamp.specs.Outcomes.{Decodes}
 use Rattle.timestamp.specs.Steps.{unitFound}
+use Rattle.timestamp.proofs.FloorLaws.{division-days, division-told}
 use Rattle.timestamp.proofs.UnitLaws.{decodes-told}
 use Rattle.timestamp.proofs.decoding.decode.Statement.{statement}
 use Rattle.timestamp.proofs.decoding.decode.Tie as tie

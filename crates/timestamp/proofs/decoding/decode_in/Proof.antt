@@ -5,11 +5,11 @@ use borrow.Author.Needs.{needs}
 use lib.IntN.{ℤ}
 use mir.Syntax.{w64}
 use mir.ValLaws.{toZ-ofZ}
-use Rattle.laws.proofs.BoolLaws.{both-and}
-use Rattle.calendar.specs.Calendar.{isDate, dayNumber}
-use Rattle.calendar.proofs.FloorLaws.{joined}
+use Rattle.timestamp.specs.Calendar.{isDate, dayNumber}
 use Rattle.timestamp.specs.Units.{ticksPerDay}
 use Rattle.timestamp.specs.Count.{isDateTime, countOf}
+use Rattle.timestamp.proofs.FloorLaws.{joined}
+use Rattle.laws.proofs.BoolLaws.{both-and}
 use Rattle.timestamp.proofs.decoding.decode_in.Statement.{statement}
 use Rattle.timestamp.proofs.decoding.decode_in.Tie as tie
 

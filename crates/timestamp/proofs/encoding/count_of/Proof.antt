@@ -9,12 +9,12 @@ use lib.IntN.{ℤ}
 use lib.Signed.{mag, nonNeg}
 use mir.Syntax.{w64}
 use mir.Val.{Fits, SFits, toZ, ofZ}
-use Rattle.calendar.proofs.FloorLaws.{joined, joined-signed, turned-of, turned-below}
-use Rattle.calendar.proofs.SignedLaws.{signed-of, signed-told, signed-back}
 use Rattle.refusal.specs.Outcome.{Outcome, given}
 use Rattle.timestamp.specs.Outcomes.{notRepresentable}
 use Rattle.timestamp.specs.Steps.{counting}
 use Rattle.timestamp.proofs.CountLaws.{counted-fits, counted-beyond}
+use Rattle.timestamp.proofs.FloorLaws.{joined, joined-signed, turned-of, turned-below}
+use Rattle.timestamp.proofs.SignedLaws.{signed-of, signed-told, signed-back}
 use Rattle.timestamp.proofs.encoding.count_of.Statement.{statement}
 use Rattle.timestamp.proofs.encoding.count_of.Tie as tie
 

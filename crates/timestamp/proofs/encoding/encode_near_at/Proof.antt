@@ -10,14 +10,13 @@ use lib.Signed.{mag}
 use mir.Syntax.{w64}
 use mir.Val.{SFits, toZ, ofZ}
 use mir.ValLaws.{toZ-ofZ}
-use Rattle.calendar.proofs.FloorLaws.{joined, joined-asked, joined-told}
 use Rattle.refusal.specs.Outcome.{given}
 use Rattle.timestamp.specs.declared.moment.Moment
 use Rattle.timestamp.specs.declared.moment.Moment.{Moment}
 use Rattle.timestamp.specs.Units.{nanos, ticksPerSecond}
 use Rattle.timestamp.specs.Outcomes.{notRepresentable}
 use Rattle.timestamp.specs.Steps.{secondsReached, encodingAt}
-use Rattle.timestamp.proofs.ReachLaws.{signed-fits}
+use Rattle.timestamp.proofs.FloorLaws.{joined, joined-asked, joined-told, signed-fits}
 use Rattle.timestamp.proofs.MomentLaws.{fraction-beyond, fraction-within}
 use Rattle.timestamp.proofs.encoding.encode_near_at.Statement.{statement}
 use Rattle.timestamp.proofs.encoding.encode_near_at.Tie as tie

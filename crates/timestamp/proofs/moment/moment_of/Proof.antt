@@ -11,13 +11,12 @@ use mir.Syntax.{w64}
 use mir.Val.{toZ, ofZ}
 use mir.ValLaws.{toZ-ofZ}
 use Rattle.laws.proofs.BoolLaws.{and-both}
-use Rattle.calendar.specs.Calendar.{isDate, dayNumber}
-use Rattle.calendar.specs.Steps.{yearsReached}
-use Rattle.calendar.proofs.FloorLaws.{joined}
 use Rattle.timestamp.specs.declared.fields.Fields.{Fields}
+use Rattle.timestamp.specs.Calendar.{isDate, dayNumber}
 use Rattle.timestamp.specs.Clock.{minutesPerHour, secondsPerMinute, secondsPerDay}
-use Rattle.timestamp.specs.Steps.{isClock, isFormed, secondOf}
+use Rattle.timestamp.specs.Steps.{yearsReached, isClock, isFormed, secondOf}
 use Rattle.timestamp.proofs.ClockLaws.{clock-parts}
+use Rattle.timestamp.proofs.FloorLaws.{joined}
 use Rattle.timestamp.proofs.MomentLaws.{second-told}
 use Rattle.timestamp.proofs.moment.moment_of.Statement.{statement}
 use Rattle.timestamp.proofs.moment.moment_of.Tie as tie

@@ -10,12 +10,12 @@ use mir.Val.{SFits, toZ, ofZ}
 use mir.ValLaws.{toZ-ofZ, toZ-pos}
 use Rattle.laws.proofs.DifferenceLaws.{pos-sub, sub-eq, sub-add, sub-add-pos}
 use Rattle.laws.proofs.SignedLaws.{read-back}
-use Rattle.calendar.specs.Calendar.{dayOf, dayNumber}
-use Rattle.calendar.proofs.CalendarLaws.{day-number-from, difference-within}
-use Rattle.calendar.proofs.DateLaws.{Date, date-parts, place-in-year}
-use Rattle.calendar.proofs.EraDateLaws.{date-day, march-first}
-use Rattle.calendar.proofs.MonthLaws.{march-month}
-use Rattle.calendar.proofs.YearLaws.{days-of-year-most}
+use Rattle.timestamp.specs.Calendar.{dayOf, dayNumber}
+use Rattle.timestamp.proofs.CalendarLaws.{day-number-from, difference-within}
+use Rattle.timestamp.proofs.DateLaws.{Date, date-parts, place-in-year}
+use Rattle.timestamp.proofs.EraDateLaws.{date-day, march-first}
+use Rattle.timestamp.proofs.MonthLaws.{march-month}
+use Rattle.timestamp.proofs.YearLaws.{days-of-year-most}
 use Rattle.timestamp.proofs.near.day_number.Statement.{statement}
 use Rattle.timestamp.proofs.near.day_number.Tie as tie
 

@@ -12,18 +12,17 @@ use mir.Syntax.{w64}
 use mir.Val.{toZ, ofZ}
 use mir.ValLaws.{toZ-ofZ}
 use Rattle.laws.proofs.BoolLaws.{both-and}
-use Rattle.calendar.specs.declared.dates.Month.{Month}
-use Rattle.calendar.specs.Calendar.{isDate, dayNumber}
-use Rattle.calendar.specs.Steps.{offsetOf, IsMonth}
-use Rattle.calendar.proofs.CalendarLaws.{common-days, common-date}
-use Rattle.calendar.proofs.DateLaws.{date-parts}
-use Rattle.calendar.proofs.FloorLaws.{joined, joined-below}
-use Rattle.calendar.proofs.SignedLaws.{signed-of, signed-told}
+use Rattle.timestamp.specs.declared.calendar.Month.{Month}
 use Rattle.timestamp.specs.declared.fields.Fields.{Fields}
+use Rattle.timestamp.specs.Calendar.{isDate, dayNumber}
 use Rattle.timestamp.specs.Clock.{minutesPerHour, secondsPerMinute, secondsPerDay}
-use Rattle.timestamp.specs.Steps.{daysReached, secondsReached, isClock, isFormed, secondOf}
+use Rattle.timestamp.specs.Steps.{offsetOf, IsMonth, daysReached, secondsReached, isClock, isFormed, secondOf}
+use Rattle.timestamp.proofs.CalendarLaws.{common-days, common-date}
 use Rattle.timestamp.proofs.ClockLaws.{clock-parts}
+use Rattle.timestamp.proofs.DateLaws.{date-parts}
+use Rattle.timestamp.proofs.FloorLaws.{joined, joined-below}
 use Rattle.timestamp.proofs.MomentLaws.{second-told}
+use Rattle.timestamp.proofs.SignedLaws.{signed-of, signed-told}
 use Rattle.timestamp.proofs.near.second_of.Statement.{statement}
 use Rattle.timestamp.proofs.near.second_of.Tie as tie
 

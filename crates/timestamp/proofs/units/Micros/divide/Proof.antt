@@ -1,6 +1,6 @@
 -- `timestamp::units::Micros::divide` meets its contract.
 use borrow.Author.Needs.{needs}
-use Rattle.calendar.proofs.FloorLaws.{division-told, division-only}
+use Rattle.timestamp.proofs.FloorLaws.{division-told, division-only}
 use Rattle.timestamp.proofs.units.Micros.divide.Statement.{statement}
 use Rattle.timestamp.proofs.units.Micros.divide.Tie as tie
 

@@ -1,6 +1,6 @@
 -- `timestamp::units::Nanos::divide` meets its contract.
 use borrow.Author.Needs.{needs}
-use Rattle.calendar.proofs.FloorLaws.{division-told, division-only}
+use Rattle.timestamp.proofs.FloorLaws.{division-told, division-only}
 use Rattle.timestamp.proofs.units.Nanos.divide.Statement.{statement}
 use Rattle.timestamp.proofs.units.Nanos.divide.Tie as tie
 
