@@ -19,7 +19,7 @@ returns c =
     let at-decode = c .before in
     let start = at-decode .before .before in
     let args = start .args in
-    subst (λ (z : ℤ). Decoding (args .unit) z (args .fields .now) (at-decode .decode .result) (at-decode .decode .last .0)) (toZ-ofZ w64 (args .count) (start .fits .count)) (at-decode .decode .ensures)
+    subst (λ (z : ℤ). Decoding (args .unit) z (args .fields .now) (at-decode .decode .result) (at-decode .decode .last .1 .1 .0)) (toZ-ofZ w64 (args .count) (start .fits .count)) (at-decode .decode .ensures)
 
 pub griffeljol-decode-spec : {M : Type 1} → statement M
 griffeljol-decode-spec = tie.close (tie.spec decode-requires same-length returns)
