@@ -32,7 +32,6 @@ use Rattle.logical_type.specs.declared.types.Annotation.{Annotation}
 use Rattle.annotation.specs.declared.slot.Annotated.{Annotated}
 use Rattle.annotation.specs.declared.resolution.Kind.{Kind}
 use Rattle.annotation.specs.declared.resolution.Resolution.{Resolution}
-use Rattle.annotation.specs.declared.rewriting.Written.{Written}
 use Rattle.laws.proofs.BoolLaws.{and-both}
 use Rattle.annotation.proofs.PackedLaws.{bytes, demand, packed-bound}
 use Rattle.annotation.proofs.PlacementLaws.{code-stands}

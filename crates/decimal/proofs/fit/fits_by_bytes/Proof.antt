@@ -14,7 +14,10 @@ use borrow.Author.Needs.{needs}
 use Rattle.decimal.proofs.fit.fits_by_bytes.Statement.{statement}
 use Rattle.decimal.proofs.fit.fits_by_bytes.Tie as tie
 
-is-length : (c : tie.Else1) → isLength (length (c .before .before .before .args .number .now)) ≡ true
+abbrev start : tie.Else1 → tie.Start
+start c = c .before .before .before
+
+is-length : (c : tie.Else1) → isLength (length (start c .args .number .now)) ≡ true
 is-length c = sym (c .before .is-length .ensures) ∙ not-false _ (c .if1 .left)
 
 is-length-requires : tie.Need-is-length-requires
@@ -35,7 +38,7 @@ fits-by-length-requires c κs = (
 returns-2 : tie.Need-returns-2
 returns-2 c =
     let first = c .before .before in
-    let s = first .before .before .before in
+    let s = start first in
     c .fits-by-length .ensures ∙ ap (λ (bs : List ℕ). fitOf bs (s .args .precision)) (c .before .significant .ensures)
     ∙ fitOf-significant (s .args .number .now) (s .args .precision) (is-length first) (isLength-significant _ (is-length first))
 

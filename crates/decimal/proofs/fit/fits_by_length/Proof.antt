@@ -1,6 +1,5 @@
 -- `decimal::fit::fits_by_length` meets its contract: the table decides what the length leaves no doubt of. Assumes nothing.
-use mathlib.Core.Path.{sym, subst}
-use Prim.Native.Nat.{ℕ, _≤_, _<_}
+use mathlib.Core.Path.{sym}
 use native.Mathlib.Omega.{arith}
 use lib.ListN.{length}
 use Rattle.decimal.proofs.PrecisionLaws.{isLength-bounds}
@@ -21,9 +20,9 @@ greatest-precision-requires c κs = search needs
 
 returns : tie.Need-returns
 returns c =
-    let s = c .before .before .before in
-    sym (longer-within (s .args .number .now) (s .args .precision) (s .pre .0) (bytes (c .before .before))
-    (subst (λ (g : ℕ). g < s .args .precision) (c .before .greatest-precision .ensures) (c .if1 .taken)))
+    let known = c .before .before in
+    let s = known .before in
+    sym (longer-within (s .args .number .now) (s .args .precision) (s .pre .0) (bytes known) (omega arith))
 
 sub-greatest-precision : tie.Need-sub-greatest-precision
 sub-greatest-precision c = search needs
@@ -33,11 +32,10 @@ greatest-precision-requires-2 c κs = search needs
 
 returns-2 : tie.Need-returns-2
 returns-2 c =
-    let at-if2 = c .before .before in
-    let for-bytes = at-if2 .before .before .before in
-    let s = for-bytes .before in
-    sym (shorter-beyond (s .args .number .now) (s .args .precision) (s .pre .0) (bytes for-bytes) (s .pre .1) (at-if2 .if2 .taken)
-    (subst (λ (g : ℕ). s .args .precision ≤ g) (c .before .greatest-precision2 .ensures) (c .if3 .taken)))
+    let longer = c .before .before in
+    let known = longer .before .before .before in
+    let s = known .before in
+    sym (shorter-beyond (s .args .number .now) (s .args .precision) (s .pre .0) (bytes known) (s .pre .1) (longer .if2 .taken) (omega arith))
 
 fits-exactly-requires : tie.Need-fits-exactly-requires
 fits-exactly-requires c κs = search needs

@@ -26,13 +26,23 @@ held c =
     let bounds = isLength-bounds (length (c .args .number .now)) (c .pre .0) in
     le-trans (pow-le-pow-right (omega arith) (c .pre .1)) (greatestPrecision-low (length (c .args .number .now)) (bounds .0) (bounds .1))
 
+-- the places, each from one behind it
+abbrev started : tie.After-room → tie.Start
+started c = c .before .before .before
+
+abbrev lent : tie.After-write-power → tie.After-room
+lent c = c .before .before
+
+abbrev wrote : tie.After-compare → tie.After-write-power
+wrote c = c .before .before .before
+
 -- the room that is lent is as long as the number
 module _ (c : tie.After-room) where
   abbrev n : ℕ
-  n = length (c .before .before .before .args .number .now)
+  n = length (started c .args .number .now)
 
   within : n ≤ length (c .room .result)
-  within = omega (arith, c .room .ensures, isLength-bounds n (c .before .before .before .pre .0))
+  within = omega (arith, isLength-bounds n (started c .pre .0))
 
   length-lent : length (take n (c .room .result)) ≡ n
   length-lent = length-take-le n (c .room .result) within
@@ -43,38 +53,44 @@ module _ (c : tie.After-write-power) where
   power = c .write-power .last .0
 
   abbrev left : List ℕ
-  left = drop (n (c .before .before)) (c .before .before .room .result)
+  left = drop (n (lent c)) (lent c .room .result)
 
-  length-power : length power ≡ n (c .before .before)
-  length-power = c .write-power .kept .0 ∙ length-lent (c .before .before)
+  length-power : length power ≡ n (lent c)
+  length-power = c .write-power .kept .0 ∙ length-lent (lent c)
 
-  front : n (c .before .before) ≤ length (power ++ left)
+  front : n (lent c) ≤ length (power ++ left)
   front = omega (arith, length-power, length-append power left)
 
 -- what the order says of the number
 module _ (c : tie.After-compare) where
+  abbrev signed : tie.After-is-negative
+  signed = lent (wrote c) .before
+
+  abbrev start : tie.Start
+  start = started (lent (wrote c))
+
   abbrev bs : List ℕ
-  bs = c .before .before .before .before .before .before .before .before .args .number .now
+  bs = start .args .number .now
 
   abbrev precision : ℕ
-  precision = c .before .before .before .before .before .before .before .before .args .precision
+  precision = start .args .precision
 
   abbrev bound : List ℕ
-  bound = power (c .before .before .before)
+  bound = power (wrote c)
 
   compared : c .compare .result ≡ orderOf bs bound
-  compared = c .compare .ensures .0 ∙ ap (orderOf bs) (take-at bound (left (c .before .before .before)) (length bs) (length-power (c .before .before .before)))
+  compared = c .compare .ensures .0 ∙ ap (orderOf bs) (take-at bound (left (wrote c)) (length bs) (length-power (wrote c)))
 
   value : number bound ≡ cond (isNegative bs) (negℤ (pos (10 ^ precision))) (pos (10 ^ precision))
   value =
-      c .before .before .before .write-power .ensures
-      ∙ ap (λ (t : Bool). cond t (negℤ (pos (10 ^ precision))) (pos (10 ^ precision))) (c .before .before .before .before .before .before .is-negative .ensures)
+      wrote c .write-power .ensures
+      ∙ ap (λ (t : Bool). cond t (negℤ (pos (10 ^ precision))) (pos (10 ^ precision))) (signed .is-negative .ensures)
 
-  answer : (o : Order) (negative : Bool) → c .compare .result ≡ o → c .before .before .before .before .before .before .is-negative .result ≡ negative → judged negative o ≡ fitOf bs precision
+  answer : (o : Order) (negative : Bool) → c .compare .result ≡ o → signed .is-negative .result ≡ negative → judged negative o ≡ fitOf bs precision
   answer o negative e s =
-      ap₂ judged (sym s ∙ c .before .before .before .before .before .before .is-negative .ensures) (sym e ∙ compared)
-      ∙ fitOf-judged bs bound precision (c .before .before .before .before .before .before .before .before .pre .0) (ap isLength (length-power (c .before .before .before)) ∙ c .before .before .before .before .before .before .before .before .pre .0)
-      (Bytes-getD bs (λ k. c .before .before .before .before .before .before .before .shared-slice-known .given k .fits)) value
+      ap₂ judged (sym s ∙ signed .is-negative .ensures) (sym e ∙ compared)
+      ∙ fitOf-judged bs bound precision (start .pre .0) (ap isLength (length-power (wrote c)) ∙ start .pre .0)
+      (Bytes-getD bs (λ k. signed .before .shared-slice-known .given k .fits)) value
 
 is-negative-requires : tie.Need-is-negative-requires
 is-negative-requires c κs = search needs
@@ -90,10 +106,10 @@ slice-aggregate-write-power c = sym (length-lent (c .before))
 
 write-power-requires : tie.Need-write-power-requires
 write-power-requires c κs =
-    let s = c .before .before .before .before in
-    let lent = sym (length-lent (c .before)) in (
-      subst (λ (m : ℕ). 1 ≤ m) lent (isLength-bounds _ (s .pre .0) .0),
-      subst (λ (m : ℕ). 10 ^ s .args .precision ≤ greatestNumber m) lent (held s),
+    let s = started (c .before) in
+    let long = sym (length-lent (c .before)) in (
+      subst (λ (m : ℕ). 1 ≤ m) long (isLength-bounds _ (s .pre .0) .0),
+      subst (λ (m : ℕ). 10 ^ s .args .precision ≤ greatestNumber m) long (held s),
     )
 
 array-share-prefix-bound : tie.Need-array-share-prefix-bound
@@ -109,7 +125,7 @@ enum-told : tie.Need-enum-told
 enum-told c = search needs
 
 returns : tie.Need-returns
-returns c = answer (c .before .before .before) Order.Less true (c .before .enum-told .given .1) (c .if1 .taken)
+returns c = let less = c .before in answer (less .before .before) Order.Less true (less .enum-told .given .1) (c .if1 .taken)
 
 enum-told-2 : tie.Need-enum-told-2
 enum-told-2 c = search needs
@@ -118,19 +134,23 @@ enum-told-3 : tie.Need-enum-told-3
 enum-told-3 c = search needs
 
 returns-2 : tie.Need-returns-2
-returns-2 c = answer (c .before .before .before) Order.Greater true (c .before .enum-told3 .given .1) (c .if2 .taken)
+returns-2 c =
+    let greater = c .before in
+    answer (greater .before .before) Order.Greater true (greater .enum-told3 .given .1) (c .if2 .taken)
 
 enum-told-4 : tie.Need-enum-told-4
 enum-told-4 c = search needs
 
 returns-3 : tie.Need-returns-3
-returns-3 c = answer (c .before .before .before) Order.Less false (c .before .enum-told .given .1) (c .if1 .left)
+returns-3 c = let less = c .before in answer (less .before .before) Order.Less false (less .enum-told .given .1) (c .if1 .left)
 
 returns-4 : tie.Need-returns-4
 returns-4 c = answer (c .before .before) Order.Equal _ (c .enum-told2 .given .1) refl
 
 returns-5 : tie.Need-returns-5
-returns-5 c = answer (c .before .before .before) Order.Greater false (c .before .enum-told3 .given .1) (c .if2 .left)
+returns-5 c =
+    let greater = c .before in
+    answer (greater .before .before) Order.Greater false (greater .enum-told3 .given .1) (c .if2 .left)
 
 returns-6 : tie.Need-returns-6
 returns-6 c = answer (c .before .before) Order.WrongLength _ (c .enum-told4 .given .1) refl

@@ -16,15 +16,18 @@ use Rattle.decimal.proofs.fit.fits_short.Statement.{statement}
 use Rattle.decimal.proofs.fit.fits_short.Tie as tie
 
 module _ (c : tie.After-keeps-to) where
+  abbrev start : tie.Start
+  start = c .before .before .before
+
   abbrev bs : List ℕ
-  bs = c .before .before .before .args .number .now
+  bs = start .args .number .now
 
   is-length : isLength (length bs) ≡ true
-  is-length = short-length (length bs) (c .before .before .before .pre .0) (c .before .before .before .pre .1)
+  is-length = short-length (length bs) (start .pre .0) (start .pre .1)
 
-  test : (t : Bool) → c .keeps-to .result ≡ t → ltb (natAbs (number bs)) (10 ^ c .before .before .before .args .precision) ≡ t
+  test : (t : Bool) → c .keeps-to .result ≡ t → ltb (natAbs (number bs)) (10 ^ start .args .precision) ≡ t
   test t e =
-      sym (ap (λ (z : ℤ). ltb (natAbs z) (10 ^ c .before .before .before .args .precision)) (c .before .words-of .ensures))
+      sym (ap (λ (z : ℤ). ltb (natAbs z) (10 ^ start .args .precision)) (c .before .words-of .ensures))
       ∙ sym (c .keeps-to .ensures) ∙ e
 
 words-of-requires : tie.Need-words-of-requires

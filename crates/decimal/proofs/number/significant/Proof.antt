@@ -23,13 +23,16 @@ abbrev μ-loop : tie.MeasureT-loop
 whole : (bs : List ℕ) (at : ℕ) → take (length bs - at) (drop at bs) ≡ drop at bs
 whole bs at = take-all (length bs - at) (drop at bs) (le-of-eq (length-drop at bs))
 
--- the sign of what comes after
+-- the places in a turn, from where the sign of what comes after has been read
+abbrev turn : tie.After-sign-byte Inv-loop μ-loop → tie.In-loop Inv-loop μ-loop
+turn c = c .before .before .before
+
+abbrev start : tie.At-loop Inv-loop μ-loop → tie.Start Inv-loop μ-loop
+start l = l .before .before
+
 sign : (c : tie.After-sign-byte Inv-loop μ-loop)
-    → c .sign-byte .result ≡ signByte (drop (c .before .before .before .before .loop .at + 1) (c .before .before .before .before .before .before .args .number .now))
-sign c =
-    let at-loop = c .before .before .before .before in
-    let start = at-loop .before .before in
-    c .sign-byte .ensures ∙ ap signByte (whole (start .args .number .now) (at-loop .loop .at + 1))
+    → let l = turn c .before in c .sign-byte .result ≡ signByte (drop (l .loop .at + 1) (start l .args .number .now))
+sign c = let l = turn c .before in c .sign-byte .ensures ∙ ap signByte (whole (start l .args .number .now) (l .loop .at + 1))
 
 loop-holds : tie.Need-loop-holds Inv-loop μ-loop
 loop-holds c = (omega arith, refl)
@@ -66,12 +69,11 @@ part-result-end c = omega arith
 
 returns : tie.Need-returns Inv-loop μ-loop
 returns c =
-    let for-sign = c .before .before in
-    let at-loop-test = for-sign .before .before .before in
-    let l = at-loop-test .before in
-    let bs = l .before .before .args .number .now in
+    let signed = c .before .before in
+    let l = turn signed .before in
+    let bs = start l .args .number .now in
     whole bs (l .loop .at)
-    ∙ sym (significant-stop bs (l .loop .at) (at-loop-test .loop-test .taken) (λ e. c .before .if1 .taken (e ∙ sym (sign for-sign))))
+    ∙ sym (significant-stop bs (l .loop .at) (turn signed .loop-test .taken) (λ e. c .before .if1 .taken (e ∙ sym (sign signed))))
     ∙ l .loop .inv .1
 
 loop-less : tie.Need-loop-less Inv-loop μ-loop
@@ -79,10 +81,10 @@ loop-less c = omega arith
 
 loop-again : tie.Need-loop-again Inv-loop μ-loop
 loop-again c =
-    let at-loop-test = c .before .before .before .before in
-    let l = at-loop-test .before in (
+    let signed = c .before in
+    let l = turn signed .before in (
       omega arith,
-      sym (significant-next _ (l .loop .at) (at-loop-test .loop-test .taken) (c .if1 .left ∙ sign (c .before))) ∙ l .loop .inv .1,
+      sym (significant-next _ (l .loop .at) (turn signed .loop-test .taken) (c .if1 .left ∙ sign signed)) ∙ l .loop .inv .1,
     )
 
 sub-result-2 : tie.Need-sub-result-2 Inv-loop μ-loop
@@ -97,7 +99,7 @@ part-result-end-2 c = omega arith
 returns-2 : tie.Need-returns-2 Inv-loop μ-loop
 returns-2 c =
     let l = c .before .before in
-    let bs = l .before .before .args .number .now in
+    let bs = start l .args .number .now in
     whole bs (l .loop .at) ∙ sym (significant-short (drop (l .loop .at) bs) (omega (arith, length-drop (l .loop .at) bs))) ∙ l .loop .inv .1
 
 pub significant-spec : {M : Type 1} → statement M

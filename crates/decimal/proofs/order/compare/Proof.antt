@@ -11,10 +11,17 @@ use Rattle.decimal.proofs.OrderLaws.{orderOf-order}
 use Rattle.decimal.proofs.order.compare.Statement.{statement}
 use Rattle.decimal.proofs.order.compare.Tie as tie
 
-first : (c : tie.Then1) → let n = length (c .before .before .before .before .args .a .now) in (1 ≤ n) × (n ≤ 16)
+abbrev start : tie.Then1 → tie.Start
+start c = c .before .before .before .before
+
+first : (c : tie.Then1) → let n = length (start c .args .a .now) in (1 ≤ n) × (n ≤ 16)
 first c = isShort-bounds _ (sym (c .before .is-short .ensures) ∙ c .if1 .taken)
 
-second : (c : tie.Then2) → let n = length (c .before .before .before .before .before .before .args .b .now) in (1 ≤ n) × (n ≤ 16)
+-- that both are short, and the place from which the first was
+abbrev alone : tie.Then2 → tie.Then1
+alone c = c .before .before
+
+second : (c : tie.Then2) → let n = length (start (alone c) .args .b .now) in (1 ≤ n) × (n ≤ 16)
 second c = isShort-bounds _ (sym (c .before .is-short2 .ensures) ∙ c .if2 .taken)
 
 -- an answer, and what it stands for
@@ -28,7 +35,7 @@ is-short-requires-2 : tie.Need-is-short-requires-2
 is-short-requires-2 c κs = search needs
 
 words-of-requires : tie.Need-words-of-requires
-words-of-requires c κs = first (c .before .before)
+words-of-requires c κs = first (alone c)
 
 words-of-requires-2 : tie.Need-words-of-requires-2
 words-of-requires-2 c κs = second (c .before)
@@ -38,12 +45,14 @@ compare-words-requires c κs = search needs
 
 returns : tie.Need-returns
 returns c =
-    let k = c .before .before .before in
-    let s = k .before .before .before .before .before .before in
+    let of-a = c .before .before in
+    let both = of-a .before in
+    let short-a = first (alone both) in
+    let short-b = second both in
     answered
     (c .compare-words .ensures
-    ∙ ap₂ order (c .before .before .words-of .ensures) (c .before .words-of2 .ensures)
-    ∙ sym (orderOf-order (s .args .a .now) (s .args .b .now) (short-length _ (first (k .before .before) .0) (first (k .before .before) .1)) (short-length _ (second k .0) (second k .1))))
+    ∙ ap₂ order (of-a .words-of .ensures) (c .before .words-of2 .ensures)
+    ∙ sym (orderOf-order _ _ (short-length _ (short-a .0) (short-a .1)) (short-length _ (short-b .0) (short-b .1))))
 
 compare-by-bytes-requires : tie.Need-compare-by-bytes-requires
 compare-by-bytes-requires c κs = search needs

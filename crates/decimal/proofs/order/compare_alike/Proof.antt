@@ -1,9 +1,8 @@
 -- `decimal::order::compare_alike` meets its contract. The loop's invariant: the two numbers, with their sign in front up to one
 -- width, agree before `at`. The measure is what is left of the width. Assumes nothing.
-use mathlib.Core.Path.{_≡_, refl, sym, subst₂, _∙_}
+use mathlib.Core.Path.{_≡_, refl, sym}
 use mathlib.Core.List.{_++_}
-use Prim.Native.Nat.{ℕ, _-_, _≤_, _<_}
-use native.Mathlib.Nat.{le-antisymm}
+use Prim.Native.Nat.{_-_, _≤_}
 use native.Mathlib.Omega.{arith}
 use lib.ListN.{take, replicate}
 use borrow.Author.Needs.{needs}
@@ -21,22 +20,32 @@ abbrev μ-loop : tie.MeasureT-loop
 
 -- both numbers as they stand before the loop
 module _ (c : tie.After-greater Inv-loop μ-loop) where
-  sign-fits : c .before .before .before .args .sign < 256
-  sign-fits = c .before .before .before .fits .sign .fits
+  abbrev known : tie.After-shared-slice-known Inv-loop μ-loop
+  known = c .before .before
 
-  alike-a : Alike (c .before .before .before .args .sign) (c .greater .result) (c .before .before .before .args .a .now)
+  abbrev start : tie.Start Inv-loop μ-loop
+  start = known .before
+
+  alike-a : Alike (start .args .sign) (c .greater .result) (start .args .a .now)
   alike-a = record {
     within = omega arith;
-    signed = c .before .before .before .pre .0;
-    bytes = Bytes-getD (c .before .before .before .args .a .now) (λ k. c .before .before .shared-slice-known .given k .fits);
+    signed = start .pre .0;
+    bytes = Bytes-getD (start .args .a .now) (λ k. known .shared-slice-known .given k .fits);
   }
 
-  alike-b : Alike (c .before .before .before .args .sign) (c .greater .result) (c .before .before .before .args .b .now)
+  alike-b : Alike (start .args .sign) (c .greater .result) (start .args .b .now)
   alike-b = record {
     within = omega arith;
-    signed = c .before .before .before .pre .1;
-    bytes = Bytes-getD (c .before .before .before .args .b .now) (λ k. c .before .shared-slice-known2 .given k .fits);
+    signed = start .pre .1;
+    bytes = Bytes-getD (start .args .b .now) (λ k. c .before .shared-slice-known2 .given k .fits);
   }
+
+-- the places in a turn, from where both bytes have been read
+abbrev turn : tie.After-extended2 Inv-loop μ-loop → tie.In-loop Inv-loop μ-loop
+turn c = c .before .before
+
+abbrev ahead : tie.After-extended2 Inv-loop μ-loop → tie.After-greater Inv-loop μ-loop
+ahead c = turn c .before .before
 
 greater-requires : tie.Need-greater-requires Inv-loop μ-loop
 greater-requires c κs = search needs
@@ -58,22 +67,19 @@ extended-requires-2 c κs = omega arith
 
 returns : tie.Need-returns Inv-loop μ-loop
 returns c =
-    let at-extended = c .before .before in
-    let at-loop-test = at-extended .before in
-    let l = at-loop-test .before in
-    sym (widened-less (sign-fits (l .before)) (alike-a (l .before)) (alike-b (l .before)) (l .loop .at)
-    (at-loop-test .loop-test .taken) (l .loop .inv .1)
-    (subst₂ (λ (x y : ℕ). x < y) (at-extended .extended .ensures) (c .before .extended2 .ensures) (c .if1 .taken)))
+    let read = c .before in
+    let l = turn read .before in
+    sym (widened-less (start (ahead read) .fits .sign .fits) (alike-a (ahead read)) (alike-b (ahead read)) (l .loop .at)
+    (turn read .loop-test .taken) (l .loop .inv .1)
+    (omega arith))
 
 returns-2 : tie.Need-returns-2 Inv-loop μ-loop
 returns-2 c =
-    let at-extended2 = c .before .before in
-    let at-extended = at-extended2 .before in
-    let at-loop-test = at-extended .before in
-    let l = at-loop-test .before in
-    sym (widened-greater (sign-fits (l .before)) (alike-a (l .before)) (alike-b (l .before)) (l .loop .at)
-    (at-loop-test .loop-test .taken) (l .loop .inv .1)
-    (subst₂ (λ (x y : ℕ). x < y) (at-extended2 .extended2 .ensures) (at-extended .extended .ensures) (c .if2 .taken)))
+    let read = c .before .before in
+    let l = turn read .before in
+    sym (widened-greater (start (ahead read) .fits .sign .fits) (alike-a (ahead read)) (alike-b (ahead read)) (l .loop .at)
+    (turn read .loop-test .taken) (l .loop .inv .1)
+    (omega arith))
 
 add-at : tie.Need-add-at Inv-loop μ-loop
 add-at c = omega arith
@@ -83,15 +89,11 @@ loop-less c = omega arith
 
 loop-again : tie.Need-loop-again Inv-loop μ-loop
 loop-again c =
-    let at-extended2 = c .before .before in
-    let at-extended = at-extended2 .before in
-    let at-loop-test = at-extended .before in
-    let l = at-loop-test .before in (
+    let read = c .before .before in
+    let l = turn read .before in (
       omega arith,
-      widened-next (alike-a (l .before)) (alike-b (l .before)) (l .loop .at) (at-loop-test .loop-test .taken)
-          (l .loop .inv .1)
-          (sym (at-extended .extended .ensures) ∙ le-antisymm (c .if2 .left) (c .before .if1 .left)
-          ∙ at-extended2 .extended2 .ensures),
+      widened-next (alike-a (ahead read)) (alike-b (ahead read)) (l .loop .at) (turn read .loop-test .taken) (l .loop .inv .1)
+          (omega arith),
     )
 
 returns-3 : tie.Need-returns-3 Inv-loop μ-loop

@@ -1,59 +1,69 @@
 -- `decimal::order::compare_by_bytes` meets its contract: wrong lengths first, then the signs, then the bytes of numbers of one sign.
 -- Assumes nothing.
-use mathlib.Core.Path.{_≡_, sym, subst₂, _∙_}
+use mathlib.Core.Path.{_≡_, sym, _∙_}
 use mathlib.Core.Bool.{true}
 use mathlib.Core.List.{List}
 use Prim.Native.Nat.{ℕ, _<_}
-use native.Mathlib.Nat.{le-antisymm}
+use native.Mathlib.Omega.{arith}
 use lib.ListN.{length}
 use borrow.Author.Needs.{needs}
 use borrow.Author.Tests.{not-true, not-false}
 use Rattle.decimal.specs.declared.order.Order.{Order}
 use Rattle.decimal.specs.Precision.{isLength}
 use Rattle.decimal.specs.Number.{number}
-use Rattle.decimal.specs.Significant.{signByte}
 use Rattle.decimal.specs.Order.{order, orderOf}
 use Rattle.decimal.proofs.UnsignedLaws.{Bytes, Bytes-getD}
 use Rattle.decimal.proofs.OrderLaws.{order-<, order->, number-signs, orderOf-order, orderOf-wrong-left, orderOf-wrong-right}
 use Rattle.decimal.proofs.order.compare_by_bytes.Statement.{statement}
 use Rattle.decimal.proofs.order.compare_by_bytes.Tie as tie
 
-length-a : (c : tie.Else1) → isLength (length (c .before .before .before .before .args .a .now)) ≡ true
+-- the places, each from one behind it
+abbrev known : tie.Else1 → tie.After-shared-slice-known2
+known c = c .before .before
+
+abbrev start : tie.Else1 → tie.Start
+start c = known c .before .before
+
+abbrev first : tie.Else2 → tie.Else1
+first c = c .before .before
+
+abbrev measured : tie.After-sign-byte2 → tie.Else2
+measured c = c .before .before
+
+length-a : (c : tie.Else1) → isLength (length (start c .args .a .now)) ≡ true
 length-a c = sym (c .before .is-length .ensures) ∙ not-false _ (c .if1 .left)
 
-length-b : (c : tie.Else2) → isLength (length (c .before .before .before .before .before .before .args .b .now)) ≡ true
+length-b : (c : tie.Else2) → isLength (length (start (first c) .args .b .now)) ≡ true
 length-b c = sym (c .before .is-length2 .ensures) ∙ not-false _ (c .if2 .left)
 
 -- what is known once both signs are
 module _ (c : tie.After-sign-byte2) where
   abbrev a : List ℕ
-  a = c .before .before .before .before .before .before .before .before .args .a .now
+  a = start (first (measured c)) .args .a .now
 
   abbrev b : List ℕ
-  b = c .before .before .before .before .before .before .before .before .args .b .now
+  b = start (first (measured c)) .args .b .now
+
+  abbrev sign-a : ℕ
+  sign-a = c .before .sign-byte .result
+
+  abbrev sign-b : ℕ
+  sign-b = c .sign-byte2 .result
 
   in-order : orderOf a b ≡ order (number a) (number b)
-  in-order = orderOf-order a b (length-a (c .before .before .before .before)) (length-b (c .before .before))
+  in-order = orderOf-order a b (length-a (first (measured c))) (length-b (measured c))
 
   bytes-a : Bytes a
-  bytes-a = Bytes-getD a (λ k. c .before .before .before .before .before .before .before .shared-slice-known .given k .fits)
+  bytes-a = Bytes-getD a (λ k. known (first (measured c)) .before .shared-slice-known .given k .fits)
 
   bytes-b : Bytes b
-  bytes-b = Bytes-getD b (λ k. c .before .before .before .before .before .before .shared-slice-known2 .given k .fits)
+  bytes-b = Bytes-getD b (λ k. known (first (measured c)) .shared-slice-known2 .given k .fits)
 
-  sign-a : c .before .sign-byte .result ≡ signByte a
-  sign-a = c .before .sign-byte .ensures
+  first-negative : sign-b < sign-a → orderOf a b ≡ Order.Less
+  first-negative h = in-order ∙ order-< (number a) (number b) (number-signs a b bytes-a (omega arith))
 
-  sign-b : c .sign-byte2 .result ≡ signByte b
-  sign-b = c .sign-byte2 .ensures
-
-  first-negative : c .sign-byte2 .result < c .before .sign-byte .result → orderOf a b ≡ Order.Less
-  first-negative h =
-      in-order ∙ order-< (number a) (number b) (number-signs a b bytes-a (subst₂ (λ (x y : ℕ). x < y) sign-b sign-a h))
-
-  second-negative : c .before .sign-byte .result < c .sign-byte2 .result → orderOf a b ≡ Order.Greater
-  second-negative h =
-      in-order ∙ order-> (number a) (number b) (number-signs b a bytes-b (subst₂ (λ (x y : ℕ). x < y) sign-a sign-b h))
+  second-negative : sign-a < sign-b → orderOf a b ≡ Order.Greater
+  second-negative h = in-order ∙ order-> (number a) (number b) (number-signs b a bytes-b (omega arith))
 
 is-length-requires : tie.Need-is-length-requires
 is-length-requires c κs = search needs
@@ -80,9 +90,7 @@ returns-4 : tie.Need-returns-4
 returns-4 c = sym (second-negative (c .before .before) (c .if4 .taken))
 
 compare-alike-requires : tie.Need-compare-alike-requires
-compare-alike-requires c κs =
-    let k = c .before .before in
-    (sign-a k, le-antisymm (c .before .if3 .left) (c .if4 .left) ∙ sign-b k)
+compare-alike-requires c κs = search needs
 
 returns-5 : tie.Need-returns-5
 returns-5 c = c .compare-alike .ensures ∙ sym (in-order (c .before .before .before))

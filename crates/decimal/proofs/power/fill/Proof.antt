@@ -7,6 +7,7 @@ use native.Mathlib.Omega.{arith}
 use lib.ListN.{length, drop, set, replicate, length-set}
 use lib.Seq.{drop-length}
 use borrow.Author.Fill.{fill-more}
+use borrow.Author.Needs.{needs}
 use Rattle.decimal.proofs.power.fill.Statement.{statement}
 use Rattle.decimal.proofs.power.fill.Tie as tie
 
@@ -42,10 +43,10 @@ loop-again c =
     )
 
 same-length : tie.Need-same-length Inv-loop μ-loop
-same-length c = c .before .loop .inv .1
+same-length c = search needs
 
 returns : tie.Need-returns Inv-loop μ-loop
-returns c = c .before .loop .inv .2 ∙ filled (c .before .before .args .bytes .now) (c .before .before .args .byte) (c .before .loop .at) (omega arith)
+returns c = let l = c .before in l .loop .inv .2 ∙ filled (l .before .args .bytes .now) (l .before .args .byte) (l .loop .at) (omega arith)
 
 pub fill-spec : {M : Type 1} → statement M
 fill-spec =

@@ -1,8 +1,7 @@
 -- `decimal::power::is_below_power` meets its contract: 20 digits are more than a word holds. Assumes nothing.
-use mathlib.Core.Path.{sym, ap}
+use mathlib.Core.Path.{sym}
 use native.Mathlib.Nat.{lt-of-lt-of-le, pow-le-pow-right}
 use native.Mathlib.Omega.{arith}
-use lib.Dec.{ltb}
 use borrow.Author.Needs.{needs}
 use borrow.Author.Tests.{lt-ltb}
 use Rattle.decimal.proofs.power.is_below_power.Statement.{statement}
@@ -15,7 +14,7 @@ power-of-ten-requires : tie.Need-power-of-ten-requires
 power-of-ten-requires c κs = search needs
 
 returns-2 : tie.Need-returns-2
-returns-2 c = ap (ltb (c .before .before .args .n)) (c .power-of-ten .ensures)
+returns-2 c = cc
 
 pub is-below-power-spec : {M : Type 1} → statement M
 is-below-power-spec = tie.close (tie.spec returns power-of-ten-requires returns-2)

@@ -1,7 +1,7 @@
 -- `decimal::power::scale` meets its contract. The loop's invariant: the bytes from `at` on are scaled, but for the carry. The
 -- measure is `at`. Assumes nothing.
 use mathlib.Core.Path.{subst}
-use Prim.Native.Nat.{_≤_, _-_}
+use Prim.Native.Nat.{_*_, _≤_, _-_}
 use native.Mathlib.Nat.{mul-le-mul-right}
 use native.Mathlib.Omega.{arith}
 use borrow.Author.Needs.{needs}
@@ -27,14 +27,21 @@ slice-read-wide c = omega arith
 wide-requires : tie.Need-wide-requires Inv-loop μ-loop
 wide-requires c κs = search needs
 
+-- the place before the turn, from where the byte has been read
+abbrev loop : tie.After-wide Inv-loop μ-loop → tie.At-loop Inv-loop μ-loop
+loop c = c .before .before .before
+
 byte : (c : tie.After-wide Inv-loop μ-loop) → c .wide .result ≤ 255
-byte c = omega (arith, c .wide .ensures, c .before .slice-known2 .given (c .before .before .before .loop .at - 1))
+byte c = omega (arith, c .before .slice-known2 .given (loop c .loop .at - 1))
+
+product : (c : tie.After-wide Inv-loop μ-loop) → let factor = loop c .before .before .args .factor in c .wide .result * factor ≤ 255 * factor
+product c = mul-le-mul-right _ (byte c)
 
 mul-product : tie.Need-mul-product Inv-loop μ-loop
-mul-product c = record { fits = omega (arith, mul-le-mul-right (c .before .before .before .before .before .args .factor) (byte c)) }
+mul-product c = record { fits = omega (arith, product c) }
 
 add-product : tie.Need-add-product Inv-loop μ-loop
-add-product c = record { fits = omega (arith, mul-le-mul-right (c .before .before .before .before .before .args .factor) (byte c)) }
+add-product c = record { fits = omega (arith, product c) }
 
 cast-bytes : tie.Need-cast-bytes Inv-loop μ-loop
 cast-bytes c = omega arith
@@ -47,11 +54,11 @@ loop-less c = omega arith
 
 loop-again : tie.Need-loop-again Inv-loop μ-loop
 loop-again c =
-    let l = c .before .before .before in
+    let l = loop c in
     rw (c .wide .ensures) (scaled-step {at = l .loop .at - 1} (subst (Scaled _ _ _ _) (omega arith) (l .loop .inv)) (c .before .slice-known2 .given (l .loop .at - 1) .fits))
 
 same-length : tie.Need-same-length Inv-loop μ-loop
-same-length c = c .before .loop .inv .same
+same-length c = search needs
 
 returns : tie.Need-returns Inv-loop μ-loop
 returns c = scaled-all (subst (Scaled _ _ _ _) (omega arith) (c .before .loop .inv))

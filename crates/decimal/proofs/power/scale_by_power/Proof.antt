@@ -4,6 +4,7 @@ use mathlib.Core.Path.{_≡_, refl, ap, _∙_}
 use Prim.Native.Nat.{ℕ, _≤_, _*_, _-_, _^_, _%_}
 use native.Mathlib.Omega.{arith}
 use lib.ListN.{length}
+use borrow.Author.Needs.{needs}
 use Rattle.decimal.specs.Number.{unsigned}
 use Rattle.decimal.proofs.UnsignedLaws.{Bytes-getD, unsigned-<}
 use Rattle.decimal.proofs.PowerLaws.{power-bounds, power-more, power-none}
@@ -29,16 +30,20 @@ scale-requires c κs = omega arith
 loop-less : tie.Need-loop-less Inv-loop μ-loop
 loop-less c = omega arith
 
+-- the place before the loop
+abbrev start : tie.At-loop Inv-loop μ-loop → tie.Start Inv-loop μ-loop
+start l = l .before .before
+
 loop-again : tie.Need-loop-again Inv-loop μ-loop
 loop-again c =
-    let at-scale = c .before .before in
-    let at-power-of-ten = at-scale .before in
-    let l = at-power-of-ten .before .before .before in (
+    let scaled = c .before .before in
+    let power = scaled .before in
+    let l = power .before .before .before in (
       omega arith,
-      at-scale .scale .kept .0 ∙ l .loop .inv .1,
-      at-scale .scale .ensures
-          ∙ ap (λ (n : ℕ). unsigned (l .loop .bytes) * at-power-of-ten .power-of-ten .result % 256 ^ n) (l .loop .inv .1)
-          ∙ power-more _ _ _ _ (l .before .before .args .exponent - l .loop .left) 16 _ (l .loop .inv .2) (at-power-of-ten .power-of-ten .ensures) (omega arith),
+      scaled .scale .kept .0 ∙ l .loop .inv .1,
+      scaled .scale .ensures
+          ∙ ap (λ (n : ℕ). unsigned (l .loop .bytes) * power .power-of-ten .result % 256 ^ n) (l .loop .inv .1)
+          ∙ power-more _ _ _ _ (start l .args .exponent - l .loop .left) 16 _ (l .loop .inv .2) (power .power-of-ten .ensures) (omega arith),
     )
 
 power-of-ten-requires-2 : tie.Need-power-of-ten-requires-2 Inv-loop μ-loop
@@ -48,16 +53,16 @@ scale-requires-2 : tie.Need-scale-requires-2 Inv-loop μ-loop
 scale-requires-2 c κs = omega (arith, c .power-of-ten2 .ensures, power-bounds (c .before .before .before .loop .left) (omega arith))
 
 same-length : tie.Need-same-length Inv-loop μ-loop
-same-length c = c .before .before .scale2 .kept .0 ∙ c .before .before .before .before .before .before .loop .inv .1
+same-length c = search needs
 
 returns : tie.Need-returns Inv-loop μ-loop
 returns c =
-    let at-scale2 = c .before .before in
-    let at-power-of-ten2 = at-scale2 .before in
-    let l = at-power-of-ten2 .before .before .before in
-    at-scale2 .scale2 .ensures
-    ∙ ap (λ (n : ℕ). unsigned (l .loop .bytes) * at-power-of-ten2 .power-of-ten2 .result % 256 ^ n) (l .loop .inv .1)
-    ∙ power-more _ _ _ _ (l .before .before .args .exponent - l .loop .left) (l .loop .left) _ (l .loop .inv .2) (at-power-of-ten2 .power-of-ten2 .ensures) (omega arith)
+    let scaled = c .before .before in
+    let power = scaled .before in
+    let l = power .before .before .before in
+    scaled .scale2 .ensures
+    ∙ ap (λ (n : ℕ). unsigned (l .loop .bytes) * power .power-of-ten2 .result % 256 ^ n) (l .loop .inv .1)
+    ∙ power-more _ _ _ _ (start l .args .exponent - l .loop .left) (l .loop .left) _ (l .loop .inv .2) (power .power-of-ten2 .ensures) (omega arith)
 
 pub scale-by-power-spec : {M : Type 1} → statement M
 scale-by-power-spec =

@@ -1,8 +1,4 @@
 -- `decimal::power::write_unit` meets its contract: -1 has every bit set, and 1 the last alone. Assumes nothing.
-use mathlib.Core.Path.{sym, ap, _∙_}
-use mathlib.Core.Bool.{Bool, cond}
-use Prim.Native.Nat.{_-_, _^_}
-use lib.ListN.{length}
 use Rattle.decimal.proofs.BoundLaws.{unsigned-all-set, unsigned-last-set}
 use borrow.Author.Needs.{needs}
 use Rattle.decimal.proofs.power.write_unit.Statement.{statement}
@@ -16,11 +12,8 @@ same-length c = search needs
 
 returns : tie.Need-returns
 returns c =
-    let at-fill = c .before .before in
-    let at-if1 = at-fill .before .before in
-    let start = at-if1 .before .before in
-    unsigned-all-set _ _ (at-fill .fill .ensures)
-    ∙ sym (ap (λ (t : Bool). cond t (256 ^ length (start .args .bytes .now) - 1) 1) (at-if1 .if1 .taken))
+    let filled = c .before .before in
+    rw (filled .before .before .if1 .taken) (unsigned-all-set _ _ (filled .fill .ensures))
 
 fill-requires-2 : tie.Need-fill-requires-2
 fill-requires-2 c κs = search needs
@@ -36,11 +29,9 @@ same-length-2 c = search needs
 
 returns-2 : tie.Need-returns-2
 returns-2 c =
-    let at-fill2 = c .before .before in
-    let at-if1 = at-fill2 .before .before in
-    let start = at-if1 .before .before in
-    unsigned-last-set _ _ (start .pre) (at-fill2 .fill2 .ensures)
-    ∙ sym (ap (λ (t : Bool). cond t (256 ^ length (start .args .bytes .now) - 1) 1) (at-if1 .if1 .left))
+    let filled = c .before .before in
+    let other = filled .before .before in
+    rw (other .if1 .left) (unsigned-last-set _ _ (other .before .before .pre) (filled .fill2 .ensures))
 
 pub write-unit-spec : {M : Type 1} → statement M
 write-unit-spec =

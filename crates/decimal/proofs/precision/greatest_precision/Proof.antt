@@ -21,7 +21,7 @@ wide-requires : tie.Need-wide-requires
 wide-requires c κs = search needs
 
 returns-2 : tie.Need-returns-2
-returns-2 c = c .wide .ensures ∙ c .before .entry-of .ensures
+returns-2 c = search needs
 
 pub greatest-precision-spec : {M : Type 1} → statement M
 greatest-precision-spec =

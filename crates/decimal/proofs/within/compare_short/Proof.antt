@@ -18,26 +18,32 @@ use Rattle.decimal.proofs.within.compare_short.Statement.{statement}
 use Rattle.decimal.proofs.within.compare_short.Tie as tie
 
 module _ (c : tie.After-both-keep-to) where
+  abbrev first : tie.After-words-of
+  first = c .before .before
+
+  abbrev start : tie.Start
+  start = first .before .before .before
+
   abbrev a : List ℕ
-  a = c .before .before .before .before .before .args .a .now
+  a = start .args .a .now
 
   abbrev b : List ℕ
-  b = c .before .before .before .before .before .args .b .now
+  b = start .args .b .now
 
   abbrev precision : ℕ
-  precision = c .before .before .before .before .before .args .precision
+  precision = start .args .precision
 
   length-a : isLength (length a) ≡ true
-  length-a = let s = c .before .before .before .before .before in short-length (length a) (s .pre .0) (s .pre .1)
+  length-a = short-length (length a) (start .pre .0) (start .pre .1)
 
   length-b : isLength (length b) ≡ true
-  length-b = let s = c .before .before .before .before .before in short-length (length b) (s .pre .2) (s .pre .3)
+  length-b = short-length (length b) (start .pre .2) (start .pre .3)
 
   verdict : (t : Bool) → c .both-keep-to .result ≡ t → cond t (asCompared (orderOf a b)) Compared.Beyond ≡ orderWithin a b precision
   verdict t e =
       sym (within-both a b precision length-a length-b
       ∙ ap (λ (u : Bool). cond u (asCompared (orderOf a b)) Compared.Beyond)
-      (sym (ap₂ (λ (x y : ℤ). ltb (natAbs x) (10 ^ precision) && ltb (natAbs y) (10 ^ precision)) (c .before .before .words-of .ensures) (c .before .words-of2 .ensures))
+      (sym (ap₂ (λ (x y : ℤ). ltb (natAbs x) (10 ^ precision) && ltb (natAbs y) (10 ^ precision)) (first .words-of .ensures) (c .before .words-of2 .ensures))
       ∙ sym (c .both-keep-to .ensures) ∙ e))
 
 words-of-requires : tie.Need-words-of-requires
@@ -61,7 +67,7 @@ returns c =
     let k = then .before in
     c .as-compared .ensures
     ∙ ap asCompared
-    (c .before .compare-words .ensures ∙ ap₂ order (k .before .before .words-of .ensures) (k .before .words-of2 .ensures) ∙ sym (orderOf-order (a k) (b k) (length-a k) (length-b k)))
+    (c .before .compare-words .ensures ∙ ap₂ order (first k .words-of .ensures) (k .before .words-of2 .ensures) ∙ sym (orderOf-order (a k) (b k) (length-a k) (length-b k)))
     ∙ verdict k true (then .if1 .taken)
 
 returns-2 : tie.Need-returns-2

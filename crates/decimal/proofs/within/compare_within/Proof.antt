@@ -9,10 +9,17 @@ use Rattle.decimal.proofs.WordLaws.{isShort-bounds}
 use Rattle.decimal.proofs.within.compare_within.Statement.{statement}
 use Rattle.decimal.proofs.within.compare_within.Tie as tie
 
-first : (c : tie.Then1) → let n = length (c .before .before .before .before .args .a .now) in (1 ≤ n) × (n ≤ 16)
+abbrev start : tie.Then1 → tie.Start
+start c = c .before .before .before .before
+
+first : (c : tie.Then1) → let n = length (start c .args .a .now) in (1 ≤ n) × (n ≤ 16)
 first c = isShort-bounds _ (sym (c .before .is-short .ensures) ∙ c .if1 .taken)
 
-second : (c : tie.Then2) → let n = length (c .before .before .before .before .before .before .args .b .now) in (1 ≤ n) × (n ≤ 16)
+-- that both are short, and the place from which the first was
+abbrev alone : tie.Then2 → tie.Then1
+alone c = c .before .before
+
+second : (c : tie.Then2) → let n = length (start (alone c) .args .b .now) in (1 ≤ n) × (n ≤ 16)
 second c = isShort-bounds _ (sym (c .before .is-short2 .ensures) ∙ c .if2 .taken)
 
 -- an answer, and what it stands for
@@ -27,7 +34,7 @@ is-short-requires-2 c κs = search needs
 
 compare-short-requires : tie.Need-compare-short-requires
 compare-short-requires c κs =
-    let a = first (c .before .before) in
+    let a = first (alone c) in
     let b = second c in
     (a .0, a .1, b .0, b .1)
 

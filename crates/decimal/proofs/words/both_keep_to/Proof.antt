@@ -1,8 +1,7 @@
 -- `decimal::words::both_keep_to` meets its contract: both against one power of ten. Assumes nothing.
-use mathlib.Core.Path.{ap, ap₂, _∙_}
+use mathlib.Core.Path.{ap₂}
 use mathlib.Core.Bool.{_&&_}
 use native.Mathlib.Omega.{arith}
-use lib.Dec.{ltb}
 use borrow.Author.Needs.{needs}
 use Rattle.decimal.proofs.WordLaws.{power-≤, far-beyond}
 use Rattle.decimal.proofs.words.both_keep_to.Statement.{statement}
@@ -25,9 +24,7 @@ is-near-requires-2 : tie.Need-is-near-requires-2
 is-near-requires-2 c κs = is-near-requires (c .before) κs
 
 returns-2 : tie.Need-returns-2
-returns-2 c =
-    let power = c .before .before .power-words .ensures .0 in
-    ap₂ _&&_ (c .before .is-near .ensures ∙ ap (ltb _) power) (c .is-near2 .ensures ∙ ap (ltb _) power)
+returns-2 c = cc
 
 pub both-keep-to-spec : {M : Type 1} → statement M
 both-keep-to-spec =

@@ -18,9 +18,10 @@ word-requires c κs = search needs
 
 lifted-requires : tie.Need-lifted-requires
 lifted-requires c κs =
-    let s = c .before .before .before in
+    let eight = c .before in
+    let s = eight .before .before in
     let fits : c .word .result < 256 ^ 8 = omega arith in
-    (s .pre .0, s .pre .1, subst (λ (k : ℕ). c .word .result < 256 ^ k) (sym (c .before .if1 .taken)) fits)
+    (s .pre .0, s .pre .1, subst (λ (k : ℕ). c .word .result < 256 ^ k) (sym (eight .if1 .taken)) fits)
 
 returns : tie.Need-returns
 returns c =

@@ -1,26 +1,27 @@
 -- `decimal::words::half` meets its contract: four bytes are below 2^32. Assumes nothing.
-use Prim.Native.Nat.{ℕ, _+_, _≤_}
+use Prim.Native.Nat.{_+_, _≤_}
 use native.Mathlib.Omega.{arith}
 use borrow.Author.Needs.{needs}
 use Rattle.decimal.specs.Words.{fourBytes}
 use Rattle.decimal.proofs.words.half.Statement.{statement}
 use Rattle.decimal.proofs.words.half.Tie as tie
 
-module _ (c : tie.After-wide4) where
-  abbrev at : ℕ
-  at = c .before .before .before .before .before .before .before .before .before .args .at
+-- the bytes that have been read, each from the one behind it
+abbrev third : tie.After-wide4 → tie.After-wide3
+third c = c .before .before
 
-  first : c .before .before .before .before .before .before .wide .result ≤ 255
-  first = omega (arith, c .before .before .before .before .before .before .wide .ensures, c .before .before .before .before .before .before .before .before .shared-slice-known .given at)
+abbrev second : tie.After-wide4 → tie.After-wide2
+second c = third c .before .before
 
-  second : c .before .before .before .before .wide2 .result ≤ 255
-  second = omega (arith, c .before .before .before .before .wide2 .ensures, c .before .before .before .before .before .before .before .before .shared-slice-known .given (at + 1))
+abbrev first : tie.After-wide4 → tie.After-wide
+first c = second c .before .before
 
-  third : c .before .before .wide3 .result ≤ 255
-  third = omega (arith, c .before .before .wide3 .ensures, c .before .before .before .before .before .before .before .before .shared-slice-known .given (at + 2))
-
-  fourth : c .wide4 .result ≤ 255
-  fourth = omega (arith, c .wide4 .ensures, c .before .before .before .before .before .before .before .before .shared-slice-known .given (at + 3))
+bytes : (c : tie.After-wide4) → (first c .wide .result ≤ 255) × (second c .wide2 .result ≤ 255) × (third c .wide3 .result ≤ 255) × (c .wide4 .result ≤ 255)
+bytes c =
+    let known = first c .before .before in
+    let byte = known .shared-slice-known .given in
+    let at = known .before .args .at in
+    omega (arith, byte at, byte (at + 1), byte (at + 2), byte (at + 3))
 
 shared-slice-read-wide : tie.Need-shared-slice-read-wide
 shared-slice-read-wide c = search needs
@@ -56,32 +57,26 @@ wide-requires-4 : tie.Need-wide-requires-4
 wide-requires-4 c κs = search needs
 
 mul-result : tie.Need-mul-result
-mul-result c = omega (arith, first c)
+mul-result c = omega (arith, bytes c)
 
 add-result : tie.Need-add-result
-add-result c = omega (arith, first c, second c)
+add-result c = omega (arith, bytes c)
 
 mul-result-2 : tie.Need-mul-result-2
-mul-result-2 c = omega (arith, first c, second c)
+mul-result-2 c = omega (arith, bytes c)
 
 add-result-2 : tie.Need-add-result-2
-add-result-2 c = omega (arith, first c, second c, third c)
+add-result-2 c = omega (arith, bytes c)
 
 mul-result-3 : tie.Need-mul-result-3
-mul-result-3 c = omega (arith, first c, second c, third c)
+mul-result-3 c = omega (arith, bytes c)
 
 add-result-3 : tie.Need-add-result-3
-add-result-3 c = omega (arith, first c, second c, third c, fourth c)
+add-result-3 c = omega (arith, bytes c)
 
 returns : tie.Need-returns
 unfolding fourBytes
-returns c =
-    let at-wide3 = c .before .before in
-    let at-wide2 = at-wide3 .before .before in
-    let at-wide = at-wide2 .before .before in (
-      omega (arith, at-wide .wide .ensures, at-wide2 .wide2 .ensures, at-wide3 .wide3 .ensures, c .wide4 .ensures),
-      omega (arith, first c, second c, third c, fourth c),
-    )
+returns c = omega (arith, bytes c)
 
 pub half-spec : {M : Type 1} → statement M
 half-spec =

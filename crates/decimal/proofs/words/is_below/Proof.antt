@@ -5,20 +5,13 @@ use Rattle.decimal.proofs.words.is_below.Statement.{statement}
 use Rattle.decimal.proofs.words.is_below.Tie as tie
 
 returns : tie.Need-returns
-returns c =
-    let s = c .before .before .before .before .before .args in
-    words-same (s .v .high) (s .w .high) (s .v .low) (s .w .low) (c .before .before .if1 .taken)
+returns c = let same = c .before .before in words-same _ _ _ _ (same .if1 .taken)
 
 returns-2 : tie.Need-returns-2
 returns-2 c =
-    let at-if1 = c .before .before in
-    let at-struct-known2 = at-if1 .before in
-    let at-struct-known = at-struct-known2 .before in
-    let start = at-struct-known .before in
-    let s = start .args in
-    words-differ (s .v .high) (s .w .high) (s .v .low) (s .w .low)
-    (omega (arith, at-struct-known .struct-known .given))
-    (omega (arith, at-struct-known2 .struct-known2 .given)) (at-if1 .if1 .left)
+    let other = c .before .before in
+    let s = other .before .before .before .args in
+    words-differ (s .v .high) (s .w .high) (s .v .low) (s .w .low) (omega arith) (omega arith) (other .if1 .left)
 
 pub is-below-spec : {M : Type 1} → statement M
 is-below-spec = tie.close (tie.spec returns returns-2)

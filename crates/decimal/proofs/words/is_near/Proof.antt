@@ -11,17 +11,21 @@ use Rattle.decimal.proofs.WordLaws.{near-high, near-fits, near-least, n
 use Rattle.decimal.proofs.words.is_near.Statement.{statement}
 use Rattle.decimal.proofs.words.is_near.Tie as tie
 
-abbrev far : tie.After-struct-known → Words
-far c = c .before .args .far
+module _ (c : tie.After-struct-known) where
+  abbrev start : tie.Start
+  start = c .before
 
-fits : (c : tie.After-struct-known) → far c .low < 2 ^ 64
-fits c = omega (arith, c .struct-known .given)
+  abbrev far : Words
+  far = start .args .far
+
+  fits : far .low < 2 ^ 64
+  fits = omega (arith, c .struct-known .given)
 
 sub-t5 : tie.Need-sub-t5
 sub-t5 c = search needs
 
 sub-t6 : tie.Need-sub-t6
-sub-t6 c = near-high (far c .high) (far c .low) (2 ^ 63) (2 ^ 127) (c .before .pre .1) (fits c) refl (c .before .pre .0)
+sub-t6 c = near-high (far c .high) (far c .low) (2 ^ 63) (2 ^ 127) (start c .pre .1) (fits c) refl (start c .pre .0)
 
 sub-t7 : tie.Need-sub-t7
 sub-t7 c = search needs
@@ -32,7 +36,7 @@ sub-t8 c = search needs
 add-t5 : tie.Need-add-t5
 add-t5 c =
     let k = c .before .before in
-    record { fits = near-fits (far k .high) (far k .low) (2 ^ 63) (2 ^ 127) (k .before .pre .1) (fits k) refl (k .before .pre .0) }
+    record { fits = near-fits (far k .high) (far k .low) (2 ^ 63) (2 ^ 127) (start k .pre .1) (fits k) refl (start k .pre .0) }
 
 is-below-requires : tie.Need-is-below-requires
 is-below-requires c κs = search needs
@@ -44,12 +48,13 @@ returns : tie.Need-returns
 returns c =
     let k = c .before .before .before .before in
     let f = far k in
-    let v = valueOf (k .before .args .w) in
-    let some = k .before .pre .1 in
+    let v = valueOf (start k .args .w) in
+    let near = start k .pre .0 in
+    let some = start k .pre .1 in
     ap₂ _&&_
-    (c .before .is-below .ensures ∙ ap (λ (n : ℕ). ltb n v) (near-least (f .high) (f .low) (2 ^ 63) (2 ^ 127) some (fits k) refl (k .before .pre .0)))
-    (c .is-below2 .ensures ∙ ap (ltb v) (near-most (f .high) (f .low) (2 ^ 63) (2 ^ 127) some (fits k) refl (k .before .pre .0)))
-    ∙ near-test v (2 ^ 127) (valueOf f) (omega (arith, some)) (k .before .pre .0)
+    (c .before .is-below .ensures ∙ ap (λ (n : ℕ). ltb n v) (near-least (f .high) (f .low) (2 ^ 63) (2 ^ 127) some (fits k) refl near))
+    (c .is-below2 .ensures ∙ ap (ltb v) (near-most (f .high) (f .low) (2 ^ 63) (2 ^ 127) some (fits k) refl near))
+    ∙ near-test v (2 ^ 127) (valueOf f) (omega arith) near
 
 pub is-near-spec : {M : Type 1} → statement M
 is-near-spec =

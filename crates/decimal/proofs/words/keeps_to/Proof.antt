@@ -1,7 +1,5 @@
 -- `decimal::words::keeps_to` meets its contract: against the power of ten, which 39 digits need not be held to. Assumes nothing.
-use mathlib.Core.Path.{ap, _∙_}
 use native.Mathlib.Omega.{arith}
-use lib.Dec.{ltb}
 use borrow.Author.Needs.{needs}
 use Rattle.decimal.proofs.WordLaws.{power-≤, far-beyond}
 use Rattle.decimal.proofs.words.keeps_to.Statement.{statement}
@@ -19,7 +17,7 @@ is-near-requires : tie.Need-is-near-requires
 is-near-requires c κs = (rw (c .power-words .ensures .0) (power-≤ _ (c .before .if1 .left)), c .power-words .ensures .1)
 
 returns-2 : tie.Need-returns-2
-returns-2 c = c .is-near .ensures ∙ ap (ltb _) (c .before .power-words .ensures .0)
+returns-2 c = cc
 
 pub keeps-to-spec : {M : Type 1} → statement M
 keeps-to-spec = tie.close (tie.spec returns power-words-requires is-near-requires returns-2)

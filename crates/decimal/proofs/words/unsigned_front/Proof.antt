@@ -4,6 +4,7 @@ use Prim.Native.Nat.{ℕ, _+_, _*_, _-_, _^_, _≤_, _<_}
 use native.Mathlib.Nat.{lt-of-lt-of-le, pow-le-pow-right}
 use native.Mathlib.Omega.{arith}
 use lib.ListN.{take}
+use borrow.Author.Needs.{needs}
 use Rattle.decimal.specs.Number.{unsigned}
 use Rattle.decimal.proofs.WordLaws.{unsigned-next, power-next}
 use Rattle.decimal.proofs.words.unsigned_front.Statement.{statement}
@@ -17,11 +18,10 @@ abbrev μ-loop : tie.MeasureT-loop
 
 -- in a turn at least one byte is left, so those before it are seven at most
 room : (c : tie.In-loop Inv-loop μ-loop) → c .before .loop .n < 256 ^ 7
-room c = lt-of-lt-of-le (c .before .loop .inv .2) (pow-le-pow-right (omega arith) {j = 7} (omega (arith, c .before .before .before .pre)))
+room c = lt-of-lt-of-le (c .before .loop .inv .2) (pow-le-pow-right (omega arith) {j = 7} (omega arith))
 
 byte : (c : tie.After-wide Inv-loop μ-loop) → c .wide .result < 256
-byte c =
-    subst (λ (b : ℕ). b < 256) (sym (c .wide .ensures)) (c .before .shared-slice-known2 .given (c .before .before .before .loop .at) .fits)
+byte c = let known = c .before in omega (arith, known .shared-slice-known2 .given (known .before .before .loop .at))
 
 loop-holds : tie.Need-loop-holds Inv-loop μ-loop
 loop-holds c = (omega arith, refl, omega arith)
@@ -30,7 +30,7 @@ mul-n : tie.Need-mul-n Inv-loop μ-loop
 mul-n c = record { fits = omega (arith, room c) }
 
 shared-slice-read-wide : tie.Need-shared-slice-read-wide Inv-loop μ-loop
-shared-slice-read-wide c = omega (arith, c .before .before .before .before .pre .1)
+shared-slice-read-wide c = search needs
 
 wide-requires : tie.Need-wide-requires Inv-loop μ-loop
 wide-requires c κs = tt
@@ -51,7 +51,7 @@ loop-again c =
     let at = l .loop .at in (
       omega arith,
       ap₂ (λ (n b : ℕ). n * 256 + b) (l .loop .inv .1) (c .wide .ensures)
-          ∙ sym (unsigned-next (s .args .bytes .now) at (omega (arith, s .pre .1))),
+          ∙ sym (unsigned-next (s .args .bytes .now) at (omega arith)),
       power-next (l .loop .n) (c .wide .result) at (l .loop .inv .2) (byte c),
     )
 

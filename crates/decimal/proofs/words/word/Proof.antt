@@ -1,5 +1,4 @@
 -- `decimal::words::word` meets its contract: two halves of four bytes. Assumes nothing.
-use native.Mathlib.Omega.{arith}
 use borrow.Author.Needs.{needs}
 use Rattle.decimal.specs.Words.{eightBytes}
 use Rattle.decimal.proofs.words.word.Statement.{statement}
@@ -22,7 +21,7 @@ add-result c = search needs
 
 returns : tie.Need-returns
 unfolding eightBytes
-returns c = omega (arith, c .before .half .ensures .0, c .half2 .ensures .0)
+returns c = search needs
 
 pub word-spec : {M : Type 1} → statement M
 word-spec =
