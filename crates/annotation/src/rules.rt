@@ -6,9 +6,14 @@ use crate::packed;
 use crate::placement::own_on;
 use crate::slot::natural;
 use parquet::logical;
-use refusal::numbers::BAD_DECIMAL;
-use refusal::numbers::DISAGREEMENT;
-use refusal::numbers::MISPLACED;
+use refusal::numbers;
+
+// The numbers of the refusals.
+const DISAGREEMENT: u32 = numbers::DISAGREEMENT as u32;
+
+const MISPLACED: u32 = numbers::MISPLACED as u32;
+
+const BAD_DECIMAL: u32 = numbers::BAD_DECIMAL as u32;
 
 // Stands for no refusal among their numbers.
 pub(crate) const NO_REFUSAL: u32 = 0;

@@ -146,11 +146,8 @@ fn fault(fault: Fault) -> u64
     requires { ⌜ FaultBounded fault ⌝ }
     ensures { λ r. ⌜ r ≡ faultAnswer fault ⌝ }
 {
-    packed_fault(
-        fault.side,
-        fault.refusal.number as u8,
-        fault.refusal.place as u32,
-    )
+    let refusal = fault.refusal;
+    packed_fault(fault.side, refusal.number, refusal.place as u32)
 }
 
 // Writes a value that was read, where its numbers fit.

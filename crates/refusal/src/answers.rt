@@ -5,7 +5,7 @@ use crate::numbers;
 
 // A refusal: its number, and the block, node or byte that it names, or 0 where it names none.
 pub struct Refusal {
-    pub number: u32,
+    pub number: u8,
     pub place: usize,
 }
 

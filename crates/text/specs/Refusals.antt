@@ -9,6 +9,6 @@ use Rattle.text.specs.Numbers.{decimalText}
 unfoldable pub refusalText : Refusal → List ℕ
 refusalText r = ascii "refused " ++ decimalText (r .number) ++ ascii " at " ++ decimalText (r .place)
 
--- the most bytes that it takes: a number of 32 bits and one of 64, and the words before them
+-- the most bytes that it takes: a number of 8 bits and one of 64, and the words before them
 abbrev pub mostRefusal : ℕ
-mostRefusal = 42
+mostRefusal = 35

@@ -8,8 +8,8 @@ use crate::numbers::put_decimal;
 use crate::placing::put;
 use refusal::Refusal;
 
-// Room for any refusal's line: a number of 32 bits and one of 64, the words before them and the line's end.
-pub const REFUSAL_ROOM: usize = 43;
+// Room for any refusal's line: a number of 8 bits and one of 64, the words before them and the line's end.
+pub const REFUSAL_ROOM: usize = 36;
 
 // Stores `refused N at P`.
 pub fn put_refusal(out: &mut [u8], at: usize, refusal: Refusal) -> usize

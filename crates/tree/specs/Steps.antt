@@ -1,5 +1,5 @@
 -- What the steps of judging answer, which the contracts of private functions cite. Nothing here is a promise to a caller.
-use Prim.Native.Nat.{ℕ, zero, suc, _+_, _*_, _-_, _/_, _%_, _≤_, _<_}
+use Prim.Native.Nat.{ℕ, zero, suc, _+_, _*_, _-_, _/_, _%_, _^_, _≤_, _<_}
 use mathlib.Core.Path.{_≡_}
 use mathlib.Core.Bool.{cond, not, _||_}
 use mathlib.Core.List.{List, [], _∷_, map}
@@ -65,7 +65,7 @@ innerFrom d k (field t fs) = innerFrom (lastOf k t) (k + size t) fs
 
 -- what a rule's number counts in a fault, which is one number: the rule's, and below it the node's
 abbrev pub ruleWeight : ℕ
-ruleWeight = 65536
+ruleWeight = 2 ^ 24
 
 -- the first fault of nodes that break such rules, the first of them at k, and 0 where there is none
 unfoldable pub faultFrom : ℕ → List ℕ → ℕ

@@ -19,6 +19,13 @@ use parquet::logical;
 use refusal::numbers;
 use sheet::Slot;
 
+// The rules' numbers.
+const SHAPE: u32 = numbers::SHAPE as u32;
+
+const BAD_LIST: u32 = numbers::BAD_LIST as u32;
+
+const BAD_MAP: u32 = numbers::BAD_MAP as u32;
+
 // Every rule is kept.
 pub(crate) const KEPT: u32 = 0;
 
@@ -30,7 +37,7 @@ pub(crate) fn broken_to_12(sheet: &[u8], at: usize, place: Place, s: Slot, judge
     ensures { λ r. ⌜ r ≡ brokenTo12 place (slotAt (now (sheet .entry)) at) (fieldsAt (now (sheet .entry)) at) ⌝ }
 {
     if !shape_kept(place, s) {
-        return numbers::SHAPE;
+        return SHAPE;
     }
     if judged.refusal != KEPT {
         return judged.refusal;
@@ -55,7 +62,7 @@ pub(crate) fn broken_with_13(sheet: &[u8], at: usize, below: Place, least: u32, 
     if map_kept(sheet, at, value) {
         return KEPT;
     }
-    numbers::BAD_MAP
+    BAD_MAP
 }
 
 // The numbers of a slot that its annotations go by.
@@ -85,5 +92,5 @@ fn list_broken(sheet: &[u8], at: usize, s: Slot, logical: u8) -> u32
     if list_kept(sheet, at, s) {
         return KEPT;
     }
-    numbers::BAD_LIST
+    BAD_LIST
 }

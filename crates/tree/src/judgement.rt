@@ -81,7 +81,7 @@ fn verdict_of(fault: u32) -> Verdict
         return Verdict::Lawful;
     }
     Verdict::Refused(Refusal {
-        number: fault / RULE_WEIGHT,
+        number: (fault / RULE_WEIGHT) as u8,
         place: (fault % RULE_WEIGHT) as usize,
     })
 }

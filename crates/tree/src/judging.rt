@@ -21,7 +21,7 @@ pub const LEVELS: usize = 33;
 
 // A fault is one number, so that it is handed on in a register: a rule's number counts so much in it, and the number of the node
 // that breaks the rule stands below.
-pub(crate) const RULE_WEIGHT: u32 = 0x1_0000;
+pub(crate) const RULE_WEIGHT: u32 = 0x100_0000;
 
 pub(crate) const NO_FAULT: u32 = 0;
 

@@ -33,11 +33,11 @@ unfolding refusalLine
 most c = omega (arith, short c, length-append (refusalText (start c .args .refusal)) (LF ∷ []))
 
 -- what the room holds
-held : (c : tie.After-put) → Holds (replicate 43 0) (c .put .last .0) 0 (c .put .result) (refusalLine (start c .args .refusal))
+held : (c : tie.After-put) → Holds (replicate 36 0) (c .put .last .0) 0 (c .put .result) (refusalLine (start c .args .refusal))
 unfolding refusalLine
 held c =
     let put = at-put-refusal c .put-refusal .ensures in
-    let text = holds-more (holds-none (replicate 43 0) 0 (omega arith)) (refusalText (start c .args .refusal)) (omega (arith, short c)) (put .0, put .1 .0) in
+    let text = holds-more (holds-none (replicate 36 0) 0 (omega arith)) (refusalText (start c .args .refusal)) (omega (arith, short c)) (put .0, put .1 .0) in
     holds-more text (LF ∷ []) (omega (arith, short c)) (c .put .ensures)
 
 slice-aggregate-put-refusal : tie.Need-slice-aggregate-put-refusal

@@ -35,13 +35,13 @@ short : (c : tie.After-put-decimal2) → length (refusalText (start c .args .ref
 short c = refusal-most _ (omega (arith, at-known c .struct-known .given)) (record { fits = omega (arith, at-known c .struct-known .given) })
 
 -- what the room holds
-held : (c : tie.After-put-decimal2) → Holds (replicate 43 0) (c .put-decimal2 .last .0) 0 (c .put-decimal2 .result) (refusalText (start c .args .refusal))
+held : (c : tie.After-put-decimal2) → Holds (replicate 36 0) (c .put-decimal2 .last .0) 0 (c .put-decimal2 .result) (refusalText (start c .args .refusal))
 unfolding refusalText
 held c =
     let r = start c .args .refusal in
     let whole : length (refusalText r) ≤ mostRefusal = short c in
     let most = simp length-append at whole in
-    let word = holds-more (holds-none (replicate 43 0) 0 (omega arith)) (ascii "refused ") (omega arith) (at-put c .put .ensures) in
+    let word = holds-more (holds-none (replicate 36 0) 0 (omega arith)) (ascii "refused ") (omega arith) (at-put c .put .ensures) in
     let numbered = holds-more word (decimalText (r .number)) (omega arith) (at-put-decimal c .put-decimal .ensures) in
     let preposition = holds-more numbered (ascii " at ") (simp length-append (omega arith)) (at-put2 c .put2 .ensures) in
     holds-more preposition (decimalText (r .place)) (simp length-append (omega arith)) (c .put-decimal2 .ensures)
