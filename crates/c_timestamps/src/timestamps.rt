@@ -62,7 +62,9 @@ pub fn encode(unit: u32, fields: &[i64], count: &mut [i64]) -> u64
     }
     match timestamp::encode(unit, fields_of(fields)) {
         Encoded::Count(n) => write_count(n, count),
-        Encoded::Refused(r) => refused(r),
+        Encoded::NoDateTime => packed(numbers::NO_DATE_TIME, 0),
+        Encoded::NotRepresentable => packed(numbers::NOT_REPRESENTABLE, 0),
+        Encoded::UnknownUnit => packed(numbers::UNKNOWN_TYPE, 0),
     }
 }
 

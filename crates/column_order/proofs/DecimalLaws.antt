@@ -1,8 +1,7 @@
 -- The order of decimals in bytes is what comparing them within their precision answers. Assumes nothing.
 use mathlib.Core.Path.{_≡_, refl, sym, ap, ap₂, _∙_}
-use mathlib.Core.Bool.{Bool, true, false, cond, _&&_, _||_}
+use mathlib.Core.Bool.{Bool, true, false, cond, _&&_, _||_, true≢false, false≢true}
 use mathlib.Core.List.{List, [], _∷_}
-use mathlib.Core.Logic.{⊎-elim}
 use mathlib.Core.Option.{none}
 use Prim.Native.Nat.{ℕ, _^_}
 use native.Mathlib.Omega.{arith}
@@ -10,8 +9,6 @@ use lib.Dec.{eqb, ltb, leb}
 use lib.IntN.{ℤ, natAbs}
 use lib.ListN.{length}
 use lib.Signed.{ltZ}
-use types.Run.{OneOf}
-use denote.Enum.Declared.{tagOf}
 use borrow.Author.Tests.{eqb-true, le-leb}
 use Rattle.refusal.specs.Faults.{FIRST, SECOND, ofNeither}
 use Rattle.laws.proofs.BoolLaws.{and-left, and-right}
@@ -32,7 +29,6 @@ use Rattle.decimal.specs.declared.fit.Fit.the-variants as fit
 use Rattle.decimal.specs.declared.order.Order as decimal
 use Rattle.decimal.specs.declared.within.Compared.{Compared}
 use Rattle.decimal.specs.declared.within.Compared.the-variants as compared
-use Rattle.decimal.proofs.within.Compared as Compared′
 use Rattle.column_type.specs.Lawful.{isLawful}
 use Rattle.column_type.specs.declared.types.ColumnType.{ColumnType}
 use Rattle.column.specs.Lengths.{mostBytes, widthOf, isWidth, isByteForm, isByteDecimal, lengthRight}
@@ -43,6 +39,7 @@ use Rattle.column.specs.declared.value.Value.{Value}
 use Rattle.column.proofs.ReadingLaws.{read-lawful, bytes-read}
 use Rattle.float_order.specs.Keys.{wholeOrder}
 use Rattle.float_order.specs.declared.relation.Relation.the-variants.{Less, Equal, Greater, Unordered}
+use Rattle.column_order.specs.Values.{isRefused, relationOf}
 use Rattle.column_order.specs.Keys.{Key, whole, keyOf, keyOrder}
 use Rattle.column_order.specs.Order.{unlessRefused, valuesOrder, orderOf}
 use Rattle.column_order.specs.declared.answer.Order.{Order}
@@ -59,13 +56,20 @@ asOrder refused compared.Greater = Related Greater
 asOrder refused compared.Beyond = refused
 asOrder refused compared.WrongLength = refused
 
--- what is no order
-pub not-ordered : (refused : Order) (o : Compared) → OneOf (3 ∷ 4 ∷ []) (tagOf Compared′.the-type o) → refused ≡ asOrder refused o
-not-ordered refused compared.Less h = absurd (⊎-elim (λ e. omega arith) (λ e. omega arith) h)
-not-ordered refused compared.Equal h = absurd (⊎-elim (λ e. omega arith) (λ e. omega arith) h)
-not-ordered refused compared.Greater h = absurd (⊎-elim (λ e. omega arith) (λ e. omega arith) h)
+-- what is refused, and what is not
+pub not-ordered : (refused : Order) (o : Compared) → isRefused o ≡ true → refused ≡ asOrder refused o
+not-ordered refused compared.Less h = absurd (false≢true h)
+not-ordered refused compared.Equal h = absurd (false≢true h)
+not-ordered refused compared.Greater h = absurd (false≢true h)
 not-ordered refused compared.Beyond h = refl
 not-ordered refused compared.WrongLength h = refl
+
+pub ordered : (refused : Order) (o : Compared) → isRefused o ≡ false → Related (relationOf o) ≡ asOrder refused o
+ordered refused compared.Less h = refl
+ordered refused compared.Equal h = refl
+ordered refused compared.Greater h = refl
+ordered refused compared.Beyond h = absurd (true≢false h)
+ordered refused compared.WrongLength h = absurd (true≢false h)
 
 whole-as : (refused : Order) (x y : ℤ) → asOrder refused (asCompared (order x y)) ≡ Related (wholeOrder x y)
 unfolding wholeOrder

@@ -1,7 +1,7 @@
 -- The order of two read values, case by case, as whole numbers, floats and bytes compare, which the contracts of private functions cite. Nothing here is
 -- a promise to a caller: that it is the order of the keys of their bytes is proved.
 use Prim.Native.Nat.{ℕ, _+_}
-use mathlib.Core.Bool.{Bool, cond}
+use mathlib.Core.Bool.{Bool, true, false, cond}
 use mathlib.Core.List.{List}
 use lib.Ieee as Ieee
 use lib.IntN.{ℤ, pos}
@@ -11,7 +11,8 @@ use Rattle.column.specs.declared.value.Value.the-variants.{Truth, Signed, Unsig
 use Rattle.float_order.specs.Floats.{floatOrder}
 use Rattle.float_order.specs.Keys.{wholeOrder}
 use Rattle.float_order.specs.declared.relation.Relation.{Relation}
-use Rattle.float_order.specs.declared.relation.Relation.the-variants.{Unordered}
+use Rattle.float_order.specs.declared.relation.Relation.the-variants.{Less, Equal, Greater, Unordered}
+use Rattle.decimal.specs.declared.within.Compared.{Compared}
 use Rattle.column_order.specs.Keys.{byteOrder}
 
 -- a truth value as its byte has it
@@ -79,3 +80,18 @@ bytesOrder a start len (Unsigned n) b = Unordered
 bytesOrder a start len (Float y) b = Unordered
 bytesOrder a start len (Double y) b = Unordered
 bytesOrder a start len (Bytes s n) b = byteOrder (stretch start len a) (stretch s n b)
+
+-- two decimals that were compared within a precision: whether one is refused, and else how they stand
+abbrev pub isRefused : Compared → Bool
+isRefused Compared.Less = false
+isRefused Compared.Equal = false
+isRefused Compared.Greater = false
+isRefused Compared.Beyond = true
+isRefused Compared.WrongLength = true
+
+abbrev pub relationOf : Compared → Relation
+relationOf Compared.Less = Less
+relationOf Compared.Equal = Equal
+relationOf Compared.Greater = Greater
+relationOf Compared.Beyond = Unordered
+relationOf Compared.WrongLength = Unordered

@@ -6,6 +6,7 @@ ghost use Rattle.column_type.specs.Lawful.{isLawful};
 ghost use Rattle.column.specs.Lengths.{isWidth, widthOf, isByteDecimal};
 ghost use Rattle.column.specs.Reading.{readOf};
 ghost use Rattle.column_order.specs.Order.{unlessRefused, orderOf};
+ghost use Rattle.column_order.specs.Values.{isRefused, relationOf};
 ghost use Rattle.float_order.specs.declared.relation.Relation as relation;
 ghost use Rattle.column_order.specs.declared.answer.Order as declared;
 use crate::answer::Order;
@@ -37,11 +38,37 @@ pub(crate) fn order_decimals(c: ColumnType, a: &[u8], b: &[u8]) -> Order
     if !is_width(c, b.len()) {
         return refused(c, a, b);
     }
-    match decimal::compare_within(a, b, c.p1) {
-        Compared::Less => Order::Related(Relation::Less),
-        Compared::Equal => Order::Related(Relation::Equal),
-        Compared::Greater => Order::Related(Relation::Greater),
-        _ => refused(c, a, b),
+    let compared = decimal::compare_within(a, b, c.p1);
+    if is_refused(compared) {
+        return refused(c, a, b);
+    }
+    Order::Related(relation_of(compared))
+}
+
+// Whether comparing within a precision refuses a number.
+fn is_refused(compared: Compared) -> bool
+    ensures { λ r. ⌜ r ≡ isRefused compared ⌝ }
+{
+    match compared {
+        Compared::Less => false,
+        Compared::Equal => false,
+        Compared::Greater => false,
+        Compared::Beyond => true,
+        Compared::WrongLength => true,
+    }
+}
+
+// How two numbers stand that were compared within a precision, the cases in order: a jump by the answer would be guessed wrong half the
+// time.
+fn relation_of(compared: Compared) -> Relation
+    ensures { λ r. ⌜ r ≡ relationOf compared ⌝ }
+{
+    match compared {
+        Compared::Less => Relation::Less,
+        Compared::Equal => Relation::Equal,
+        Compared::Greater => Relation::Greater,
+        Compared::Beyond => Relation::Unordered,
+        Compared::WrongLength => Relation::Unordered,
     }
 }
 

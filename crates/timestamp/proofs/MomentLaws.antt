@@ -66,20 +66,20 @@ moment-for none f m o p e = e
 moment-for (some unit) f m o p e = e ∙ sym (moment-encoded (ticksPerSecond unit) f m (ticks-least unit) p)
 
 -- where the fraction is a full second there is no such time, and else the moment decides
-pub fraction-beyond : (t : ℕ) (m : Moment) (fraction : ℕ) (o : Outcome ℤ) → t ≤ fraction → o ≡ noDateTime → o ≡ encodingAt t m fraction
-fraction-beyond t (Moment.Second s) fraction o h e = e ∙ sym (ap (λ (b : Bool). cond b (counting (joined s t fraction)) noDateTime) (le-ltb fraction t h))
-fraction-beyond t Moment.Far fraction o h e = e ∙ sym (ap (λ (b : Bool). cond b notRepresentable noDateTime) (le-ltb fraction t h))
-fraction-beyond t Moment.NoDateTime fraction o h e = e
+pub fraction-beyond : (t : ℕ) (m : Moment) (fraction : ℕ) → t ≤ fraction → noDateTime ≡ encodingAt t m fraction
+fraction-beyond t (Moment.Second s) fraction h = sym (ap (λ (b : Bool). cond b (counting (joined s t fraction)) noDateTime) (le-ltb fraction t h))
+fraction-beyond t Moment.Far fraction h = sym (ap (λ (b : Bool). cond b notRepresentable noDateTime) (le-ltb fraction t h))
+fraction-beyond t Moment.NoDateTime fraction h = refl
 
 pub fraction-within : (t : ℕ) (m : Moment) (s : ℤ) (fraction : ℕ) (o : Outcome ℤ) → fraction < t → m ≡ Moment.Second s → o ≡ counting (joined s t fraction) → o ≡ encodingAt t m fraction
 fraction-within t m s fraction o h e p =
     p ∙ sym (ap (λ (k : Moment). encodingAt t k fraction) e ∙ ap (λ (b : Bool). cond b (counting (joined s t fraction)) noDateTime) (lt-ltb fraction t h))
 
-pub fraction-far : (t : ℕ) (m : Moment) (fraction : ℕ) (o : Outcome ℤ) → fraction < t → m ≡ Moment.Far → o ≡ notRepresentable → o ≡ encodingAt t m fraction
-fraction-far t m fraction o h e p = p ∙ sym (ap (λ (k : Moment). encodingAt t k fraction) e ∙ ap (λ (b : Bool). cond b notRepresentable noDateTime) (lt-ltb fraction t h))
+pub fraction-far : (t : ℕ) (m : Moment) (fraction : ℕ) → fraction < t → m ≡ Moment.Far → notRepresentable ≡ encodingAt t m fraction
+fraction-far t m fraction h e = sym (ap (λ (k : Moment). encodingAt t k fraction) e ∙ ap (λ (b : Bool). cond b notRepresentable noDateTime) (lt-ltb fraction t h))
 
-pub fraction-none : (t : ℕ) (m : Moment) (fraction : ℕ) (o : Outcome ℤ) → m ≡ Moment.NoDateTime → o ≡ noDateTime → o ≡ encodingAt t m fraction
-fraction-none t m fraction o e p = p ∙ sym (ap (λ (k : Moment). encodingAt t k fraction) e)
+pub fraction-none : (t : ℕ) (m : Moment) (fraction : ℕ) → m ≡ Moment.NoDateTime → noDateTime ≡ encodingAt t m fraction
+fraction-none t m fraction e = sym (ap (λ (k : Moment). encodingAt t k fraction) e)
 
 -- what is asked and answered of the second that the machine reads back is asked and answered of the second
 pub second-asked : {s : ℤ} {n : ℕ} → SFits w64 s → mag s < n → mag (toZ w64 (ofZ w64 s)) < n

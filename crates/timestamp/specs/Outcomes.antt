@@ -13,7 +13,7 @@ use Rattle.timestamp.specs.declared.fields.Fields.{Fields}
 -- what decode answers: `Fields`, which holds them, or `Refused`, which holds a refusal
 use Rattle.timestamp.specs.declared.decoding.Decoded
 use Rattle.timestamp.specs.declared.decoding.Decoded.{Decoded}
--- what encode answers: `Count`, which holds a signed 64-bit number, or `Refused`
+-- what encode answers: `Count`, which holds a signed 64-bit number, `NoDateTime`, `NotRepresentable` or `UnknownUnit`
 use Rattle.timestamp.specs.declared.encoding.Encoded
 use Rattle.timestamp.specs.declared.encoding.Encoded.{Encoded}
 -- what in_day answers: `Within`, `Beyond` or `Refused`
@@ -42,7 +42,9 @@ decoded (Decoded.Refused r) = refused r
 -- what each answer of encode stands for
 abbrev pub encoded : Encoded → Outcome ℤ
 encoded (Encoded.Count z) = given z
-encoded (Encoded.Refused r) = refused r
+encoded Encoded.NoDateTime = noDateTime
+encoded Encoded.NotRepresentable = notRepresentable
+encoded Encoded.UnknownUnit = unknownUnit
 
 -- what each answer of in_day stands for
 abbrev pub dayAnswer : InDay → Outcome Bool

@@ -1,5 +1,6 @@
 -- `c_timestamps::timestamps::encode` meets its contract: the count is written where it fits, and a refusal leaves the output as it was.
-use mathlib.Core.Path.{_≡_, sym, ap, _∙_, subst}
+use Prim.Native.Nat.{ℕ}
+use mathlib.Core.Path.{_≡_, refl, sym, ap, _∙_}
 use mathlib.Core.Bool.{true}
 use mathlib.Core.List.{[], _∷_}
 use borrow.Author.Needs.{needs}
@@ -8,12 +9,11 @@ use lib.IntN.{ℤ}
 use lib.ListN.{length}
 use mir.Syntax.{w64}
 use mir.ValLaws.{toZ-ofZ}
-use Rattle.refusal.specs.Outcome.{refused}
 use Rattle.timestamp.specs.Units.{unitOf}
 use Rattle.timestamp.specs.Outcomes.{encoded}
+use Rattle.timestamp.specs.declared.encoding.Encoded.{Encoded}
 use Rattle.c_answer.specs.Answers.{Effect, listed, within, answer, left}
-use Rattle.c_timestamps.specs.Timestamps.{areFields, encodingOf}
-use Rattle.c_timestamps.proofs.BoundLaws.{OutcomeBounded, encoded-bounded}
+use Rattle.c_timestamps.specs.Timestamps.{areFields, encodingOf, encodeEffect, encoding}
 use Rattle.c_timestamps.proofs.FieldLaws.{encoding-fields, unformed-encoding, unformed-left, encoding-of}
 use Rattle.c_timestamps.proofs.timestamps.encode.Statement.{statement}
 use Rattle.c_timestamps.proofs.timestamps.encode.Tie as tie
@@ -51,23 +51,26 @@ returns-2 c =
       written .1 ∙ ap (λ (z : ℤ). left (within (length count) (listed (z ∷ []))) count) back ∙ ap (λ (f : Effect ℤ). left f count) (sym e),
     )
 
--- a refusal that was told is that of the numbers
-refused-is : (c : tie.After-r) → let args = c .before .before .before .before .before .before .args in refused (c .r .given .0 .0) ≡ encodingOf (unitOf (args .unit)) (args .fields .now)
-refused-is c = ap encoded (sym (c .r .given .1)) ∙ encoded-is (c .before .before)
-
-refused-requires : tie.Need-refused-requires
-refused-requires c κs =
-    let args = c .before .before .before .before .before .before .before .args in
-    subst OutcomeBounded (sym (refused-is (c .before))) (encoded-bounded (unitOf (args .unit)) (args .fields .now))
+-- a refusal that was told, with its answer, writes nothing
+told : (c : tie.After-encode) (k : Encoded) {r : ℕ} → c .encode .result ≡ k
+    → let args = c .before .before .before .before .args in
+    let lent = args .count .now in
+    r ≡ answer (within (length lent) (encodeEffect (encoded k)))
+    → lent ≡ left (within (length lent) (encodeEffect (encoded k))) lent
+    → (r ≡ answer (encoding (args .unit) (args .fields .now) (length lent))) × (lent ≡ left (encoding (args .unit) (args .fields .now) (length lent)) lent)
+told c k e a l =
+    let args = c .before .before .before .before .args in
+    let same = encoding-of (args .unit) (args .fields .now) (length (args .count .now)) (encoded-is c) e in
+    (a ∙ ap answer (sym same), l ∙ ap (λ (f : Effect ℤ). left f (args .count .now)) (sym same))
 
 returns-3 : tie.Need-returns-3
-returns-3 c =
-    let at-r = c .before .before in
-    let at-encode = at-r .before .before in
-    let args = at-encode .before .before .before .before .args in
-    let count = args .count .now in
-    let e = encoding-of (args .unit) (args .fields .now) (length count) (encoded-is at-encode) (at-r .r .given .1) in
-    (c .refused .ensures ∙ ap answer (sym e), ap (λ (f : Effect ℤ). left f count) (sym e))
+returns-3 c = told (c .before .before .before) Encoded.NoDateTime (c .before .enum-told .given .1) (c .packed .ensures) refl
+
+returns-4 : tie.Need-returns-4
+returns-4 c = told (c .before .before .before) Encoded.NotRepresentable (c .before .enum-told2 .given .1) (c .packed2 .ensures) refl
+
+returns-5 : tie.Need-returns-5
+returns-5 c = told (c .before .before .before) Encoded.UnknownUnit (c .before .enum-told3 .given .1) (c .packed3 .ensures) refl
 
 pub encode-spec : {M : Type 1} → statement M
 encode-spec =
@@ -81,7 +84,13 @@ encode-spec =
     (λ c. search needs)
     (λ c κs. search needs)
     (λ c. search needs)
-    refused-requires
+    (λ c κs. search needs)
+    (λ c. search needs)
+    (λ c κs. search needs)
+    (λ c. search needs)
+    (λ c κs. search needs)
     (λ c. search needs)
     returns-2
-    returns-3)
+    returns-3
+    returns-4
+    returns-5)

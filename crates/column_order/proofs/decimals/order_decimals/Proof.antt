@@ -5,7 +5,8 @@ use borrow.Author.Needs.{needs}
 use borrow.Author.Tests.{not-true, not-false}
 use Rattle.decimal.specs.declared.within.Compared.{Compared}
 use Rattle.column_order.specs.Order.{orderOf}
-use Rattle.column_order.proofs.DecimalLaws.{asOrder, not-ordered, refusal, wrong-first, wrong-second, own-widths}
+use Rattle.column_order.specs.declared.answer.Order.{Order}
+use Rattle.column_order.proofs.DecimalLaws.{asOrder, not-ordered, ordered, refusal, wrong-first, wrong-second, own-widths}
 use Rattle.column_order.proofs.decimals.order_decimals.Statement.{statement}
 use Rattle.column_order.proofs.decimals.order_decimals.Tie as tie
 
@@ -50,31 +51,26 @@ returns-2 c =
 compare-within-requires : tie.Need-compare-within-requires
 compare-within-requires c κs = search needs
 
-enum-told : tie.Need-enum-told
-enum-told c = search needs
-
-enum-told-2 : tie.Need-enum-told-2
-enum-told-2 c = search needs
-
-enum-told-3 : tie.Need-enum-told-3
-enum-told-3 c = search needs
+is-refused-requires : tie.Need-is-refused-requires
+is-refused-requires c κs = search needs
 
 refused-requires-3 : tie.Need-refused-requires-3
 refused-requires-3 c κs = search needs
 
 returns-3 : tie.Need-returns-3
-returns-3 c = answer (c .before .before) Compared.Less (c .enum-told .given .1)
+returns-3 c =
+    let at-is-refused = c .before .before in
+    let at = at-is-refused .before in
+    c .refused3 .ensures ∙ not-ordered _ (at .compare-within .result) (sym (at-is-refused .is-refused .ensures) ∙ c .before .if3 .taken) ∙ answer at _ refl
+
+relation-of-requires : tie.Need-relation-of-requires
+relation-of-requires c κs = search needs
 
 returns-4 : tie.Need-returns-4
-returns-4 c = answer (c .before .before) Compared.Equal (c .enum-told2 .given .1)
-
-returns-5 : tie.Need-returns-5
-returns-5 c = answer (c .before .before) Compared.Greater (c .enum-told3 .given .1)
-
-returns-6 : tie.Need-returns-6
-returns-6 c =
-    let match = c .before in
-    c .refused3 .ensures ∙ not-ordered _ (match .before .compare-within .result) (match .match .keys4) ∙ answer (match .before) _ refl
+returns-4 c =
+    let at-is-refused = c .before .before in
+    let at = at-is-refused .before in
+    ap Order.Related (c .relation-of .ensures) ∙ ordered _ (at .compare-within .result) (sym (at-is-refused .is-refused .ensures) ∙ c .before .if3 .left) ∙ answer at _ refl
 
 pub order-decimals-spec : {M : Type 1} → statement M
 order-decimals-spec =
@@ -87,11 +83,8 @@ order-decimals-spec =
     refused-requires-2
     returns-2
     compare-within-requires
-    enum-told
-    enum-told-2
-    enum-told-3
+    is-refused-requires
     refused-requires-3
     returns-3
-    returns-4
-    returns-5
-    returns-6)
+    relation-of-requires
+    returns-4)

@@ -9,7 +9,7 @@ use lib.IntN.{ℤ}
 use lib.Signed.{mag, nonNeg}
 use mir.Syntax.{w64}
 use mir.Val.{Fits, SFits, toZ, ofZ}
-use Rattle.refusal.specs.Outcome.{Outcome, given}
+use Rattle.refusal.specs.Outcome.{given}
 use Rattle.timestamp.specs.Outcomes.{notRepresentable}
 use Rattle.timestamp.specs.Steps.{counting}
 use Rattle.timestamp.proofs.CountLaws.{counted-fits, counted-beyond}
@@ -32,15 +32,15 @@ module _ (s : ℤ) (t fraction : ℕ) (b : Bool) (n : ℕ) (fits : SFits w64 s) 
   count-is = ap (λ (z : ℤ). joined z t fraction) (signed-told {x = s} fits sign fold) ∙ joined-signed b n t fraction below
 
   -- where its ticks alone are too many, so are all
-  seconds-beyond : (o : Outcome ℤ) → (2 ^ 63 - 1) / t < n → o ≡ notRepresentable → o ≡ counting (joined s t fraction)
-  seconds-beyond o h p =
+  seconds-beyond : (2 ^ 63 - 1) / t < n → notRepresentable ≡ counting (joined s t fraction)
+  seconds-beyond h =
       let beyond = div-lt-iff-lt-mul {k = t} {x = 2 ^ 63 - 1} {y = n} (omega arith) .0 h in
-      p ∙ sym (counted-beyond _ b (n * t + turned-of b fraction t) count-is (omega (arith, beyond)))
+      sym (counted-beyond _ b (n * t + turned-of b fraction t) count-is (omega (arith, beyond)))
 
   -- and else all are compared
   module _ (r : ℕ) (turned : r ≡ turned-of b fraction t) where
-    size-beyond : (o : Outcome ℤ) → 2 ^ 63 - 1 < n * t + r → o ≡ notRepresentable → o ≡ counting (joined s t fraction)
-    size-beyond o h p = p ∙ sym (counted-beyond _ b (n * t + turned-of b fraction t) count-is (omega (arith, turned)))
+    size-beyond : 2 ^ 63 - 1 < n * t + r → notRepresentable ≡ counting (joined s t fraction)
+    size-beyond h = sym (counted-beyond _ b (n * t + turned-of b fraction t) count-is (omega (arith, turned)))
 
     size-told : (z : ℤ) → n * t + r ≤ 2 ^ 63 - 1 → z ≡ signed-of b (n * t + r) → given (toZ w64 (ofZ w64 z)) ≡ counting (joined s t fraction)
     size-told z h e =
@@ -54,12 +54,10 @@ count-of-spec =
     (λ c κs. search needs)
     (λ c κs. search needs)
     (λ c. search needs)
-    (λ c κs. search needs)
     (λ c. search seconds-beyond)
     (λ c. search seconds-fit)
     (λ c κs. search needs)
     (λ c. search size-fits)
-    (λ c κs. search needs)
     (λ c. search size-beyond)
     (λ c κs. search needs)
     (λ c. search size-told))

@@ -16,7 +16,6 @@ encode-any-spec =
     (λ c. search needs)
     (λ c κs. search needs)
     (λ c. search needs)
-    (λ c κs. search needs)
     (λ c. search encoding-told)
     (λ c. search encoding-told)
     (λ c. search encoding-told)

@@ -22,14 +22,11 @@ pub encode-at-spec : {M : Type 1} → statement M
 encode-at-spec =
     tie.close
     (tie.spec
-    (λ c κs. search needs)
     (λ c. search fraction-beyond)
     (λ c. search needs)
     (λ c κs. search needs)
     (λ c. search needs)
-    (λ c κs. search needs)
     (λ c. search needs)
-    (λ c κs. search needs)
     (λ c. search (fraction-within, counting-told))
     (λ c. search fraction-far)
     (λ c. search fraction-none))

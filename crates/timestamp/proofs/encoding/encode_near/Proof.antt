@@ -16,7 +16,6 @@ encode-near-spec =
     (λ c. search needs)
     (λ c κs. search needs)
     (λ c. search needs)
-    (λ c κs. search needs)
     (λ c. search near-told)
     (λ c. search near-told)
     (λ c. search near-told)

@@ -38,4 +38,4 @@ module _ (s : ℤ) (t : ℕ) (fits : SFits w64 s) where
 pub encode-near-at-spec : {M : Type 1} → statement M
 encode-near-at-spec =
     tie.close
-    (tie.spec (λ c κs. search needs) (λ c. search fraction-beyond) (λ c κs. search (needs, ticks-asked)) (λ c. search count-told))
+    (tie.spec (λ c. search fraction-beyond) (λ c κs. search (needs, ticks-asked)) (λ c. search count-told))
