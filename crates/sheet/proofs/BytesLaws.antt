@@ -5,9 +5,10 @@ use native.Mathlib.Omega.{arith}
 use lib.ListN.{set, replicate}
 use Rattle.sheet.specs.Number.{lowByte, highByte}
 use Rattle.sheet.specs.Block.{blockSize, checkAt, blockCount, blockAt}
-use Rattle.sheet.specs.Check.{check, withCheck, withChecks, renewed}
+use Rattle.block_check.specs.Check.{check}
+use Rattle.sheet.specs.Check.{withCheck, withChecks, renewed}
 use Rattle.sheet.proofs.NumberLaws.{Bytes}
-use Rattle.sheet.proofs.BlockLaws.{check-lt}
+use Rattle.block_check.proofs.CheckLaws.{check-lt}
 
 bytes-nil : Bytes []
 bytes-nil i = omega arith

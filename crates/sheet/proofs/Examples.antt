@@ -3,10 +3,11 @@ use mathlib.Core.Path.{_≡_, refl}
 use mathlib.Core.List.{List, [], _∷_, _++_}
 use Prim.Native.Nat.{ℕ, _-_, _^_}
 use lib.IntN.{pos, negsuc}
-use lib.ListN.{replicate, set}
+use lib.ListN.{replicate}
 use Rattle.sheet.specs.Number.{numberAt, signed32}
-use Rattle.sheet.specs.Block.{blockSize, blockCount, blockAt, blockNumber, nodesHere, version, total, storedCheck, totalOf}
-use Rattle.sheet.specs.Check.{sumBelow, weighted, check, checkRight}
+use Rattle.sheet.specs.Block.{blockCount, blockAt, blockNumber, nodesHere, version, total, storedCheck, totalOf}
+use Rattle.block_check.specs.Check.{sumBelow, weighted, check}
+use Rattle.sheet.specs.Check.{checkRight}
 use Rattle.sheet.specs.Slot.{physical, repetition, converted, logical, nameLength, slotStart, reaches, slotAt}
 use Rattle.sheet.specs.Sound.{listed, physicalListed, repetitionListed, convertedListed, logicalListed, nameLengthRight, allZero, reservedZero, tailZero, codesListed, nameRight, slotSound, slotRight}
 use Rattle.sheet.specs.Header.{lengthRight, blocksFor, nodesIn, totalRight, fieldsRight, headerRight}
@@ -14,11 +15,6 @@ use Rattle.sheet.specs.First.{firstWrongFrom, firstWrong}
 use Rattle.sheet.specs.Opening.{atFirst, openOf, outcomeOf, outcome}
 use Rattle.refusal.specs.Outcome.{refused, refusal}
 use Rattle.refusal.specs.declared.answers.Counted.{Counted}
-
--- "Byte 509 equal to 255, all others zero, gives 64,529"
-check-last-byte : check (set (replicate blockSize 0) 509 255) ≡ 64529
-unfolding check sumBelow weighted
-check-last-byte = refl
 
 -- a sheet of the root alone, named `r`
 rootSheet : List ℕ

@@ -3,8 +3,6 @@ pub mod TestLaws
 pub mod PartLaws
 pub mod NumberLaws
 pub mod ZeroLaws
-pub mod CheckLaws
-pub mod ColumnLaws
 pub mod BlockLaws
 pub mod RenewalLaws
 pub mod SlotLaws

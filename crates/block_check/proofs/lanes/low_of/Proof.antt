@@ -1,10 +1,10 @@
--- `sheet::block::low_of` meets its contract: the difference is the one sum of 16 bits that the definition names.
+-- `block_check::lanes::low_of` meets its contract: the difference is the one sum of 16 bits that the definition names.
 use mathlib.Core.Path.{sym}
 use native.Mathlib.Omega.{arith}
 use borrow.Author.Needs.{needs}
-use Rattle.sheet.proofs.ColumnLaws.{low-only}
-use Rattle.sheet.proofs.block.low_of.Statement.{statement}
-use Rattle.sheet.proofs.block.low_of.Tie as tie
+use Rattle.block_check.proofs.LaneLaws.{low-only}
+use Rattle.block_check.proofs.lanes.low_of.Statement.{statement}
+use Rattle.block_check.proofs.lanes.low_of.Tie as tie
 
 mul-wrapping-sub-u16 : tie.Need-mul-wrapping-sub-u16
 mul-wrapping-sub-u16 c = search needs

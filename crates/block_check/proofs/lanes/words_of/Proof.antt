@@ -1,34 +1,30 @@
--- `sheet::block::words_of` meets its contract. The invariant: the columns passed hold the words.
+-- `block_check::lanes::words_of` meets its contract. The invariant: the lanes passed hold the words.
 use mathlib.Core.Path.{refl}
 use mathlib.Core.List.{List}
 use Prim.Native.Nat.{ℕ, _*_, _≤_, _-_}
 use native.Mathlib.Omega.{arith}
-use Rattle.sheet.specs.Number.{number16}
-use Rattle.sheet.specs.Steps.{wordsInRow}
-use Rattle.sheet.proofs.ColumnLaws.{FilledTo, filled-none, filled-more}
-use Rattle.sheet.proofs.block.words_of.Statement.{statement}
-use Rattle.sheet.proofs.block.words_of.Tie as tie
+use Rattle.block_check.specs.Steps.{lanes, wordAt}
+use Rattle.block_check.proofs.LaneLaws.{FilledTo, filled-none, filled-more}
+use Rattle.block_check.proofs.lanes.words_of.Statement.{statement}
+use Rattle.block_check.proofs.lanes.words_of.Tie as tie
 
 wordOf : List ℕ → ℕ → ℕ
-wordOf row j = number16 row (2 * j)
+wordOf chunk j = wordAt chunk (2 * j)
 
 abbrev Inv-loop : tie.InvT-loop
-Inv-loop row words₀ j₀ words j = (j ≤ wordsInRow) × FilledTo (wordOf row) words₀ j words
+Inv-loop chunk words₀ j₀ words j = (j ≤ lanes) × FilledTo (wordOf chunk) words₀ j words
 
 abbrev μ-loop : tie.MeasureT-loop
-μ-loop row words₀ j₀ words j = wordsInRow - j
+μ-loop chunk words₀ j₀ words j = lanes - j
 
 loop-holds : tie.Need-loop-holds Inv-loop μ-loop
 loop-holds c = (omega arith, filled-none _ _ refl)
 
-mul-number16 : tie.Need-mul-number16 Inv-loop μ-loop
-mul-number16 c = omega arith
+mul-word-at : tie.Need-mul-word-at Inv-loop μ-loop
+mul-word-at c = omega arith
 
-number16-requires : tie.Need-number16-requires Inv-loop μ-loop
-number16-requires c κs = omega arith
-
-cast-words : tie.Need-cast-words Inv-loop μ-loop
-cast-words c = omega arith
+word-at-requires : tie.Need-word-at-requires Inv-loop μ-loop
+word-at-requires c κs = omega arith
 
 mul-words : tie.Need-mul-words Inv-loop μ-loop
 mul-words c = omega arith
@@ -46,7 +42,7 @@ loop-again : tie.Need-loop-again Inv-loop μ-loop
 unfolding wordOf
 loop-again c =
     let loop = c .before .before .loop in
-    (omega arith, filled-more _ _ (loop .j) _ (loop .words) (omega arith) (c .number16 .ensures .0) (loop .inv .1))
+    (omega arith, filled-more _ _ (loop .j) _ (loop .words) (omega arith) (c .word-at .ensures) (loop .inv .1))
 
 returns : tie.Need-returns Inv-loop μ-loop
 unfolding wordOf
@@ -61,9 +57,8 @@ words-of-spec =
     Inv-loop
     μ-loop
     loop-holds
-    mul-number16
-    number16-requires
-    cast-words
+    mul-word-at
+    word-at-requires
     mul-words
     array-write-words
     add-j

@@ -1,21 +1,21 @@
--- `sheet::block::add` meets its contract. The invariant: the columns passed have been added to.
+-- `block_check::lanes::add` meets its contract. The invariant: the lanes passed have been added to.
 use Prim.Native.Nat.{ℕ, _+_, _%_, _^_, _≤_, _-_}
 use mathlib.Core.List.{List}
 use native.Mathlib.Omega.{arith}
 use borrow.Author.Needs.{needs}
-use Rattle.sheet.specs.Steps.{wordsInRow, columnOf}
-use Rattle.sheet.proofs.ColumnLaws.{FilledTo, filled-none, filled-more}
-use Rattle.sheet.proofs.block.add.Statement.{statement}
-use Rattle.sheet.proofs.block.add.Tie as tie
+use Rattle.block_check.specs.Steps.{lanes, laneOf}
+use Rattle.block_check.proofs.LaneLaws.{FilledTo, filled-none, filled-more}
+use Rattle.block_check.proofs.lanes.add.Statement.{statement}
+use Rattle.block_check.proofs.lanes.add.Tie as tie
 
 sumOf : List ℕ → List ℕ → ℕ → ℕ
-sumOf sums more j = (columnOf sums j + columnOf more j) % 2 ^ 16
+sumOf sums more j = (laneOf sums j + laneOf more j) % 2 ^ 16
 
 abbrev Inv-loop : tie.InvT-loop
-Inv-loop more sums₀ j₀ sums j = (j ≤ wordsInRow) × FilledTo (sumOf sums₀ more) sums₀ j sums
+Inv-loop more sums₀ j₀ sums j = (j ≤ lanes) × FilledTo (sumOf sums₀ more) sums₀ j sums
 
 abbrev μ-loop : tie.MeasureT-loop
-μ-loop more sums₀ j₀ sums j = wordsInRow - j
+μ-loop more sums₀ j₀ sums j = lanes - j
 
 loop-holds : tie.Need-loop-holds Inv-loop μ-loop
 loop-holds c = (omega arith, filled-none _ _ (c .pre))

@@ -1,15 +1,14 @@
--- `sheet::block::weighted_sum` meets its contract: of the sum over the whole block, what the bytes of the check add is taken off.
+-- `block_check::check::weighted_sum` meets its contract: of the sum over the whole block, what the bytes of the stored check add is taken off.
 use mathlib.Core.Path.{_≡_}
 use mathlib.Core.List.{List}
 use Prim.Native.Nat.{ℕ, _+_, _*_}
 use native.Mathlib.Omega.{arith}
 use lib.ListN.{getD}
 use borrow.Author.Needs.{needs}
-use Rattle.sheet.specs.Block.{blockSize, checkAt}
-use Rattle.sheet.specs.Check.{sumBelow, weighted}
-use Rattle.sheet.proofs.CheckLaws.{sumBelow-more}
-use Rattle.sheet.proofs.block.weighted_sum.Statement.{statement}
-use Rattle.sheet.proofs.block.weighted_sum.Tie as tie
+use Rattle.block_check.specs.Check.{blockSize, checkAt, sumBelow, weighted}
+use Rattle.block_check.proofs.SumLaws.{sumBelow-more}
+use Rattle.block_check.proofs.check.weighted_sum.Statement.{statement}
+use Rattle.block_check.proofs.check.weighted_sum.Tie as tie
 
 -- the sum over the whole block, by its parts
 whole : (block : List ℕ)

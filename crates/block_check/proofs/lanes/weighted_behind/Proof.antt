@@ -1,25 +1,24 @@
--- `sheet::block::behind_sum` meets its contract. The invariant: the sum so far is that of the columns passed, and bounded.
+-- `block_check::lanes::weighted_behind` meets its contract. The invariant: the sum so far is that of the lanes passed, and bounded.
 use mathlib.Core.Path.{_≡_, sym, ap, ap₂, _∙_}
 use Prim.Native.Nat.{ℕ, _+_, _*_, _≤_, _-_}
 use native.Mathlib.Omega.{arith}
 use borrow.Author.Needs.{needs}
-use Rattle.sheet.specs.Block.{blockSize}
-use Rattle.sheet.specs.Check.{sumBelow}
-use Rattle.sheet.specs.Steps.{rowSize, rows, wordsInRow, columnOf, lowsOf, pairWeight}
-use Rattle.sheet.proofs.CheckLaws.{sumBelow-more}
-use Rattle.sheet.proofs.block.behind_sum.Statement.{statement}
-use Rattle.sheet.proofs.block.behind_sum.Tie as tie
+use Rattle.block_check.specs.Check.{blockSize, sumBelow}
+use Rattle.block_check.specs.Steps.{chunkSize, chunks, lanes, laneOf, lowsOf, pairWeight}
+use Rattle.block_check.proofs.SumLaws.{sumBelow-more}
+use Rattle.block_check.proofs.lanes.weighted_behind.Statement.{statement}
+use Rattle.block_check.proofs.lanes.weighted_behind.Tie as tie
 
--- what a column adds at most
+-- what a lane adds at most
 abbrev most : ℕ
-most = 2 * ((blockSize + rowSize) * (255 * rows))
+most = 2 * ((blockSize + chunkSize) * (255 * chunks))
 
 abbrev Inv-loop : tie.InvT-loop
 Inv-loop sums highs sum₀ j₀ sum j =
-    (j ≤ wordsInRow) × (sum ≡ sumBelow (pairWeight blockSize (lowsOf sums highs) (columnOf highs)) j) × (sum ≤ most * j)
+    (j ≤ lanes) × (sum ≡ sumBelow (pairWeight blockSize (lowsOf sums highs) (laneOf highs)) j) × (sum ≤ most * j)
 
 abbrev μ-loop : tie.MeasureT-loop
-μ-loop sums highs sum₀ j₀ sum j = wordsInRow - j
+μ-loop sums highs sum₀ j₀ sum j = lanes - j
 
 loop-holds : tie.Need-loop-holds Inv-loop μ-loop
 unfolding sumBelow
@@ -87,8 +86,8 @@ loop-again c =
 returns : tie.Need-returns Inv-loop μ-loop
 returns c = c .before .loop .inv .1 ∙ ap (sumBelow _) (omega arith)
 
-pub behind-sum-spec : {M : Type 1} → statement M
-behind-sum-spec =
+pub weighted-behind-spec : {M : Type 1} → statement M
+weighted-behind-spec =
     tie.close
     (tie.spec
     Inv-loop

@@ -1,20 +1,20 @@
--- `sheet::block::plain_sum` meets its contract. The invariant: the sum so far is that of the columns passed, and bounded.
+-- `block_check::lanes::unweighted_sum` meets its contract. The invariant: the sum so far is that of the lanes passed, and bounded.
 use mathlib.Core.Path.{_≡_, sym, ap, ap₂, _∙_}
 use Prim.Native.Nat.{_+_, _*_, _≤_, _-_}
 use native.Mathlib.Omega.{arith}
 use borrow.Author.Needs.{needs}
-use Rattle.sheet.specs.Check.{sumBelow}
-use Rattle.sheet.specs.Steps.{wordsInRow, columnOf, lowsOf, pairOf}
-use Rattle.sheet.proofs.CheckLaws.{sumBelow-more}
-use Rattle.sheet.proofs.block.plain_sum.Statement.{statement}
-use Rattle.sheet.proofs.block.plain_sum.Tie as tie
+use Rattle.block_check.specs.Check.{sumBelow}
+use Rattle.block_check.specs.Steps.{lanes, laneOf, lowsOf, pairOf}
+use Rattle.block_check.proofs.SumLaws.{sumBelow-more}
+use Rattle.block_check.proofs.lanes.unweighted_sum.Statement.{statement}
+use Rattle.block_check.proofs.lanes.unweighted_sum.Tie as tie
 
 abbrev Inv-loop : tie.InvT-loop
 Inv-loop sums highs sum₀ j₀ sum j =
-    (j ≤ wordsInRow) × (sum ≡ sumBelow (pairOf (lowsOf sums highs) (columnOf highs)) j) × (sum ≤ 2 * 65535 * j)
+    (j ≤ lanes) × (sum ≡ sumBelow (pairOf (lowsOf sums highs) (laneOf highs)) j) × (sum ≤ 2 * 65535 * j)
 
 abbrev μ-loop : tie.MeasureT-loop
-μ-loop sums highs sum₀ j₀ sum j = wordsInRow - j
+μ-loop sums highs sum₀ j₀ sum j = lanes - j
 
 loop-holds : tie.Need-loop-holds Inv-loop μ-loop
 unfolding sumBelow
@@ -35,11 +35,11 @@ element-copy-out-low-of c = omega arith
 low-of-requires : tie.Need-low-of-requires Inv-loop μ-loop
 low-of-requires c κs = search needs
 
-wide32-requires : tie.Need-wide32-requires Inv-loop μ-loop
-wide32-requires c κs = search needs
+wide-requires : tie.Need-wide-requires Inv-loop μ-loop
+wide-requires c κs = search needs
 
-wide32-requires-2 : tie.Need-wide32-requires-2 Inv-loop μ-loop
-wide32-requires-2 c κs = search needs
+wide-requires-2 : tie.Need-wide-requires-2 Inv-loop μ-loop
+wide-requires-2 c κs = search needs
 
 add-sum : tie.Need-add-sum Inv-loop μ-loop
 add-sum c = omega arith
@@ -56,14 +56,14 @@ loop-less c = omega arith
 loop-again : tie.Need-loop-again Inv-loop μ-loop
 loop-again c =
     let loop = c .before .before .before .before .before .before .loop in
-    let pair = ap₂ _+_ (c .before .wide32 .ensures .0 ∙ c .before .before .low-of .ensures) (c .wide322 .ensures .0) in
+    let pair = ap₂ _+_ (c .before .wide .ensures .0 ∙ c .before .before .low-of .ensures) (c .wide2 .ensures .0) in
     (omega arith, ap₂ _+_ (loop .inv .1) pair ∙ sym (sumBelow-more _ (loop .j)), omega arith)
 
 returns : tie.Need-returns Inv-loop μ-loop
 returns c = (c .before .loop .inv .1 ∙ ap (sumBelow _) (omega arith), omega arith)
 
-pub plain-sum-spec : {M : Type 1} → statement M
-plain-sum-spec =
+pub unweighted-sum-spec : {M : Type 1} → statement M
+unweighted-sum-spec =
     tie.close
     (tie.spec
     Inv-loop
@@ -74,8 +74,8 @@ plain-sum-spec =
     mul-low-of
     element-copy-out-low-of
     low-of-requires
-    wide32-requires
-    wide32-requires-2
+    wide-requires
+    wide-requires-2
     add-sum
     add-sum-2
     add-j

@@ -1,21 +1,21 @@
--- `sheet::block::highs_of` meets its contract. The invariant: the columns passed hold the higher bytes.
+-- `block_check::lanes::highs_of` meets its contract. The invariant: the lanes passed hold the higher bytes.
 use mathlib.Core.Path.{refl}
 use mathlib.Core.List.{List}
 use Prim.Native.Nat.{ℕ, _/_, _≤_, _-_}
 use native.Mathlib.Omega.{arith}
-use Rattle.sheet.specs.Steps.{wordsInRow, columnOf}
-use Rattle.sheet.proofs.ColumnLaws.{FilledTo, filled-none, filled-more}
-use Rattle.sheet.proofs.block.highs_of.Statement.{statement}
-use Rattle.sheet.proofs.block.highs_of.Tie as tie
+use Rattle.block_check.specs.Steps.{lanes, laneOf}
+use Rattle.block_check.proofs.LaneLaws.{FilledTo, filled-none, filled-more}
+use Rattle.block_check.proofs.lanes.highs_of.Statement.{statement}
+use Rattle.block_check.proofs.lanes.highs_of.Tie as tie
 
 highOf : List ℕ → ℕ → ℕ
-highOf words j = columnOf words j / 256
+highOf words j = laneOf words j / 256
 
 abbrev Inv-loop : tie.InvT-loop
-Inv-loop words highs₀ j₀ highs j = (j ≤ wordsInRow) × FilledTo (highOf words) highs₀ j highs
+Inv-loop words highs₀ j₀ highs j = (j ≤ lanes) × FilledTo (highOf words) highs₀ j highs
 
 abbrev μ-loop : tie.MeasureT-loop
-μ-loop words highs₀ j₀ highs j = wordsInRow - j
+μ-loop words highs₀ j₀ highs j = lanes - j
 
 loop-holds : tie.Need-loop-holds Inv-loop μ-loop
 loop-holds c = (omega arith, filled-none _ _ refl)
