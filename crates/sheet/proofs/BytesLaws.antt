@@ -2,7 +2,7 @@
 use Prim.Native.Nat.{ℕ, zero, suc, _+_, _*_, _^_, _<_}
 use mathlib.Core.List.{List, [], _∷_, _++_}
 use native.Mathlib.Omega.{arith}
-use lib.ListN.{set, replicate}
+use lib.ListN.{set, take, drop, replicate}
 use Rattle.sheet.specs.Number.{lowByte, highByte}
 use Rattle.sheet.specs.Block.{blockSize, checkAt, blockCount, blockAt}
 use Rattle.block_check.specs.Check.{check}
@@ -10,10 +10,10 @@ use Rattle.sheet.specs.Check.{withCheck, withChecks, renewed}
 use Rattle.sheet.proofs.NumberLaws.{Bytes}
 use Rattle.block_check.proofs.CheckLaws.{check-lt}
 
-bytes-nil : Bytes []
+pub bytes-nil : Bytes []
 bytes-nil i = omega arith
 
-bytes-cons : (x : ℕ) (xs : List ℕ) → x < 2 ^ 8 → Bytes xs → Bytes (x ∷ xs)
+pub bytes-cons : (x : ℕ) (xs : List ℕ) → x < 2 ^ 8 → Bytes xs → Bytes (x ∷ xs)
 bytes-cons x xs h b zero = h
 bytes-cons x xs h b (suc i) = b i
 
@@ -38,6 +38,21 @@ bytes-set : (xs : List ℕ) (i x : ℕ) → x < 2 ^ 8 → Bytes xs → Bytes (se
 bytes-set [] i x h b = b
 bytes-set (y ∷ xs) zero x h b = bytes-cons x xs h (λ i. b (suc i))
 bytes-set (y ∷ xs) (suc i) x h b = bytes-cons y (set xs i x) (b 0) (bytes-set xs i x h (λ j. b (suc j)))
+
+bytes-take : (n : ℕ) (xs : List ℕ) → Bytes xs → Bytes (take n xs)
+bytes-take zero xs b = bytes-nil
+bytes-take (suc n) [] b = b
+bytes-take (suc n) (x ∷ xs) b = bytes-cons x (take n xs) (b 0) (bytes-take n xs (λ i. b (suc i)))
+
+bytes-drop : (n : ℕ) (xs : List ℕ) → Bytes xs → Bytes (drop n xs)
+bytes-drop zero xs b = b
+bytes-drop (suc n) [] b = b
+bytes-drop (suc n) (x ∷ xs) b = bytes-drop n xs (λ i. b (suc i))
+
+-- a block of bytes is bytes
+pub blockAt-bytes : (sheet : List ℕ) (i : ℕ) → Bytes sheet → Bytes (blockAt sheet i)
+unfolding blockAt
+blockAt-bytes sheet i b = bytes-take blockSize (drop (blockSize * i) sheet) (bytes-drop (blockSize * i) sheet b)
 
 bytes-withCheck : (sheet : List ℕ) (i : ℕ) → Bytes sheet → Bytes (withCheck sheet i)
 unfolding withCheck

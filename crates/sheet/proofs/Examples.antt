@@ -8,7 +8,8 @@ use Rattle.sheet.specs.Number.{numberAt, signed32}
 use Rattle.sheet.specs.Block.{blockCount, blockAt, blockNumber, nodesHere, version, total, storedCheck, totalOf}
 use Rattle.block_check.specs.Check.{sumBelow, weighted, check}
 use Rattle.sheet.specs.Check.{checkRight}
-use Rattle.sheet.specs.Slot.{physical, repetition, converted, logical, nameLength, slotStart, reaches, slotAt}
+use Rattle.sheet.specs.Slot.{physical, repetition, converted, logical, nameLength, slotStart, reaches, slotAt, emptySlot}
+use Rattle.sheet.specs.Sheet.{bytesOf, joinBelow, uncheckedBlock, blockOf, sheetOf}
 use Rattle.sheet.specs.Sound.{listed, physicalListed, repetitionListed, convertedListed, logicalListed, nameLengthRight, allZero, reservedZero, tailZero, codesListed, nameRight, slotSound, slotRight}
 use Rattle.sheet.specs.Header.{lengthRight, blocksFor, nodesIn, totalRight, fieldsRight, headerRight}
 use Rattle.sheet.specs.First.{firstWrongFrom, firstWrong}
@@ -16,19 +17,21 @@ use Rattle.sheet.specs.Opening.{atFirst, openOf, outcomeOf, outcome}
 use Rattle.refusal.specs.Outcome.{refused, refusal}
 use Rattle.refusal.specs.declared.answers.Counted.{Counted}
 
--- a sheet of the root alone, named `r`
+-- the root alone, named `r`
+rootSlot : List ℕ
+rootSlot = (255 ∷ 255 ∷ 255 ∷ []) ++ replicate 17 0 ++ (1 ∷ 0 ∷ 0 ∷ 0 ∷ 114 ∷ []) ++ replicate 47 0
+
+-- its sheet
 rootSheet : List ℕ
-rootSheet =
-    (0 ∷ 0 ∷ 1 ∷ 1 ∷ 1 ∷ 0 ∷ [])
-    ++ (255 ∷ 255 ∷ 255 ∷ [])
-    ++ replicate 17 0
-    ++ (1 ∷ 0 ∷ 0 ∷ 0 ∷ 114 ∷ [])
-    ++ replicate 479 0
-    ++ (221 ∷ 37 ∷ [])
+rootSheet = (0 ∷ 0 ∷ 1 ∷ 1 ∷ 1 ∷ 0 ∷ []) ++ rootSlot ++ replicate 432 0 ++ (221 ∷ 37 ∷ [])
+
+sheetOf-root : sheetOf (rootSlot ∷ []) ≡ rootSheet
+unfolding rootSheet rootSlot sheetOf blockOf uncheckedBlock joinBelow bytesOf blocksFor nodesIn emptySlot check sumBelow weighted
+sheetOf-root = refl
 
 -- "One root alone" is a sound sheet
 open-root : openOf rootSheet ≡ Counted.Count 1
-unfolding rootSheet openOf lengthRight atFirst firstWrong firstWrongFrom blockCount blockAt checkRight check storedCheck sumBelow weighted numberAt headerRight fieldsRight blockNumber version total totalOf nodesHere nodesIn totalRight blocksFor slotRight slotAt reaches slotStart slotSound codesListed nameRight physicalListed repetitionListed convertedListed logicalListed listed physical repetition converted logical nameLength nameLengthRight reservedZero tailZero allZero
+unfolding rootSheet rootSlot openOf lengthRight atFirst firstWrong firstWrongFrom blockCount blockAt checkRight check storedCheck sumBelow weighted numberAt headerRight fieldsRight blockNumber version total totalOf nodesHere nodesIn totalRight blocksFor slotRight slotAt reaches slotStart slotSound codesListed nameRight physicalListed repetitionListed convertedListed logicalListed listed physical repetition converted logical nameLength nameLengthRight reservedZero tailZero allZero
 open-root = refl
 
 -- no bytes are refusal 1 at 0

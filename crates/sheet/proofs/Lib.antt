@@ -17,3 +17,5 @@ pub mod OpeningLaws
 pub mod NameLaws
 pub mod Examples
 pub mod BytesLaws
+pub mod JoinLaws
+pub mod SheetLaws

@@ -17,6 +17,11 @@ use Rattle.sheet.specs.Number.{numberAt, signed32}
 abbrev pub Bytes : List ℕ → Type 0
 Bytes bytes = (i : ℕ) → getD bytes i 0 < 256
 
+-- a number of one byte
+pub numberAt-one : (bytes : List ℕ) (at : ℕ) → numberAt bytes at 1 ≡ getD bytes at 0
+unfolding numberAt
+numberAt-one bytes at = omega arith
+
 -- a number of two bytes, written out
 pub numberAt-two : (bytes : List ℕ) (at : ℕ) → numberAt bytes at 2 ≡ getD bytes at 0 + 256 * getD bytes (at + 1) 0
 unfolding numberAt

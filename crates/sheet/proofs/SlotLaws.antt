@@ -127,7 +127,8 @@ slots-drop sheet k h =
     drop-cons (slots sheet) k emptySlot (omega (arith, slots-length sheet))
     ∙ ap (λ (slot : List ℕ). slot ∷ drop (suc k) (slots sheet)) (slots-at sheet k emptySlot h)
 
-emptySlot-byte : (i : ℕ) → i < slotSize → getD emptySlot i 0 ≡ 0
+-- an empty slot is zero
+pub emptySlot-byte : (i : ℕ) → i < slotSize → getD emptySlot i 0 ≡ 0
 unfolding emptySlot
 emptySlot-byte i h = getD-replicate slotSize i 0 0 h
 
