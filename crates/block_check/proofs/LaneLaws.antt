@@ -7,12 +7,9 @@ use native.Mathlib.Decide.{decLt}
 use native.Mathlib.Omega.{arith}
 use lib.ListN.{length, getD, set, take, drop, replicate, length-set, getD-replicate}
 use lib.Seq.{getD-set-same, getD-set-other, getD-take, getD-drop}
+use Rattle.laws.specs.Bytes.{Bytes}
 use Rattle.block_check.specs.Steps.{chunkSize, lanes, laneOf, lowOf, lowsOf, WordsOf, HighsOf, AtMost, Added, ChunkAdded}
 use Rattle.block_check.proofs.SumLaws.{LowBytes, HighBytes, Plus, Weighed, weighed-more}
-
--- every element is a byte
-abbrev pub Bytes : List ℕ → Type 0
-Bytes bytes = (i : ℕ) → getD bytes i 0 < 256
 
 -- the lanes before i hold what f says, and the others what they did
 pub record FilledTo (f : ℕ → ℕ) (before : List ℕ) (i : ℕ) (sums : List ℕ) : Type 0 where

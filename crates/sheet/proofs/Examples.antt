@@ -4,12 +4,13 @@ use mathlib.Core.List.{List, [], _∷_, _++_}
 use Prim.Native.Nat.{ℕ, _-_, _^_}
 use lib.IntN.{pos, negsuc}
 use lib.ListN.{replicate}
+use Rattle.laws.specs.Bytes.{little, bytesOf, twosComplement}
 use Rattle.sheet.specs.Number.{numberAt, signed32}
 use Rattle.sheet.specs.Block.{blockCount, blockAt, blockNumber, nodesHere, version, total, storedCheck, totalOf}
 use Rattle.block_check.specs.Check.{sumBelow, weighted, check}
 use Rattle.sheet.specs.Check.{checkRight}
 use Rattle.sheet.specs.Slot.{physical, repetition, converted, logical, nameLength, slotStart, reaches, slotAt, emptySlot}
-use Rattle.sheet.specs.Sheet.{bytesOf, joinBelow, uncheckedBlock, blockOf, sheetOf}
+use Rattle.sheet.specs.Sheet.{joinBelow, uncheckedBlock, blockOf, sheetOf}
 use Rattle.sheet.specs.Sound.{listed, physicalListed, repetitionListed, convertedListed, logicalListed, nameLengthRight, allZero, reservedZero, tailZero, codesListed, nameRight, slotSound, slotRight}
 use Rattle.sheet.specs.Header.{lengthRight, blocksFor, nodesIn, totalRight, fieldsRight, headerRight}
 use Rattle.sheet.specs.First.{firstWrongFrom, firstWrong}
@@ -31,7 +32,7 @@ sheetOf-root = refl
 
 -- "One root alone" is a sound sheet
 open-root : openOf rootSheet ≡ Counted.Count 1
-unfolding rootSheet rootSlot openOf lengthRight atFirst firstWrong firstWrongFrom blockCount blockAt checkRight check storedCheck sumBelow weighted numberAt headerRight fieldsRight blockNumber version total totalOf nodesHere nodesIn totalRight blocksFor slotRight slotAt reaches slotStart slotSound codesListed nameRight physicalListed repetitionListed convertedListed logicalListed listed physical repetition converted logical nameLength nameLengthRight reservedZero tailZero allZero
+unfolding rootSheet rootSlot openOf lengthRight atFirst firstWrong firstWrongFrom blockCount blockAt checkRight check storedCheck sumBelow weighted numberAt little headerRight fieldsRight blockNumber version total totalOf nodesHere nodesIn totalRight blocksFor slotRight slotAt reaches slotStart slotSound codesListed nameRight physicalListed repetitionListed convertedListed logicalListed listed physical repetition converted logical nameLength nameLengthRight reservedZero tailZero allZero
 open-root = refl
 
 -- no bytes are refusal 1 at 0
@@ -41,13 +42,13 @@ outcome-none = refl
 
 -- two's complement
 signed32-most : signed32 (2 ^ 31 - 1) ≡ pos 2147483647
-unfolding signed32
+unfolding twosComplement
 signed32-most = refl
 
 signed32-least : signed32 (2 ^ 31) ≡ negsuc 2147483647
-unfolding signed32
+unfolding twosComplement
 signed32-least = refl
 
 signed32-minus-one : signed32 (2 ^ 32 - 1) ≡ negsuc 0
-unfolding signed32
+unfolding twosComplement
 signed32-minus-one = refl

@@ -8,8 +8,8 @@ use native.Mathlib.Omega.{arith}
 use lib.ListN.{length, take, drop, length-append, length-drop}
 use lib.Seq.{take-all, take-append-le, drop-append-le, drop-at, take-add}
 use Rattle.sheet.specs.Sheet.{joinBelow}
-use Rattle.sheet.proofs.NumberLaws.{Bytes}
-use Rattle.sheet.proofs.BytesLaws.{bytes-nil, bytes-append}
+use Rattle.laws.specs.Bytes.{Bytes}
+use Rattle.laws.proofs.ByteLaws.{bytes-nil, bytes-append}
 
 -- the first a elements, and n behind them
 pub take-join : (l : List ℕ) (a n : ℕ) {first next : List ℕ} → first ≡ take a l → next ≡ take n (drop a l) → first ++ next ≡ take (a + n) l

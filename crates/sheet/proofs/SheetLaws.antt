@@ -8,6 +8,8 @@ use native.Mathlib.Omega.{arith}
 use lib.ListN.{length, getD, take, drop, length-append, List·getD-eq-default, List·getD-append}
 use lib.Seq.{getD-take, drop-cons, take-all, take-take, take-length, drop-drop, take-at, getD-append-add, ext-getD}
 use borrow.Author.Tests.{eq-eqb, eqb-true}
+use Rattle.laws.specs.Bytes.{Bytes, little, bytesOf}
+use Rattle.laws.proofs.ByteLaws.{bytes-append, bytes-replicate, bytes-take, bytes-drop, bytes-bytesOf, bytesOf-little}
 use Rattle.block_check.specs.Check.{check}
 use Rattle.block_check.proofs.CheckLaws.{check-same, check-lt}
 use Rattle.sheet.specs.Number.{numberAt}
@@ -16,35 +18,27 @@ use Rattle.sheet.specs.Check.{checkRight}
 use Rattle.sheet.specs.Header.{blocksFor, nodesIn, totalRight, headerRight}
 use Rattle.sheet.specs.Slot.{slotStart, reaches, emptySlot, slotAt, slots}
 use Rattle.sheet.specs.Sound.{allZero, slotSound, slotRight}
-use Rattle.sheet.specs.Sheet.{bytesOf, joinBelow, uncheckedBlock, blockOf, sheetOf}
+use Rattle.sheet.specs.Sheet.{joinBelow, uncheckedBlock, blockOf, sheetOf}
 use Rattle.sheet.specs.Opening.{openOf, BlocksSound, SlotsSound}
 use Rattle.refusal.specs.declared.answers.Counted.{Counted}
-use Rattle.sheet.proofs.NumberLaws.{Bytes, numberAt-one, numberAt-two}
+use Rattle.sheet.proofs.NumberLaws.{numberAt-one, numberAt-two}
 use Rattle.sheet.proofs.PartLaws.{length-part, part-part}
 use Rattle.sheet.proofs.ZeroLaws.{allZero-each}
 use Rattle.sheet.proofs.JoinLaws.{take-join, joinBelow-take, joinBelow-bytes, joinBelow-length, joinBelow-part}
 use Rattle.sheet.proofs.BlockLaws.{blocks-within}
-use Rattle.sheet.proofs.BytesLaws.{blockAt-bytes, bytes-nil, bytes-cons, bytes-append, bytes-replicate}
+use Rattle.sheet.proofs.BytesLaws.{blockAt-bytes}
 use Rattle.sheet.proofs.SlotLaws.{slotStart-within, blockCount-most, reaches-true, slotAt-there, slotAt-length, slots-length, slots-at, emptySlot-byte}
 use Rattle.sheet.proofs.SoundLaws.{slotRight-used, slotRight-unused}
 use Rattle.sheet.proofs.HeaderLaws.{lengthRight-blocks, lengthRight-most, lengthRight-whole, totalRight-true, Fields, headerRight-fields, fields-headerRight}
 use Rattle.sheet.proofs.OpeningLaws.{openOf-accepts, openOf-blocks, openOf-slots, openOf-total, openOf-needed, openOf-slots-length}
 
 -- the bytes of a number are those that it was read from
-bytesOf-numberAt : (size : ℕ) (bytes : List ℕ) (at : ℕ) → Bytes bytes → at + size ≤ length bytes → bytesOf size (numberAt bytes at size) ≡ take size (drop at bytes)
-unfolding bytesOf numberAt
-bytesOf-numberAt zero bytes at all h = refl
-bytesOf-numberAt (suc size) bytes at all h =
-    let n = numberAt bytes (suc at) size in
-    let low : (getD bytes at 0 + 256 * n) % 256 ≡ getD bytes at 0 = omega (arith, all at) in
-    let rest : (getD bytes at 0 + 256 * n) / 256 ≡ n = omega (arith, all at) in
-    ap₂ _∷_ low (ap (bytesOf size) rest ∙ bytesOf-numberAt size bytes (suc at) all (omega arith))
-    ∙ sym (ap (take (suc size)) (drop-cons bytes at 0 (omega arith)))
-
-bytesOf-bytes : (size n : ℕ) → Bytes (bytesOf size n)
-unfolding bytesOf
-bytesOf-bytes zero n = bytes-nil
-bytesOf-bytes (suc size) n = bytes-cons (n % 256) (bytesOf size (n / 256)) (omega arith) (bytesOf-bytes size (n / 256))
+bytesOf-numberAt : (bytes : List ℕ) (at size : ℕ) → Bytes bytes → at + size ≤ length bytes → bytesOf size (numberAt bytes at size) ≡ take size (drop at bytes)
+unfolding numberAt
+bytesOf-numberAt bytes at size all h =
+    let part = take size (drop at bytes) in
+    ap (λ (n : ℕ). bytesOf n (little part)) (sym (length-part bytes at size h))
+    ∙ bytesOf-little part (bytes-take size (drop at bytes) (bytes-drop at bytes all))
 
 -- the slots of a block
 abbrev slotBytes : List ℕ → List ℕ
@@ -106,7 +100,7 @@ module _ (sheet : List ℕ) (t : ℕ) (bytes : Bytes sheet) (opened : openOf she
 
     field-is : (at size n : ℕ) → at + size ≤ blockSize → numberAt (blockAt sheet i) at size ≡ n → bytesOf size n ≡ take size (drop at (blockAt sheet i))
     field-is at size n l e =
-        ap (bytesOf size) (sym e) ∙ bytesOf-numberAt size (blockAt sheet i) at (blockAt-bytes sheet i bytes) (omega (arith, block-length))
+        ap (bytesOf size) (sym e) ∙ bytesOf-numberAt (blockAt sheet i) at size (blockAt-bytes sheet i bytes) (omega (arith, block-length))
 
     slots-are : joinBelow (λ j. getD (slots sheet) (slotsInBlock * i + j) emptySlot) slotsInBlock ≡ slotBytes (blockAt sheet i)
     slots-are =
@@ -198,7 +192,7 @@ module _ (used : List (List ℕ)) (given : SheetSlots used) where
     blockOf-slots = take-at slots-of _ (checkAt - firstSlotAt) slots-of-length
 
     blockOf-fields : i < 2 ^ 16 → Fields (length used) i (blockOf used i)
-    unfolding blockOf uncheckedBlock bytesOf blockNumber nodesHere version total numberAt nodesIn
+    unfolding blockOf uncheckedBlock bytesOf blockNumber nodesHere version total numberAt little nodesIn
     blockOf-fields h = record {
       number-is = omega arith;
       version-is = refl;
@@ -237,11 +231,11 @@ module _ (used : List (List ℕ)) (given : SheetSlots used) where
         (bytes-append (number ++ nodes ++ now ++ all) slots-of
         (bytes-append (number ++ nodes ++ now) all
         (bytes-append (number ++ nodes) now
-        (bytes-append number nodes (bytesOf-bytes 2 i) (bytesOf-bytes 1 (nodesIn (length used) i)))
-        (bytesOf-bytes 1 versionNow))
-        (bytesOf-bytes 2 (length used)))
+        (bytes-append number nodes (bytes-bytesOf 2 i) (bytes-bytesOf 1 (nodesIn (length used) i)))
+        (bytes-bytesOf 1 versionNow))
+        (bytes-bytesOf 2 (length used)))
         (joinBelow-bytes _ slotsInBlock (λ j h. slot-bytes (slotsInBlock * i + j))))
-        (bytesOf-bytes 2 (check (uncheckedBlock used i)))
+        (bytes-bytesOf 2 (check (uncheckedBlock used i)))
 
   abbrev blocks-of : ℕ
   blocks-of = blocksFor (length used)

@@ -12,7 +12,7 @@ use lib.Seq.{getD-take, getD-drop, drop-cons}
 use borrow.Author.Tests.{lt-ltb, le-ltb, le-leb, lt-leb, leb-true}
 use Rattle.sheet.specs.Block.{blockSize, firstSlotAt, checkAt, mostBytes, mostNodes, slotsInBlock, slotSize, blockCount, totalOf}
 use Rattle.sheet.specs.Slot.{slotStart, reaches, emptySlot, slotAt, slotsFrom, slots}
-use Rattle.sheet.proofs.NumberLaws.{Bytes}
+use Rattle.laws.specs.Bytes.{Bytes}
 use Rattle.sheet.proofs.PartLaws.{take-to, length-part}
 
 -- every node's slot lies within the longest sheet

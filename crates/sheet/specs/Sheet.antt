@@ -1,16 +1,12 @@
 -- A sheet made from its used slots, laid out as "The sheet" of document 01 says.
-use Prim.Native.Nat.{ℕ, zero, suc, _+_, _*_, _/_, _%_}
-use mathlib.Core.List.{List, [], _∷_, _++_}
+use Prim.Native.Nat.{ℕ, zero, suc, _+_, _*_}
+use mathlib.Core.List.{List, [], _++_}
 use lib.ListN.{length, getD}
+use Rattle.laws.specs.Bytes.{bytesOf}
 use Rattle.block_check.specs.Check.{check}
 use Rattle.sheet.specs.Block.{slotsInBlock, versionNow}
 use Rattle.sheet.specs.Header.{blocksFor, nodesIn}
 use Rattle.sheet.specs.Slot.{emptySlot}
-
--- a number in `size` bytes, the least first ("All numbers are little-endian")
-unfoldable pub bytesOf : ℕ → ℕ → List ℕ
-bytesOf zero n = []
-bytesOf (suc size) n = n % 256 ∷ bytesOf size (n / 256)
 
 -- the bytes that f gives for the numbers below n, one behind the other
 unfoldable pub joinBelow : (ℕ → List ℕ) → ℕ → List ℕ

@@ -7,9 +7,10 @@ use native.Mathlib.Omega.{arith}
 use native.Mathlib.Nat.{add-sub-cancel-left}
 use lib.ListN.{length, take, drop, length-take, length-drop}
 use borrow.Author.Needs.{needs}
+use Rattle.laws.specs.Bytes.{Bytes}
 use Rattle.block_check.specs.Check.{blockSize, sumBelow, weighted}
 use Rattle.block_check.specs.Steps.{chunkSize, chunks, lowOf, pairWeight, AtMost, ChunkAdded}
-use Rattle.block_check.proofs.LaneLaws.{Bytes, none-most, most-most, LanesWeighed, chunk-more}
+use Rattle.block_check.proofs.LaneLaws.{none-most, most-most, LanesWeighed, chunk-more}
 use Rattle.block_check.proofs.check.whole_sum.Statement.{statement}
 use Rattle.block_check.proofs.check.whole_sum.Tie as tie
 
