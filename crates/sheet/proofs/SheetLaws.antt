@@ -1,12 +1,12 @@
 -- Laws of a sheet that is made from its used slots: a sheet that opens is that of its slots, and the sheet of sound slots opens and has them.
 use mathlib.Core.Path.{_≡_, refl, sym, ap, ap₂, _∙_, subst}
-use mathlib.Core.Bool.{Bool, true}
-use mathlib.Core.List.{List, [], _∷_, _++_}
-use Prim.Native.Nat.{ℕ, zero, suc, _+_, _-_, _*_, _/_, _%_, _^_, _≤_, _<_}
+use mathlib.Core.Bool.{true}
+use mathlib.Core.List.{List, _++_}
+use Prim.Native.Nat.{ℕ, _+_, _-_, _*_, _/_, _%_, _^_, _≤_, _<_}
 use native.Mathlib.Decide.{decLt}
 use native.Mathlib.Omega.{arith}
 use lib.ListN.{length, getD, take, drop, length-append, List·getD-eq-default, List·getD-append}
-use lib.Seq.{getD-take, drop-cons, take-all, take-take, take-length, drop-drop, take-at, getD-append-add, ext-getD}
+use lib.Seq.{getD-take, take-all, take-take, drop-drop, take-at, getD-append-add, ext-getD}
 use borrow.Author.Tests.{eq-eqb, eqb-true}
 use Rattle.laws.specs.Bytes.{Bytes, little, bytesOf}
 use Rattle.laws.proofs.ByteLaws.{bytes-append, bytes-replicate, bytes-take, bytes-drop, bytes-bytesOf, bytesOf-little}
@@ -15,7 +15,7 @@ use Rattle.block_check.proofs.CheckLaws.{check-same, check-lt}
 use Rattle.sheet.specs.Number.{numberAt}
 use Rattle.sheet.specs.Block.{blockSize, firstSlotAt, checkAt, slotsInBlock, slotSize, mostNodes, blockNumberAt, nodesHereAt, versionAt, totalAt, versionNow, blockCount, blockAt, blockNumber, nodesHere, version, total, storedCheck, totalOf}
 use Rattle.sheet.specs.Check.{checkRight}
-use Rattle.sheet.specs.Header.{blocksFor, nodesIn, totalRight, headerRight}
+use Rattle.sheet.specs.Header.{blocksFor, nodesIn, totalRight}
 use Rattle.sheet.specs.Slot.{slotStart, reaches, emptySlot, slotAt, slots}
 use Rattle.sheet.specs.Sound.{allZero, slotSound, slotRight}
 use Rattle.sheet.specs.Sheet.{joinBelow, uncheckedBlock, blockOf, sheetOf}
@@ -30,7 +30,7 @@ use Rattle.sheet.proofs.BytesLaws.{blockAt-bytes}
 use Rattle.sheet.proofs.SlotLaws.{slotStart-within, blockCount-most, reaches-true, slotAt-there, slotAt-length, slots-length, slots-at, emptySlot-byte}
 use Rattle.sheet.proofs.SoundLaws.{slotRight-used, slotRight-unused}
 use Rattle.sheet.proofs.HeaderLaws.{lengthRight-blocks, lengthRight-most, lengthRight-whole, totalRight-true, Fields, headerRight-fields, fields-headerRight}
-use Rattle.sheet.proofs.OpeningLaws.{openOf-accepts, openOf-blocks, openOf-slots, openOf-total, openOf-needed, openOf-slots-length}
+use Rattle.sheet.proofs.OpeningLaws.{openOf-accepts, openOf-blocks, openOf-slots, openOf-needed, openOf-slots-length}
 
 -- the bytes of a number are those that it was read from
 bytesOf-numberAt : (bytes : List ℕ) (at size : ℕ) → Bytes bytes → at + size ≤ length bytes → bytesOf size (numberAt bytes at size) ≡ take size (drop at bytes)
@@ -40,7 +40,7 @@ bytesOf-numberAt bytes at size all h =
     ap (λ (n : ℕ). bytesOf n (little part)) (sym (length-part bytes at size h))
     ∙ bytesOf-little part (bytes-take size (drop at bytes) (bytes-drop at bytes all))
 
--- the slots of a block
+-- the bytes of a block's slots
 abbrev slotBytes : List ℕ → List ℕ
 slotBytes block = take (checkAt - firstSlotAt) (drop firstSlotAt block)
 
@@ -58,27 +58,29 @@ slotAt-block sheet i j h r =
     ∙ ap (take slotSize) (sym (drop-drop (slotSize * j) firstSlotAt block))
     ∙ sym (part-part (drop firstSlotAt block) (slotSize * j) slotSize (checkAt - firstSlotAt) (omega arith))
 
--- 72 zeros are an empty slot
+-- zeros of a slot's length are an empty slot
 zeros-empty : (slot : List ℕ) → length slot ≡ slotSize → allZero slot ≡ true → slot ≡ emptySlot
 unfolding emptySlot
 zeros-empty slot long zeros =
     ext-getD 0 slot emptySlot long (λ i h. allZero-each slot zeros i ∙ sym (emptySlot-byte i (omega arith)))
 
+-- which is zero
 emptySlot-zero : allZero emptySlot ≡ true
 unfolding emptySlot allZero
 emptySlot-zero = refl
 
--- a sheet that opens
+-- ---- a sheet that opens is the sheet of its slots
+
 module _ (sheet : List ℕ) (t : ℕ) (bytes : Bytes sheet) (opened : openOf sheet ≡ Counted.Count t) where
   blocks : BlocksSound sheet
   blocks = openOf-blocks sheet t opened
 
-  -- the bytes reach every slot of its blocks
+  -- its bytes reach every slot of its blocks
   reached : (k : ℕ) → k < slotsInBlock * blockCount sheet → reaches sheet k ≡ true
   reached k h =
       reaches-true sheet k (omega (arith, blockCount-most sheet (lengthRight-most (length sheet) (blocks .length-right)))) (slotStart-within sheet k h)
 
-  -- which is one of the used, or empty
+  -- each of which is one of the used, or empty
   slot-is : (k : ℕ) → k < slotsInBlock * blockCount sheet → getD (slots sheet) k emptySlot ≡ slotAt sheet k
   slot-is k h = cases (decLt k (totalOf sheet))
     where
@@ -88,25 +90,29 @@ module _ (sheet : List ℕ) (t : ℕ) (bytes : Bytes sheet) (opened : openOf she
           List·getD-eq-default (slots sheet) emptySlot {n = k} (omega (arith, slots-length sheet))
           ∙ sym (zeros-empty (slotAt sheet k) (slotAt-length sheet k) (sym (slotRight-unused sheet k (omega arith)) ∙ openOf-slots sheet t opened .slots-right k h))
 
-  -- its block i
+  -- block i, field by field
   module _ (i : ℕ) (h : i < blockCount sheet) where
     block-length : length (blockAt sheet i) ≡ blockSize
     unfolding blockAt
     block-length = length-part sheet (blockSize * i) blockSize (omega (arith, blocks-within sheet))
 
+    -- its header says what is written
     fields : Fields (length (slots sheet)) i (blockAt sheet i)
     fields =
         subst (λ (n : ℕ). Fields n i (blockAt sheet i)) (sym (slots-length sheet)) (headerRight-fields sheet i (blocks .headers-right i h))
 
+    -- a field's bytes are those of its number
     field-is : (at size n : ℕ) → at + size ≤ blockSize → numberAt (blockAt sheet i) at size ≡ n → bytesOf size n ≡ take size (drop at (blockAt sheet i))
     field-is at size n l e =
         ap (bytesOf size) (sym e) ∙ bytesOf-numberAt (blockAt sheet i) at size (blockAt-bytes sheet i bytes) (omega (arith, block-length))
 
+    -- the seven slots
     slots-are : joinBelow (λ j. getD (slots sheet) (slotsInBlock * i + j) emptySlot) slotsInBlock ≡ slotBytes (blockAt sheet i)
     slots-are =
         joinBelow-take _ slotSize (slotBytes (blockAt sheet i)) slotsInBlock (λ j l. slot-is (slotsInBlock * i + j) (omega arith) ∙ slotAt-block sheet i j l (reached (slotsInBlock * i + j) (omega arith)))
         ∙ take-take (slotSize * slotsInBlock) (checkAt - firstSlotAt) (drop firstSlotAt (blockAt sheet i)) (omega arith)
 
+    -- all up to the check
     unchecked-is : uncheckedBlock (slots sheet) i ≡ take checkAt (blockAt sheet i)
     unfolding uncheckedBlock blockNumber nodesHere version total
     unchecked-is =
@@ -121,6 +127,7 @@ module _ (sheet : List ℕ) (t : ℕ) (bytes : Bytes sheet) (opened : openOf she
         (field-is totalAt 2 _ (omega arith) (fields .total-is)))
         slots-are
 
+    -- and the check
     check-is : storedCheck (blockAt sheet i) ≡ check (uncheckedBlock (slots sheet) i)
     unfolding checkRight
     check-is =
@@ -143,7 +150,9 @@ module _ (sheet : List ℕ) (t : ℕ) (bytes : Bytes sheet) (opened : openOf she
       ∙ joinBelow-take (blockOf (slots sheet)) blockSize sheet (blockCount sheet) block-is
       ∙ take-all (blockSize * blockCount sheet) sheet (omega (arith, lengthRight-whole (length sheet) (blocks .length-right)))
 
--- slots that a sheet can be made from: 1 to 896 of them, whole, of bytes and sound
+-- ---- the sheet of sound slots opens, and has them
+
+-- slots that a sheet can be made from: 1 to 896, each whole, of bytes and sound
 pub record SheetSlots (used : List (List ℕ)) : Type 0 where
   pub least : 1 ≤ length used
   pub most : length used ≤ mostNodes
@@ -152,6 +161,7 @@ pub record SheetSlots (used : List (List ℕ)) : Type 0 where
   pub sound : (k : ℕ) → k < length used → slotSound (getD used k emptySlot) ≡ true
 
 module _ (used : List (List ℕ)) (given : SheetSlots used) where
+  -- behind them stand empty slots
   empty-behind : (k : ℕ) → length used ≤ k → getD used k emptySlot ≡ emptySlot
   empty-behind k h = List·getD-eq-default used emptySlot {n = k} h
 
@@ -171,7 +181,7 @@ module _ (used : List (List ℕ)) (given : SheetSlots used) where
       cases (yes h) = given .bytes k h
       cases (no h) = subst Bytes (sym (empty-behind k (omega arith))) (bytes-replicate slotSize 0 (omega arith))
 
-  -- block i
+  -- block i, part by part
   module _ (i : ℕ) where
     abbrev slots-of : List ℕ
     slots-of = joinBelow (λ j. getD used (slotsInBlock * i + j) emptySlot) slotsInBlock
@@ -191,6 +201,7 @@ module _ (used : List (List ℕ)) (given : SheetSlots used) where
     unfolding blockOf uncheckedBlock bytesOf
     blockOf-slots = take-at slots-of _ (checkAt - firstSlotAt) slots-of-length
 
+    -- its header says what was written
     blockOf-fields : i < 2 ^ 16 → Fields (length used) i (blockOf used i)
     unfolding blockOf uncheckedBlock bytesOf blockNumber nodesHere version total numberAt little nodesIn
     blockOf-fields h = record {
@@ -200,6 +211,7 @@ module _ (used : List (List ℕ)) (given : SheetSlots used) where
       nodes-is = omega arith;
     }
 
+    -- its check is that of its bytes
     stored-at : (n : ℕ) → getD (blockOf used i) (checkAt + n) 0 ≡ getD (bytesOf 2 (check (uncheckedBlock used i))) n 0
     unfolding blockOf
     stored-at n =
@@ -237,6 +249,7 @@ module _ (used : List (List ℕ)) (given : SheetSlots used) where
         (joinBelow-bytes _ slotsInBlock (λ j h. slot-bytes (slotsInBlock * i + j))))
         (bytes-bytesOf 2 (check (uncheckedBlock used i)))
 
+  -- the sheet, block by block
   abbrev blocks-of : ℕ
   blocks-of = blocksFor (length used)
 
@@ -268,6 +281,7 @@ module _ (used : List (List ℕ)) (given : SheetSlots used) where
   unfolding totalOf
   sheetOf-total = ap total (sheetOf-block 0 (omega (arith, blocks-least))) ∙ blockOf-fields 0 (omega arith) .total-is
 
+  -- and slot by slot
   sheetOf-reaches : (k : ℕ) → k < slotsInBlock * blocks-of → reaches (sheetOf used) k ≡ true
   sheetOf-reaches k h =
       reaches-true (sheetOf used) k (omega (arith, blocks-most)) (slotStart-within (sheetOf used) k (omega (arith, sheetOf-blocks)))
@@ -284,10 +298,11 @@ module _ (used : List (List ℕ)) (given : SheetSlots used) where
       subst (λ (n : ℕ). slotAt (sheetOf used) n ≡ getD used n emptySlot) {x = slotsInBlock * (k / slotsInBlock) + k % slotsInBlock} {y = k} (omega arith)
       (slot-in-block (k / slotsInBlock) (k % slotsInBlock) (omega arith) (omega arith))
 
+  -- nothing of it is refused
   sheetOf-blocks-sound : BlocksSound (sheetOf used)
   unfolding checkRight
   sheetOf-blocks-sound = record {
-    length-right = rw sheetOf-length (lengthRight-blocks blocks-of (blocks-least) (omega (arith, blocks-most)));
+    length-right = rw sheetOf-length (lengthRight-blocks blocks-of blocks-least (omega (arith, blocks-most)));
     checks-right = λ i h. rw (sheetOf-block i (within i h)) (eq-eqb _ _ (blockOf-check i));
     headers-right = λ i h. fields-headerRight (sheetOf used) i (fields-of i (within i h)) total-right;
   }

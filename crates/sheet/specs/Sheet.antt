@@ -13,8 +13,8 @@ unfoldable pub joinBelow : (ℕ → List ℕ) → ℕ → List ℕ
 joinBelow f zero = []
 joinBelow f (suc n) = joinBelow f n ++ f n
 
--- block i before its check ("0-1 block number from 0; 2 nodes here; 3 version, 1; 4-5 total nodes T; 6-509 seven slots of 72"), where
--- "unused slots are zero"
+-- block i before its check ("0-1 block number from 0; 2 nodes here; 3 version, 1; 4-5 total nodes T; 6-509 seven slots of 72"; "Unused
+-- slots are zero")
 unfoldable pub uncheckedBlock : List (List ℕ) → ℕ → List ℕ
 uncheckedBlock used i =
     bytesOf 2 i
