@@ -4,3 +4,4 @@ pub mod DifferenceLaws
 pub mod SignedLaws
 pub mod StretchLaws
 pub mod MostLaws
+pub mod ByteLaws

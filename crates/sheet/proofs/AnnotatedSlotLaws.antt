@@ -1,5 +1,5 @@
 -- Laws of a slot with other annotations: it has them, every other field is what it was, and it is sound where it was and they are listed.
-use mathlib.Core.Path.{_≡_, refl, sym, ap, ap₂, _∙_}
+use mathlib.Core.Path.{_≡_, sym, ap, ap₂, _∙_}
 use mathlib.Core.Logic.{_⊎_, inl, inr}
 use mathlib.Core.Bool.{Bool, true, false, true≢false, _&&_}
 use mathlib.Core.List.{List}
@@ -10,13 +10,15 @@ use lib.Seq.{getD-set-same, getD-set-other, drop-set-lt}
 use Rattle.sheet.specs.Number.{numberAt, signed32}
 use Rattle.sheet.specs.Slot.{convertedAt, logicalAt, parameterAAt, parameterBAt, childCountAt, typeLengthAt, scaleAt, precisionAt, nameLengthAt, reservedAt, nameAt, physical, repetition, converted, logical, parameterA, parameterB, childCount, typeLength, scale, precision, nameLength, name, annotatedSlot}
 use Rattle.sheet.specs.Sound.{physicalListed, repetitionListed, convertedListed, logicalListed, reservedZero, tailZero, codesListed, nameRight, slotSound}
+use Rattle.sheet.proofs.NumberLaws.{numberAt-nothing, numberAt-more}
 
 -- a number of bytes that agree from its place on
 numberAt-same : (size : ℕ) (x y : List ℕ) (at : ℕ) → ((i : ℕ) → at ≤ i → getD x i 0 ≡ getD y i 0) → numberAt x at size ≡ numberAt y at size
-unfolding numberAt
-numberAt-same zero x y at same = refl
+numberAt-same zero x y at same = numberAt-nothing x at ∙ sym (numberAt-nothing y at)
 numberAt-same (suc size) x y at same =
-    ap₂ (λ (low rest : ℕ). low + 256 * rest) (same at (omega arith)) (numberAt-same size x y (suc at) (λ i h. same i (omega arith)))
+    numberAt-more x at size
+    ∙ ap₂ (λ (low rest : ℕ). low + 256 * rest) (same at (omega arith)) (numberAt-same size x y (suc at) (λ i h. same i (omega arith)))
+    ∙ sym (numberAt-more y at size)
 
 -- two tests of a conjunction that hold in any case
 listed-kept : (p r c l n : Bool) → (p && r && c && l && n) ≡ true → (p && r && true && true && n) ≡ true

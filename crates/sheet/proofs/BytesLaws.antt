@@ -1,42 +1,20 @@
--- Lists whose elements are bytes.
-use Prim.Native.Nat.{ℕ, zero, suc, _+_, _*_, _^_, _<_}
-use mathlib.Core.List.{List, [], _∷_, _++_}
+-- Sheets whose elements are bytes.
+use Prim.Native.Nat.{ℕ, zero, suc, _+_, _*_}
+use mathlib.Core.List.{List}
 use native.Mathlib.Omega.{arith}
-use lib.ListN.{set, replicate}
+use lib.ListN.{set, drop}
+use Rattle.laws.specs.Bytes.{Bytes}
+use Rattle.laws.proofs.ByteLaws.{bytes-set, bytes-take, bytes-drop}
+use Rattle.block_check.specs.Check.{check}
+use Rattle.block_check.proofs.CheckLaws.{check-lt}
 use Rattle.sheet.specs.Number.{lowByte, highByte}
 use Rattle.sheet.specs.Block.{blockSize, checkAt, blockCount, blockAt}
-use Rattle.sheet.specs.Check.{check, withCheck, withChecks, renewed}
-use Rattle.sheet.proofs.NumberLaws.{Bytes}
-use Rattle.sheet.proofs.BlockLaws.{check-lt}
+use Rattle.sheet.specs.Check.{withCheck, withChecks, renewed}
 
-bytes-nil : Bytes []
-bytes-nil i = omega arith
-
-bytes-cons : (x : ℕ) (xs : List ℕ) → x < 2 ^ 8 → Bytes xs → Bytes (x ∷ xs)
-bytes-cons x xs h b zero = h
-bytes-cons x xs h b (suc i) = b i
-
--- each element of a list that is written out is a byte
-abbrev pub EachByte : List ℕ → Type 0
-EachByte [] = Unit {0}
-EachByte (x ∷ xs) = (x < 2 ^ 8) × EachByte xs
-
-pub all-bytes : (xs : List ℕ) → EachByte xs → Bytes xs
-all-bytes [] h = bytes-nil
-all-bytes (x ∷ xs) h = bytes-cons x xs (h .0) (all-bytes xs (h .1))
-
-pub bytes-append : (xs ys : List ℕ) → Bytes xs → Bytes ys → Bytes (xs ++ ys)
-bytes-append [] ys a b = b
-bytes-append (x ∷ xs) ys a b = bytes-cons x (xs ++ ys) (a 0) (bytes-append xs ys (λ i. a (suc i)) b)
-
-pub bytes-replicate : (n x : ℕ) → x < 2 ^ 8 → Bytes (replicate n x)
-bytes-replicate zero x h = bytes-nil
-bytes-replicate (suc n) x h = bytes-cons x (replicate n x) h (bytes-replicate n x h)
-
-bytes-set : (xs : List ℕ) (i x : ℕ) → x < 2 ^ 8 → Bytes xs → Bytes (set xs i x)
-bytes-set [] i x h b = b
-bytes-set (y ∷ xs) zero x h b = bytes-cons x xs h (λ i. b (suc i))
-bytes-set (y ∷ xs) (suc i) x h b = bytes-cons y (set xs i x) (b 0) (bytes-set xs i x h (λ j. b (suc j)))
+-- a block of a sheet of bytes is one of bytes
+pub blockAt-bytes : (sheet : List ℕ) (i : ℕ) → Bytes sheet → Bytes (blockAt sheet i)
+unfolding blockAt
+blockAt-bytes sheet i b = bytes-take blockSize (drop (blockSize * i) sheet) (bytes-drop (blockSize * i) sheet b)
 
 bytes-withCheck : (sheet : List ℕ) (i : ℕ) → Bytes sheet → Bytes (withCheck sheet i)
 unfolding withCheck

@@ -3,7 +3,8 @@ use mathlib.Core.List.{List}
 use Prim.Native.Nat.{ℕ, _^_, _<_}
 use lib.Signed.{mag}
 use Rattle.sheet.specs.Slot.{physicalAt, repetitionAt, convertedAt, logicalAt, parameterAAt, parameterBAt, childCountAt, typeLengthAt, scaleAt, precisionAt, nameLengthAt, physical, repetition, converted, logical, parameterA, parameterB, childCount, typeLength, scale, precision, nameLength}
-use Rattle.sheet.proofs.NumberLaws.{Bytes, numberAt-two-lt, numberAt-four-lt, signed32-mag}
+use Rattle.laws.specs.Bytes.{Bytes}
+use Rattle.sheet.proofs.NumberLaws.{numberAt-two-lt, numberAt-four-lt, signed32-mag}
 
 module _ (slot : List ℕ) (bytes : Bytes slot) where
   pub physical-lt : physical slot < 256

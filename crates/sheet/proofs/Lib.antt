@@ -3,8 +3,6 @@ pub mod TestLaws
 pub mod PartLaws
 pub mod NumberLaws
 pub mod ZeroLaws
-pub mod CheckLaws
-pub mod ColumnLaws
 pub mod BlockLaws
 pub mod RenewalLaws
 pub mod SlotLaws
@@ -19,3 +17,5 @@ pub mod OpeningLaws
 pub mod NameLaws
 pub mod Examples
 pub mod BytesLaws
+pub mod JoinLaws
+pub mod SheetLaws

@@ -10,7 +10,7 @@ use lib.ListN.{length}
 use borrow.Author.Tests.{lt-ltb, le-ltb}
 use Rattle.sheet.specs.Block.{mostNodes, slotsInBlock, blockCount, blockAt, totalOf}
 use Rattle.sheet.specs.Check.{checkRight}
-use Rattle.sheet.specs.Header.{lengthRight, totalRight, fieldsRight, headerRight}
+use Rattle.sheet.specs.Header.{lengthRight, blocksFor, totalRight, fieldsRight, headerRight}
 use Rattle.sheet.specs.Slot.{slotAt, slots}
 use Rattle.sheet.specs.Sound.{slotSound, slotRight}
 use Rattle.sheet.specs.First.{firstWrong}
@@ -18,7 +18,7 @@ use Rattle.sheet.specs.Opening.{atFirst, openOf, BlocksSound, SlotsSound
 use Rattle.sheet.proofs.FirstLaws.{firstWrong-none, firstWrong-all}
 use Rattle.sheet.proofs.SlotLaws.{slots-length}
 use Rattle.sheet.proofs.SoundLaws.{slotRight-used}
-use Rattle.sheet.proofs.HeaderLaws.{lengthRight-least, blockCount-least, totalRight-least, totalRight-most, totalRight-within}
+use Rattle.sheet.proofs.HeaderLaws.{lengthRight-least, blockCount-least, totalRight-least, totalRight-most, totalRight-within, totalRight-needed}
 use Rattle.refusal.specs.Numbers.{SHEET-LENGTH, BLOCK-CHECK, BLOCK-HEADER, SLOT}
 use Rattle.refusal.specs.Outcome.{refusal, unplaced}
 use Rattle.refusal.specs.declared.answers.Refusal.{Refusal}
@@ -140,6 +140,10 @@ module _ (sheet : List ℕ) (t : ℕ) (opened : openOf sheet ≡ Counted.Count t
   -- all of them in the blocks
   pub openOf-within : t ≤ slotsInBlock * blockCount sheet
   openOf-within = omega (arith, openOf-total, totalRight-within (totalOf sheet) (blockCount sheet) openOf-total-right)
+
+  -- which are as many as they need
+  pub openOf-needed : blocksFor t ≡ blockCount sheet
+  openOf-needed = ap blocksFor openOf-total ∙ totalRight-needed (totalOf sheet) (blockCount sheet) openOf-total-right
 
   -- the used slots are as many
   pub openOf-slots-length : length (slots sheet) ≡ t

@@ -11,9 +11,11 @@ use lib.ListN.{length, getD, set, length-set}
 use lib.Seq.{getD-set-same, getD-set-other, set-getD}
 use Rattle.sheet.specs.Number.{lowByte, highByte}
 use Rattle.sheet.specs.Block.{blockSize, checkAt, storedCheck, blockCount, blockAt}
-use Rattle.sheet.specs.Check.{check, checkRight, withCheck, withChecks, renewed}
+use Rattle.block_check.specs.Check.{check}
+use Rattle.sheet.specs.Check.{checkRight, withCheck, withChecks, renewed}
+use Rattle.block_check.proofs.CheckLaws.{check-same}
 use Rattle.sheet.proofs.NumberLaws.{numberAt-two}
-use Rattle.sheet.proofs.BlockLaws.{blockAt-byte, blockCount-same, blocks-within, check-same}
+use Rattle.sheet.proofs.BlockLaws.{blockAt-byte, blockCount-same, blocks-within}
 
 -- two bytes stored one after the other
 module _ (l : List ℕ) (p x y : ℕ) where

@@ -12,7 +12,7 @@ use lib.Seq.{getD-take, getD-drop, drop-cons}
 use borrow.Author.Tests.{lt-ltb, le-ltb, le-leb, lt-leb, leb-true}
 use Rattle.sheet.specs.Block.{blockSize, firstSlotAt, checkAt, mostBytes, mostNodes, slotsInBlock, slotSize, blockCount, totalOf}
 use Rattle.sheet.specs.Slot.{slotStart, reaches, emptySlot, slotAt, slotsFrom, slots}
-use Rattle.sheet.proofs.NumberLaws.{Bytes}
+use Rattle.laws.specs.Bytes.{Bytes}
 use Rattle.sheet.proofs.PartLaws.{take-to, length-part}
 
 -- every node's slot lies within the longest sheet
@@ -127,7 +127,8 @@ slots-drop sheet k h =
     drop-cons (slots sheet) k emptySlot (omega (arith, slots-length sheet))
     ∙ ap (λ (slot : List ℕ). slot ∷ drop (suc k) (slots sheet)) (slots-at sheet k emptySlot h)
 
-emptySlot-byte : (i : ℕ) → i < slotSize → getD emptySlot i 0 ≡ 0
+-- an empty slot is zero
+pub emptySlot-byte : (i : ℕ) → i < slotSize → getD emptySlot i 0 ≡ 0
 unfolding emptySlot
 emptySlot-byte i h = getD-replicate slotSize i 0 0 h
 

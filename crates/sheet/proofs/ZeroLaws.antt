@@ -21,7 +21,7 @@ allZero-true [] zeros = refl
 allZero-true (byte ∷ bytes) zeros = rw (eq-eqb byte 0 (zeros 0 (omega arith))) (allZero-true bytes (λ k h. zeros (suc k) (omega arith)))
 
 -- where all bytes are zero, each is
-allZero-each : (bytes : List ℕ) → allZero bytes ≡ true → (k : ℕ) → getD bytes k 0 ≡ 0
+pub allZero-each : (bytes : List ℕ) → allZero bytes ≡ true → (k : ℕ) → getD bytes k 0 ≡ 0
 unfolding allZero
 allZero-each [] e k = refl
 allZero-each (byte ∷ bytes) e zero = eqb-true byte 0 (and-eq-true-iff (eqb byte 0) (allZero bytes) .0 e .0)

@@ -1,14 +1,12 @@
 -- A sheet's blocks and their fields ("Block: 0-1 block number from 0; 2 nodes here; 3 version, 1; 4-5 total nodes T; 6-509 seven slots of
--- 72; 510-511 check").
+-- 72; 510-511 check"). A block's size and where its check starts are defined with the check.
 use Prim.Native.Nat.{ℕ, _*_, _/_}
 use mathlib.Core.List.{List}
 use lib.ListN.{length, getD, take, drop}
 use Rattle.sheet.specs.Number.{number16}
+pub use Rattle.block_check.specs.Check.{blockSize, checkAt}
 
--- "1 to 128 blocks of 512 bytes", and no sheet over 65,536 bytes
-abbrev pub blockSize : ℕ
-blockSize = 512
-
+-- no sheet over 65,536 bytes ("1 to 128 blocks")
 abbrev pub mostBytes : ℕ
 mostBytes = 65536
 
@@ -16,7 +14,7 @@ mostBytes = 65536
 abbrev pub mostNodes : ℕ
 mostNodes = 896
 
--- where each field of a block starts
+-- where each other field of a block starts
 abbrev pub blockNumberAt : ℕ
 blockNumberAt = 0
 
@@ -31,9 +29,6 @@ totalAt = 4
 
 abbrev pub firstSlotAt : ℕ
 firstSlotAt = 6
-
-abbrev pub checkAt : ℕ
-checkAt = 510
 
 -- "seven slots of 72"
 abbrev pub slotsInBlock : ℕ

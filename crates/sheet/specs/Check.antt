@@ -1,28 +1,12 @@
--- A block's check ("the sum of (i+1) times byte i, over i from 0 to 509, modulo 65,521").
-use Prim.Native.Nat.{ℕ, zero, suc, _+_, _*_, _%_}
+-- The checks of a sheet's blocks: whether they are right, and a sheet that stores them.
+use Prim.Native.Nat.{ℕ, zero, suc, _+_, _*_}
 use mathlib.Core.Bool.{Bool}
 use mathlib.Core.List.{List}
 use lib.Dec.{eqb}
-use lib.ListN.{getD, set}
+use lib.ListN.{set}
+use Rattle.block_check.specs.Check.{check}
 use Rattle.sheet.specs.Number.{lowByte, highByte}
 use Rattle.sheet.specs.Block.{blockSize, checkAt, storedCheck, blockCount, blockAt}
-
--- "modulo 65,521"
-abbrev pub checkModulus : ℕ
-checkModulus = 65521
-
--- the sum of f over the numbers below n
-unfoldable pub sumBelow : (ℕ → ℕ) → ℕ → ℕ
-sumBelow f zero = 0
-sumBelow f (suc n) = sumBelow f n + f n
-
--- (i+1) times byte i
-unfoldable pub weighted : List ℕ → ℕ → ℕ
-weighted block i = (i + 1) * getD block i 0
-
--- the check that a block should have, over the bytes before the stored one
-unfoldable pub check : List ℕ → ℕ
-check block = sumBelow (weighted block) checkAt % checkModulus
 
 -- block i's stored check is its check; the stored number is not reduced
 unfoldable pub checkRight : List ℕ → ℕ → Bool

@@ -5,6 +5,7 @@ pub mod Check
 pub mod Slot
 pub mod Sound
 pub mod Header
+pub mod Sheet
 pub mod First
 pub mod Opening
 pub mod Name

@@ -1,5 +1,5 @@
 // Where each field of a block and of a slot lies, and how many of each there may be.
-pub(crate) const BLOCK_SIZE: usize = 512;
+pub(crate) const BLOCK_SIZE: usize = block_check::BLOCK_SIZE;
 
 pub(crate) const SLOTS_IN_BLOCK: usize = 7;
 
@@ -21,7 +21,7 @@ pub(crate) const TOTAL: usize = 4;
 
 pub(crate) const FIRST_SLOT: usize = 6;
 
-pub(crate) const CHECK: usize = 510;
+pub(crate) const CHECK: usize = block_check::STORED_CHECK;
 
 // A slot.
 pub(crate) const PHYSICAL: usize = 0;

@@ -1,7 +1,7 @@
 // The sheet: bytes are sound blocks and slots, or the one refusal of 1 to 4 that document 01 names.
 mod layout; // layout.rt: where each field of a block and of a slot lies
 mod number; // number.rt: little-endian numbers in bytes
-mod block; // block.rt: a block's check and header
+mod block; // block.rt: whether a block's check and header are right
 mod slots; // slots.rt: a node's slot and its numbers
 mod soundness; // soundness.rt: which slots are sound
 mod names; // names.rt: a node's name, and names compared

@@ -57,11 +57,3 @@ pub(crate) fn wide(byte: u8) -> u32
 {
     byte as u32
 }
-
-// A number of 16 bits as one of 32.
-pub(crate) fn wide32(n: u16) -> u32
-    ensures { λ r. ⌜ r ≡ n ⌝ }
-    ensures { λ r. ⌜ r < 2 ^ 16 ⌝ }
-{
-    n as u32
-}

@@ -5,9 +5,10 @@ ghost use lib.ListN.{length};
 ghost use Rattle.sheet.specs.Block.{blockSize};
 ghost use Rattle.sheet.specs.Check.{withCheck, renewed};
 ghost use Rattle.sheet.specs.Slot.{withAnnotation};
-use crate::block::check_of;
+use crate::block::block_at;
 use crate::layout;
 use crate::slots::slot_start;
+use block_check::check_of;
 
 const BYTE: u32 = 256;
 
@@ -45,7 +46,7 @@ fn renew_check(sheet: &mut [u8], i: usize)
     requires { ⌜ blockSize * (i + 1) ≤ length (now sheet) ⌝ }
     ensures { λ _. ⌜ now (sheet .exit) ≡ withCheck (now (sheet .entry)) i ⌝ }
 {
-    let check = check_of(sheet, i);
+    let check = check_of(block_at(sheet, i));
     let at = layout::BLOCK_SIZE * i + layout::CHECK;
     sheet[at] = (check % BYTE) as u8;
     sheet[at + 1] = (check / BYTE) as u8;

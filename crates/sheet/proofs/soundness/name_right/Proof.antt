@@ -2,7 +2,7 @@
 -- and is the length then.
 use borrow.Author.Needs.{needs}
 use borrow.Author.Tests.{eq-eqb, ne-eqb, le-leb, lt-leb}
-use mathlib.Core.Path.{_≡_, refl, sym, ap, _∙_}
+use mathlib.Core.Path.{_≡_, sym, ap, _∙_}
 use mathlib.Core.Bool.{false, and-false}
 use mathlib.Core.List.{List}
 use Prim.Native.Nat.{ℕ, _+_, _*_, _≤_, _<_}
@@ -13,6 +13,7 @@ use lib.ListN.{drop}
 use Rattle.sheet.specs.Number.{numberAt, number32}
 use Rattle.sheet.specs.Slot.{nameLengthAt, reservedAt, nameAt, nameLength}
 use Rattle.sheet.specs.Sound.{mostNameLength, allZero, nameRight, nameLengthRight, reservedZero, tailZero}
+use Rattle.sheet.proofs.NumberLaws.{numberAt-more}
 use Rattle.sheet.proofs.ZeroLaws.{stretch-number}
 use Rattle.sheet.proofs.soundness.name_right.Statement.{statement}
 use Rattle.sheet.proofs.soundness.name_right.Tie as tie
@@ -23,8 +24,8 @@ module _ (slot : List ℕ) where
   reserved = numberAt slot reservedAt 3
 
   number-parts : number32 slot nameLengthAt ≡ nameLength slot + 256 * reserved
-  unfolding numberAt nameLength
-  number-parts = refl
+  unfolding nameLength
+  number-parts = numberAt-more slot nameLengthAt 3
 
   reserved-number : reservedZero slot ≡ eqb reserved 0
   unfolding reservedZero

@@ -1,15 +1,25 @@
 -- `sheet::writing::renew_check` meets its contract: the two bytes of the check are stored.
+use mathlib.Core.Path.{_≡_, ap, _∙_}
 use native.Mathlib.Omega.{arith}
 use lib.ListN.{length-set}
+use Rattle.block_check.specs.Check.{check}
 use Rattle.sheet.specs.Block.{blockAt}
 use Rattle.sheet.specs.Check.{withCheck}
-use Rattle.sheet.proofs.BlockLaws.{check-lt}
+use Rattle.block_check.proofs.CheckLaws.{check-lt}
 use borrow.Author.Needs.{needs}
 use Rattle.sheet.proofs.writing.renew_check.Statement.{statement}
 use Rattle.sheet.proofs.writing.renew_check.Tie as tie
 
+block-at-requires : tie.Need-block-at-requires
+block-at-requires c κs = search needs
+
 check-of-requires : tie.Need-check-of-requires
 check-of-requires c κs = search needs
+
+-- what the call answers, said of the sheet
+check-is : (c : tie.After-check-of)
+    → c .check-of .result ≡ check (blockAt (c .before .before .before .before .args .sheet .now) (c .before .before .before .before .args .i))
+check-is c = c .check-of .ensures ∙ ap check (c .before .block-at .ensures .0)
 
 mul-at : tie.Need-mul-at
 mul-at c = search needs
@@ -25,8 +35,8 @@ slice-write-sheet c = search needs
 
 cast-sheet-2 : tie.Need-cast-sheet-2
 cast-sheet-2 c =
-    let a = c .before .before .before .args in
-    omega (arith, check-lt (blockAt (a .sheet .now) (a .i)), c .check-of .ensures)
+    let a = c .before .before .before .before .args in
+    omega (arith, check-lt (blockAt (a .sheet .now) (a .i)), check-is c)
 
 add-sheet : tie.Need-add-sheet
 add-sheet c = search needs
@@ -39,12 +49,13 @@ same-length c = search needs
 
 returns : tie.Need-returns
 unfolding withCheck
-returns c = rw (c .check-of .ensures)
+returns c = rw (check-is c)
 
 pub renew-check-spec : {M : Type 1} → statement M
 renew-check-spec =
     tie.close
     (tie.spec
+    block-at-requires
     check-of-requires
     mul-at
     add-at

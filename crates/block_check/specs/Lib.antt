@@ -1,0 +1,3 @@
+-- The check of a block.
+pub mod Check
+pub mod Steps
