@@ -3,8 +3,8 @@ use mathlib.Core.Path.{_≡_, ap}
 use mathlib.Core.List.{List}
 use Prim.Native.Nat.{ℕ, _+_, _*_, _%_, _<_}
 use native.Mathlib.Omega.{arith}
-use lib.ListN.{getD}
-use Rattle.block_check.specs.Check.{checkAt, checkModulus, weighted, check}
+use lib.ListN.{length, getD}
+use Rattle.block_check.specs.Check.{blockSize, checkAt, checkModulus, weighted, check, checkOf}
 use Rattle.block_check.proofs.SumLaws.{sumBelow-same}
 
 -- blocks that agree before their stored checks have one check
@@ -17,3 +17,8 @@ check-same block other same =
 pub check-lt : (block : List ℕ) → check block < checkModulus
 unfolding check
 check-lt block = omega arith
+
+-- of a block it is what is computed of any bytes
+pub checkOf-block : (block : List ℕ) → length block ≡ blockSize → checkOf block ≡ check block
+unfolding checkOf
+checkOf-block block e = rw e

@@ -1,7 +1,9 @@
 -- A block's check ("the sum of (i+1) times byte i, over i from 0 to 509, modulo 65,521").
 use Prim.Native.Nat.{ℕ, zero, suc, _+_, _*_, _%_}
+use mathlib.Core.Bool.{cond}
 use mathlib.Core.List.{List}
-use lib.ListN.{getD}
+use lib.Dec.{eqb}
+use lib.ListN.{length, getD}
 
 -- "blocks of 512 bytes"
 abbrev pub blockSize : ℕ
@@ -27,3 +29,7 @@ weighted block i = (i + 1) * getD block i 0
 -- the check that a block should have, over the bytes before the stored one
 unfoldable pub check : List ℕ → ℕ
 check block = sumBelow (weighted block) checkAt % checkModulus
+
+-- and of any bytes: 0 where they are no block
+unfoldable pub checkOf : List ℕ → ℕ
+checkOf bytes = cond (eqb (length bytes) blockSize) (check bytes) 0

@@ -2,7 +2,7 @@
 ghost use mathlib.Core.Path.{_≡_};
 ghost use Prim.Native.Nat.{_<_};
 ghost use lib.ListN.{length};
-ghost use Rattle.block_check.specs.Check.{blockSize, checkAt, sumBelow, weighted, check};
+ghost use Rattle.block_check.specs.Check.{blockSize, checkAt, sumBelow, weighted, checkOf};
 use crate::lanes::CHUNK_SIZE;
 use crate::lanes::LANES;
 use crate::lanes::add_chunk;
@@ -21,11 +21,13 @@ const LOW_WEIGHT: u32 = layout::STORED_CHECK as u32 + 1;
 
 const HIGH_WEIGHT: u32 = LOW_WEIGHT + 1;
 
-// The check that a block should have: the sum is below 2^27, so it is reduced once.
+// The check that a block should have, and 0 of bytes that are no block: the sum is below 2^27, so it is reduced once.
 pub fn check_of(block: &[u8]) -> u32
-    requires { ⌜ length (now block) ≡ blockSize ⌝ }
-    ensures { λ r. ⌜ r ≡ check (now (block .entry)) ⌝ }
+    ensures { λ r. ⌜ r ≡ checkOf (now (block .entry)) ⌝ }
 {
+    if block.len() != layout::BLOCK_SIZE {
+        return 0;
+    }
     weighted_sum(block) % CHECK_MODULUS
 }
 

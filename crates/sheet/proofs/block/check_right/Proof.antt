@@ -3,6 +3,7 @@ use borrow.Author.Needs.{needs}
 use mathlib.Core.Path.{ap, ap₂, _∙_}
 use lib.Dec.{eqb}
 use Rattle.block_check.specs.Check.{check}
+use Rattle.block_check.proofs.CheckLaws.{checkOf-block}
 use Rattle.sheet.specs.Block.{storedCheck}
 use Rattle.sheet.specs.Check.{checkRight}
 use Rattle.sheet.proofs.block.check_right.Statement.{statement}
@@ -21,7 +22,7 @@ returns : tie.Need-returns
 unfolding checkRight storedCheck
 returns c =
     let block = c .before .before .block-at .ensures .0 in
-    ap₂ eqb (c .before .number16 .ensures .0 ∙ ap storedCheck block) (c .check-of .ensures ∙ ap check block)
+    ap₂ eqb (c .before .number16 .ensures .0 ∙ ap storedCheck block) (c .check-of .ensures ∙ checkOf-block _ (search needs) ∙ ap check block)
 
 pub check-right-spec : {M : Type 1} → statement M
 check-right-spec =

@@ -5,7 +5,7 @@ use lib.ListN.{length-set}
 use Rattle.block_check.specs.Check.{check}
 use Rattle.sheet.specs.Block.{blockAt}
 use Rattle.sheet.specs.Check.{withCheck}
-use Rattle.block_check.proofs.CheckLaws.{check-lt}
+use Rattle.block_check.proofs.CheckLaws.{check-lt, checkOf-block}
 use borrow.Author.Needs.{needs}
 use Rattle.sheet.proofs.writing.renew_check.Statement.{statement}
 use Rattle.sheet.proofs.writing.renew_check.Tie as tie
@@ -19,7 +19,7 @@ check-of-requires c κs = search needs
 -- what the call answers, said of the sheet
 check-is : (c : tie.After-check-of)
     → c .check-of .result ≡ check (blockAt (c .before .before .before .before .args .sheet .now) (c .before .before .before .before .args .i))
-check-is c = c .check-of .ensures ∙ ap check (c .before .block-at .ensures .0)
+check-is c = c .check-of .ensures ∙ checkOf-block _ (search needs) ∙ ap check (c .before .block-at .ensures .0)
 
 mul-at : tie.Need-mul-at
 mul-at c = search needs
