@@ -7,11 +7,11 @@ use mathlib.Core.List.{List, [], _++_}
 use native.Mathlib.Omega.{arith}
 use borrow.Author.Tests.{eq-eqb, le-leb}
 use lib.ListN.{length, getD, drop}
+use Rattle.laws.specs.Bytes.{Bytes}
 use Rattle.sheet.specs.Block.{totalOf}
 use Rattle.sheet.specs.Slot.{physical, typeLength, scale, precision, numbersOf, slotAt, slots}
 use Rattle.parquet.specs.Physical as physical
 use Rattle.sheet.specs.Sound.{slotSound}
-use Rattle.sheet.proofs.NumberLaws.{Bytes}
 use Rattle.sheet.proofs.FieldLaws.{physical-lt, typeLength-mag, scale-mag, precision-mag}
 use Rattle.sheet.proofs.SlotLaws.{slots-at, slotAt-bytes}
 use Rattle.sheet.proofs.SoundLaws.{sound-physical}

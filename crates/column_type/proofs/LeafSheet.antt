@@ -6,6 +6,9 @@ use mathlib.Core.List.{List, [], _∷_, _++_}
 use native.Mathlib.Omega.{arith}
 use lib.IntN.{pos}
 use lib.ListN.{length, replicate}
+use Rattle.block_check.specs.Check.{blockSize}
+use Rattle.laws.specs.Bytes.{Bytes, little}
+use Rattle.laws.proofs.ByteLaws.{all-bytes, bytes-append, bytes-replicate}
 use Rattle.parquet.specs.Repetition.{REQUIRED}
 use Rattle.parquet.specs.Repetition as repetition
 use Rattle.parquet.specs.Physical as physical
@@ -15,14 +18,14 @@ use Rattle.logical_type.specs.Parameters.{UNUSED}
 use Rattle.annotation.specs.Signed.{natural}
 use Rattle.annotation.specs.declared.slot.Annotated.{Annotated}
 use Rattle.sheet.specs.Number.{numberAt, signed32}
-use Rattle.sheet.specs.Block.{blockSize, firstSlotAt, slotSize, slotsInBlock, versionNow, blockCount, blockAt, blockNumber, nodesHere, version, total, totalOf}
+use Rattle.sheet.specs.Block.{firstSlotAt, slotSize, slotsInBlock, versionNow, blockCount, blockAt, blockNumber, nodesHere, version, total, totalOf}
 use Rattle.sheet.specs.Check.{checkRight, withCheck, withChecks, renewed}
 use Rattle.sheet.specs.Slot.{nameAt, numbersOf, slotStart, reaches, slotAt, slotsFrom, slots}
 use Rattle.sheet.specs.Slot as slot
 use Rattle.sheet.specs.Sound.{listed, physicalListed, repetitionListed, convertedListed, logicalListed, nameLengthRight, allZero, reservedZero, tailZero, codesListed, nameRight, slotSound, slotRight}
 use Rattle.sheet.specs.Header.{lengthRight, blocksFor, nodesIn, totalRight, fieldsRight, headerRight}
-use Rattle.sheet.proofs.NumberLaws.{Bytes, signed32-low}
-use Rattle.sheet.proofs.BytesLaws.{all-bytes, bytes-append, bytes-replicate, bytes-renewed}
+use Rattle.sheet.proofs.NumberLaws.{signed32-low}
+use Rattle.sheet.proofs.BytesLaws.{bytes-renewed}
 use Rattle.sheet.proofs.BlockLaws.{blockCount-same}
 use Rattle.sheet.proofs.RenewalLaws.{length-renewed, renewed-right}
 use Rattle.tree.specs.Annotated.{annotated}
@@ -92,11 +95,11 @@ unfolding leafSheet blockBytes rootSlot leafSlot
 leafSheet-length n = length-renewed (blockBytes n)
 
 pub leafSheet-total : (n : Annotated) → totalOf (leafSheet n) ≡ 2
-unfolding leafSheet blockBytes rootSlot leafSlot renewed withChecks withCheck blockCount totalOf total blockAt numberAt
+unfolding leafSheet blockBytes rootSlot leafSlot renewed withChecks withCheck blockCount totalOf total blockAt numberAt little
 leafSheet-total n = refl
 
 pub leafSheet-slots : (n : Annotated) → slots (leafSheet n) ≡ rootSlot ∷ leafSlot n ∷ []
-unfolding leafSheet blockBytes rootSlot leafSlot renewed withChecks withCheck blockCount totalOf total blockAt numberAt slots slotsFrom slotAt reaches slotStart
+unfolding leafSheet blockBytes rootSlot leafSlot renewed withChecks withCheck blockCount totalOf total blockAt numberAt little slots slotsFrom slotAt reaches slotStart
 leafSheet-slots n = refl
 
 leafSheet-blocks : (n : Annotated) → blockCount (leafSheet n) ≡ 1
@@ -108,7 +111,7 @@ unfolding leafSheet
 leafSheet-checks n i h = renewed-right (blockBytes n) i (omega (arith, blockCount-same (renewed (blockBytes n)) (blockBytes n) (length-renewed (blockBytes n))))
 
 leafSheet-header : (n : Annotated) → headerRight (leafSheet n) 0 ≡ true
-unfolding leafSheet blockBytes rootSlot leafSlot renewed withChecks withCheck blockCount totalOf total blockAt numberAt headerRight fieldsRight blockNumber version nodesHere nodesIn totalRight blocksFor
+unfolding leafSheet blockBytes rootSlot leafSlot renewed withChecks withCheck blockCount totalOf total blockAt numberAt little headerRight fieldsRight blockNumber version nodesHere nodesIn totalRight blocksFor
 leafSheet-header n = refl
 
 -- the slot of the leaf is sound where its codes are listed
@@ -122,7 +125,7 @@ unfolding leafSlot slotSound codesListed slot.physical slot.repetition slot.conv
 leafSlot-sound n l = rw (l .physical, l .converted, l .logical)
 
 leafSheet-slot : (n : Annotated) → Listed n → (k : ℕ) → k < slotsInBlock → slotRight (leafSheet n) k ≡ true
-unfolding leafSheet blockBytes rootSlot leafSlot renewed withChecks withCheck blockCount totalOf total blockAt numberAt slotAt reaches slotStart slotRight slotSound codesListed slot.physical slot.repetition slot.converted slot.logical physicalListed repetitionListed convertedListed logicalListed listed nameRight slot.nameLength nameLengthRight reservedZero tailZero allZero
+unfolding leafSheet blockBytes rootSlot leafSlot renewed withChecks withCheck blockCount totalOf total blockAt numberAt little slotAt reaches slotStart slotRight slotSound codesListed slot.physical slot.repetition slot.converted slot.logical physicalListed repetitionListed convertedListed logicalListed listed nameRight slot.nameLength nameLengthRight reservedZero tailZero allZero
 leafSheet-slot n l zero h = refl
 leafSheet-slot n l (suc zero) h = leafSlot-sound n l
 leafSheet-slot n l (suc (suc zero)) h = refl
@@ -168,7 +171,7 @@ four-read n h =
 
 -- the leaf's slot has the numbers that it was made of
 pub leafSlot-annotated : (n : Annotated) → Holds n → annotated (leafSlot n) ≡ n
-unfolding leafSlot annotated numbersOf slot.physical slot.converted slot.logical slot.parameterA slot.parameterB slot.typeLength slot.scale slot.precision numberAt
+unfolding leafSlot annotated numbersOf slot.physical slot.converted slot.logical slot.parameterA slot.parameterB slot.typeLength slot.scale slot.precision numberAt little
 leafSlot-annotated n h =
     rw (four-read (natural (n .«type_length»)) (h .«type-length»), four-read (natural (n .scale)) (h .scale), four-read (natural (n .precision)) (h .precision), h .length-natural, h .scale-natural, h .precision-natural)
 

@@ -6,6 +6,7 @@ use mathlib.Core.List.{[], _∷_}
 use native.Mathlib.Omega.{arith}
 use lib.Dec.{eqb}
 use lib.ListN.{getD}
+use Rattle.laws.specs.Bytes.{little, twosComplement}
 use Rattle.parquet.specs.Logical as logical
 use Rattle.logical_type.specs.Parameters.{validParameters}
 use Rattle.annotation.specs.Signed.{natural}
@@ -41,7 +42,7 @@ tree-deep n k = by k
     by (suc (suc k)) = omega arith
 
 tree-claims : (n : Annotated) → Claims (leafTree n)
-unfolding leafTree Claims count rootSlot leafSlot slot.childCount numberAt
+unfolding leafTree Claims count rootSlot leafSlot slot.childCount numberAt little
 tree-claims n = (refl, ((refl, tt), tt))
 
 tree-lists : (n : Annotated) → listing (leafTree n) ≡ slot.slots (leafSheet n)
@@ -49,7 +50,7 @@ unfolding leafTree listing
 tree-lists n = sym (leafSheet-slots n)
 
 root-keeps : (fs : Fields) → KeepsAt Root rootSlot fs
-unfolding rule8 shape lengthShape decimalShape isNought rule9 rule10 rule11 rule12 rule13 isList isMap kind kindOf annotated annotationOf backwardOf validParameters natural nine.rule9 ten.rule10 eleven.rule11 numbersOf slot.physical slot.repetition slot.converted slot.logical slot.parameterA slot.parameterB slot.typeLength slot.scale slot.precision numberAt signed32 rootSlot
+unfolding rule8 shape lengthShape decimalShape isNought rule9 rule10 rule11 rule12 rule13 isList isMap kind kindOf annotated annotationOf backwardOf validParameters natural nine.rule9 ten.rule10 eleven.rule11 numbersOf slot.physical slot.repetition slot.converted slot.logical slot.parameterA slot.parameterB slot.typeLength slot.scale slot.precision numberAt little twosComplement rootSlot
 root-keeps fs = record { shape = refl; agreement = refl; placement = refl; decimals = refl; lists = refl; maps = refl }
 
 root-place : placeBelow Root rootSlot ≡ Field

@@ -4,10 +4,12 @@ use mathlib.Core.Path.{_≡_, refl}
 use mathlib.Core.Bool.{Bool, true}
 use mathlib.Core.List.{List}
 use lib.ListN.{replicate}
+use Rattle.laws.specs.Bytes.{little, twosComplement}
+use Rattle.block_check.specs.Check.{sumBelow, weighted, check}
 use Rattle.refusal.specs.Outcome.{Outcome, refusal}
 use Rattle.sheet.specs.Number.{numberAt, signed32}
 use Rattle.sheet.specs.Block.{blockCount, blockAt, blockNumber, nodesHere, version, total, storedCheck, totalOf}
-use Rattle.sheet.specs.Check.{sumBelow, weighted, check, checkRight}
+use Rattle.sheet.specs.Check.{checkRight}
 use Rattle.sheet.specs.Slot.{physical, repetition, converted, logical, parameterA, parameterB, childCount, typeLength, scale, precision, nameLength, name, numbersOf, slotStart, reaches, slotAt, slotsFrom, slots}
 use Rattle.sheet.specs.Sound.{listed, physicalListed, repetitionListed, convertedListed, logicalListed, nameLengthRight, allZero, reservedZero, tailZero, codesListed, nameRight, slotSound, slotRight}
 use Rattle.sheet.specs.Header.{lengthRight, blocksFor, nodesIn, totalRight, fieldsRight, headerRight}
@@ -50,7 +52,7 @@ use Rattle.demands.specs.Requests.{repeatedRows, exampleRows}
 
 -- numbers, blocks, headers and checks
 block-layer : List ℕ → ℕ → Bool
-unfolding headerRight lengthRight fieldsRight totalRight blocksFor nodesIn blockCount blockAt blockNumber nodesHere version total totalOf numberAt signed32 checkRight check sumBelow weighted storedCheck
+unfolding headerRight lengthRight fieldsRight totalRight blocksFor nodesIn blockCount blockAt blockNumber nodesHere version total totalOf numberAt little twosComplement checkRight check sumBelow weighted storedCheck
 block-layer = headerRight
 
 -- slots, their numbers, and whether they are sound

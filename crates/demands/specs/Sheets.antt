@@ -2,9 +2,9 @@
 use Prim.Native.Nat.{ℕ, _*_, _-_}
 use mathlib.Core.List.{List, [], _∷_, _++_}
 use lib.ListN.{length, replicate}
+use Rattle.block_check.specs.Check.{checkAt, check}
 use Rattle.sheet.specs.Number.{lowByte, highByte}
-use Rattle.sheet.specs.Block.{firstSlotAt, checkAt, slotSize, versionNow}
-use Rattle.sheet.specs.Check.{check}
+use Rattle.sheet.specs.Block.{firstSlotAt, slotSize, versionNow}
 use Rattle.sheet.specs.Slot.{nameAt}
 use Rattle.logical_type.specs.Parameters.{UNUSED}
 use Rattle.parquet.specs.Physical as physical
