@@ -6,6 +6,7 @@ use mathlib.Core.Bool.{Bool, true, false, _&&_}
 use mathlib.Core.List.{List, [], _∷_}
 use native.Mathlib.Omega.{arith}
 use lib.Dec.{eqb}
+use Rattle.laws.proofs.BoolLaws.{is-false}
 use Rattle.logical_type.specs.Parameters.{UNUSED, unitCode, bitWidthCode, flagCode, validUnit, validBitWidth, validFlag, unitOf, bitWidthOf, flagOf}
 use Rattle.logical_type.specs.declared.types.TimeUnit.{TimeUnit}
 use Rattle.logical_type.specs.declared.types.BitWidth.{BitWidth}
@@ -13,14 +14,9 @@ use Rattle.logical_type.proofs.ReadingLaws.{unused-spelled, unit-flag-spelled, 
 use Rattle.annotation.specs.Pairs.{NO-PAIR, pairOf, pairA, pairB}
 use Rattle.annotation.proofs.TableLaws.{Rest}
 
--- what is not true is false
-not-valid : (valid : Bool) → (valid ≡ true → ⊥) → valid ≡ false
-not-valid true h = absurd (h refl)
-not-valid false h = refl
-
 pub unused-pair : (pair : ℕ) → (pair ≡ NO-PAIR → ⊥) → eqb (pairA pair) UNUSED && eqb (pairB pair) UNUSED ≡ false
 unused-pair pair ne =
-    not-valid _ (λ e. let both = unused-spelled (pairA pair) (pairB pair) e in ne (omega arith))
+    is-false _ (λ e. let both = unused-spelled (pairA pair) (pairB pair) e in ne (omega arith))
 
 -- the parameters of TIME and TIMESTAMP, in the order of the arms that read them; others are not valid
 abbrev timedPairs : List (ℕ × Unit {0})
@@ -35,7 +31,7 @@ timedPairs =
 
 pub timed-rest : (pair : ℕ) → Rest pair timedPairs (Unit {0}) → validUnit (pairA pair) && validFlag (pairB pair) ≡ false
 timed-rest pair r =
-    not-valid _ (λ e. let both = unit-flag-spelled (pairA pair) (pairB pair) e in none (unitOf (pairA pair)) (flagOf (pairB pair)) (omega arith))
+    is-false _ (λ e. let both = unit-flag-spelled (pairA pair) (pairB pair) e in none (unitOf (pairA pair)) (flagOf (pairB pair)) (omega arith))
   where
     none : (p : TimeUnit) (flag : Bool) → pair ≡ pairOf (unitCode p) (flagCode flag) → ⊥
     none TimeUnit.Millis false = r .0 .0 .0 .0 .0 .1
@@ -60,7 +56,7 @@ sizedPairs =
 
 pub sized-rest : (pair : ℕ) → Rest pair sizedPairs (Unit {0}) → validBitWidth (pairA pair) && validFlag (pairB pair) ≡ false
 sized-rest pair r =
-    not-valid _ (λ e. let both = width-flag-spelled (pairA pair) (pairB pair) e in none (bitWidthOf (pairA pair)) (flagOf (pairB pair)) (omega arith))
+    is-false _ (λ e. let both = width-flag-spelled (pairA pair) (pairB pair) e in none (bitWidthOf (pairA pair)) (flagOf (pairB pair)) (omega arith))
   where
     none : (p : BitWidth) (flag : Bool) → pair ≡ pairOf (bitWidthCode p) (flagCode flag) → ⊥
     none BitWidth.Bits8 false = r .0 .0 .0 .0 .0 .0 .0 .1

@@ -7,13 +7,13 @@ use Prim.Native.Nat.{ℕ, _*_, _<_, _≤_}
 use lib.Dec.{eqb, leb·zero}
 use lib.IntN.{pos, negsuc}
 use denote.Enum.Declared.{Choice, tagOf}
+use Rattle.laws.specs.Bytes.{twosComplement}
+use Rattle.laws.proofs.ByteLaws.{twos-below, twos-above}
 use Rattle.timestamp.specs.Units.{TimeUnit}
 use Rattle.timestamp.specs.Outcomes.{dayAnswer, dayHas}
 use Rattle.timestamp.specs.declared.units.InDay.{InDay}
 use Rattle.timestamp.proofs.units.InDay as InDay′
-use Rattle.column.specs.Numbers.{twosComplement}
 use Rattle.column.specs.Annotations.{inDay}
-use Rattle.column.proofs.NumberLaws.{twos-below, twos-above}
 
 inDay-negative : (unit : Option TimeUnit) (k : ℕ) → inDay unit (negsuc k) ≡ false
 unfolding inDay

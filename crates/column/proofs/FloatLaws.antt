@@ -8,13 +8,8 @@ use lib.Ieee.{Float, Format, nan, inf, fin, hid, ones, top, ofBits, nanBits, isN
 use lib.Ieee.Bits.{nanBits-is, nanBits-above}
 use lib.Ieee.Compare.{nan-differs, differs-from-itself}
 use borrow.Author.Tests.{lt-ltb, le-ltb}
+use Rattle.float_order.proofs.FloatLaws.{is-nan}
 use Rattle.laws.proofs.BoolLaws.{T-false}
-
-is-nan : (x : Float) → isNan x ≡ true → x ≡ nan
-unfolding isNan
-is-nan nan e = cc
-is-nan (inf s) e = cc
-is-nan (fin s m d) e = cc
 
 -- the bits below the sign lie above those of infinity
 pub nan-above : (f : Format) (n : ℕ) → ones f * hid f < n % top f → ofBits f n ≡ nan

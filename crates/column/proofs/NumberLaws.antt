@@ -13,10 +13,9 @@ use lib.Pow.{suc-ones}
 use lib.Seq.{drop-cons}
 use lib.Signed.{mag, leZ, ltZ}
 use borrow.Author.Tests.{lt-ltb, le-ltb, ltb-true, ltb-false, eq-eqb, ne-eqb}
-use Rattle.laws.proofs.DifferenceLaws.{sub-below, sub-above}
-use Rattle.decimal.proofs.NumberLaws.{lt-or-ge}
-use Rattle.decimal.proofs.WordLaws.{ltb-same}
-use Rattle.column.specs.Numbers.{little, twosComplement}
+use Rattle.laws.specs.Bytes.{little, twosComplement}
+use Rattle.laws.proofs.ByteLaws.{twos-below}
+use Rattle.laws.proofs.DifferenceLaws.{ltb-same}
 use Rattle.column.specs.Annotations.{inSignedBits}
 
 pub little-drop : (bs : List ℕ) (at : ℕ) → at < length bs → little (drop at bs) ≡ getD bs at 0 + 256 * little (drop (suc at) bs)
@@ -40,25 +39,6 @@ power-back len at n b h l p q =
 pub little-start : (bs : List ℕ) (at n : ℕ) → at ≡ 0 → n ≡ little (drop at bs) → n < 256 ^ (length bs - at)
     → (n ≡ little bs) × (n < 256 ^ length bs)
 little-start bs at n z p q = let e : length bs - at ≡ length bs = omega arith in (rw z at p, rw e at q)
-
--- ---- two's complement
-
-pub twos-below : (weight n : ℕ) → n < weight → twosComplement weight n ≡ pos n
-unfolding twosComplement
-twos-below weight n h = rw (lt-ltb n weight h) (sub-above n 0 (omega arith) ∙ ap pos (omega arith))
-
-pub twos-above : (weight n : ℕ) → weight ≤ n → n < 2 * weight → twosComplement weight n ≡ negsuc (weight - 1 - (n - weight))
-unfolding twosComplement
-twos-above weight n h k = rw (le-ltb n weight h) (sub-below n (2 * weight) k ∙ ap negsuc (omega arith))
-
-pub twos-mag-< : (weight n : ℕ) → n < 2 * weight → mag (twosComplement weight n) < weight
-twos-mag-< weight n h = ⊎-elim below above (lt-or-ge n weight)
-  where
-    below : n < weight → mag (twosComplement weight n) < weight
-    below k = rw (twos-below weight n k) k
-
-    above : weight ≤ n → mag (twosComplement weight n) < weight
-    above k = rw (twos-above weight n k h) (omega arith)
 
 -- ---- ranges
 

@@ -11,6 +11,7 @@ use lib.Ieee.{binary32, binary64, ofBits}
 use lib.IntN.{ℤ, pos, negℤ, natAbs}
 use lib.ListN.{length}
 use lib.Signed.{leZ, ltZ, _≤ℤ_, _<ℤ_, leZ-yes, ltZ-yes}
+use Rattle.laws.specs.Bytes.{little}
 use Rattle.timestamp.specs.Units.{unitOf}
 use Rattle.laws.proofs.BoolLaws.{by-test, and-left, and-right, both-and, T-true}
 use Rattle.refusal.specs.Numbers.{WRONG-LENGTH, BREAKS-ANNOTATION, UNKNOWN-TYPE}
@@ -28,7 +29,7 @@ use Rattle.column_type.specs.declared.types.ColumnType.{ColumnType}
 use Rattle.column_type.specs.Leaf.{HasLeaf}
 use Rattle.column_type.proofs.LawfulLaws.{unlawful-exactly}
 use Rattle.column_type.proofs.PlacementLaws.{integer-whole, time-whole, time-unit}
-use Rattle.column.specs.Numbers.{little, signed}
+use Rattle.column.specs.Numbers.{signed}
 use Rattle.column.specs.Lengths.{mostBytes, widthOf, isWidth, isByteForm, isByteDecimal, lengthRight}
 use Rattle.column.specs.Annotations.{isUnsigned, inBits, inSignedBits, inDay, inDigits, wholeKeeps, isText, bytesKeep, annotationPlace, keeps}
 use Rattle.column.specs.Reading.{valueOf, checked, readOf}

@@ -7,6 +7,7 @@ use native.Mathlib.Omega.{arith}
 use lib.Dec.{eqb}
 use lib.ListN.{length}
 use borrow.Author.Tests.{eqb-true}
+use Rattle.laws.specs.Bytes.{little, twosComplement}
 use Rattle.parquet.specs.Physical.{INT32, INT64, BYTE-ARRAY, FIXED-LEN-BYTE-ARRAY}
 use Rattle.parquet.specs.Logical.{UNKNOWN}
 use Rattle.refusal.specs.Numbers.{WRONG-LENGTH, UNKNOWN-TYPE}
@@ -14,7 +15,7 @@ use Rattle.refusal.specs.Outcome.{Outcome, refused, unplaced}
 use Rattle.refusal.specs.declared.answers.Refusal.{Refusal}
 use Rattle.column_type.specs.declared.types.ColumnType.{ColumnType}
 use Rattle.column_type.specs.Lawful.{isLawful}
-use Rattle.column.specs.Numbers.{little, signWeight, twosComplement}
+use Rattle.column.specs.Numbers.{signWeight}
 use Rattle.column.specs.Lengths.{isByteForm, lengthRight}
 use Rattle.column.specs.Annotations.{isWhole, wholeKeeps, bytesKeep, textPlace, annotationPlace, keeps}
 use Rattle.column.specs.Reading.{wholeValue, valueOf, checked, readOf, readLawful}

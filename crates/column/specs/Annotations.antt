@@ -7,6 +7,7 @@ use lib.Dec.{leb, ltb, eqb}
 use lib.IntN.{ℤ, pos, negℤ, natAbs}
 use lib.ListN.{length}
 use lib.Signed.{ltZ, leZ}
+use Rattle.laws.specs.Bytes.{little}
 use Rattle.column_type.specs.declared.types.ColumnType.{ColumnType}
 use Rattle.decimal.specs.Number.{number}
 use Rattle.timestamp.specs.Units.{TimeUnit, ticksPerSecond, ticksPerDay, unitOf}
@@ -14,7 +15,7 @@ use Rattle.utf8.specs.Valid.{validUpTo}
 use Rattle.parquet.specs.Physical.{BOOLEAN, INT32, INT64}
 use Rattle.parquet.specs.Logical.{STRING, ENUM, DECIMAL, TIME, INTEGER, UNKNOWN, JSON}
 use Rattle.logical_type.specs.Parameters.{flagCode}
-use Rattle.column.specs.Numbers.{little, signed}
+use Rattle.column.specs.Numbers.{signed}
 use Rattle.column.specs.Lengths.{isByteForm}
 
 -- the physical types whose values are whole numbers

@@ -6,12 +6,13 @@ use lib.Dec.{eqb}
 use lib.Ieee.{binary32, binary64, ofBits}
 use lib.IntN.{ℤ}
 use lib.ListN.{length}
+use Rattle.laws.specs.Bytes.{little}
 use Rattle.refusal.specs.Numbers.{WRONG-LENGTH, BREAKS-ANNOTATION, UNKNOWN-TYPE}
 use Rattle.refusal.specs.Outcome.{refusal, unplaced}
 use Rattle.column_type.specs.declared.types.ColumnType.{ColumnType}
 use Rattle.column_type.specs.Lawful.{isLawful}
 use Rattle.parquet.specs.Physical.{BOOLEAN, FLOAT, DOUBLE}
-use Rattle.column.specs.Numbers.{little, signed}
+use Rattle.column.specs.Numbers.{signed}
 use Rattle.column.specs.Lengths.{lengthRight}
 use Rattle.column.specs.Annotations.{isWhole, isUnsigned, annotationPlace, keeps}
 use Rattle.column.specs.declared.value.Value.{Value}

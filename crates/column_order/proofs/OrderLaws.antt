@@ -11,6 +11,7 @@ use lib.Ieee.{Format, binary32, binary64, nanBits}
 use lib.IntN.{ℤ, pos}
 use lib.Signed.{_<ℤ_}
 use borrow.Author.Tests.{eqb-true}
+use Rattle.laws.specs.Bytes.{little}
 use Rattle.annotation.specs.Meaning.{annotationOf}
 use Rattle.logical_type.specs.Parameters.{validParameters}
 use Rattle.annotation.specs.Rule10.{decimalOn, rule10}
@@ -20,7 +21,6 @@ use Rattle.column_type.specs.Lawful.{slotOf, isLawful}
 use Rattle.column_type.proofs.LawfulLaws.{ten}
 use Rattle.parquet.specs.Physical.{BOOLEAN, INT32, INT64, FLOAT, DOUBLE, BYTE-ARRAY, FIXED-LEN-BYTE-ARRAY}
 use Rattle.parquet.specs.Logical.{DECIMAL}
-use Rattle.column.specs.Numbers.{little}
 use Rattle.column.specs.Lengths.{isByteDecimal}
 use Rattle.column.specs.Annotations.{isWhole, isUnsigned}
 use Rattle.column.proofs.ReadingLaws.{reads}

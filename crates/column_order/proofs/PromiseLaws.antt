@@ -10,6 +10,7 @@ use lib.Dec.{ltb, eqb}
 use lib.Ieee.{Format, binary32, binary64, hid, ones, top}
 use lib.IntN.{ℤ, pos}
 use lib.Signed.{ltZ}
+use Rattle.laws.specs.Bytes.{little}
 use Rattle.refusal.specs.Faults.{ofNeither, given, refused}
 use Rattle.laws.proofs.BoolLaws.{by-test}
 use Rattle.refusal.specs.Numbers.{NO-ORDER}
@@ -20,7 +21,7 @@ use Rattle.parquet.specs.Logical.{DECIMAL, INTEGER}
 use Rattle.decimal.specs.Number.{number}
 use Rattle.column_type.specs.Lawful.{isLawful}
 use Rattle.column_type.specs.declared.types.ColumnType.{ColumnType}
-use Rattle.column.specs.Numbers.{little, signed}
+use Rattle.column.specs.Numbers.{signed}
 use Rattle.column.specs.Promises.{Whole, ByteForm}
 use Rattle.float_order.specs.Keys.{floatKey, wholeOrder}
 use Rattle.float_order.specs.declared.relation.Relation.{Relation}

@@ -6,10 +6,11 @@ use mathlib.Core.Option.{Option}
 use lib.Dec.{ltb, eqb}
 use lib.Ieee.{binary32, binary64}
 use lib.IntN.{ℤ, pos}
+use Rattle.laws.specs.Bytes.{little}
 use Rattle.column_type.specs.declared.types.ColumnType.{ColumnType}
 use Rattle.decimal.specs.Number.{number}
 use Rattle.parquet.specs.Physical.{BOOLEAN, FLOAT, DOUBLE}
-use Rattle.column.specs.Numbers.{little, signed}
+use Rattle.column.specs.Numbers.{signed}
 use Rattle.column.specs.Lengths.{isByteForm, isByteDecimal}
 use Rattle.column.specs.Annotations.{isWhole, isUnsigned}
 use Rattle.float_order.specs.Keys.{floatKey, wholeOrder}

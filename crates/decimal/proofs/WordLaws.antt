@@ -19,21 +19,11 @@ use Rattle.decimal.specs.Words.{fourBytes, eightBytes}
 use Rattle.decimal.specs.Precision.{isLength}
 use Rattle.decimal.specs.Steps.{isShort, signWeight, taken}
 use Rattle.laws.proofs.BoolLaws.{and-left, and-right}
-use Rattle.laws.proofs.DifferenceLaws.{sub-below, sub-above, sub-eq, below?}
+use Rattle.laws.proofs.DifferenceLaws.{sub-below, sub-above, sub-eq, below?, ltb-same}
 use Rattle.decimal.proofs.PrecisionLaws.{isLength-within}
 use Rattle.decimal.proofs.UnsignedLaws.{Bytes, unsigned-drop, unsigned-++}
 use Rattle.decimal.proofs.NumberLaws.{sign-bit}
 use Rattle.decimal.proofs.BoundLaws.{sign-clear, sign-set}
-
--- two tests that hold of the same numbers are the same
-pub ltb-same : (a b c d : ℕ) → (a < b → c < d) → (c < d → a < b) → ltb a b ≡ ltb c d
-ltb-same a b c d f g = go (ltb a b) refl (ltb c d) refl
-  where
-    go : (t : Bool) → ltb a b ≡ t → (u : Bool) → ltb c d ≡ u → t ≡ u
-    go true p true q = refl
-    go false p false q = refl
-    go true p false q = absurd (let h = f (ltb-true a b p) in let k = ltb-false c d q in omega arith)
-    go false p true q = absurd (let h = g (ltb-true c d q) in let k = ltb-false a b p in omega arith)
 
 -- ---- eight bytes as a word
 

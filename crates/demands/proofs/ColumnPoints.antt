@@ -2,6 +2,7 @@
 use mathlib.Core.Path.{_≡_, refl}
 use mathlib.Core.List.{List, [], _∷_}
 use Prim.Native.Nat.{ℕ}
+use Rattle.laws.specs.Bytes.{little, twosComplement}
 use Rattle.logical_type.specs.Backward.{backwardOf}
 use Rattle.annotation.specs.Meaning.{annotationOf}
 use Rattle.logical_type.specs.Parameters.{unitOf, bitWidthOf, validParameters}
@@ -12,7 +13,6 @@ use Rattle.annotation.specs.Signed.{natural}
 use Rattle.logical_type.specs.Spelling.{namedOf, statedOf}
 use Rattle.column.specs.Annotations.{inSignedBits, wholeKeeps, bytesKeep, annotationPlace, keeps}
 use Rattle.column.specs.Lengths.{lengthRight}
-use Rattle.column.specs.Numbers.{little, twosComplement}
 use Rattle.refusal.specs.Faults as sided
 use Rattle.refusal.specs.Faults.{Sided, fault}
 use Rattle.refusal.specs.Outcome.{Outcome, given, refused, refusal}

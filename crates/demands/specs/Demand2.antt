@@ -11,6 +11,7 @@ use lib.Dec.{eqb}
 use lib.Ieee.{binary32, binary64, ofBits}
 use lib.IntN.{ℤ, pos, natAbs}
 use lib.ListN.{length, getD, take, drop}
+use Rattle.laws.specs.Bytes.{little}
 use Rattle.parquet.specs.Physical.{BOOLEAN, INT96, FLOAT, DOUBLE}
 use Rattle.parquet.specs.Converted as converted
 use Rattle.parquet.specs.Logical as logical
@@ -36,7 +37,6 @@ use Rattle.schema.specs.Roles.{ascent, isUnderMap}
 use Rattle.column_type.specs.Lawful.{isLawful}
 use Rattle.column_type.specs.Leaf.{HasLeaf}
 use Rattle.column_type.specs.declared.types.ColumnType.{ColumnType}
-use Rattle.column.specs.Numbers.{little}
 use Rattle.column.specs.Numbers as number
 use Rattle.column.specs.Annotations.{isText}
 use Rattle.column.specs.Outcome as read

@@ -19,7 +19,7 @@ use lib.Pow.{pow-pos, pow-mono}
 use lib.IntN.{ℤ, pos, negℤ}
 use lib.Signed.{ltZ}
 use borrow.Author.Tests.{not-false, lt-ltb, le-ltb, ltb-true, ltb-false, eq-eqb, ne-eqb, eqb-true, eqb-false}
-use Rattle.laws.proofs.DifferenceLaws.{below?}
+use Rattle.laws.proofs.DifferenceLaws.{below?, ltb-same}
 use Rattle.float_order.specs.Floats.{floatOrder}
 use Rattle.float_order.specs.Keys.{floatKey, wholeOrder, keyOrder}
 use Rattle.float_order.specs.declared.relation.Relation.the-variants.{Less, Equal, Greater, Unordered}
@@ -107,12 +107,6 @@ level-alike s t a b c d p =
     (zero-test a ∙ ap not (p .left) ∙ sym (zero-test c))
 
 -- ---- floats compare as their weights
-
--- two tests that hold of the same numbers are the same
-ltb-same : (a b c d : ℕ) → (a < b → c < d) → (c < d → a < b) → ltb a b ≡ ltb c d
-ltb-same a b c d f g =
-    below? a b (λ h. lt-ltb a b h ∙ sym (lt-ltb c d (f h)))
-    (λ h. le-ltb a b h ∙ sym (le-ltb c d (below? c d (λ k. absurd (let l = g k in omega arith)) (λ k. k))))
 
 scaled-< : (a b u v l k : ℕ) → 0 < l → a * l ≡ u * k → b * l ≡ v * k → a < b → u < v
 scaled-< a b u v l k L p q h = lt-of-mul-lt-mul-right k (subst (λ (n : ℕ). n < v * k) p (subst (λ (n : ℕ). a * l < n) q (mul-lt-mul-of-pos-right h L)))
@@ -327,7 +321,7 @@ level-neither true false a b p q =
 level-neither true true a b p q = ap (λ (t : Bool). t && true) (neither a b q p)
 
 -- a pattern of a NaN is the NaN
-is-nan : (x : Float) → isNan x ≡ true → x ≡ nan
+pub is-nan : (x : Float) → isNan x ≡ true → x ≡ nan
 unfolding isNan
 is-nan nan e = refl
 is-nan (inf s) e = cc

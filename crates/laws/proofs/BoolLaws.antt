@@ -78,3 +78,8 @@ at-each (suc n) p e i h = last (ℕ-discrete i n) (at-each n p (and-both (p n) (
     last : Dec (i ≡ n) → (i < n → p i ≡ true) → p i ≡ true
     last (yes q) f = ap p q ∙ and-both (p n) (all-below n p) e .0
     last (no q) f = f (omega arith)
+
+-- what is not true is false
+pub is-false : (t : Bool) → (t ≡ true → ⊥) → t ≡ false
+is-false true h = absurd (h refl)
+is-false false h = refl

@@ -6,6 +6,7 @@ use native.Mathlib.Decide.{decLt}
 use mathlib.Core.Path.{_≡_, refl, sym, ap, ap₂, _∙_}
 use mathlib.Core.Bool.{Bool, cond}
 use borrow.Author.Tests.{lt-ltb, le-ltb}
+use lib.Dec.{ltb}
 use lib.IntN.{ℤ, pos, negsuc, subℕ, _+ℤ_, _-ℤ_, _*ℤ_, negℤ, pos-ne-negsuc}
 
 pub sub-below : (a b : ℕ) → a < b → subℕ a b ≡ negsuc (b - suc a)
@@ -99,3 +100,9 @@ sub-add-pos a b n = ap (λ (z : ℤ). subℕ a b +ℤ z) (pos-sub n) ∙ sub-add
 
 pub sub-sub-pos : (a b n : ℕ) → subℕ a b -ℤ pos n ≡ subℕ a (b + n)
 sub-sub-pos a b n = ap (λ (z : ℤ). subℕ a b +ℤ z) (neg-pos n) ∙ sub-add a b 0 n ∙ sub-eq (a + 0) (b + n) a (b + n) (omega arith)
+
+-- two tests that hold of the same numbers are the same
+pub ltb-same : (a b c d : ℕ) → (a < b → c < d) → (c < d → a < b) → ltb a b ≡ ltb c d
+ltb-same a b c d f g =
+    below? a b (λ h. lt-ltb a b h ∙ sym (lt-ltb c d (f h)))
+    (λ h. le-ltb a b h ∙ sym (le-ltb c d (below? c d (λ k. absurd (let l = g k in omega arith)) (λ k. k))))

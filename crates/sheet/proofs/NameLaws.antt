@@ -8,6 +8,7 @@ use lib.Dec.{eqb}
 use lib.ListN.{length, take, drop, length-take, length-drop}
 use lib.Seq.{drop-drop}
 use borrow.Author.Tests.{eqb-true, eq-eqb}
+use Rattle.laws.proofs.BoolLaws.{is-false}
 use Rattle.sheet.specs.Slot.{nameAt, nameLength, name, slotStart, reaches, emptySlot, slotAt}
 use Rattle.sheet.specs.Sound.{mostNameLength, slotSound}
 use Rattle.sheet.specs.Name.{stretchOf, sameBytes}
@@ -96,10 +97,6 @@ sameBytes-refl (x ∷ xs) = rw (eq-eqb x x refl) (sameBytes-refl xs)
 -- and equal lists have the same bytes
 pub sameBytes-true : (xs ys : List ℕ) → xs ≡ ys → sameBytes xs ys ≡ true
 sameBytes-true xs ys e = rw (← e) (sameBytes-refl xs)
-
-is-false : (t : Bool) → (t ≡ true → ⊥) → t ≡ false
-is-false true h = absurd (h refl)
-is-false false h = refl
 
 -- lists that differ have not
 pub sameBytes-false : (xs ys : List ℕ) → (xs ≡ ys → ⊥) → sameBytes xs ys ≡ false

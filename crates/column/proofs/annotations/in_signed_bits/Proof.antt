@@ -5,8 +5,9 @@ use Prim.Native.Nat.{ℕ, _*_, _^_}
 use native.Mathlib.Omega.{arith}
 use lib.Dec.{ltb}
 use borrow.Author.Needs.{needs}
-use Rattle.column.specs.Numbers.{twosComplement}
-use Rattle.column.proofs.NumberLaws.{twos-mag-<, inSignedBits-mag}
+use Rattle.laws.specs.Bytes.{twosComplement}
+use Rattle.laws.proofs.ByteLaws.{twos-mag-<}
+use Rattle.column.proofs.NumberLaws.{inSignedBits-mag}
 use Rattle.column.proofs.annotations.in_signed_bits.Statement.{statement}
 use Rattle.column.proofs.annotations.in_signed_bits.Tie as tie
 

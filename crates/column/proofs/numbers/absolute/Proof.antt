@@ -4,7 +4,7 @@ use mathlib.Core.Path.{sym, ap, _∙_}
 use native.Mathlib.Omega.{arith}
 use lib.IntN.{natAbs}
 use borrow.Author.Needs.{needs}
-use Rattle.column.proofs.NumberLaws.{twos-below, twos-above}
+use Rattle.laws.proofs.ByteLaws.{twos-below, twos-above}
 use Rattle.column.proofs.numbers.absolute.Statement.{statement}
 use Rattle.column.proofs.numbers.absolute.Tie as tie
 

@@ -3,7 +3,7 @@
 use mathlib.Core.Path.{sym, ap}
 use lib.Signed.{mag}
 use borrow.Author.Needs.{needs}
-use Rattle.column.proofs.NumberLaws.{twos-below, twos-above}
+use Rattle.laws.proofs.ByteLaws.{twos-below, twos-above}
 use Rattle.column.proofs.numbers.folded.Statement.{statement}
 use Rattle.column.proofs.numbers.folded.Tie as tie
 

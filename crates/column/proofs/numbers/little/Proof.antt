@@ -6,8 +6,8 @@ use native.Mathlib.Nat.{lt-of-lt-of-le, pow-le-pow-right}
 use native.Mathlib.Omega.{arith}
 use lib.ListN.{length, drop}
 use lib.Seq.{drop-length}
+use Rattle.laws.specs.Bytes.{little}
 use Rattle.decimal.proofs.UnsignedLaws.{pow-pos256}
-use Rattle.column.specs.Numbers.{little}
 use Rattle.column.proofs.NumberLaws.{little-back, power-back, little-start}
 use Rattle.column.proofs.numbers.little.Statement.{statement}
 use Rattle.column.proofs.numbers.little.Tie as tie

@@ -9,9 +9,9 @@ use mir.Syntax.{w64}
 use mir.Val.{SFits, toZ}
 use mir.ValLaws.{toZ-pos}
 use borrow.Author.Needs.{needs}
+use Rattle.laws.proofs.ByteLaws.{twos-below, twos-above, twos-mag-<}
 use Rattle.laws.proofs.SignedLaws.{read-back}
 use Rattle.timestamp.proofs.SignedLaws.{complement-nonnegative}
-use Rattle.column.proofs.NumberLaws.{twos-below, twos-above, twos-mag-<}
 use Rattle.column.proofs.numbers.signed.Statement.{statement}
 use Rattle.column.proofs.numbers.signed.Tie as tie
 

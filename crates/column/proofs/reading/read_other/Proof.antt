@@ -6,7 +6,7 @@ use native.Mathlib.Omega.{arith}
 use lib.ListN.{length}
 use borrow.Author.Tests.{ne-eqb}
 use borrow.Author.Needs.{needs}
-use Rattle.column.specs.Numbers.{little}
+use Rattle.laws.specs.Bytes.{little}
 use Rattle.column.specs.Annotations.{annotationPlace, keeps}
 use Rattle.column.specs.Reading.{valueOf}
 use Rattle.column.proofs.LengthLaws.{width-right}

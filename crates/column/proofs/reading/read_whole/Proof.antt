@@ -5,10 +5,10 @@ use mathlib.Core.Bool.{true}
 use native.Mathlib.Nat.{lt-of-lt-of-le}
 use borrow.Author.Tests.{not-true, not-false}
 use borrow.Author.Needs.{needs}
+use Rattle.laws.specs.Bytes.{twosComplement}
+use Rattle.laws.proofs.ByteLaws.{twos-mag-<}
 use Rattle.laws.proofs.SignedLaws.{read-back}
-use Rattle.column.specs.Numbers.{twosComplement}
 use Rattle.column.specs.Annotations.{wholeKeeps}
-use Rattle.column.proofs.NumberLaws.{twos-mag-<}
 use Rattle.column.proofs.reading.read_whole.Statement.{statement}
 use Rattle.column.proofs.reading.read_whole.Tie as tie
 
