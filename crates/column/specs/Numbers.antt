@@ -3,8 +3,7 @@ use Prim.Native.Nat.{ℕ, _-_, _*_, _^_}
 use mathlib.Core.List.{List}
 use lib.IntN.{ℤ}
 use lib.ListN.{length}
--- the number that bytes stand for with no sign, and two's complement
-pub use Rattle.laws.specs.Bytes.{little, twosComplement}
+use Rattle.laws.specs.Bytes.{little, twosComplement}
 
 -- the weight of the first bit of so many bytes
 abbrev pub signWeight : ℕ → ℕ

@@ -5,7 +5,7 @@ ghost use lib.Dec.{ltb};
 ghost use lib.IntN.{natAbs};
 ghost use lib.ListN.{length};
 ghost use lib.Signed.{mag};
-ghost use Rattle.column.specs.Numbers.{little, twosComplement};
+ghost use Rattle.laws.specs.Bytes.{little, twosComplement};
 
 // The weight of the first bit of 4 bytes.
 pub(crate) const INT32_SIGN: u64 = 0x8000_0000;
