@@ -10,15 +10,15 @@ use crate::packed;
 use parquet::converted;
 
 // The packed annotation of a logical type, marked where a converted type stands beside it that is not its forward image.
-pub(crate) fn agreed(says: u64, converted: u8) -> u64
-    requires { ⌜ says < DISAGREEMENT-MARK ⌝ }
-    ensures { λ r. ⌜ r ≡ marked (eqb converted NONE || eqb (convertedPart says) converted) says ⌝ }
+pub(crate) fn agreed(annotation: u64, converted: u8) -> u64
+    requires { ⌜ annotation < DISAGREEMENT-MARK ⌝ }
+    ensures { λ r. ⌜ r ≡ marked (eqb converted NONE || eqb (convertedPart annotation) converted) annotation ⌝ }
 {
     if converted == converted::NONE {
-        return says;
+        return annotation;
     }
-    if packed::converted(says) == converted {
-        return says;
+    if packed::converted(annotation) == converted {
+        return annotation;
     }
-    says + packed::DISAGREEMENT_MARK
+    annotation + packed::DISAGREEMENT_MARK
 }

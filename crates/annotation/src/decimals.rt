@@ -3,8 +3,8 @@ ghost use mathlib.Core.Path.{_≡_};
 ghost use Rattle.annotation.specs.Rule11.{ordered, physicalHolds, fixedHolds};
 ghost use Rattle.annotation.specs.Steps.{digitsHold};
 use crate::slot::natural;
-use decimal::greatest_precision;
-use decimal::is_length;
+use decimal_bytes::greatest_precision;
+use decimal_bytes::is_length;
 use parquet::physical;
 
 // The greatest precisions on INT32 and INT64.

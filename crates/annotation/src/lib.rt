@@ -9,7 +9,7 @@ mod packed; // an annotation with the physical type that it demands, as one numb
 mod pairs; // parameters a and b as one number
 mod placement; // rule 10 of the annotations that have a rule of their own
 mod resolution; // the outcome, and the kind
-mod rewriting; // what the rewritten sheet says of a node
+mod rewriting; // what the rewritten sheet annotation of a node
 mod rules; // rules 9, 10 and 11 in order
 mod slot; // the numbers of a slot that say its type, and what its annotations mean
 mod spelling; // how a logical code is read with its parameters

@@ -49,10 +49,10 @@ pub fn resolve(n: Annotated, under_map: bool) -> Resolution
     ensures { λ r. ⌜ r ≡ resolutionOf n «under_map» ⌝ }
     ensures { λ r. ⌜ ((k : ℕ) → outcomeOf k r ≡ outcome k n «under_map») ⌝ }
 {
-    let says = annotation_of(n.converted, n.logical, n.a, n.b, under_map);
-    let number = fault(says, n.physical, n.type_length, n.precision, n.scale);
+    let annotation = annotation_of(n.converted, n.logical, n.a, n.b, under_map);
+    let number = fault(annotation, n.physical, n.type_length, n.precision, n.scale);
     if number == NO_REFUSAL {
-        return Resolution::Resolved(kind_as(says, n));
+        return Resolution::Resolved(kind_as(annotation, n));
     }
     Resolution::Refused(number)
 }
@@ -81,16 +81,16 @@ pub fn judge(n: Annotated, under_map: bool) -> Judged
             logical: logical::NONE,
         };
     }
-    let says = annotation_of(n.converted, n.logical, n.a, n.b, under_map);
-    if stands(says, n.physical as u64) {
+    let annotation = annotation_of(n.converted, n.logical, n.a, n.b, under_map);
+    if stands(annotation, n.physical as u64) {
         return Judged {
             refusal: NO_REFUSAL,
-            logical: packed::logical(says),
+            logical: packed::logical(annotation),
         };
     }
     Judged {
-        refusal: fault(says, n.physical, n.type_length, n.precision, n.scale),
-        logical: packed::logical(says),
+        refusal: fault(annotation, n.physical, n.type_length, n.precision, n.scale),
+        logical: packed::logical(annotation),
     }
 }
 
@@ -105,17 +105,17 @@ pub fn refusal(r: Resolution) -> u32
 }
 
 // The kind of a node by its packed annotation.
-fn kind_as(says: u64, n: Annotated) -> Kind
-    ensures { λ r. ⌜ r ≡ kindBy says n ⌝ }
+fn kind_as(annotation: u64, n: Annotated) -> Kind
+    ensures { λ r. ⌜ r ≡ kindBy annotation n ⌝ }
 {
-    let logical = packed::logical(says);
+    let logical = packed::logical(annotation);
     if logical == logical::NONE {
-        return lone_kind(packed::converted(says), n.physical);
+        return lone_kind(packed::converted(annotation), n.physical);
     }
     if logical == logical::DECIMAL {
         return decimal_kind(n);
     }
-    logical_kind(says)
+    logical_kind(annotation)
 }
 
 // The kind of a node without logical type.
@@ -147,13 +147,13 @@ fn decimal_kind(n: Annotated) -> Kind
     Kind { kind, p1, p2 }
 }
 
-fn logical_kind(says: u64) -> Kind
-    ensures { λ r. ⌜ r ≡ logicalKindBy says ⌝ }
+fn logical_kind(annotation: u64) -> Kind
+    ensures { λ r. ⌜ r ≡ logicalKindBy annotation ⌝ }
 {
     Kind {
-        kind: packed::logical(says) as u32,
-        p1: packed::a(says) as u32,
-        p2: packed::b(says) as u32,
+        kind: packed::logical(annotation) as u32,
+        p1: packed::a(annotation) as u32,
+        p2: packed::b(annotation) as u32,
     }
 }
 

@@ -29,10 +29,10 @@ pub fn rewrite(n: Annotated, under_map: bool) -> Rewriting
     ensures { λ r. ⌜ r ≡ rewritingOf n «under_map» ⌝ }
     ensures { λ r. ⌜ ((k : ℕ) → outcomeOf k r ≡ outcome k n «under_map») ⌝ }
 {
-    let says = annotation_of(n.converted, n.logical, n.a, n.b, under_map);
-    let number = fault(says, n.physical, n.type_length, n.precision, n.scale);
+    let annotation = annotation_of(n.converted, n.logical, n.a, n.b, under_map);
+    let number = fault(annotation, n.physical, n.type_length, n.precision, n.scale);
     if number == NO_REFUSAL {
-        return Rewriting::Written(written_as(says));
+        return Rewriting::Written(written_as(annotation));
     }
     Rewriting::Refused(number)
 }
@@ -45,13 +45,13 @@ pub fn written_of(n: Annotated, under_map: bool) -> Written
 }
 
 // What is written for a packed annotation.
-fn written_as(says: u64) -> Written
-    ensures { λ r. ⌜ r ≡ writtenBy says ⌝ }
+fn written_as(annotation: u64) -> Written
+    ensures { λ r. ⌜ r ≡ writtenBy annotation ⌝ }
 {
     Written {
-        converted: packed::converted(says),
-        logical: packed::logical(says),
-        a: packed::a(says),
-        b: packed::b(says),
+        converted: packed::converted(annotation),
+        logical: packed::logical(annotation),
+        a: packed::a(annotation),
+        b: packed::b(annotation),
     }
 }

@@ -19,27 +19,33 @@ const BAD_DECIMAL: u32 = numbers::BAD_DECIMAL as u32;
 pub(crate) const NO_REFUSAL: u32 = 0;
 
 // Whether a packed annotation tells at once that the rules are kept, as it does for most annotated slots: it demands this physical type.
-pub(crate) fn stands(says: u64, physical: u64) -> bool
-    ensures { λ r. ⌜ r ≡ standsBy says physical ⌝ }
+pub(crate) fn stands(annotation: u64, physical: u64) -> bool
+    ensures { λ r. ⌜ r ≡ standsBy annotation physical ⌝ }
 {
-    physical == packed::demand(says)
+    physical == packed::demand(annotation)
 }
 
 // The number of the first rule that the numbers of a slot break, or NO_REFUSAL, by its packed annotation.
-pub(crate) fn fault(says: u64, physical: u8, type_length: i32, precision: i32, scale: i32) -> u32
-    ensures { λ r. ⌜ r ≡ faultBy says physical «type_length» precision scale ⌝ }
+pub(crate) fn fault(
+    annotation: u64,
+    physical: u8,
+    type_length: i32,
+    precision: i32,
+    scale: i32,
+) -> u32
+    ensures { λ r. ⌜ r ≡ faultBy annotation physical «type_length» precision scale ⌝ }
 {
-    if says >= packed::DISAGREEMENT_MARK {
+    if annotation >= packed::DISAGREEMENT_MARK {
         return DISAGREEMENT;
     }
-    let demand = packed::demand(says);
+    let demand = packed::demand(annotation);
     if physical as u64 == demand {
         return NO_REFUSAL;
     }
     match demand {
         packed::ANY_PHYSICAL => NO_REFUSAL,
         packed::OWN_RULE => own_fault(
-            packed::logical(says),
+            packed::logical(annotation),
             physical,
             natural(type_length),
             precision,

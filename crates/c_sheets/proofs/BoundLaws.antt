@@ -22,13 +22,13 @@ use Rattle.sheet.proofs.HeaderLaws.{lengthRight-most}
 use Rattle.sheet.proofs.OpeningLaws.{openOf-blocks, openOf-total, openOf-most, openOf-slots-length}
 use Rattle.tree.specs.Annotated.{rule9, rule10, rule11}
 use Rattle.tree.specs.Tree.{SlotBytes, Tree, Fields, node, empty, field, listing, listings, size, depths, mostDepth}
-use Rattle.tree.specs.Rules.{underMap, placeBelow, rule8, rule12, rule13}
+use Rattle.tree.specs.Rules.{underMap, standingBelow, rule8, rule12, rule13}
 use Rattle.tree.specs.Faults.{broken, faults, runFaults}
 use Rattle.tree.specs.Reading.{trees, firstTree, treeOf}
 use Rattle.tree.specs.OpenPlaces.{openPlaces, isNoPlace}
 use Rattle.tree.specs.Judgement.{orElse, firstFault, deepness, leftOver, missing, tooDeep, unlawful, treeRefusal, judgement}
-use Rattle.tree.specs.declared.place.Place.{Place}
-use Rattle.tree.specs.declared.place.Place.the-variants.{Root}
+use Rattle.tree.specs.declared.standing.Standing.{Standing}
+use Rattle.tree.specs.declared.standing.Standing.the-variants.{Root}
 use Rattle.refusal.specs.declared.answers.Refusal.{Refusal}
 use Rattle.refusal.specs.declared.answers.Verdict.{Verdict}
 use Rattle.refusal.specs.declared.answers.Verdict.the-variants.{Lawful, Refused}
@@ -62,7 +62,7 @@ module _ (number place : ℕ) where
   firstFault-bounded (suc n ∷ ns) k a h = record { some-number = omega arith; most-number = a .0; most-place = omega arith }
 
 -- the rules are 8 to 13
-broken-most : (p : Place) (s : SlotBytes) (fs : Fields) → broken p s fs ≤ 13
+broken-most : (p : Standing) (s : SlotBytes) (fs : Fields) → broken p s fs ≤ 13
 unfolding broken
 broken-most p s fs =
     cond-most 13 (rule8 p s fs) _ 8
@@ -76,10 +76,10 @@ broken-most p s fs =
 mutual
   unfolding faults
 
-  faults-most : (t : Tree) (p : Place) → AtMost 13 (faults p t)
-  faults-most (node s fs) p = (broken-most p s fs, runFaults-most fs (placeBelow p s))
+  faults-most : (t : Tree) (p : Standing) → AtMost 13 (faults p t)
+  faults-most (node s fs) p = (broken-most p s fs, runFaults-most fs (standingBelow p s))
 
-  runFaults-most : (fs : Fields) (p : Place) → AtMost 13 (runFaults p fs)
+  runFaults-most : (fs : Fields) (p : Standing) → AtMost 13 (runFaults p fs)
   runFaults-most empty p = tt
   runFaults-most (field t fs) p = atMost-append 13 (faults p t) (runFaults p fs) (faults-most t p) (runFaults-most fs p)
 

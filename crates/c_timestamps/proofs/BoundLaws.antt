@@ -9,7 +9,8 @@ use lib.IntN.{ℤ}
 use Rattle.refusal.specs.Numbers.{NO-DATE-TIME, NOT-REPRESENTABLE, UNKNOWN-TYPE}
 use Rattle.refusal.specs.Outcome.{Outcome, given, refused, unplaced}
 use Rattle.refusal.specs.declared.answers.Refusal.{Refusal}
-use Rattle.timestamp.specs.Units.{TimeUnit, ticksPerSecond}
+use Rattle.logical_type.specs.declared.types.TimeUnit.{TimeUnit}
+use Rattle.timestamp.specs.Units.{ticksPerSecond}
 use Rattle.timestamp.specs.Count.{isDateTime, countOf}
 use Rattle.timestamp.specs.Outcomes.{noDateTime, notRepresentable, Decodes, isSigned64, encodingIn}
 use Rattle.timestamp.specs.declared.fields.Fields.{Fields}

@@ -16,7 +16,8 @@ use mir.Val.{Fits, SFits, toZ, ofZ}
 use mir.ValLaws.{toZ-ofZ}
 use Rattle.laws.proofs.BoolLaws.{and-both, both-and, by-test}
 use Rattle.timestamp.specs.Calendar.{months, isLeap, daysOfMonth}
-use Rattle.timestamp.specs.Units.{TimeUnit, ticksPerSecond, unitOf}
+use Rattle.logical_type.specs.declared.types.TimeUnit.{TimeUnit}
+use Rattle.timestamp.specs.Units.{ticksPerSecond, unitOf}
 use Rattle.timestamp.specs.Count.{isDateTime}
 use Rattle.refusal.specs.Numbers.{UNKNOWN-TYPE}
 use Rattle.refusal.specs.Outcome.{Outcome, given, refused, unplaced}

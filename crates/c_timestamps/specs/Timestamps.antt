@@ -8,7 +8,8 @@ use lib.Dec.{leb}
 use lib.IntN.{ℤ, pos, natAbs}
 use lib.ListN.{length, getD}
 use lib.Signed.{leZ, ltZ}
-use Rattle.timestamp.specs.Units.{TimeUnit, ticksPerSecond, unitOf}
+use Rattle.logical_type.specs.declared.types.TimeUnit.{TimeUnit}
+use Rattle.timestamp.specs.Units.{ticksPerSecond, unitOf}
 use Rattle.refusal.specs.Outcome.{Outcome, given, refused}
 use Rattle.timestamp.specs.Outcomes.{noDateTime, unknownUnit, Decodes, encodingIn}
 use Rattle.timestamp.specs.declared.fields.Fields.{Fields}

@@ -6,7 +6,7 @@ ghost use mathlib.Core.Option.{Option};
 ghost use Prim.Native.Nat.{ℕ};
 ghost use lib.ListN.{length};
 ghost use lib.Signed.{leZ};
-ghost use Rattle.timestamp.specs.Units.{TimeUnit};
+ghost use Rattle.logical_type.specs.declared.types.TimeUnit.{TimeUnit};
 ghost use Rattle.refusal.specs.Numbers.{UNKNOWN-TYPE};
 ghost use Rattle.c_answer.specs.Answers.{refusalAnswer, listed, within, answer, left};
 ghost use Rattle.refusal.specs.Bounds.{Bounded};

@@ -9,7 +9,7 @@ use lib.IntN.{pos, negsuc}
 use denote.Enum.Declared.{Choice, tagOf}
 use Rattle.laws.specs.Bytes.{twosComplement}
 use Rattle.laws.proofs.ByteLaws.{twos-below, twos-above}
-use Rattle.timestamp.specs.Units.{TimeUnit}
+use Rattle.logical_type.specs.declared.types.TimeUnit.{TimeUnit}
 use Rattle.timestamp.specs.Outcomes.{dayAnswer, dayHas}
 use Rattle.timestamp.specs.declared.units.InDay.{InDay}
 use Rattle.timestamp.proofs.units.InDay as InDay′

@@ -6,11 +6,11 @@ use Prim.Native.Nat.{ℕ, _^_}
 use lib.Dec.{ltb}
 use lib.IntN.{natAbs}
 use lib.ListN.{length}
-use Rattle.decimal.specs.declared.fit.Fit
-use Rattle.decimal.specs.declared.fit.Fit.{Fit}
-use Rattle.decimal.specs.Precision.{isLength}
-use Rattle.decimal.specs.Number.{number}
-use Rattle.decimal.specs.Fit.{fitOf}
+use Rattle.decimal_bytes.specs.declared.fit.Fit
+use Rattle.decimal_bytes.specs.declared.fit.Fit.{Fit}
+use Rattle.decimal_bytes.specs.Precision.{isLength}
+use Rattle.decimal_bytes.specs.Number.{number}
+use Rattle.decimal_bytes.specs.Fit.{fitOf}
 use Rattle.column.specs.Annotations.{inDigits}
 
 abbrev pub isWithin : Fit → Bool

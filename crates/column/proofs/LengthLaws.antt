@@ -6,7 +6,7 @@ use Prim.Native.Nat.{ℕ, _≤_}
 use lib.Dec.{leb, eqb}
 use borrow.Author.Tests.{leb-true, eqb-true}
 use Rattle.column_type.specs.declared.types.ColumnType.{ColumnType}
-use Rattle.decimal.specs.Precision.{isLength}
+use Rattle.decimal_bytes.specs.Precision.{isLength}
 use Rattle.parquet.specs.Logical.{DECIMAL}
 use Rattle.column.specs.Lengths.{mostBytes, widthOf, isWidth, isByteForm, isByteDecimal, lengthRight}
 use Rattle.laws.proofs.BoolLaws.{and-left, and-right, implied}

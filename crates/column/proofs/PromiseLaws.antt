@@ -19,8 +19,8 @@ use Rattle.refusal.specs.Outcome.{given, refused, refusal, unplaced}
 use Rattle.refusal.specs.declared.answers.Refusal.{Refusal}
 use Rattle.parquet.specs.Physical.{BOOLEAN, INT32, INT64, INT96, FLOAT, DOUBLE, BYTE-ARRAY, FIXED-LEN-BYTE-ARRAY}
 use Rattle.parquet.specs.Logical.{DECIMAL, TIME, INTEGER, UNKNOWN}
-use Rattle.decimal.specs.Precision.{isLength}
-use Rattle.decimal.specs.Number.{number}
+use Rattle.decimal_bytes.specs.Precision.{isLength}
+use Rattle.decimal_bytes.specs.Number.{number}
 use Rattle.utf8.specs.Text.{Text}
 use Rattle.utf8.specs.Valid.{validUpTo}
 use Rattle.utf8.proofs.ValidLaws.{validUpTo-length}

@@ -9,8 +9,9 @@ use lib.ListN.{length}
 use lib.Signed.{ltZ, leZ}
 use Rattle.laws.specs.Bytes.{little}
 use Rattle.column_type.specs.declared.types.ColumnType.{ColumnType}
-use Rattle.decimal.specs.Number.{number}
-use Rattle.timestamp.specs.Units.{TimeUnit, ticksPerSecond, ticksPerDay, unitOf}
+use Rattle.decimal_bytes.specs.Number.{number}
+use Rattle.logical_type.specs.declared.types.TimeUnit.{TimeUnit}
+use Rattle.timestamp.specs.Units.{ticksPerSecond, ticksPerDay, unitOf}
 use Rattle.utf8.specs.Valid.{validUpTo}
 use Rattle.parquet.specs.Physical.{BOOLEAN, INT32, INT64}
 use Rattle.parquet.specs.Logical.{STRING, ENUM, DECIMAL, TIME, INTEGER, UNKNOWN, JSON}

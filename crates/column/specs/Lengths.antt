@@ -4,7 +4,7 @@ use mathlib.Core.Bool.{Bool, true, cond, not, _&&_, _||_}
 use mathlib.Core.Option.{Option, none, some}
 use lib.Dec.{leb, eqb}
 use Rattle.column_type.specs.declared.types.ColumnType.{ColumnType}
-use Rattle.decimal.specs.Precision.{isLength}
+use Rattle.decimal_bytes.specs.Precision.{isLength}
 use Rattle.parquet.specs.Physical.{BOOLEAN, INT32, INT64, INT96, FLOAT, DOUBLE, BYTE-ARRAY, FIXED-LEN-BYTE-ARRAY}
 use Rattle.parquet.specs.Logical.{DECIMAL}
 

@@ -4,8 +4,8 @@ ghost use mathlib.Core.Bool.{true};
 ghost use Prim.Native.Nat.{_*_, _<_, _≤_, _^_};
 ghost use lib.ListN.{length};
 ghost use Rattle.laws.specs.Bytes.{twosComplement};
-ghost use Rattle.decimal.specs.Precision.{isLength};
-ghost use Rattle.decimal.specs.Number.{number};
+ghost use Rattle.decimal_bytes.specs.Precision.{isLength};
+ghost use Rattle.decimal_bytes.specs.Number.{number};
 ghost use Rattle.timestamp.specs.Units.{unitOf};
 ghost use Rattle.column.specs.Annotations.{isUnsigned, isText, inSignedBits, inDay, inDigits, wholeKeeps};
 use crate::codes;
@@ -14,7 +14,7 @@ use crate::numbers::folded;
 use crate::numbers::in_bits;
 use column_type::ColumnType;
 use decimal::Fit;
-use decimal::is_below_power;
+use decimal_bytes::is_below_power;
 use timestamp::InDay;
 
 // Whether the column's values are INT(n, false).

@@ -32,7 +32,7 @@ pub(crate) fn length_right(c: ColumnType, n: usize) -> bool
     if !is_byte_decimal(c) {
         return true;
     }
-    decimal::is_length(n)
+    decimal_bytes::is_length(n)
 }
 
 // Whether so many bytes are the width of the column's physical type, where it has one.

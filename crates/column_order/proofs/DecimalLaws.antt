@@ -16,17 +16,17 @@ use Rattle.refusal.specs.Numbers.{WRONG-LENGTH, BREAKS-ANNOTATION, NO-ORDER}
 use Rattle.refusal.specs.Outcome.{unplaced}
 use Rattle.parquet.specs.Physical.{BYTE-ARRAY, FIXED-LEN-BYTE-ARRAY}
 use Rattle.parquet.specs.Logical.{DECIMAL, UNKNOWN}
-use Rattle.decimal.specs.Number.{number}
-use Rattle.decimal.specs.Order.{order, orderOf as decimalOrder}
-use Rattle.decimal.proofs.OrderLaws.{orderOf-order}
-use Rattle.decimal.specs.Precision.{isLength}
-use Rattle.decimal.proofs.PrecisionLaws.{isLength-bounds}
-use Rattle.decimal.specs.Fit.{fitOf}
+use Rattle.decimal_bytes.specs.Number.{number}
+use Rattle.decimal_bytes.specs.Order.{order, orderOf as decimalOrder}
+use Rattle.decimal_bytes.proofs.OrderLaws.{orderOf-order}
+use Rattle.decimal_bytes.specs.Precision.{isLength}
+use Rattle.decimal_bytes.proofs.PrecisionLaws.{isLength-bounds}
+use Rattle.decimal_bytes.specs.Fit.{fitOf}
 use Rattle.decimal.specs.Within as within
 use Rattle.decimal.specs.Within.{asCompared, orderWithin}
-use Rattle.decimal.specs.declared.fit.Fit.{Fit}
-use Rattle.decimal.specs.declared.fit.Fit.the-variants as fit
-use Rattle.decimal.specs.declared.order.Order as decimal
+use Rattle.decimal_bytes.specs.declared.fit.Fit.{Fit}
+use Rattle.decimal_bytes.specs.declared.fit.Fit.the-variants as fit
+use Rattle.decimal_bytes.specs.declared.order.Order as decimal
 use Rattle.decimal.specs.declared.within.Compared.{Compared}
 use Rattle.decimal.specs.declared.within.Compared.the-variants as compared
 use Rattle.column_type.specs.Lawful.{isLawful}

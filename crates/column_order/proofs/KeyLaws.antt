@@ -13,7 +13,7 @@ use lib.Seq.{take-length}
 use borrow.Author.Tests.{leb-true, eqb-true, eqb-false}
 use Rattle.laws.specs.Bytes.{little}
 use Rattle.column_type.specs.declared.types.ColumnType.{ColumnType}
-use Rattle.decimal.specs.Number.{number}
+use Rattle.decimal_bytes.specs.Number.{number}
 use Rattle.parquet.specs.Physical.{BOOLEAN, INT32, INT64, FLOAT, DOUBLE, BYTE-ARRAY, FIXED-LEN-BYTE-ARRAY}
 use Rattle.parquet.specs.Logical.{DECIMAL, UNKNOWN}
 use Rattle.column.specs.Numbers.{signed}

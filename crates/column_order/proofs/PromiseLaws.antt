@@ -18,7 +18,7 @@ use Rattle.refusal.specs.declared.answers.Fault.{Fault}
 use Rattle.parquet.specs.Physical.{BOOLEAN, INT96, FLOAT, DOUBLE}
 use Rattle.parquet.specs.Converted.{INTERVAL}
 use Rattle.parquet.specs.Logical.{DECIMAL, INTEGER}
-use Rattle.decimal.specs.Number.{number}
+use Rattle.decimal_bytes.specs.Number.{number}
 use Rattle.column_type.specs.Lawful.{isLawful}
 use Rattle.column_type.specs.declared.types.ColumnType.{ColumnType}
 use Rattle.column.specs.Numbers.{signed}

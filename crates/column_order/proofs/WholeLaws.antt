@@ -7,9 +7,9 @@ use native.Mathlib.Omega.{arith}
 use lib.Dec.{T}
 use lib.IntN.{ℤ}
 use lib.Signed.{ltZ, _<ℤ_, ltZ-yes, ltZ-no, <ℤ-≤ℤ-trans, clashℤ}
-use Rattle.decimal.specs.declared.order.Order as decimal
-use Rattle.decimal.specs.Order.{order}
-use Rattle.decimal.proofs.OrderLaws.{order-less, order-equal, order-greater}
+use Rattle.decimal_bytes.specs.declared.order.Order as decimal
+use Rattle.decimal_bytes.specs.Order.{order}
+use Rattle.decimal_bytes.proofs.OrderLaws.{order-less, order-equal, order-greater}
 use Rattle.float_order.specs.Keys.{wholeOrder}
 use Rattle.float_order.specs.declared.relation.Relation.{Relation}
 use Rattle.float_order.specs.declared.relation.Relation.the-variants.{Less, Equal, Greater, Unordered}

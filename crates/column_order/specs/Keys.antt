@@ -8,7 +8,7 @@ use lib.Ieee.{binary32, binary64}
 use lib.IntN.{ℤ, pos}
 use Rattle.laws.specs.Bytes.{little}
 use Rattle.column_type.specs.declared.types.ColumnType.{ColumnType}
-use Rattle.decimal.specs.Number.{number}
+use Rattle.decimal_bytes.specs.Number.{number}
 use Rattle.parquet.specs.Physical.{BOOLEAN, FLOAT, DOUBLE}
 use Rattle.column.specs.Numbers.{signed}
 use Rattle.column.specs.Lengths.{isByteForm, isByteDecimal}

@@ -5,8 +5,8 @@ use mathlib.Core.Bool.{Bool, true, false, true≢false, _&&_}
 use native.Mathlib.Omega.{arith}
 use lib.Dec.{leb, ltb, eqb, leb·zero}
 use borrow.Author.Tests.{leb-true, ltb-true, le-leb, lt-ltb, eqb-true}
-use Rattle.decimal.specs.Precision.{isLength}
-use Rattle.decimal.proofs.PrecisionLaws.{isLength-bounds}
+use Rattle.decimal_bytes.specs.Precision.{isLength}
+use Rattle.decimal_bytes.proofs.PrecisionLaws.{isLength-bounds}
 use Rattle.parquet.specs.Logical as logical
 use Rattle.annotation.specs.Signed.{natural}
 use Rattle.annotation.specs.Meaning.{annotationOf}

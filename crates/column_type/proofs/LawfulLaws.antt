@@ -32,7 +32,7 @@ use Rattle.column_type.proofs.FitsLaws.{fits-parts, isLeaf-not-group}
 use Rattle.column_type.proofs.SlotLaws.{slotOf-physical, slotOf-length}
 use Rattle.column_type.proofs.KeptLaws.{columnWith}
 use Rattle.column_type.proofs.LeafLaws.{has-leaf-lawful}
-use Rattle.column_type.proofs.LeafSheet.{rootSlot, leafSlot, leafSheet, leafSheet-total, leafSheet-sound, leafSheet-bytes, leafSlot-annotated}
+use Rattle.column_type.proofs.LeafSheet.{rootSlot, leafSlot, leafSheet, LeafSlot, leafSheet-total, leafSheet-sound, leafSheet-bytes, leafSlot-annotated}
 use Rattle.column_type.proofs.LeafTree.{leafTree, LeafKept, leafTree-of}
 use Rattle.column_type.proofs.SpeltLaws.{Spelt, slotOf-spelt}
 
@@ -66,10 +66,23 @@ module _ (c : ColumnType) (lawful : isLawful c ≡ true) where
   spelt : Spelt c (slotOf c)
   spelt = slotOf-spelt c (fits-parts c (fitting .0)) leaf (ten .1)
 
+  leaf-slot : LeafSlot (slotOf c)
+  unfolding isLeaf
+  leaf-slot =
+      record {
+        listed =
+            record {
+              physical = rw (slotOf-physical c) (and-eq-true-iff (physicalListed (c .physical)) (not (isGroup (c .physical))) .0 (fitting .1) .0);
+              converted = spelt .converted;
+              logical = spelt .logical;
+            };
+        holds = spelt .holds;
+      }
+
   kept : LeafKept (slotOf c)
   kept =
       record {
-        holds = spelt .holds;
+        slot = leaf-slot;
         leaf = rw (slotOf-physical c) leaf;
         length = rw (slotOf-physical c, slotOf-length c) (shaped .1);
         digits = spelt .digits;
@@ -87,18 +100,12 @@ module _ (c : ColumnType) (lawful : isLawful c ≡ true) where
   lent = replicate (rowWidth * 2) 0
 
   sound : Sound sheet
-  unfolding sheet isLeaf
-  sound =
-      leafSheet-sound (slotOf c)
-      (record {
-        physical = rw (slotOf-physical c) (and-eq-true-iff (physicalListed (c .physical)) (not (isGroup (c .physical))) .0 (fitting .1) .0);
-        converted = spelt .converted;
-        logical = spelt .logical;
-      })
+  unfolding sheet
+  sound = leafSheet-sound (slotOf c) leaf-slot
 
   total : totalOf sheet ≡ 2
   unfolding sheet
-  total = leafSheet-total (slotOf c)
+  total = leafSheet-total (slotOf c) leaf-slot
 
   enough : EnoughOutput sheet (length lent)
   unfolding EnoughOutput lent
@@ -124,7 +131,7 @@ module _ (c : ColumnType) (lawful : isLawful c ≡ true) where
   unfolding sheet
   lawful-leaf =
       record {
-        bytes = leafSheet-bytes (slotOf c) (spelt .holds);
+        bytes = leafSheet-bytes (slotOf c) leaf-slot;
         accepted = accepted;
         below = omega (arith, total);
         leaf = leaf;

@@ -18,12 +18,12 @@ use Rattle.sheet.proofs.SoundLaws.{sound-physical}
 use Rattle.sheet.proofs.OpeningLaws.{openOf-accepts, openOf-sound}
 use Rattle.tree.specs.Annotated.{annotated, kind, rule10, rule11}
 use Rattle.tree.specs.Tree.{SlotBytes, Tree, Fields, listing, count, size}
-use Rattle.tree.specs.Rules.{isGroup, underMap, shape, placeShape, lengthShape, decimalShape, rule8, KeepsAt}
+use Rattle.tree.specs.Rules.{isGroup, underMap, shape, standingShape, lengthShape, decimalShape, rule8, KeepsAt}
 use Rattle.schema.specs.Rows.{isMapParent, row, rowWidth, rows}
 use Rattle.schema.specs.Outcome.{outcome, written}
 use Rattle.schema.specs.Demand.{IsTreeOf, Sound}
-use Rattle.tree.specs.declared.place.Place.{Place}
-use Rattle.tree.specs.declared.place.Place.the-variants.{Root}
+use Rattle.tree.specs.declared.standing.Standing.{Standing}
+use Rattle.tree.specs.declared.standing.Standing.the-variants.{Root}
 use Rattle.schema.specs.declared.roles.Parent.{Parent}
 use Rattle.schema.proofs.AcceptedLaws.{accepted-sound, accepted-rows}
 use Rattle.schema.specs.Roles.{ascent}
@@ -61,16 +61,16 @@ slot-leaf s sound leaf = cases (sound-physical s sound)
     cases (inr e) = absurd (true≢false (sym (eq-eqb (physical s) physical.GROUP e) ∙ leaf))
 
 -- a node that keeps rule 8 has its type length
-shape-length : (p : Place) (s : SlotBytes) (fs : Fields) → rule8 p s fs ≡ true → lengthShape (physical s) (typeLength s) ≡ true
+shape-length : (p : Standing) (s : SlotBytes) (fs : Fields) → rule8 p s fs ≡ true → lengthShape (physical s) (typeLength s) ≡ true
 unfolding rule8 shape numbersOf
 shape-length p s fs e =
     let n = numbersOf s in
-    and-eq-true-iff (placeShape p n (count fs)) (lengthShape (physical s) (typeLength s)) .0
-    (and-eq-true-iff (placeShape p n (count fs) && lengthShape (physical s) (typeLength s)) (decimalShape (n .converted) (n .logical) (n .scale) (n .precision)) .0 e .0)
+    and-eq-true-iff (standingShape p n (count fs)) (lengthShape (physical s) (typeLength s)) .0
+    (and-eq-true-iff (standingShape p n (count fs) && lengthShape (physical s) (typeLength s)) (decimalShape (n .converted) (n .logical) (n .scale) (n .precision)) .0 e .0)
     .1
 
 -- a leaf that keeps the rules has a lawful column type
-slot-lawful : (p : Place) (s : SlotBytes) (fs : Fields) → Bytes s → slotSound s ≡ true → KeepsAt p s fs → isGroup (physical s) ≡ false → isLawful (columnWith (annotated s) (kind (underMap p) s)) ≡ true
+slot-lawful : (p : Standing) (s : SlotBytes) (fs : Fields) → Bytes s → slotSound s ≡ true → KeepsAt p s fs → isGroup (physical s) ≡ false → isLawful (columnWith (annotated s) (kind (underMap p) s)) ≡ true
 unfolding annotated numbersOf kind rule10 rule11
 slot-lawful p s fs bytes sound keeps leaf =
     kept-lawful (annotated s) (underMap p) (slot-range s bytes) (slot-leaf s sound leaf) (shape-length p s fs (keeps .shape)) (keeps .placement) (keeps .decimals)
@@ -95,7 +95,7 @@ module _ (c : ColumnType) (sheet lent : List ℕ) (k : ℕ) (h : IsLeafOf c shee
       rw (tree .2, ← slot-listed)
       (node-row (tree .0) (tree .1 .keeps) (drop (rowWidth * totalOf sheet) lent) k below-size)
 
-  column-is : c ≡ columnWith (annotated (slotAt sheet k)) (kind (underMap (begins .place)) (slotAt sheet k))
+  column-is : c ≡ columnWith (annotated (slotAt sheet k)) (kind (underMap (begins .standing)) (slotAt sheet k))
   unfolding columnAt
   column-is =
       let b = begins in
@@ -112,7 +112,7 @@ module _ (c : ColumnType) (sheet lent : List ℕ) (k : ℕ) (h : IsLeafOf c shee
   leaf-lawful : isLawful c ≡ true
   leaf-lawful =
       rw column-is
-      (slot-lawful (begins .place) (slotAt sheet k) (begins .fields) (slotAt-bytes sheet k (h .bytes))
+      (slot-lawful (begins .standing) (slotAt sheet k) (begins .fields) (slotAt-bytes sheet k (h .bytes))
       (openOf-sound sheet (totalOf sheet) (openOf-accepts sheet (sound .blocks) (sound .slots)) k (h .below))
       (begins .keeps) (rw physical-is at (h .leaf)))
 

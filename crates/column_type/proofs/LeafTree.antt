@@ -6,7 +6,7 @@ use mathlib.Core.List.{[], _∷_}
 use native.Mathlib.Omega.{arith}
 use lib.Dec.{eqb}
 use lib.ListN.{getD}
-use Rattle.laws.specs.Bytes.{little, twosComplement}
+use Rattle.laws.specs.Bytes.{little, bytesOf, twosComplement}
 use Rattle.parquet.specs.Logical as logical
 use Rattle.logical_type.specs.Parameters.{validParameters}
 use Rattle.annotation.specs.Signed.{natural}
@@ -23,10 +23,10 @@ use Rattle.sheet.specs.Slot as slot
 use Rattle.sheet.specs.Slot.{numbersOf}
 use Rattle.tree.specs.Annotated.{annotated, kind, rule9, rule10, rule11}
 use Rattle.tree.specs.Tree.{Tree, Fields, node, empty, field, listing, count, depths, AtMostDeep, Claims, mostDepth}
-use Rattle.tree.specs.Rules.{isGroup, isNought, lengthShape, decimalShape, placeBelow, shape, rule8, isList, isMap, rule12, rule13, KeepsAt, Keeps}
+use Rattle.tree.specs.Rules.{isGroup, isNought, lengthShape, decimalShape, standingBelow, shape, rule8, isList, isMap, rule12, rule13, KeepsAt, Keeps}
 use Rattle.schema.specs.Demand.{IsTreeOf}
-use Rattle.tree.specs.declared.place.Place.the-variants.{Root, Field}
-use Rattle.column_type.proofs.LeafSheet.{rootSlot, leafSlot, leafSheet, leafSheet-slots, Holds, leafSlot-annotated}
+use Rattle.tree.specs.declared.standing.Standing.the-variants.{Root, Field}
+use Rattle.column_type.proofs.LeafSheet.{rootSlot, leafSlot, leafSheet, leafSheet-slots, LeafSlot, leafSlot-annotated}
 
 -- a root and one leaf
 unfoldable pub leafTree : Annotated → Tree
@@ -42,24 +42,20 @@ tree-deep n k = by k
     by (suc (suc k)) = omega arith
 
 tree-claims : (n : Annotated) → Claims (leafTree n)
-unfolding leafTree Claims count rootSlot leafSlot slot.childCount numberAt little
+unfolding leafTree Claims count rootSlot leafSlot slot.childCount numberAt little bytesOf
 tree-claims n = (refl, ((refl, tt), tt))
 
-tree-lists : (n : Annotated) → listing (leafTree n) ≡ slot.slots (leafSheet n)
-unfolding leafTree listing
-tree-lists n = sym (leafSheet-slots n)
-
 root-keeps : (fs : Fields) → KeepsAt Root rootSlot fs
-unfolding rule8 shape lengthShape decimalShape isNought rule9 rule10 rule11 rule12 rule13 isList isMap kind kindOf annotated annotationOf backwardOf validParameters natural nine.rule9 ten.rule10 eleven.rule11 numbersOf slot.physical slot.repetition slot.converted slot.logical slot.parameterA slot.parameterB slot.typeLength slot.scale slot.precision numberAt little twosComplement rootSlot
+unfolding rule8 shape lengthShape decimalShape isNought rule9 rule10 rule11 rule12 rule13 isList isMap kind kindOf annotated annotationOf backwardOf validParameters natural nine.rule9 ten.rule10 eleven.rule11 numbersOf slot.physical slot.repetition slot.converted slot.logical slot.parameterA slot.parameterB slot.typeLength slot.scale slot.precision numberAt little bytesOf twosComplement rootSlot
 root-keeps fs = record { shape = refl; agreement = refl; placement = refl; decimals = refl; lists = refl; maps = refl }
 
-root-place : placeBelow Root rootSlot ≡ Field
-unfolding placeBelow kind kindOf annotated annotationOf backwardOf validParameters numbersOf slot.physical slot.converted slot.logical slot.parameterA slot.parameterB rootSlot
+root-place : standingBelow Root rootSlot ≡ Field
+unfolding standingBelow kind kindOf annotated annotationOf backwardOf validParameters numbersOf slot.physical slot.converted slot.logical slot.parameterA slot.parameterB rootSlot
 root-place = refl
 
 -- the slot of a leaf keeps rules 8 to 11
 pub record LeafKept (n : Annotated) : Type 0 where
-  pub holds : Holds n
+  pub slot : LeafSlot n
   pub leaf : isGroup (n .physical) ≡ false
   pub length : lengthShape (n .physical) (n .«type_length») ≡ true
   pub digits : decimalShape (n .converted) (n .logical) (n .scale) (n .precision) ≡ true
@@ -70,7 +66,7 @@ pub record LeafKept (n : Annotated) : Type 0 where
 module _ (n : Annotated) (k : LeafKept n) where
   -- a fact of the leaf's numbers is one of its slot's
   at-slot : (P : Annotated → Type 0) → P n → P (annotated (leafSlot n))
-  at-slot P h = subst P (sym (leafSlot-annotated n (k .holds))) h
+  at-slot P h = subst P (sym (leafSlot-annotated n (k .slot .holds))) h
 
   leaf-shape : rule8 Field (leafSlot n) empty ≡ true
   unfolding rule8 shape annotated numbersOf count slot.physical slot.repetition leafSlot
@@ -105,5 +101,9 @@ module _ (n : Annotated) (k : LeafKept n) where
   unfolding Keeps leafTree
   tree-keeps = (root-keeps (field (node (leafSlot n) empty) empty), rw root-place ((leaf-keeps, tt), tt))
 
+  tree-lists : listing (leafTree n) ≡ slot.slots (leafSheet n)
+  unfolding leafTree listing
+  tree-lists = sym (leafSheet-slots n (k .slot))
+
   pub leafTree-of : IsTreeOf (leafSheet n) (leafTree n)
-  leafTree-of = record { deep = tree-deep n; keeps = tree-keeps; claims = tree-claims n; lists = tree-lists n }
+  leafTree-of = record { deep = tree-deep n; keeps = tree-keeps; claims = tree-claims n; lists = tree-lists }

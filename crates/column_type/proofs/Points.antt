@@ -3,7 +3,7 @@ use Prim.Native.Nat.{ℕ, _+_, _-_, _^_}
 use mathlib.Core.Path.{_≡_, refl}
 use mathlib.Core.Bool.{Bool, true, false}
 use mathlib.Core.List.{List, [], _∷_, map}
-use Rattle.decimal.specs.Precision.{greatestPrecision, greatest}
+use Rattle.decimal_bytes.specs.Precision.{greatestPrecision, greatest}
 use Rattle.parquet.specs.Physical.{INT32, INT64, BYTE-ARRAY, FIXED-LEN-BYTE-ARRAY, GROUP}
 use Rattle.parquet.specs.Converted as converted
 use Rattle.parquet.specs.Logical as logical

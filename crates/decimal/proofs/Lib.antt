@@ -1,10 +1,3 @@
-pub mod Table
-pub mod PrecisionLaws
-pub mod UnsignedLaws
+-- Laws that other crates cite, and those that the proofs here share.
 pub mod WordLaws
-pub mod NumberLaws
-pub mod OrderLaws
-pub mod PowerLaws
-pub mod BoundLaws
-pub mod FitLaws
 pub mod WithinLaws

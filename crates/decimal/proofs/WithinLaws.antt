@@ -6,14 +6,14 @@ use Prim.Native.Nat.{ℕ, _^_}
 use lib.Dec.{ltb}
 use lib.IntN.{natAbs}
 use lib.ListN.{length}
-use Rattle.decimal.specs.declared.fit.Fit.{Fit}
-use Rattle.decimal.specs.declared.fit.Fit.the-variants as fit
+use Rattle.decimal_bytes.specs.declared.fit.Fit.{Fit}
+use Rattle.decimal_bytes.specs.declared.fit.Fit.the-variants as fit
 use Rattle.decimal.specs.declared.within.Compared.{Compared}
-use Rattle.decimal.specs.Precision.{isLength}
-use Rattle.decimal.specs.Number.{number}
-use Rattle.decimal.specs.Order.{orderOf}
+use Rattle.decimal_bytes.specs.Precision.{isLength}
+use Rattle.decimal_bytes.specs.Number.{number}
+use Rattle.decimal_bytes.specs.Order.{orderOf}
 use Rattle.decimal.specs.Within.{unlessRefused, asCompared, orderWithin}
-use Rattle.decimal.proofs.FitLaws.{fitOf-test}
+use Rattle.decimal_bytes.proofs.FitLaws.{fitOf-test}
 
 -- numbers of right lengths are beyond where not both are within, and else in their order
 pub within-both : (a b : List ℕ) (p : ℕ) → isLength (length a) ≡ true → isLength (length b) ≡ true

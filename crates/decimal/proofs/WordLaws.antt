@@ -14,16 +14,17 @@ use lib.ListN.{length, getD, take, drop, length-take, length-drop, take-append-d
 use lib.Pow.{pow-add, pow-mono, pow-pos}
 use lib.Seq.{getD-take, getD-drop, take-all, take-suc}
 use borrow.Author.Tests.{le-leb, lt-leb, leb-true, lt-ltb, ltb-true, ltb-false}
-use Rattle.decimal.specs.Number.{unsigned, isNegative, number}
+use Rattle.decimal_bytes.specs.Number.{unsigned, isNegative, number}
 use Rattle.decimal.specs.Words.{fourBytes, eightBytes}
-use Rattle.decimal.specs.Precision.{isLength}
+use Rattle.decimal_bytes.specs.Precision.{isLength}
 use Rattle.decimal.specs.Steps.{isShort, signWeight, taken}
 use Rattle.laws.proofs.BoolLaws.{and-left, and-right}
 use Rattle.laws.proofs.DifferenceLaws.{sub-below, sub-above, sub-eq, below?, ltb-same}
-use Rattle.decimal.proofs.PrecisionLaws.{isLength-within}
-use Rattle.decimal.proofs.UnsignedLaws.{Bytes, unsigned-drop, unsigned-++}
-use Rattle.decimal.proofs.NumberLaws.{sign-bit}
-use Rattle.decimal.proofs.BoundLaws.{sign-clear, sign-set}
+use Rattle.decimal_bytes.proofs.PrecisionLaws.{isLength-within}
+use Rattle.laws.proofs.ByteLaws.{EachByte}
+use Rattle.decimal_bytes.proofs.UnsignedLaws.{unsigned-drop, unsigned-++}
+use Rattle.decimal_bytes.proofs.NumberLaws.{sign-bit}
+use Rattle.decimal_bytes.proofs.BoundLaws.{sign-clear, sign-set}
 
 -- ---- eight bytes as a word
 
@@ -161,19 +162,19 @@ module _ (n count : ℕ) (some : 1 ≤ count) (word : count ≤ 8) (h : n < 256 
   lifted-number = omega (arith, sign-xor, sign-≤ count word)
 
 -- the first bit of bytes is their sign
-sign-first : (bs : List ℕ) → Bytes bs → 1 ≤ length bs → leb (signWeight (length bs)) (unsigned bs) ≡ isNegative bs
+sign-first : (bs : List ℕ) → EachByte bs → 1 ≤ length bs → leb (signWeight (length bs)) (unsigned bs) ≡ isNegative bs
 sign-first [] h k = absurd (omega arith)
 sign-first (b ∷ bs) h k =
     below? (unsigned (b ∷ bs)) (128 * 256 ^ length bs)
     (λ l. lt-leb _ _ (subst (λ (m : ℕ). unsigned (b ∷ bs) < m) (sign-bit (length bs)) l) ∙ sym (sign-clear b bs h l))
     (λ l. le-leb _ _ (subst (λ (m : ℕ). m ≤ unsigned (b ∷ bs)) (sign-bit (length bs)) l) ∙ sym (sign-set b bs h l))
 
-Bytes-take : (n : ℕ) (bs : List ℕ) → Bytes bs → Bytes (take n bs)
+Bytes-take : (n : ℕ) (bs : List ℕ) → EachByte bs → EachByte (take n bs)
 Bytes-take zero bs h = tt
 Bytes-take (suc n) [] h = tt
 Bytes-take (suc n) (b ∷ bs) h = (h .0, Bytes-take n bs (h .1))
 
-sign-front : (bs : List ℕ) (count : ℕ) → Bytes bs → 1 ≤ count → count ≤ length bs
+sign-front : (bs : List ℕ) (count : ℕ) → EachByte bs → 1 ≤ count → count ≤ length bs
     → leb (signWeight count) (unsigned (take count bs)) ≡ isNegative bs
 sign-front bs count h some within =
     let e : length (take count bs) ≡ count = length-take count bs ∙ min-eq-left within in
@@ -181,7 +182,7 @@ sign-front bs count h some within =
     (sign-first (take count bs) (Bytes-take count bs h) (omega arith))
     ∙ ap (leb 128) (getD-take count bs 0 0 some)
 
-pub lifted-front : (bs : List ℕ) (count n lifted : ℕ) → Bytes bs → 1 ≤ count → count ≤ length bs → n ≡ unsigned (take count bs)
+pub lifted-front : (bs : List ℕ) (count n lifted : ℕ) → EachByte bs → 1 ≤ count → count ≤ length bs → n ≡ unsigned (take count bs)
     → lifted + taken (leb (signWeight count) n) count ≡ n + 2 ^ 63 → lifted + taken (isNegative bs) count ≡ unsigned (take count bs) + 2 ^ 63
 lifted-front bs count n lifted h some within e f =
     ap (λ (t : Bool). lifted + taken t count) (sym (sign-front bs count h some within) ∙ ap (leb (signWeight count)) (sym e))

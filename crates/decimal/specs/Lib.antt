@@ -1,10 +1,5 @@
--- What the contracts of `decimal` cite: the numbers that bytes stand for, their precision and their order.
-pub mod Precision
-pub mod Number
-pub mod Order
-pub mod Fit
+-- What the contracts of `decimal` cite beside those of `decimal_bytes`: what its answers stand for, and numbers in words.
 pub mod Outcome
 pub mod Within
-pub mod Significant
 pub mod Words
 pub mod Steps

@@ -3,12 +3,12 @@ use Prim.Native.Nat.{ℕ}
 use mathlib.Core.List.{List}
 use Rattle.refusal.specs.Numbers.{WRONG-LENGTH, BREAKS-ANNOTATION}
 use Rattle.refusal.specs.Outcome.{Outcome, given, refused, unplaced}
-use Rattle.decimal.specs.declared.order.Order
-use Rattle.decimal.specs.declared.order.Order.{Order}
-use Rattle.decimal.specs.declared.fit.Fit
-use Rattle.decimal.specs.declared.fit.Fit.{Fit}
-use Rattle.decimal.specs.Order.{orderOf}
-use Rattle.decimal.specs.Fit.{fitOf}
+use Rattle.decimal_bytes.specs.declared.order.Order
+use Rattle.decimal_bytes.specs.declared.order.Order.{Order}
+use Rattle.decimal_bytes.specs.declared.fit.Fit
+use Rattle.decimal_bytes.specs.declared.fit.Fit.{Fit}
+use Rattle.decimal_bytes.specs.Order.{orderOf}
+use Rattle.decimal_bytes.specs.Fit.{fitOf}
 
 -- "value of wrong length"
 abbrev pub wrongLength : {A : Type 0} → Outcome A
@@ -22,7 +22,7 @@ breaksAnnotation = refused (unplaced BREAKS-ANNOTATION)
 pub data Relation : Type 0 where
   less equal greater : Relation
 
--- what each answer of compare stands for: the cases of `Order`, declared in src/order.rt
+-- what each answer of compare stands for: the cases of `Order`, which `decimal_bytes` declares
 abbrev pub compared : Order → Outcome Relation
 compared Order.Less = given less
 compared Order.Equal = given equal
@@ -33,8 +33,8 @@ compared Order.WrongLength = wrongLength
 abbrev pub comparing : List ℕ → List ℕ → Outcome Relation
 comparing a b = compared (orderOf a b)
 
--- what each answer of fits_precision stands for, the cases of `Fit`, declared in src/fit.rt: a number within its precision keeps its
--- annotation
+-- what each answer of fits_precision stands for, the cases of `Fit`, which `decimal_bytes` declares: a number within its precision keeps
+-- its annotation
 abbrev pub fitted : Fit → Outcome (Unit {0})
 fitted Fit.Within = given tt
 fitted Fit.Beyond = breaksAnnotation

@@ -2,14 +2,14 @@
 use Prim.Native.Nat.{ℕ}
 use mathlib.Core.List.{List}
 use Rattle.refusal.specs.Outcome.{Outcome, given}
-use Rattle.decimal.specs.declared.fit.Fit
-use Rattle.decimal.specs.declared.fit.Fit.{Fit}
-use Rattle.decimal.specs.declared.order.Order
-use Rattle.decimal.specs.declared.order.Order.{Order}
+use Rattle.decimal_bytes.specs.declared.fit.Fit
+use Rattle.decimal_bytes.specs.declared.fit.Fit.{Fit}
+use Rattle.decimal_bytes.specs.declared.order.Order
+use Rattle.decimal_bytes.specs.declared.order.Order.{Order}
 use Rattle.decimal.specs.declared.within.Compared
 use Rattle.decimal.specs.declared.within.Compared.{Compared}
-use Rattle.decimal.specs.Fit.{fitOf}
-use Rattle.decimal.specs.Order.{orderOf}
+use Rattle.decimal_bytes.specs.Fit.{fitOf}
+use Rattle.decimal_bytes.specs.Order.{orderOf}
 use Rattle.decimal.specs.Outcome.{Relation, less, equal, greater, wrongLength, breaksAnnotation}
 
 -- `Compared` is what comparing within a precision answers, declared in src/within.rt: Less, Equal, Greater, Beyond, or WrongLength

@@ -1,14 +1,13 @@
 // The order of two decimals that are both held to a precision.
-use crate::fit;
-use crate::fit::Fit;
 use crate::order;
-use crate::order::Order;
 use crate::words;
+use decimal_bytes::Fit;
+use decimal_bytes::Order;
 ghost use mathlib.Core.Path.{_≡_};
 ghost use lib.ListN.{length};
 ghost use Prim.Native.Nat.{_≤_};
-ghost use Rattle.decimal.specs.Fit.{fitOf};
-ghost use Rattle.decimal.specs.Order.{orderOf};
+ghost use Rattle.decimal_bytes.specs.Fit.{fitOf};
+ghost use Rattle.decimal_bytes.specs.Order.{orderOf};
 ghost use Rattle.decimal.specs.Within.{unlessRefused, asCompared, orderWithin, comparedWithin, comparingWithin};
 
 // The first number against the second, or the first refusal that holds.
@@ -53,7 +52,7 @@ fn compare_short(a: &[u8], b: &[u8], precision: u32) -> Compared
 fn compare_by_bytes(a: &[u8], b: &[u8], precision: u32) -> Compared
     ensures { λ r. ⌜ r ≡ orderWithin (now (a .entry)) (now (b .entry)) precision ⌝ }
 {
-    match fit::fits_by_bytes(a, precision) {
+    match decimal_bytes::fits_by_bytes(a, precision) {
         Fit::Within => compare_second(a, b, precision),
         Fit::Beyond => Compared::Beyond,
         Fit::WrongLength => Compared::WrongLength,
@@ -64,7 +63,7 @@ fn compare_by_bytes(a: &[u8], b: &[u8], precision: u32) -> Compared
 fn compare_second(a: &[u8], b: &[u8], precision: u32) -> Compared
     ensures { λ r. ⌜ r ≡ unlessRefused (fitOf (now (b .entry)) precision) (asCompared (orderOf (now (a .entry)) (now (b .entry)))) ⌝ }
 {
-    match fit::fits_by_bytes(b, precision) {
+    match decimal_bytes::fits_by_bytes(b, precision) {
         Fit::Within => as_compared(order::compare(a, b)),
         Fit::Beyond => Compared::Beyond,
         Fit::WrongLength => Compared::WrongLength,

@@ -1,12 +1,11 @@
 // Numbers of 1 to 16 bytes, as two words of 64 bits.
-use crate::power;
 ghost use mathlib.Core.Path.{_≡_};
 ghost use mathlib.Core.Bool.{_&&_};
 ghost use Prim.Native.Nat.{_+_, _*_, _^_, _≤_, _<_};
 ghost use lib.Dec.{leb, ltb};
 ghost use lib.IntN.{natAbs};
 ghost use lib.ListN.{length, take};
-ghost use Rattle.decimal.specs.Number.{unsigned, isNegative, number};
+ghost use Rattle.decimal_bytes.specs.Number.{unsigned, isNegative, number};
 ghost use Rattle.decimal.specs.Words.{valueOf, fourBytes, eightBytes};
 ghost use Rattle.decimal.specs.Steps.{isShort, signedOf, signWeight, taken};
 
@@ -112,7 +111,7 @@ fn unsigned_front(bytes: &[u8], count: usize) -> u64
     let mut n: u64 = 0;
     let mut at = 0;
     while at < count {
-        n = n * 256 + power::wide(bytes[at]);
+        n = n * 256 + wide(bytes[at]);
         at += 1;
     }
     n
@@ -133,11 +132,18 @@ fn half(bytes: &[u8], at: usize) -> u64
     requires { ⌜ at + 4 ≤ length (now bytes) ⌝ }
     ensures { λ r. ⌜ (r ≡ fourBytes (now (bytes .entry)) at) × (r < 2 ^ 32) ⌝ }
 {
-    let first = power::wide(bytes[at]);
-    let second = power::wide(bytes[at + 1]);
-    let third = power::wide(bytes[at + 2]);
-    let fourth = power::wide(bytes[at + 3]);
+    let first = wide(bytes[at]);
+    let second = wide(bytes[at + 1]);
+    let third = wide(bytes[at + 2]);
+    let fourth = wide(bytes[at + 3]);
     ((first * 256 + second) * 256 + third) * 256 + fourth
+}
+
+// A byte as a word.
+fn wide(byte: u8) -> u64
+    ensures { λ r. ⌜ r ≡ byte ⌝ }
+{
+    byte as u64
 }
 
 // Whether |number| < 10^precision.
@@ -192,8 +198,8 @@ fn power_words(exponent: u32) -> Words
     requires { ⌜ exponent < 39 ⌝ }
     ensures { λ r. ⌜ (valueOf r ≡ 10 ^ exponent) × (1 ≤ r .low) ⌝ }
 {
-    if exponent < power::BEYOND_WORD {
-        let low = power::power_of_ten(exponent);
+    if exponent < decimal_bytes::BEYOND_WORD {
+        let low = decimal_bytes::power_of_ten(exponent);
         return Words { high: 0, low };
     }
     great_power(exponent)

@@ -22,7 +22,7 @@ use Rattle.column.specs.declared.value.Value.{Value}
 use Rattle.column.specs.declared.value.Value.the-variants.{Unsigned, Bytes}
 use Rattle.column_type.specs.Lawful.{slotOf, fits, isLeaf, isLawful}
 use Rattle.column_type.specs.declared.types.ColumnType.{ColumnType}
-use Rattle.decimal.specs.Number.{number}
+use Rattle.decimal_bytes.specs.Number.{number}
 use Rattle.tree.specs.Rules.{isNought, lengthShape}
 use Rattle.sheet.specs.Sound.{listed, physicalListed}
 use Rattle.float_order.specs.Keys.{wholeOrder}

@@ -7,7 +7,7 @@ use Rattle.schema.proofs.RowKindLaws.{rows-kinds}
 use Rattle.schema.proofs.RewriteDemandLaws as rewriting
 use Rattle.schema.proofs.RowRoleLaws.{roles-exactly}
 use Rattle.schema.proofs.WrittenBackLaws.{written-back, key-value-bare}
-use Rattle.decimal.proofs.FitLaws.{fitOf-exactly}
+use Rattle.decimal_bytes.proofs.FitLaws.{fitOf-exactly}
 use Rattle.utf8.proofs.ValidLaws.{validUpTo-length}
 use Rattle.column.proofs.PromiseLaws as value
 use Rattle.column_order.proofs.PromiseLaws as ordered
@@ -30,7 +30,7 @@ use Rattle.schema.specs.Rows.{rows}
 use Rattle.schema.specs.Roles.{ascent, isUnderMap}
 use Rattle.schema.specs.Demand.{kindIn, ResolvesTo}
 use Rattle.schema.proofs.ResolvesLaws.{node-resolves}
-use Rattle.timestamp.specs.Units.{TimeUnit}
+use Rattle.logical_type.specs.declared.types.TimeUnit.{TimeUnit}
 use Rattle.refusal.specs.Outcome.{Outcome, given}
 use Rattle.timestamp.specs.Outcomes.{Decodes}
 use Rattle.timestamp.specs.declared.fields.Fields.{Fields}

@@ -20,13 +20,13 @@ use Rattle.sheet.specs.Opening.{atFirst, openOf}
 use Rattle.sheet.proofs.OpeningLaws.{refused-other}
 use Rattle.tree.specs.Annotated.{rule9, rule10, rule11}
 use Rattle.tree.specs.Tree.{SlotBytes, Tree, Fields, node, empty, field, size, depths, mostDepth}
-use Rattle.tree.specs.Rules.{underMap, placeBelow, rule8, rule12, rule13}
+use Rattle.tree.specs.Rules.{underMap, standingBelow, rule8, rule12, rule13}
 use Rattle.tree.specs.Faults.{broken, faults, runFaults}
 use Rattle.tree.specs.OpenPlaces.{openPlaces, isNoPlace}
 use Rattle.tree.specs.Reading.{treeOf}
 use Rattle.tree.specs.Judgement.{orElse, leftOver, missing, firstFault, deepness, tooDeep, unlawful, treeRefusal, judgedAs, judgement, judgedNodes, judgementOf}
-use Rattle.tree.specs.declared.place.Place.{Place}
-use Rattle.tree.specs.declared.place.Place.the-variants.{Root}
+use Rattle.tree.specs.declared.standing.Standing.{Standing}
+use Rattle.tree.specs.declared.standing.Standing.the-variants.{Root}
 use Rattle.refusal.specs.declared.answers.Verdict.{Verdict}
 use Rattle.tree.proofs.FaultLaws.{firstFault-append}
 use Rattle.tree.proofs.JudgingLaws.{length-faults}
@@ -166,7 +166,7 @@ deep-first (d ∷ ds) k a =
     (λ e. rw (e, lt-ltb 32 d (leb-false d mostDepth e)))
 
 -- 8 to 13
-node-first : (k : ℕ) (p : Place) (s : SlotBytes) (fs : Fields) (ns : List ℕ) (gs : List Ground) (a : ℕ) → judgingEnd (firstFault (suc k) ns) a ≡ first gs a → judgingEnd (firstFault k (broken p s fs ∷ ns)) a ≡ first (nodeGrounds k p s fs ++ gs) a
+node-first : (k : ℕ) (p : Standing) (s : SlotBytes) (fs : Fields) (ns : List ℕ) (gs : List Ground) (a : ℕ) → judgingEnd (firstFault (suc k) ns) a ≡ first gs a → judgingEnd (firstFault k (broken p s fs ∷ ns)) a ≡ first (nodeGrounds k p s fs ++ gs) a
 unfolding firstFault broken first
 node-first k p s fs ns gs a rest =
     by-test (rule8 p s fs)
@@ -184,11 +184,11 @@ node-first k p s fs ns gs a rest =
 mutual
   unfolding faults ruleGrounds firstFault first
 
-  rules-first : (t : Tree) (p : Place) (k a : ℕ) → judgingEnd (firstFault k (faults p t)) a ≡ first (ruleGrounds k p t) a
+  rules-first : (t : Tree) (p : Standing) (k a : ℕ) → judgingEnd (firstFault k (faults p t)) a ≡ first (ruleGrounds k p t) a
   rules-first (node s fs) p k a =
-      node-first k p s fs (runFaults (placeBelow p s) fs) (runGrounds (suc k) (placeBelow p s) fs) a (run-first fs (placeBelow p s) (suc k) a)
+      node-first k p s fs (runFaults (standingBelow p s) fs) (runGrounds (suc k) (standingBelow p s) fs) a (run-first fs (standingBelow p s) (suc k) a)
 
-  run-first : (fs : Fields) (p : Place) (k a : ℕ) → judgingEnd (firstFault k (runFaults p fs)) a ≡ first (runGrounds k p fs) a
+  run-first : (fs : Fields) (p : Standing) (k a : ℕ) → judgingEnd (firstFault k (runFaults p fs)) a ≡ first (runGrounds k p fs) a
   run-first empty p k a = refl
   run-first (field t fs) p k a =
       ap (λ (v : Verdict). judgingEnd v a) (firstFault-append k (faults p t) (runFaults p fs) ∙ ap (λ (n : ℕ). orElse (firstFault k (faults p t)) (firstFault (k + n) (runFaults p fs))) (length-faults t p))

@@ -2,21 +2,22 @@
 use Prim.Native.Nat.{ℕ, _*_}
 use mathlib.Core.Path.{_≡_, refl}
 use mathlib.Core.Bool.{Bool, true}
-use mathlib.Core.List.{List}
+use mathlib.Core.List.{List, [], _∷_}
 use lib.ListN.{replicate}
-use Rattle.laws.specs.Bytes.{little, twosComplement}
+use Rattle.laws.specs.Bytes.{little, twosComplement, bytesOf}
 use Rattle.block_check.specs.Check.{sumBelow, weighted, check}
 use Rattle.refusal.specs.Outcome.{Outcome, refusal}
 use Rattle.sheet.specs.Number.{numberAt, signed32}
 use Rattle.sheet.specs.Block.{blockCount, blockAt, blockNumber, nodesHere, version, total, storedCheck, totalOf}
 use Rattle.sheet.specs.Check.{checkRight}
-use Rattle.sheet.specs.Slot.{physical, repetition, converted, logical, parameterA, parameterB, childCount, typeLength, scale, precision, nameLength, name, numbersOf, slotStart, reaches, slotAt, slotsFrom, slots}
+use Rattle.sheet.specs.Slot.{physical, repetition, converted, logical, parameterA, parameterB, childCount, typeLength, scale, precision, nameLength, name, numbersOf, slotStart, reaches, slotAt, slotsFrom, slots, emptySlot}
 use Rattle.sheet.specs.Sound.{listed, physicalListed, repetitionListed, convertedListed, logicalListed, nameLengthRight, allZero, reservedZero, tailZero, codesListed, nameRight, slotSound, slotRight}
-use Rattle.sheet.specs.Header.{lengthRight, blocksFor, nodesIn, totalRight, fieldsRight, headerRight}
+use Rattle.sheet.specs.Header.{lengthRight, blocksFor, nodesIn, totalRight, numbersRight, headerRight}
 use Rattle.sheet.specs.First.{firstWrongFrom, firstWrong}
 use Rattle.sheet.specs.Name.{sameBytes}
+use Rattle.sheet.specs.Sheet.{joinBelow, uncheckedBlock, blockOf, sheetOf}
 use Rattle.sheet.specs.Opening as sheet
-use Rattle.decimal.specs.Precision.{greatestPrecision, greatest}
+use Rattle.decimal_bytes.specs.Precision.{greatestPrecision, greatest}
 use Rattle.parquet.specs.Repetition as repetition
 use Rattle.parquet.specs.Physical as physical
 use Rattle.parquet.specs.Converted as converted
@@ -33,10 +34,10 @@ use Rattle.annotation.specs.Rule11 as eleven
 use Rattle.logical_type.specs.declared.types.TimeUnit.{TimeUnit}
 use Rattle.tree.specs.Annotated.{annotated, kind, rule9, rule10, rule11}
 use Rattle.annotation.specs.declared.resolution.Kind.{Kind}
-use Rattle.tree.specs.declared.place.Place.{Place}
+use Rattle.tree.specs.declared.standing.Standing.{Standing}
 use Rattle.refusal.specs.declared.answers.Verdict.{Verdict}
 use Rattle.tree.specs.Tree.{SlotBytes, Fields, listing, count, size, depths}
-use Rattle.tree.specs.Rules.{isList, isMap, placeBelow, isNought, lengthShape, decimalShape, shape, rule8, namedElement, isRepeated, isElementGroup, holdsElement, listChild, listRun, listKept, rule12, rule13}
+use Rattle.tree.specs.Rules.{isList, isMap, standingBelow, isNought, lengthShape, decimalShape, shape, rule8, namedElement, isRepeated, isElementGroup, holdsElement, listChild, listRun, listKept, rule12, rule13}
 use Rattle.tree.specs.Faults.{broken, faults}
 use Rattle.schema.specs.Levels.{howMany}
 use Rattle.schema.specs.Rows.{listRole, role, parentBy, row, parentOf, rowsFrom, rows, rowWidth}
@@ -45,14 +46,14 @@ use Rattle.tree.specs.OpenPlaces.{sum, openPlaces, isNoPlace}
 use Rattle.tree.specs.Judgement.{orElse, leftOver, missing, firstFault, deepness, tooDeep, unlawful, treeRefusal, judgedAs, judgement}
 use Rattle.schema.specs.Outcome.{answer, outcome, written}
 use Rattle.refusal.specs.declared.answers.Counted.{Counted}
-use Rattle.demands.specs.Sheets.{sheetOf, rootSlot, leafSheet, exampleSheet, repeatedSheet}
+use Rattle.demands.specs.Sheets.{rootSlot, leafSheet, exampleSheet, repeatedSheet}
 use Rattle.demands.specs.Requests.{repeatedRows, exampleRows}
 
 -- Each layer's definitions, open: what names a layer on its `unfolding` line computes through it.
 
 -- numbers, blocks, headers and checks
 block-layer : List ℕ → ℕ → Bool
-unfolding headerRight lengthRight fieldsRight totalRight blocksFor nodesIn blockCount blockAt blockNumber nodesHere version total totalOf numberAt little twosComplement checkRight check sumBelow weighted storedCheck
+unfolding headerRight lengthRight numbersRight totalRight blocksFor nodesIn blockCount blockAt blockNumber nodesHere version total totalOf numberAt little twosComplement checkRight check sumBelow weighted storedCheck
 block-layer = headerRight
 
 -- slots, their numbers, and whether they are sound
@@ -71,8 +72,8 @@ unfolding kind annotated kindOf annotationOf backwardOf statedOf namedOf unitOf 
 annotation-layer = kind
 
 -- the rules of a node
-rule-layer : Place → SlotBytes → Fields → ℕ
-unfolding broken rule8 shape lengthShape decimalShape isNought rule9 rule10 rule11 rule12 rule13 isList isMap placeBelow listKept listRun listChild isElementGroup namedElement isRepeated holdsElement nine.rule9 ten.rule10 eleven.rule11 eleven.decimalHolds eleven.ordered eleven.physicalHolds annotation-layer
+rule-layer : Standing → SlotBytes → Fields → ℕ
+unfolding broken rule8 shape lengthShape decimalShape isNought rule9 rule10 rule11 rule12 rule13 isList isMap standingBelow listKept listRun listChild isElementGroup namedElement isRepeated holdsElement nine.rule9 ten.rule10 eleven.rule11 eleven.decimalHolds eleven.ordered eleven.physicalHolds annotation-layer
 rule-layer = broken
 
 -- the tree that the slots spell, and its judgement
@@ -81,11 +82,11 @@ unfolding judgement judgedAs treeRefusal orElse leftOver missing openPlaces sum 
 tree-layer = judgement
 
 opened : List ℕ → ℕ → Counted
-unfolding outcome answer sheetOf tree-layer
+unfolding outcome answer sheetOf blockOf uncheckedBlock joinBelow bytesOf emptySlot tree-layer
 opened = outcome
 
 -- "One root alone: accepted"
-pub root-alone : outcome (sheetOf 1 (rootSlot 0)) rowWidth ≡ Counted.Count 1
+pub root-alone : outcome (sheetOf (rootSlot 0 ∷ [])) rowWidth ≡ Counted.Count 1
 unfolding opened
 root-alone = refl
 

@@ -21,7 +21,8 @@ use Rattle.column.specs.Outcome as column
 use Rattle.column_order.specs.Keys.{keyOf, keyOrder}
 use Rattle.column_order.specs.Order.{hasOrder, orderOf}
 use Rattle.column_order.specs.Outcome as column_order
-use Rattle.timestamp.specs.Units.{TimeUnit, unitOf}
+use Rattle.logical_type.specs.declared.types.TimeUnit.{TimeUnit}
+use Rattle.timestamp.specs.Units.{unitOf}
 use Rattle.timestamp.specs.Count.{isDateTime, countOf}
 use Rattle.timestamp.specs.Outcomes as timestamp
 use Rattle.timestamp.specs.Outcomes.{Decodes, isSigned64, encodingIn}

@@ -27,7 +27,7 @@ use Rattle.sheet.specs.Slot.{slotAt, slots}
 use Rattle.tree.specs.Tree.{Tree, size}
 use Rattle.tree.specs.Rules.{judgedKinds}
 use Rattle.tree.specs.Judgement.{judgement}
-use Rattle.tree.specs.declared.place.Place.the-variants.{Root}
+use Rattle.tree.specs.declared.standing.Standing.the-variants.{Root}
 use Rattle.refusal.specs.declared.answers.Verdict.{Verdict}
 use Rattle.schema.specs.Rows.{rows, kindsIn, numberIn, KEY-VALUE-LAYER}
 use Rattle.schema.specs.Outcome.{outcome, written}
@@ -50,13 +50,14 @@ use Rattle.column_order.specs.Comparison.{Valid, NotANumber, turned, atMost}
 use Rattle.column_order.specs.declared.answer.Order.the-variants.{Related}
 use Rattle.float_order.specs.declared.relation.Relation.{Relation}
 use Rattle.float_order.specs.declared.relation.Relation.the-variants.{Equal, Unordered}
-use Rattle.decimal.specs.Precision.{isLength}
-use Rattle.decimal.specs.Number.{number}
-use Rattle.decimal.specs.Fit.{fitOf}
-use Rattle.decimal.specs.declared.fit.Fit.the-variants.{Within}
+use Rattle.decimal_bytes.specs.Precision.{isLength}
+use Rattle.decimal_bytes.specs.Number.{number}
+use Rattle.decimal_bytes.specs.Fit.{fitOf}
+use Rattle.decimal_bytes.specs.declared.fit.Fit.the-variants.{Within}
 use Rattle.utf8.specs.Text.{Text}
 use Rattle.utf8.specs.Valid.{validUpTo}
-use Rattle.timestamp.specs.Units.{TimeUnit, ticksPerSecond}
+use Rattle.logical_type.specs.declared.types.TimeUnit.{TimeUnit}
+use Rattle.timestamp.specs.Units.{ticksPerSecond}
 use Rattle.timestamp.specs.Count.{isDateTime, countOf}
 use Rattle.timestamp.specs.Outcomes.{Decodes, isSigned64, encoding}
 use Rattle.timestamp.specs.declared.fields.Fields.{Fields}

@@ -13,6 +13,7 @@ use Rattle.logical_type.specs.declared.types.TimeUnit.{TimeUnit}
 use Rattle.refusal.specs.Faults as sided
 use Rattle.refusal.specs.Outcome.{given, refused, refusal}
 use Rattle.refusal.specs.declared.answers.Counted.{Counted}
+use Rattle.sheet.specs.Sheet.{sheetOf}
 use Rattle.schema.specs.Rows.{rowWidth}
 use Rattle.schema.specs.Outcome as schema
 use Rattle.column_type.specs.declared.types.ColumnType.{ColumnType}
@@ -23,7 +24,7 @@ use Rattle.column_order.specs.Outcome as ordering
 use Rattle.timestamp.specs.Units.{unitOf}
 use Rattle.timestamp.specs.Outcomes as timestamp
 use Rattle.timestamp.specs.declared.fields.Fields.{Fields}
-use Rattle.demands.specs.Sheets.{sheetOf, rootSlot, leafSheet}
+use Rattle.demands.specs.Sheets.{rootSlot, leafSheet}
 
 -- year, month, day, hour, minute, second, fraction
 abbrev pub fields : ℤ → ℕ → ℕ → ℕ → ℕ → ℕ → ℕ → Fields
@@ -79,7 +80,7 @@ points =
     -- "*TIME_MILLIS with TIME(NANOS): 9"
     ∷ (schema.outcome (leafSheet physical.INT64 converted.TIME-MILLIS logical.TIME (unitCode TimeUnit.Nanos) (flagCode true) 0 0 0) (rowWidth * 2) ≡ Counted.Refused (refusal 9 1))
     -- "*One root alone: accepted"
-    ∷ (schema.outcome (sheetOf 1 (rootSlot 0)) rowWidth ≡ Counted.Count 1)
+    ∷ (schema.outcome (sheetOf (rootSlot 0 ∷ [])) rowWidth ≡ Counted.Count 1)
     ∷ []
 
 -- all claims of a list hold

@@ -22,9 +22,9 @@ use Rattle.tree.specs.Annotated.{rule9, rule10, rule11}
 use Rattle.tree.specs.Tree.{SlotBytes, Tree, Fields, node, empty, field, size, depths}
 use Rattle.tree.specs.OpenPlaces.{openPlaces, isNoPlace}
 use Rattle.tree.specs.Reading.{treeOf}
-use Rattle.tree.specs.Rules.{underMap, placeBelow, rule8, rule12, rule13}
-use Rattle.tree.specs.declared.place.Place.{Place}
-use Rattle.tree.specs.declared.place.Place.the-variants.{Root}
+use Rattle.tree.specs.Rules.{underMap, standingBelow, rule8, rule12, rule13}
+use Rattle.tree.specs.declared.standing.Standing.{Standing}
+use Rattle.tree.specs.declared.standing.Standing.the-variants.{Root}
 use Rattle.column_type.specs.Lawful.{isLawful}
 use Rattle.column_type.specs.declared.types.ColumnType.{ColumnType}
 use Rattle.column.specs.Lengths as value
@@ -92,7 +92,7 @@ deepGrounds k [] = []
 deepGrounds k (d ∷ ds) = ground 7 k (ltb 32 d) ∷ deepGrounds (suc k) ds
 
 -- "8 to 13 .., at one node in number order": node k
-abbrev pub nodeGrounds : ℕ → Place → SlotBytes → Fields → List Ground
+abbrev pub nodeGrounds : ℕ → Standing → SlotBytes → Fields → List Ground
 nodeGrounds k p s fs =
     ground 8 k (not (rule8 p s fs))
     ∷ ground 9 k (not (rule9 s))
@@ -104,10 +104,10 @@ nodeGrounds k p s fs =
 
 -- "node by node", a tree's root being node k
 unfoldable mutual
-  pub ruleGrounds : ℕ → Place → Tree → List Ground
-  ruleGrounds k p (node s fs) = nodeGrounds k p s fs ++ runGrounds (suc k) (placeBelow p s) fs
+  pub ruleGrounds : ℕ → Standing → Tree → List Ground
+  ruleGrounds k p (node s fs) = nodeGrounds k p s fs ++ runGrounds (suc k) (standingBelow p s) fs
 
-  pub runGrounds : ℕ → Place → Fields → List Ground
+  pub runGrounds : ℕ → Standing → Fields → List Ground
   runGrounds k p empty = []
   runGrounds k p (field t fs) = ruleGrounds k p t ++ runGrounds (k + size t) p fs
 

@@ -24,8 +24,8 @@ use Rattle.column_order.specs.Outcome as order
 use Rattle.tree.specs.Annotated.{kind}
 use Rattle.tree.specs.Tree.{SlotBytes, Fields, node, empty, field}
 use Rattle.tree.specs.Rules.{isGroup, isRequiredOrOptional, isList, namedElement, rule12, KeepsAt}
-use Rattle.tree.specs.declared.place.Place.{Place}
-use Rattle.tree.specs.declared.place.Place.the-variants.{Field}
+use Rattle.tree.specs.declared.standing.Standing.{Standing}
+use Rattle.tree.specs.declared.standing.Standing.the-variants.{Field}
 use Rattle.tree.specs.Judgement.{judgement}
 use Rattle.refusal.specs.declared.answers.Counted.{Counted}
 use Rattle.refusal.specs.declared.answers.Verdict.{Verdict}
@@ -58,15 +58,15 @@ repeatedRows =
 -- the layer's one field is the node of s
 pub record Request2 : Type 1 where
   -- "no 12 at that LIST on this ground": its field is repeated
-  pub kept : (p : Place) (list layer s : SlotBytes) (fs : Fields) → IsLayer layer → repetition s ≡ REPEATED → isRequiredOrOptional (repetition list) ≡ true → rule12 p list (one layer (one s fs)) ≡ true
+  pub kept : (p : Standing) (list layer s : SlotBytes) (fs : Fields) → IsLayer layer → repetition s ≡ REPEATED → isRequiredOrOptional (repetition list) ≡ true → rule12 p list (one layer (one s fs)) ≡ true
   -- "the layer has role 3", below a LIST that stands anywhere: it is q to its parent
   pub layer-role : (q : Parent) (above list layer s : SlotBytes) (fs : Fields) → IsLayer layer → repetition s ≡ REPEATED → kind (isMapParent q) list .kind ≡ logical.LIST → role (parentOf q above list (one layer (one s fs))) list layer (one s fs) ≡ ELEMENT-LAYER
   -- "and the field role 7", where the layer keeps the rules
   pub field-role : (q : Parent) (above list layer s : SlotBytes) (fs : Fields) → IsLayer layer → repetition s ≡ REPEATED → kind (isMapParent q) list .kind ≡ logical.LIST → KeepsAt Field layer (one s fs) → role (parentOf (parentOf q above list (one layer (one s fs))) list layer (one s fs)) layer s fs ≡ BARE-REPEATED
   -- a field that is neither repeated, required nor optional stays 12, where the layer is not named as an element
-  pub refused : (p : Place) (list layer s : SlotBytes) (fs : Fields) → IsLayer layer → isList p list ≡ true → namedElement list layer ≡ false → (repetition s ≡ REPEATED → ⊥) → isRequiredOrOptional (repetition s) ≡ false → rule12 p list (one layer (one s fs)) ≡ false
+  pub refused : (p : Standing) (list layer s : SlotBytes) (fs : Fields) → IsLayer layer → isList p list ≡ true → namedElement list layer ≡ false → (repetition s ≡ REPEATED → ⊥) → isRequiredOrOptional (repetition s) ≡ false → rule12 p list (one layer (one s fs)) ≡ false
   -- "a repeated LIST is judged as before"
-  pub repeated-list : (p : Place) (s : SlotBytes) (fs : Fields) → isList p s ≡ true → repetition s ≡ REPEATED → rule12 p s fs ≡ false
+  pub repeated-list : (p : Standing) (s : SlotBytes) (fs : Fields) → isList p s ≡ true → repetition s ≡ REPEATED → rule12 p s fs ≡ false
   -- a sheet of such a LIST
   pub example : written (outcome repeatedSheet (rowWidth * 4)) repeatedSheet (replicate (rowWidth * 4) 0) ≡ repeatedRows
 

@@ -17,9 +17,9 @@ use Rattle.sheet.proofs.NameLaws.{sameBytes-equal, sameBytes-true}
 use Rattle.tree.specs.Annotated.{kind}
 use Rattle.tree.specs.Tree.{SlotBytes, Fields, node, empty, field}
 use Rattle.tree.specs.Rules.{isGroup, isRequiredOrOptional, underMap, isList, isMap, arrayName, tupleSuffix, namedElement, isRepeated, isElementGroup, listChild, listRun, listKept, rule12, keyValue, mapRun, mapKept, rule13, KeepsAt}
-use Rattle.tree.specs.declared.place.Place.{Place}
+use Rattle.tree.specs.declared.standing.Standing.{Standing}
 use Rattle.schema.specs.Rows.{isMapParent, LIST-LAYER, KEY-VALUE-LAYER, listRole, role, parentBy, parentOf, afterFirst}
-use Rattle.schema.specs.Roles.{slotOf, Standing, Ascent, isResolvedMap, HasKind, IsElementGroup, several, array, tuple, single, IsListLayer, IsElement, IsElementLayer, IsKeyValueLayer, IsKey, IsValue, HasLayerRole, list-layer, element, element-layer, key-value-layer, key, value, IsBareRepeated, IsField}
+use Rattle.schema.specs.Roles.{slotOf, Step, Ascent, isResolvedMap, HasKind, IsElementGroup, several, array, tuple, single, IsListLayer, IsElement, IsElementLayer, IsKeyValueLayer, IsKey, IsValue, HasLayerRole, list-layer, element, element-layer, key-value-layer, key, value, IsBareRepeated, IsField}
 use Rattle.schema.specs.declared.roles.Parent.{Parent}
 use Rattle.schema.specs.declared.roles.Parent.the-variants as parent
 use Rattle.schema.proofs.RepeatedFieldLaws.{no-list, no-map}
@@ -153,20 +153,20 @@ not-other : (q r : Parent) → isOther q ≡ true → q ≡ r → isOther r ≡ 
 not-other q r o e f = true≢false (sym o ∙ ap isOther e ∙ f)
 
 -- a list layer, and a layer that is the element, stand below a LIST
-list-above : (n : Standing) (a : Ascent) → IsListLayer (n ∷ a) → HasKind logical.LIST a
+list-above : (n : Step) (a : Ascent) → IsListLayer (n ∷ a) → HasKind logical.LIST a
 unfolding IsListLayer
 list-above n [] h = absurd h
 list-above n (l ∷ a) h = h .0
 
-element-above : (n : Standing) (a : Ascent) → IsElementLayer (n ∷ a) → HasKind logical.LIST a
+element-above : (n : Step) (a : Ascent) → IsElementLayer (n ∷ a) → HasKind logical.LIST a
 unfolding IsElementLayer
 element-above n [] h = absurd h
 element-above n (l ∷ a) h = h .0
 
 module _ (q : Parent) (i : ℕ) (above : SlotBytes) (a : Ascent) (u : Under q i above a) (s : SlotBytes) (fs : Fields) where
   -- the node in question
-  abbrev own : Standing
-  own = record { place = i; tree = node s fs }
+  abbrev own : Step
+  own = record { index = i; tree = node s fs }
 
   -- below any other node nothing gives a role
   no-layer : isOther q ≡ true → HasLayerRole (own ∷ a) → ⊥
@@ -180,7 +180,7 @@ module _ (q : Parent) (i : ℕ) (above : SlotBytes) (a : Ascent) (u : Under q i 
   no-layer o (value h) = not-other q parent.KeyValueRest o (u .later (h .0) (h .1)) refl
 
 -- a LIST's child, by what it is
-list-child : (i : ℕ) (above : SlotBytes) (a : Ascent) (s : SlotBytes) (fs : Fields) → HasKind logical.LIST a → IsSlot above a → Is (listRole above s fs) (record { place = i; tree = node s fs } ∷ a)
+list-child : (i : ℕ) (above : SlotBytes) (a : Ascent) (s : SlotBytes) (fs : Fields) → HasKind logical.LIST a → IsSlot above a → Is (listRole above s fs) (record { index = i; tree = node s fs } ∷ a)
 unfolding HasKind listRole IsListLayer IsElement IsElementLayer
 list-child i above [] s fs h e = absurd h
 list-child i above (l ∷ a) s fs h e =
@@ -190,7 +190,7 @@ list-child i above (l ∷ a) s fs h e =
     (λ g. rw g (inl (h, eqb-false (physical s) GROUP g)))
 
 -- a node's role says its sentence
-role-says : (q : Parent) (i : ℕ) (above : SlotBytes) (a : Ascent) → Under q i above a → (s : SlotBytes) (fs : Fields) → Is (role q above s fs) (record { place = i; tree = node s fs } ∷ a)
+role-says : (q : Parent) (i : ℕ) (above : SlotBytes) (a : Ascent) → Under q i above a → (s : SlotBytes) (fs : Fields) → Is (role q above s fs) (record { index = i; tree = node s fs } ∷ a)
 unfolding role IsElement IsKeyValueLayer IsKey IsValue IsBareRepeated IsField
 role-says parent.Other i above a u s fs =
     by-test (eqb (repetition s) REPEATED) (λ r. rw r (eqb-true (repetition s) REPEATED r, no-layer parent.Other i above a u s fs refl))
@@ -202,13 +202,13 @@ role-says parent.KeyValue i above a u s fs = u .says
 role-says parent.KeyValueRest i above a u s fs = u .says
 
 -- the role of a LIST's child, where one of the three sentences holds
-layer-role : (i : ℕ) (above : SlotBytes) (a : Ascent) (s : SlotBytes) (fs : Fields) → IsSlot above a → IsListLayer (record { place = i; tree = node s fs } ∷ a) → listRole above s fs ≡ 1
+layer-role : (i : ℕ) (above : SlotBytes) (a : Ascent) (s : SlotBytes) (fs : Fields) → IsSlot above a → IsListLayer (record { index = i; tree = node s fs } ∷ a) → listRole above s fs ≡ 1
 unfolding listRole IsListLayer
 layer-role i above [] s fs e h = absurd h
 layer-role i above (l ∷ a) s fs e h =
     by-test (isElementGroup above s fs) (λ t. absurd (h .2 (rw e (element-group above s fs t)))) (λ t. rw (h .1, t))
 
-element-role : (i : ℕ) (above : SlotBytes) (a : Ascent) (s : SlotBytes) (fs : Fields) → IsSlot above a → IsElementLayer (record { place = i; tree = node s fs } ∷ a) → listRole above s fs ≡ 3
+element-role : (i : ℕ) (above : SlotBytes) (a : Ascent) (s : SlotBytes) (fs : Fields) → IsSlot above a → IsElementLayer (record { index = i; tree = node s fs } ∷ a) → listRole above s fs ≡ 3
 unfolding listRole IsElementLayer
 element-role i above [] s fs e h = absurd h
 element-role i above (l ∷ a) s fs e h = rw (h .1, group-element above s fs (rw e at (h .2)))
@@ -218,7 +218,7 @@ unfolding listRole
 leaf-role above s fs g = rw (ne-eqb (physical s) GROUP g)
 
 -- a node that some layer above gives a role is below no other
-layered : (q : Parent) (i : ℕ) (above : SlotBytes) (a : Ascent) → Under q i above a → (s : SlotBytes) (fs : Fields) → (HasLayerRole (record { place = i; tree = node s fs } ∷ a) → ⊥) → q ≡ parent.Other
+layered : (q : Parent) (i : ℕ) (above : SlotBytes) (a : Ascent) → Under q i above a → (s : SlotBytes) (fs : Fields) → (HasLayerRole (record { index = i; tree = node s fs } ∷ a) → ⊥) → q ≡ parent.Other
 unfolding HasKind IsListLayer IsElement IsElementLayer IsKeyValueLayer IsKey IsValue
 layered parent.Other i above a u s fs none = refl
 layered parent.List i above [] u s fs none = absurd (u .says)
@@ -230,10 +230,10 @@ layered parent.List i above (l ∷ a) u s fs none =
     (λ t. none (list-layer (one g t))))
     (λ g. none (element (inl (u .says, eqb-false (physical s) GROUP g)))))
   where
-    three : isGroup (physical s) ≡ true → isElementGroup above s fs ≡ true → IsElementLayer (record { place = i; tree = node s fs } ∷ (l ∷ a))
+    three : isGroup (physical s) ≡ true → isElementGroup above s fs ≡ true → IsElementLayer (record { index = i; tree = node s fs } ∷ (l ∷ a))
     three g t = (u .says, eqb-true (physical s) GROUP g, rw (u .slot-is) (element-group above s fs t))
 
-    one : isGroup (physical s) ≡ true → isElementGroup above s fs ≡ false → IsListLayer (record { place = i; tree = node s fs } ∷ (l ∷ a))
+    one : isGroup (physical s) ≡ true → isElementGroup above s fs ≡ false → IsListLayer (record { index = i; tree = node s fs } ∷ (l ∷ a))
     one g t = (u .says, eqb-true (physical s) GROUP g, λ x. true≢false (sym (group-element above s fs (rw (u .slot-is) at x)) ∙ t))
 layered parent.ListLayer i above a u s fs none = absurd (none (element (inr (u .says))))
 layered parent.Map i above a u s fs none = absurd (none (key-value-layer (u .says)))
@@ -245,15 +245,15 @@ module _ (q : Parent) (i : ℕ) (above : SlotBytes) (a : Ascent) (u : Under q i 
   by-parent r m e h = ap (λ (p : Parent). role p above s fs) e ∙ h
 
   -- a node of which a sentence holds has its role
-  says-role : (m : ℕ) → Is m (record { place = i; tree = node s fs } ∷ a) → role q above s fs ≡ m
+  says-role : (m : ℕ) → Is m (record { index = i; tree = node s fs } ∷ a) → role q above s fs ≡ m
   unfolding role IsElement IsKeyValueLayer IsKey IsValue IsBareRepeated IsField
   says-role zero h = by-parent parent.Other 0 (layered q i above a u s fs (h .1)) (rw (ne-eqb (repetition s) REPEATED (h .0)))
   says-role (suc zero) h =
-      by-parent parent.List 1 (u .list (list-above (record { place = i; tree = node s fs }) a h)) (layer-role i above a s fs (u .slot-is) h)
+      by-parent parent.List 1 (u .list (list-above (record { index = i; tree = node s fs }) a h)) (layer-role i above a s fs (u .slot-is) h)
   says-role (suc (suc zero)) (inl h) = by-parent parent.List 2 (u .list (h .0)) (leaf-role above s fs (h .1))
   says-role (suc (suc zero)) (inr h) = by-parent parent.ListLayer 2 (u .layer h) refl
   says-role (suc (suc (suc zero))) h =
-      by-parent parent.List 3 (u .list (element-above (record { place = i; tree = node s fs }) a h)) (element-role i above a s fs (u .slot-is) h)
+      by-parent parent.List 3 (u .list (element-above (record { index = i; tree = node s fs }) a h)) (element-role i above a s fs (u .slot-is) h)
   says-role (suc (suc (suc (suc zero)))) h = by-parent parent.Map 4 (u .map h) refl
   says-role (suc (suc (suc (suc (suc zero))))) h = by-parent parent.KeyValue 5 (u .first (h .0) (h .1)) refl
   says-role (suc (suc (suc (suc (suc (suc zero)))))) h = by-parent parent.KeyValueRest 6 (u .later (h .0) (h .1)) refl
@@ -261,8 +261,8 @@ module _ (q : Parent) (i : ℕ) (above : SlotBytes) (a : Ascent) (u : Under q i 
   says-role (suc (suc (suc (suc (suc (suc (suc (suc m)))))))) h = absurd h
 
   -- a role is a number exactly where the sentence of that number holds
-  pub role-exactly : (m : ℕ) → (role q above s fs ≡ m) ↔ Is m (record { place = i; tree = node s fs } ∷ a)
-  role-exactly m = (λ e. subst (λ (k : ℕ). Is k (record { place = i; tree = node s fs } ∷ a)) e (role-says q i above a u s fs), says-role m)
+  pub role-exactly : (m : ℕ) → (role q above s fs ≡ m) ↔ Is m (record { index = i; tree = node s fs } ∷ a)
+  role-exactly m = (λ e. subst (λ (k : ℕ). Is k (record { index = i; tree = node s fs } ∷ a)) e (role-says q i above a u s fs), says-role m)
 
 -- fields of a LIST and of a MAP ------------------------------------------------------------------------------------------------
 
@@ -303,9 +303,9 @@ map-parent k r =
     (λ l. by-test (eqb k logical.MAP) (λ m. rw (l, m))
     (λ m. by-test (eqb r LIST-LAYER) (λ x. rw (l, m, x)) (λ x. by-test (eqb r KEY-VALUE-LAYER) (λ y. rw (l, m, x, y)) (λ y. rw (l, m, x, y)))))
 
-module _ (p : Place) (q : Parent) (i : ℕ) (above : SlotBytes) (a : Ascent) (u : Under q i above a) (s : SlotBytes) (fs : Fields) (keeps : KeepsAt p s fs) (alike : underMap p ≡ isMapParent q) (lists : HasKind logical.LIST a → repetition s ≡ REPEATED) (maps : HasKind logical.MAP a → IsLayer s) where
+module _ (p : Standing) (q : Parent) (i : ℕ) (above : SlotBytes) (a : Ascent) (u : Under q i above a) (s : SlotBytes) (fs : Fields) (keeps : KeepsAt p s fs) (alike : underMap p ≡ isMapParent q) (lists : HasKind logical.LIST a → repetition s ≡ REPEATED) (maps : HasKind logical.MAP a → IsLayer s) where
   abbrev mine : Ascent
-  mine = record { place = i; tree = node s fs } ∷ a
+  mine = record { index = i; tree = node s fs } ∷ a
 
   abbrev K : ℕ
   K = kind (isMapParent q) s .kind
@@ -344,7 +344,7 @@ module _ (p : Place) (q : Parent) (i : ℕ) (above : SlotBytes) (a : Ascent) (u 
         says = parent-says;
         list = λ h. rw (kind-here logical.LIST h);
         map = λ h. rw (kind-here logical.MAP h);
-        layer = λ h. let n = neither (lists (list-above (record { place = i; tree = node s fs }) a h)) in rw (n .0, n .1, role-exactly q i above a u s fs 1 .1 h);
+        layer = λ h. let n = neither (lists (list-above (record { index = i; tree = node s fs }) a h)) in rw (n .0, n .1, role-exactly q i above a u s fs 1 .1 h);
         first = λ h e. let n = neither (maps h .0) in rw (n .0, n .1, role-exactly q i above a u s fs 4 .1 h);
         later = λ h l. absurd (omega arith);
         map-alike = map-parent K R ∙ ap (λ (b : Bool). eqb (kind b s .kind) logical.MAP) (u .map-alike);

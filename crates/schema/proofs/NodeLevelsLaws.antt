@@ -16,7 +16,7 @@ use Rattle.parquet.specs.Converted as converted
 use Rattle.parquet.specs.Logical as logical
 use Rattle.tree.specs.Tree.{SlotBytes, Tree, Fields, node, empty, field, listing, listings, size, depths, runDepths, AtMostDeep}
 use Rattle.tree.specs.Rules.{isGroup, rootShape, lengthShape, decimalShape, shape, rule8, Keeps}
-use Rattle.tree.specs.declared.place.Place.the-variants.{Root}
+use Rattle.tree.specs.declared.standing.Standing.the-variants.{Root}
 use Rattle.tree.proofs.JudgingLaws.{length-depths}
 use Rattle.schema.specs.Levels.{isOptionalOrRepeated, isRepeatedCode, counted, howMany}
 use Rattle.schema.specs.Rows.{row, parentOf, afterFirst, rowsFrom, runRowsFrom, rows, rowWidth, numberIn}

@@ -11,12 +11,12 @@ use Rattle.parquet.specs.Logical as logical
 use Rattle.sheet.specs.Slot.{repetition}
 use Rattle.tree.specs.Annotated.{kind}
 use Rattle.tree.specs.Tree.{SlotBytes, Tree, Fields, node, empty, field, listing, listings, size}
-use Rattle.tree.specs.Rules.{underMap, placeBelow, KeepsAt, Keeps, KeepsAll}
+use Rattle.tree.specs.Rules.{underMap, standingBelow, KeepsAt, Keeps, KeepsAll}
 use Rattle.schema.specs.Rows.{isMapParent, row, parentOf, afterFirst, rowsFrom, runRowsFrom, rows, rowWidth, numberIn}
 use Rattle.schema.specs.Demand.{kindIn}
 use Rattle.schema.specs.Roles.{slotOf, Ascent, ascents, runAscents, ascent, HasKind}
-use Rattle.tree.specs.declared.place.Place.{Place}
-use Rattle.tree.specs.declared.place.Place.the-variants.{Root}
+use Rattle.tree.specs.declared.standing.Standing.{Standing}
+use Rattle.tree.specs.declared.standing.Standing.the-variants.{Root}
 use Rattle.schema.specs.declared.roles.Parent.{Parent}
 use Rattle.schema.proofs.RewrittenSlotLaws.{rewrittenSlot}
 use Rattle.schema.proofs.RewrittenTreeLaws.{rewrittenTree, rewrittenRun}
@@ -27,7 +27,7 @@ use Rattle.schema.proofs.AscentLaws.{Under, under-root, under-after, un
 -- some numbers begin with the row of a node that keeps the rules; the rules and the row take its parent for a MAP alike, what the parent is to it stands
 -- in the way up from it, and the node is rewritten at its place
 pub record NodeRow (s copy : SlotBytes) (a : Ascent) (numbers : List ℕ) : Type 0 where
-  pub place : Place
+  pub standing : Standing
   pub «parent» : Parent
   pub at : ℕ
   pub up : ℕ
@@ -37,13 +37,13 @@ pub record NodeRow (s copy : SlotBytes) (a : Ascent) (numbers : List ℕ) : Type
   pub rest : List ℕ
   pub own : ℕ
   pub ups : Ascent
-  pub keeps : KeepsAt place s fields
-  pub alike : underMap place ≡ isMapParent «parent»
+  pub keeps : KeepsAt standing s fields
+  pub alike : underMap standing ≡ isMapParent «parent»
   pub begins : numbers ≡ row at up «parent» above path s fields ++ rest
   pub under : Under «parent» own above ups
-  pub stands : a ≡ record { place = own; tree = node s fields } ∷ ups
+  pub stands : a ≡ record { index = own; tree = node s fields } ∷ ups
   pub map-child : HasKind logical.MAP ups → IsLayer s
-  pub copied : copy ≡ rewrittenSlot (underMap place) s
+  pub copied : copy ≡ rewrittenSlot (underMap standing) s
 
 -- what follows n rows, and k more
 drop-rows : (n k : ℕ) (xs ys : List ℕ) → length xs ≡ rowWidth * n → drop (rowWidth * (n + k)) (xs ++ ys) ≡ drop (rowWidth * k) ys
@@ -73,7 +73,7 @@ mutual
   unfolding ascents size listing
 
   length-ascents : (t : Tree) (i : ℕ) (a : Ascent) → length (ascents i a t) ≡ size t
-  length-ascents (node s fs) i a = ap suc (length-runAscents fs 0 (record { place = i; tree = node s fs } ∷ a))
+  length-ascents (node s fs) i a = ap suc (length-runAscents fs 0 (record { index = i; tree = node s fs } ∷ a))
 
   length-runAscents : (fs : Fields) (i : ℕ) (a : Ascent) → length (runAscents i a fs) ≡ length (listings fs)
   length-runAscents empty i a = refl
@@ -97,10 +97,10 @@ mutual
   unfolding Keeps rowsFrom listing size ascents rewrittenTree
 
   -- the row of node k stands at 11k; a child of a LIST is repeated, and one of a MAP a repeated group
-  pub row-at : (t : Tree) (p : Place) (q : Parent) (at up : ℕ) (above : SlotBytes) (path : List Tree) (rest : List ℕ) (i : ℕ) (a : Ascent) → Keeps p t → underMap p ≡ isMapParent q → Under q i above a → (HasKind logical.LIST a → repetition (slotOf t) ≡ REPEATED) → (HasKind logical.MAP a → IsLayer (slotOf t)) → (k : ℕ) → k < size t → NodeRow (getD (listing t) k []) (getD (listing (rewrittenTree p t)) k []) (getD (ascents i a t) k []) (drop (rowWidth * k) (rowsFrom at up q above path t ++ rest))
+  pub row-at : (t : Tree) (p : Standing) (q : Parent) (at up : ℕ) (above : SlotBytes) (path : List Tree) (rest : List ℕ) (i : ℕ) (a : Ascent) → Keeps p t → underMap p ≡ isMapParent q → Under q i above a → (HasKind logical.LIST a → repetition (slotOf t) ≡ REPEATED) → (HasKind logical.MAP a → IsLayer (slotOf t)) → (k : ℕ) → k < size t → NodeRow (getD (listing t) k []) (getD (listing (rewrittenTree p t)) k []) (getD (ascents i a t) k []) (drop (rowWidth * k) (rowsFrom at up q above path t ++ rest))
   row-at (node s fs) p q at up above path rest i a h e u ls ms zero l =
       record {
-        place = p;
+        standing = p;
         «parent» = q;
         at = at;
         up = up;
@@ -121,14 +121,14 @@ mutual
   row-at (node s fs) p q at up above path rest i a h e u ls ms (suc k) l =
       let own = row at up q above path s fs in
       let run = runRowsFrom (suc at) at (parentOf q above s fs) s (node s fs ∷ path) fs in
-      let mine : Ascent = record { place = i; tree = node s fs } ∷ a in
+      let mine : Ascent = record { index = i; tree = node s fs } ∷ a in
       let next : suc k ≡ 1 + k = omega arith in
-      subst (NodeRow (getD (listings fs) k []) (getD (listings (rewrittenRun (placeBelow p s) fs)) k []) (getD (runAscents 0 mine fs) k []))
+      subst (NodeRow (getD (listings fs) k []) (getD (listings (rewrittenRun (standingBelow p s) fs)) k []) (getD (runAscents 0 mine fs) k []))
       (sym (ap (drop (rowWidth * suc k)) (append-assoc own run rest) ∙ rw next (drop-rows 1 k own (run ++ rest) (length-row at up q above path s fs))))
-      (row-in fs (placeBelow p s) (parentOf q above s fs) (suc at) at s (node s fs ∷ path) rest 0 mine (h .1) (map-below p q above s fs e)
+      (row-in fs (standingBelow p s) (parentOf q above s fs) (suc at) at s (node s fs ∷ path) rest 0 mine (h .1) (map-below p q above s fs e)
       (under-below p q i above a u s fs (h .0) e ls ms) (list-fields p q i above a u s fs (h .0) e ls ms) (map-fields p q i above a u s fs (h .0) e ls ms) k (omega arith))
 
-  row-in : (fs : Fields) (p : Place) (q : Parent) (at up : ℕ) (above : SlotBytes) (path : List Tree) (rest : List ℕ) (i : ℕ) (a : Ascent) → KeepsAll p fs → underMap p ≡ isMapParent q → Under q i above a → (HasKind logical.LIST a → Repeats fs) → (HasKind logical.MAP a → Layers fs) → (k : ℕ) → k < length (listings fs) → NodeRow (getD (listings fs) k []) (getD (listings (rewrittenRun p fs)) k []) (getD (runAscents i a fs) k []) (drop (rowWidth * k) (runRowsFrom at up q above path fs ++ rest))
+  row-in : (fs : Fields) (p : Standing) (q : Parent) (at up : ℕ) (above : SlotBytes) (path : List Tree) (rest : List ℕ) (i : ℕ) (a : Ascent) → KeepsAll p fs → underMap p ≡ isMapParent q → Under q i above a → (HasKind logical.LIST a → Repeats fs) → (HasKind logical.MAP a → Layers fs) → (k : ℕ) → k < length (listings fs) → NodeRow (getD (listings fs) k []) (getD (listings (rewrittenRun p fs)) k []) (getD (runAscents i a fs) k []) (drop (rowWidth * k) (runRowsFrom at up q above path fs ++ rest))
   row-in empty p q at up above path rest i a h e u ls ms k l = absurd (omega arith)
   row-in (field t fs) p q at up above path rest i a h e u ls ms k l =
       in-run (listing t) (listings fs) (listing (rewrittenTree p t)) (listings (rewrittenRun p fs)) (ascents i a t) (runAscents (suc i) a fs) (rowsFrom at up q above path t) (runRowsFrom (at + size t) up (afterFirst q) above path fs) rest k

@@ -31,7 +31,7 @@ use Rattle.sheet.specs.Slot.{physical, scale, precision, numbersOf}
 use Rattle.tree.specs.Annotated.{annotated, kind, rule10, rule11}
 use Rattle.tree.specs.Tree.{SlotBytes, Tree, listing, size}
 use Rattle.tree.specs.Rules.{underMap, Keeps}
-use Rattle.tree.specs.declared.place.Place.the-variants.{Root}
+use Rattle.tree.specs.declared.standing.Standing.the-variants.{Root}
 use Rattle.schema.specs.Rows.{isMapParent, rows}
 use Rattle.schema.specs.Roles.{ascent, isUnderMap}
 use Rattle.schema.specs.Demand.{kindIn, ResolvesTo}
@@ -131,4 +131,4 @@ node-resolves t keeps k below =
     let s = getD (listing t) k [] in
     rw (row-kind t keeps k below, r .stands)
     (subst (λ (under : Bool). ResolvesTo under s (kind (isMapParent (r .«parent»)) s)) (r .under .map-alike)
-    (subst (λ (under : Bool). ResolvesTo under s (kind under s)) (r .alike) (resolves-to (underMap (r .place)) s (r .keeps .placement) (r .keeps .decimals))))
+    (subst (λ (under : Bool). ResolvesTo under s (kind under s)) (r .alike) (resolves-to (underMap (r .standing)) s (r .keeps .placement) (r .keeps .decimals))))

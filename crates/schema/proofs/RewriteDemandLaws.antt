@@ -31,7 +31,7 @@ use Rattle.schema.specs.Outcome.{outcome, written}
 use Rattle.laws.specs.Stretches.{stretched}
 use Rattle.schema.specs.Rewriting.{rewritings, withRewriting, withRewritings, rewritten, fits, rewriteAnswer, rewriteOutcome, rewriteWritten}
 use Rattle.schema.specs.Demand.{IsTreeOf, EnoughOutput, Accepted, EnoughRoom, AcceptedRewriting, Copied}
-use Rattle.tree.specs.declared.place.Place.the-variants.{Root}
+use Rattle.tree.specs.declared.standing.Standing.the-variants.{Root}
 use Rattle.refusal.specs.declared.answers.Refusal.{Refusal}
 use Rattle.refusal.specs.declared.answers.Verdict.{Verdict}
 use Rattle.tree.proofs.TreeOfLaws.{treeOf-listing}

@@ -17,11 +17,11 @@ use Rattle.annotation.specs.declared.rewriting.Written as numbers
 use Rattle.annotation.proofs.RewritingLaws.{written-kind}
 use Rattle.tree.specs.Annotated.{annotated, kind}
 use Rattle.tree.specs.Tree.{SlotBytes, Tree, Fields, node, empty, field, listing, listings, size}
-use Rattle.tree.specs.Rules.{underMap, placeBelow, isMap, isRequiredOrOptional, mapRun, mapKept, rule13, Keeps, KeepsAll}
+use Rattle.tree.specs.Rules.{underMap, standingBelow, isMap, isRequiredOrOptional, mapRun, mapKept, rule13, Keeps, KeepsAll}
 use Rattle.tree.specs.Reading.{treeOf}
 use Rattle.tree.specs.Steps.{sizes}
-use Rattle.tree.specs.declared.place.Place.{Place}
-use Rattle.tree.specs.declared.place.Place.the-variants.{Root}
+use Rattle.tree.specs.declared.standing.Standing.{Standing}
+use Rattle.tree.specs.declared.standing.Standing.the-variants.{Root}
 use Rattle.tree.specs.Judgement.{judgementOf}
 use Rattle.refusal.specs.declared.answers.Counted.{Counted}
 use Rattle.tree.proofs.StandingLaws.{sizes-field, size-node}
@@ -34,10 +34,10 @@ mutual
   unfolding rewritings sizes listings
 
   -- a tree has as many as nodes
-  pub length-rewritings : (t : Tree) (p : Place) → length (rewritings p t) ≡ size t
-  length-rewritings (node s fs) p = ap suc (length-runRewritings fs (placeBelow p s)) ∙ sym (size-node s fs)
+  pub length-rewritings : (t : Tree) (p : Standing) → length (rewritings p t) ≡ size t
+  length-rewritings (node s fs) p = ap suc (length-runRewritings fs (standingBelow p s)) ∙ sym (size-node s fs)
 
-  length-runRewritings : (fs : Fields) (p : Place) → length (runRewritings p fs) ≡ sizes fs
+  length-runRewritings : (fs : Fields) (p : Standing) → length (runRewritings p fs) ≡ sizes fs
   length-runRewritings empty p = refl
   length-runRewritings (field t fs) p =
       length-append (rewritings p t) (runRewritings p fs)
@@ -59,19 +59,19 @@ mapRun-alone empty e = different (sym e)
 mapRun-alone (field (node s fs) empty) e = tt
 mapRun-alone (field (node s fs) (field u gs)) e = different (sym e)
 
-kept-alone : (p : Place) (s : SlotBytes) (fs : Fields) (b : Bool) → isMap p s ≡ b → rule13 p s fs ≡ true → Alone b fs
+kept-alone : (p : Standing) (s : SlotBytes) (fs : Fields) (b : Bool) → isMap p s ≡ b → rule13 p s fs ≡ true → Alone b fs
 unfolding Alone rule13 mapKept
 kept-alone p s fs false e r = tt
 kept-alone p s fs true e r =
     mapRun-alone fs (and-right (isRequiredOrOptional (repetition s)) (mapRun fs) (implied (isMap p s) (mapKept s fs) r e))
 
 -- the place of a node's fields is told by what is written of it
-map-below : (p : Place) (s : SlotBytes) → isWrittenMap (underMap p) s ≡ underMap (placeBelow p s)
+map-below : (p : Standing) (s : SlotBytes) → isWrittenMap (underMap p) s ≡ underMap (standingBelow p s)
 unfolding isWrittenMap kind isMap
 map-below p s = written-kind logical.MAP refl refl refl (annotated s) (underMap p) ∙ sym (under-below p s)
 
 -- a run's first tree, and what follows it
-order-first : (t : Tree) (fs : Fields) (p : Place) (rest : List SlotBytes) (b : Bool) → underMap p ≡ b → writtenInOrder (underMap p) (listing t ++ (listings fs ++ rest)) ≡ rewritings p t ++ writtenInOrder false (listings fs ++ rest) → writtenInOrder b ((listing t ++ listings fs) ++ rest) ≡ rewritings p t ++ writtenInOrder false (listings fs ++ rest)
+order-first : (t : Tree) (fs : Fields) (p : Standing) (rest : List SlotBytes) (b : Bool) → underMap p ≡ b → writtenInOrder (underMap p) (listing t ++ (listings fs ++ rest)) ≡ rewritings p t ++ writtenInOrder false (listings fs ++ rest) → writtenInOrder b ((listing t ++ listings fs) ++ rest) ≡ rewritings p t ++ writtenInOrder false (listings fs ++ rest)
 order-first t fs p rest b e h =
     ap (writtenInOrder b) (append-assoc (listing t) (listings fs) rest)
     ∙ ap (λ (c : Bool). writtenInOrder c (listing t ++ (listings fs ++ rest))) (sym e)
@@ -80,13 +80,13 @@ order-first t fs p rest b e h =
 mutual
   unfolding listing rewriting rewritings writtenInOrder Keeps Alone
 
-  order-tree : (t : Tree) (p : Place) (rest : List SlotBytes) → Keeps p t → writtenInOrder (underMap p) (listing t ++ rest) ≡ rewritings p t ++ writtenInOrder false rest
+  order-tree : (t : Tree) (p : Standing) (rest : List SlotBytes) → Keeps p t → writtenInOrder (underMap p) (listing t ++ rest) ≡ rewritings p t ++ writtenInOrder false rest
   order-tree (node s fs) p rest k =
       let own = writtenOf (annotated s) (underMap p) in
       ap (λ (b : Bool). own ∷ writtenInOrder b (listings fs ++ rest)) (map-below p s)
-      ∙ ap (λ (rs : List numbers.Written). own ∷ rs) (order-run fs (placeBelow p s) rest (underMap (placeBelow p s)) refl (kept-alone p s fs (underMap (placeBelow p s)) (sym (under-below p s)) (k .0 .maps)) (k .1))
+      ∙ ap (λ (rs : List numbers.Written). own ∷ rs) (order-run fs (standingBelow p s) rest (underMap (standingBelow p s)) refl (kept-alone p s fs (underMap (standingBelow p s)) (sym (under-below p s)) (k .0 .maps)) (k .1))
 
-  order-run : (fs : Fields) (p : Place) (rest : List SlotBytes) (b : Bool) → underMap p ≡ b → Alone b fs → KeepsAll p fs → writtenInOrder b (listings fs ++ rest) ≡ runRewritings p fs ++ writtenInOrder false rest
+  order-run : (fs : Fields) (p : Standing) (rest : List SlotBytes) (b : Bool) → underMap p ≡ b → Alone b fs → KeepsAll p fs → writtenInOrder b (listings fs ++ rest) ≡ runRewritings p fs ++ writtenInOrder false rest
   order-run empty p rest false e a k = refl
   order-run empty p rest true e a k = absurd a
   order-run (field t fs) p rest false e a k =

@@ -14,11 +14,11 @@ use Rattle.sheet.proofs.AnnotationLaws.{annotated-nowhere, length-withAnnotatio
 use Rattle.sheet.proofs.CopyLaws.{SameHeaders, headers-trans, reaches-same, renewed-headers}
 use Rattle.annotation.specs.declared.rewriting.Written.{Written}
 use Rattle.tree.specs.Tree.{SlotBytes, Tree, Fields, node, empty, field, listing, listings, size}
-use Rattle.tree.specs.Rules.{underMap, placeBelow, Keeps, KeepsAll}
+use Rattle.tree.specs.Rules.{underMap, standingBelow, Keeps, KeepsAll}
 use Rattle.tree.specs.Reading.{treeOf}
 use Rattle.schema.specs.Rewriting.{rewritings, runRewritings, withRewriting, withRewritings, rewritten}
-use Rattle.tree.specs.declared.place.Place.{Place}
-use Rattle.tree.specs.declared.place.Place.the-variants.{Root}
+use Rattle.tree.specs.declared.standing.Standing.{Standing}
+use Rattle.tree.specs.declared.standing.Standing.the-variants.{Root}
 use Rattle.schema.proofs.RewritingSteps.{length-rewritings}
 use Rattle.schema.specs.Demand.{Copied}
 use Rattle.schema.proofs.RewrittenSlotLaws.{rewrittenAs, rewrittenSlot, copied-refl, copied-as, Holds, holds-rewritten, sound-rewritten}
@@ -109,7 +109,7 @@ pairwise-append [] vs (x ∷ xs) ys e = absurd (omega arith)
 pairwise-append (u ∷ us) vs [] ys e = absurd (omega arith)
 pairwise-append (u ∷ us) vs (x ∷ xs) ys e = ap (λ (ss : List SlotBytes). rewrittenAs u x ∷ ss) (pairwise-append us vs xs ys (omega arith))
 
-length-listed : (t : Tree) (p : Place) → length (rewritings p t) ≡ length (listing t)
+length-listed : (t : Tree) (p : Standing) → length (rewritings p t) ≡ length (listing t)
 unfolding size
 length-listed t p = length-rewritings t p
 
@@ -117,10 +117,10 @@ mutual
   unfolding rewrittenTree rewritings listing pairwise rewrittenSlot
 
   -- the listing of the rewritten tree
-  pub listing-rewritten : (t : Tree) (p : Place) → listing (rewrittenTree p t) ≡ pairwise (rewritings p t) (listing t)
-  listing-rewritten (node s fs) p = ap (λ (ss : List SlotBytes). rewrittenSlot (underMap p) s ∷ ss) (listings-rewritten fs (placeBelow p s))
+  pub listing-rewritten : (t : Tree) (p : Standing) → listing (rewrittenTree p t) ≡ pairwise (rewritings p t) (listing t)
+  listing-rewritten (node s fs) p = ap (λ (ss : List SlotBytes). rewrittenSlot (underMap p) s ∷ ss) (listings-rewritten fs (standingBelow p s))
 
-  listings-rewritten : (fs : Fields) (p : Place) → listings (rewrittenRun p fs) ≡ pairwise (runRewritings p fs) (listings fs)
+  listings-rewritten : (fs : Fields) (p : Standing) → listings (rewrittenRun p fs) ≡ pairwise (runRewritings p fs) (listings fs)
   listings-rewritten empty p = refl
   listings-rewritten (field t fs) p =
       ap₂ _++_ (listing-rewritten t p) (listings-rewritten fs p)
@@ -177,13 +177,13 @@ mutual
   unfolding rewrittenTree listing Each Keeps Long
 
   -- the slots of the rewritten tree are sound where those of the tree were
-  pub sound-listing : (t : Tree) (p : Place) → Long t → Keeps p t → Each SoundSlot (listing t) → Each SoundSlot (listing (rewrittenTree p t))
+  pub sound-listing : (t : Tree) (p : Standing) → Long t → Keeps p t → Each SoundSlot (listing t) → Each SoundSlot (listing (rewrittenTree p t))
   sound-listing (node s fs) p long h sound = (
     sound-rewritten (underMap p) s (resolves p s fs (long .0) (h .0)) (sound .0),
-    sound-listings fs (placeBelow p s) (long .1) (h .1) (sound .1),
+    sound-listings fs (standingBelow p s) (long .1) (h .1) (sound .1),
   )
 
-  sound-listings : (fs : Fields) (p : Place) → LongAll fs → KeepsAll p fs → Each SoundSlot (listings fs) → Each SoundSlot (listings (rewrittenRun p fs))
+  sound-listings : (fs : Fields) (p : Standing) → LongAll fs → KeepsAll p fs → Each SoundSlot (listings fs) → Each SoundSlot (listings (rewrittenRun p fs))
   sound-listings empty p long h sound = tt
   sound-listings (field t fs) p long h sound =
       let parts = each-split SoundSlot (listing t) (listings fs) sound in
@@ -206,13 +206,13 @@ holds-join (u ∷ us) vs (x ∷ xs) ys e g h = (g .0, holds-join us vs xs ys (om
 mutual
   unfolding rewrittenTree rewritings listing size HoldsEach Keeps Long
 
-  pub holds-listing : (t : Tree) (p : Place) → Long t → Keeps p t → HoldsEach (rewritings p t) (listing (rewrittenTree p t))
+  pub holds-listing : (t : Tree) (p : Standing) → Long t → Keeps p t → HoldsEach (rewritings p t) (listing (rewrittenTree p t))
   holds-listing (node s fs) p long h = (
     holds-rewritten (underMap p) s (resolves p s fs (long .0) (h .0)),
-    holds-listings fs (placeBelow p s) (long .1) (h .1),
+    holds-listings fs (standingBelow p s) (long .1) (h .1),
   )
 
-  holds-listings : (fs : Fields) (p : Place) → LongAll fs → KeepsAll p fs → HoldsEach (runRewritings p fs) (listings (rewrittenRun p fs))
+  holds-listings : (fs : Fields) (p : Standing) → LongAll fs → KeepsAll p fs → HoldsEach (runRewritings p fs) (listings (rewrittenRun p fs))
   holds-listings empty p long h = tt
   holds-listings (field t fs) p long h =
       holds-join (rewritings p t) (runRewritings p fs) (listing (rewrittenTree p t)) (listings (rewrittenRun p fs)) (length-rewritings t p ∙ sym (size-rewritten t p))

@@ -18,24 +18,24 @@ use Rattle.annotation.specs.declared.rewriting.Written.{Written}
 use Rattle.annotation.specs.declared.rewriting.Written.{Written}
 use Rattle.tree.specs.Annotated.{annotated, kind, rule9, rule10}
 use Rattle.tree.specs.Tree.{SlotBytes, Tree, Fields, node, empty, field, count, depths, runDepths, Claims, ClaimsAll}
-use Rattle.tree.specs.Rules.{isGroup, isRequiredOrOptional, underMap, isList, isMap, placeUnder, placeBelow, rootShape, placeShape, lengthShape, decimalShape, shape, rule8, namedElement, isRepeated, isElementGroup, holdsElement, listChild, listRun, listKept, rule12, keyValue, mapRun, mapKept, rule13, KeepsAt, Keeps, KeepsAll}
+use Rattle.tree.specs.Rules.{isGroup, isRequiredOrOptional, underMap, isList, isMap, standingUnder, standingBelow, rootShape, standingShape, lengthShape, decimalShape, shape, rule8, namedElement, isRepeated, isElementGroup, holdsElement, listChild, listRun, listKept, rule12, keyValue, mapRun, mapKept, rule13, KeepsAt, Keeps, KeepsAll}
 use Rattle.schema.specs.Rewriting.{rewritings, runRewritings}
-use Rattle.tree.specs.declared.place.Place.{Place}
-use Rattle.tree.specs.declared.place.Place.the-variants.{Root, Field, MapField}
+use Rattle.tree.specs.declared.standing.Standing.{Standing}
+use Rattle.tree.specs.declared.standing.Standing.the-variants.{Root, Field, MapField}
 use Rattle.schema.specs.Demand.{Copied}
 use Rattle.schema.proofs.RewrittenSlotLaws.{rewrittenSlot, slot-copied, Resolves, annotated-rewritten, kind-rewritten, resolves-rewritten, rewriting-rewritten}
 
 unfoldable mutual
   -- the tree of what is rewritten at each node
-  pub rewrittenTree : Place → Tree → Tree
-  rewrittenTree p (node s fs) = node (rewrittenSlot (underMap p) s) (rewrittenRun (placeBelow p s) fs)
+  pub rewrittenTree : Standing → Tree → Tree
+  rewrittenTree p (node s fs) = node (rewrittenSlot (underMap p) s) (rewrittenRun (standingBelow p s) fs)
 
-  pub rewrittenRun : Place → Fields → Fields
+  pub rewrittenRun : Standing → Fields → Fields
   rewrittenRun p empty = empty
   rewrittenRun p (field t fs) = field (rewrittenTree p t) (rewrittenRun p fs)
 
 -- as many fields
-count-rewritten : (fs : Fields) (p : Place) → count (rewrittenRun p fs) ≡ count fs
+count-rewritten : (fs : Fields) (p : Standing) → count (rewrittenRun p fs) ≡ count fs
 unfolding rewrittenRun count
 count-rewritten empty p = refl
 count-rewritten (field t fs) p = ap suc (count-rewritten fs p)
@@ -44,10 +44,10 @@ mutual
   unfolding rewrittenTree depths
 
   -- at the same depths
-  pub depths-rewritten : (t : Tree) (p : Place) (d : ℕ) → depths d (rewrittenTree p t) ≡ depths d t
-  depths-rewritten (node s fs) p d = ap (λ (ds : List ℕ). d ∷ ds) (runDepths-rewritten fs (placeBelow p s) (suc d))
+  pub depths-rewritten : (t : Tree) (p : Standing) (d : ℕ) → depths d (rewrittenTree p t) ≡ depths d t
+  depths-rewritten (node s fs) p d = ap (λ (ds : List ℕ). d ∷ ds) (runDepths-rewritten fs (standingBelow p s) (suc d))
 
-  runDepths-rewritten : (fs : Fields) (p : Place) (d : ℕ) → runDepths d (rewrittenRun p fs) ≡ runDepths d fs
+  runDepths-rewritten : (fs : Fields) (p : Standing) (d : ℕ) → runDepths d (rewrittenRun p fs) ≡ runDepths d fs
   runDepths-rewritten empty p d = refl
   runDepths-rewritten (field t fs) p d = ap₂ _++_ (depths-rewritten t p d) (runDepths-rewritten fs p d)
 
@@ -55,47 +55,47 @@ mutual
   unfolding rewrittenTree Claims
 
   -- that claim rightly
-  pub claims-rewritten : (t : Tree) (p : Place) → Claims t → Claims (rewrittenTree p t)
+  pub claims-rewritten : (t : Tree) (p : Standing) → Claims t → Claims (rewrittenTree p t)
   claims-rewritten (node s fs) p c = (
-    slot-copied (underMap p) s .childCount-is ∙ c .0 ∙ sym (count-rewritten fs (placeBelow p s)),
-    claimsAll-rewritten fs (placeBelow p s) (c .1),
+    slot-copied (underMap p) s .childCount-is ∙ c .0 ∙ sym (count-rewritten fs (standingBelow p s)),
+    claimsAll-rewritten fs (standingBelow p s) (c .1),
   )
 
-  claimsAll-rewritten : (fs : Fields) (p : Place) → ClaimsAll fs → ClaimsAll (rewrittenRun p fs)
+  claimsAll-rewritten : (fs : Fields) (p : Standing) → ClaimsAll fs → ClaimsAll (rewrittenRun p fs)
   claimsAll-rewritten empty p c = tt
   claimsAll-rewritten (field t fs) p c = (claims-rewritten t p (c .0), claimsAll-rewritten fs p (c .1))
 
 -- rules 12 and 13 look at what is copied -------------------------------------------------------------------------------
 
-repeated-rewritten : (t : Tree) (p : Place) → isRepeated (rewrittenTree p t) ≡ isRepeated t
+repeated-rewritten : (t : Tree) (p : Standing) → isRepeated (rewrittenTree p t) ≡ isRepeated t
 unfolding rewrittenTree isRepeated
 repeated-rewritten (node s fs) p = rw (slot-copied (underMap p) s .repetition-is)
 
-pub element-group : (list copy layer other : SlotBytes) (fs : Fields) (p : Place) → name copy ≡ name list → name other ≡ name layer → isElementGroup copy other (rewrittenRun p fs) ≡ isElementGroup list layer fs
+pub element-group : (list copy layer other : SlotBytes) (fs : Fields) (p : Standing) → name copy ≡ name list → name other ≡ name layer → isElementGroup copy other (rewrittenRun p fs) ≡ isElementGroup list layer fs
 unfolding rewrittenRun isElementGroup namedElement
 element-group list copy layer other empty p e q = refl
 element-group list copy layer other (field t empty) p e q = rw (e, q, repeated-rewritten t p)
 element-group list copy layer other (field t (field u fs)) p e q = refl
 
-holds-element : (fs : Fields) (p : Place) → holdsElement (rewrittenRun p fs) ≡ holdsElement fs
+holds-element : (fs : Fields) (p : Standing) → holdsElement (rewrittenRun p fs) ≡ holdsElement fs
 unfolding rewrittenTree holdsElement
 holds-element empty p = refl
 holds-element (field (node s gs) empty) p = ap isRequiredOrOptional (slot-copied (underMap p) s .repetition-is)
 holds-element (field (node s gs) (field u fs)) p = refl
 
-list-child : (list copy : SlotBytes) (t : Tree) (p : Place) → name copy ≡ name list → listChild copy (rewrittenTree p t) ≡ listChild list t
+list-child : (list copy : SlotBytes) (t : Tree) (p : Standing) → name copy ≡ name list → listChild copy (rewrittenTree p t) ≡ listChild list t
 unfolding rewrittenTree listChild
 list-child list copy (node s fs) p e =
     let same = slot-copied (underMap p) s in
-    rw (same .repetition-is, same .physical-is, element-group list copy s (rewrittenSlot (underMap p) s) fs (placeBelow p s) e (same .name-is), holds-element fs (placeBelow p s))
+    rw (same .repetition-is, same .physical-is, element-group list copy s (rewrittenSlot (underMap p) s) fs (standingBelow p s) e (same .name-is), holds-element fs (standingBelow p s))
 
-list-run : (list copy : SlotBytes) (fs : Fields) (p : Place) → name copy ≡ name list → listRun copy (rewrittenRun p fs) ≡ listRun list fs
+list-run : (list copy : SlotBytes) (fs : Fields) (p : Standing) → name copy ≡ name list → listRun copy (rewrittenRun p fs) ≡ listRun list fs
 unfolding rewrittenRun listRun
 list-run list copy empty p e = refl
 list-run list copy (field t empty) p e = list-child list copy t p e
 list-run list copy (field t (field u fs)) p e = refl
 
-key-value : (fs : Fields) (p : Place) → keyValue (rewrittenRun p fs) ≡ keyValue fs
+key-value : (fs : Fields) (p : Standing) → keyValue (rewrittenRun p fs) ≡ keyValue fs
 unfolding rewrittenTree keyValue
 key-value empty p = refl
 key-value (field (node k ks) empty) p = rw (slot-copied (underMap p) k .repetition-is)
@@ -103,20 +103,20 @@ key-value (field (node k ks) (field (node v vs) empty)) p =
     rw (slot-copied (underMap p) k .repetition-is, slot-copied (underMap p) v .repetition-is)
 key-value (field (node k ks) (field (node v vs) (field u fs))) p = refl
 
-map-run : (fs : Fields) (p : Place) → mapRun (rewrittenRun p fs) ≡ mapRun fs
+map-run : (fs : Fields) (p : Standing) → mapRun (rewrittenRun p fs) ≡ mapRun fs
 unfolding rewrittenTree mapRun
 map-run empty p = refl
 map-run (field (node s fs) empty) p =
-    rw (slot-copied (underMap p) s .repetition-is, slot-copied (underMap p) s .physical-is, key-value fs (placeBelow p s))
+    rw (slot-copied (underMap p) s .repetition-is, slot-copied (underMap p) s .physical-is, key-value fs (standingBelow p s))
 map-run (field (node s fs) (field u gs)) p = refl
 
 -- every rule is kept ---------------------------------------------------------------------------------------------------
 
 -- a slot that keeps rules 9 to 11 and is long enough to have annotations
-pub resolves : (p : Place) (s : SlotBytes) (fs : Fields) → childCountAt ≤ length s → KeepsAt p s fs → Resolves (underMap p) s
+pub resolves : (p : Standing) (s : SlotBytes) (fs : Fields) → childCountAt ≤ length s → KeepsAt p s fs → Resolves (underMap p) s
 resolves p s fs long h = record { long = long; nine = h .agreement; ten = h .placement; eleven = h .decimals }
 
-module _ (p : Place) (s : SlotBytes) (fs : Fields) (long : childCountAt ≤ length s) (h : KeepsAt p s fs) where
+module _ (p : Standing) (s : SlotBytes) (fs : Fields) (long : childCountAt ≤ length s) (h : KeepsAt p s fs) where
   kept : Resolves (underMap p) s
   kept = resolves p s fs long h
 
@@ -128,9 +128,9 @@ module _ (p : Place) (s : SlotBytes) (fs : Fields) (long : childCountAt ≤ leng
   same = slot-copied (underMap p) s
 
   -- the place of the fields is the same
-  pub place-rewritten : placeBelow p (rewrittenSlot (underMap p) s) ≡ placeBelow p s
-  unfolding placeBelow
-  place-rewritten = ap (λ (k : Kind). placeUnder (k .kind)) (kind-rewritten (underMap p) s kept)
+  pub place-rewritten : standingBelow p (rewrittenSlot (underMap p) s) ≡ standingBelow p s
+  unfolding standingBelow
+  place-rewritten = ap (λ (k : Kind). standingUnder (k .kind)) (kind-rewritten (underMap p) s kept)
 
   converted-is : convertedOf copy ≡ rewrittenNumbers (annotated s) (underMap p) .converted
   unfolding copy annotated numbersOf
@@ -140,7 +140,7 @@ module _ (p : Place) (s : SlotBytes) (fs : Fields) (long : childCountAt ≤ leng
   unfolding copy annotated numbersOf
   logical-is = ap (λ (n : Annotated). n .logical) (annotated-rewritten (underMap p) s kept)
 
-  shape-parts : (placeShape p (numbersOf s) (count fs) ≡ true) × (lengthShape (numbersOf s .physical) (numbersOf s .«type_length») ≡ true) × (decimalShape (numbersOf s .converted) (numbersOf s .logical) (numbersOf s .scale) (numbersOf s .precision) ≡ true)
+  shape-parts : (standingShape p (numbersOf s) (count fs) ≡ true) × (lengthShape (numbersOf s .physical) (numbersOf s .«type_length») ≡ true) × (decimalShape (numbersOf s .converted) (numbersOf s .logical) (numbersOf s .scale) (numbersOf s .precision) ≡ true)
   unfolding rule8 shape
   shape-parts =
       let whole = and-eq-true-iff _ _ .0 (h .shape) in
@@ -168,7 +168,7 @@ root-written s c l =
     let plain = written-plain (annotated s) false c l in
     (ap (λ (w : Written). w .converted) plain, ap (λ (w : Written). w .logical) plain)
 
-place-kept : (p : Place) (s : SlotBytes) (fs : Fields) (long : childCountAt ≤ length s) (h : KeepsAt p s fs) → placeShape p (numbersOf (rewrittenSlot (underMap p) s)) (count fs) ≡ true
+place-kept : (p : Standing) (s : SlotBytes) (fs : Fields) (long : childCountAt ≤ length s) (h : KeepsAt p s fs) → standingShape p (numbersOf (rewrittenSlot (underMap p) s)) (count fs) ≡ true
 unfolding numbersOf copy
 place-kept Root s fs long h =
     let same = slot-copied false s in
@@ -182,26 +182,26 @@ place-kept MapField s fs long h =
     let same = slot-copied true s in
     rw (same .physical-is, same .repetition-is) (shape-parts MapField s fs long h .0)
 
-module _ (p : Place) (s : SlotBytes) (fs : Fields) (long : childCountAt ≤ length s) (h : KeepsAt p s fs) where
-  rule8-kept : rule8 p (rewrittenSlot (underMap p) s) (rewrittenRun (placeBelow p s) fs) ≡ true
+module _ (p : Standing) (s : SlotBytes) (fs : Fields) (long : childCountAt ≤ length s) (h : KeepsAt p s fs) where
+  rule8-kept : rule8 p (rewrittenSlot (underMap p) s) (rewrittenRun (standingBelow p s) fs) ≡ true
   unfolding rule8 shape numbersOf copy
   rule8-kept =
       let same = slot-copied (underMap p) s in
-      rw (count-rewritten fs (placeBelow p s), place-kept p s fs long h, decimal-kept p s fs long h (eqb (convertedOf s) converted.DECIMAL || eqb (logicalOf s) logical.DECIMAL) refl, same .physical-is, same .typeLength-is, shape-parts p s fs long h .1)
+      rw (count-rewritten fs (standingBelow p s), place-kept p s fs long h, decimal-kept p s fs long h (eqb (convertedOf s) converted.DECIMAL || eqb (logicalOf s) logical.DECIMAL) refl, same .physical-is, same .typeLength-is, shape-parts p s fs long h .1)
 
-  rule12-kept : rule12 p (rewrittenSlot (underMap p) s) (rewrittenRun (placeBelow p s) fs) ≡ true
+  rule12-kept : rule12 p (rewrittenSlot (underMap p) s) (rewrittenRun (standingBelow p s) fs) ≡ true
   unfolding rule12 isList listKept
   rule12-kept =
       let same = slot-copied (underMap p) s in
-      rw (kind-rewritten (underMap p) s (resolves p s fs long h), same .repetition-is, list-run s (rewrittenSlot (underMap p) s) fs (placeBelow p s) (same .name-is)) (h .lists)
+      rw (kind-rewritten (underMap p) s (resolves p s fs long h), same .repetition-is, list-run s (rewrittenSlot (underMap p) s) fs (standingBelow p s) (same .name-is)) (h .lists)
 
-  rule13-kept : rule13 p (rewrittenSlot (underMap p) s) (rewrittenRun (placeBelow p s) fs) ≡ true
+  rule13-kept : rule13 p (rewrittenSlot (underMap p) s) (rewrittenRun (standingBelow p s) fs) ≡ true
   unfolding rule13 isMap mapKept
   rule13-kept =
-      rw (kind-rewritten (underMap p) s (resolves p s fs long h), slot-copied (underMap p) s .repetition-is, map-run fs (placeBelow p s)) (h .maps)
+      rw (kind-rewritten (underMap p) s (resolves p s fs long h), slot-copied (underMap p) s .repetition-is, map-run fs (standingBelow p s)) (h .maps)
 
   -- a rewritten node keeps every rule
-  keepsAt-rewritten : KeepsAt p (rewrittenSlot (underMap p) s) (rewrittenRun (placeBelow p s) fs)
+  keepsAt-rewritten : KeepsAt p (rewrittenSlot (underMap p) s) (rewrittenRun (standingBelow p s) fs)
   keepsAt-rewritten =
       let again = resolves-rewritten (underMap p) s (resolves p s fs long h) in
       record {
@@ -226,13 +226,13 @@ mutual
   unfolding rewrittenTree Keeps Long
 
   -- and so does the rewritten tree
-  pub keeps-rewritten : (t : Tree) (p : Place) → Long t → Keeps p t → Keeps p (rewrittenTree p t)
+  pub keeps-rewritten : (t : Tree) (p : Standing) → Long t → Keeps p t → Keeps p (rewrittenTree p t)
   keeps-rewritten (node s fs) p long h = (
     keepsAt-rewritten p s fs (long .0) (h .0),
-    subst (λ (q : Place). KeepsAll q (rewrittenRun (placeBelow p s) fs)) (sym (place-rewritten p s fs (long .0) (h .0))) (keepsAll-rewritten fs (placeBelow p s) (long .1) (h .1)),
+    subst (λ (q : Standing). KeepsAll q (rewrittenRun (standingBelow p s) fs)) (sym (place-rewritten p s fs (long .0) (h .0))) (keepsAll-rewritten fs (standingBelow p s) (long .1) (h .1)),
   )
 
-  keepsAll-rewritten : (fs : Fields) (p : Place) → LongAll fs → KeepsAll p fs → KeepsAll p (rewrittenRun p fs)
+  keepsAll-rewritten : (fs : Fields) (p : Standing) → LongAll fs → KeepsAll p fs → KeepsAll p (rewrittenRun p fs)
   keepsAll-rewritten empty p long h = tt
   keepsAll-rewritten (field t fs) p long h = (keeps-rewritten t p (long .0) (h .0), keepsAll-rewritten fs p (long .1) (h .1))
 
@@ -240,12 +240,12 @@ mutual
   unfolding rewrittenTree rewritings Keeps Long
 
   -- it is rewritten to itself
-  pub rewritings-rewritten : (t : Tree) (p : Place) → Long t → Keeps p t → rewritings p (rewrittenTree p t) ≡ rewritings p t
+  pub rewritings-rewritten : (t : Tree) (p : Standing) → Long t → Keeps p t → rewritings p (rewrittenTree p t) ≡ rewritings p t
   rewritings-rewritten (node s fs) p long h =
       ap₂ (λ (r : Written) (rs : List Written). r ∷ rs)
       (rewriting-rewritten (underMap p) s (resolves p s fs (long .0) (h .0)))
-      (ap (λ (q : Place). runRewritings q (rewrittenRun (placeBelow p s) fs)) (place-rewritten p s fs (long .0) (h .0)) ∙ runRewritings-rewritten fs (placeBelow p s) (long .1) (h .1))
+      (ap (λ (q : Standing). runRewritings q (rewrittenRun (standingBelow p s) fs)) (place-rewritten p s fs (long .0) (h .0)) ∙ runRewritings-rewritten fs (standingBelow p s) (long .1) (h .1))
 
-  runRewritings-rewritten : (fs : Fields) (p : Place) → LongAll fs → KeepsAll p fs → runRewritings p (rewrittenRun p fs) ≡ runRewritings p fs
+  runRewritings-rewritten : (fs : Fields) (p : Standing) → LongAll fs → KeepsAll p fs → runRewritings p (rewrittenRun p fs) ≡ runRewritings p fs
   runRewritings-rewritten empty p long h = refl
   runRewritings-rewritten (field t fs) p long h = ap₂ _++_ (rewritings-rewritten t p (long .0) (h .0)) (runRewritings-rewritten fs p (long .1) (h .1))

@@ -10,9 +10,9 @@ use lib.Seq.{drop-at, drop-drop}
 use Rattle.annotation.specs.declared.resolution.Kind.{Kind}
 use Rattle.tree.specs.Annotated.{kind}
 use Rattle.tree.specs.Tree.{SlotBytes, Tree, Fields, node, empty, field, listing, listings, size}
-use Rattle.tree.specs.Rules.{underMap, placeBelow, judgedKinds, runKinds}
-use Rattle.tree.specs.declared.place.Place.{Place}
-use Rattle.tree.specs.declared.place.Place.the-variants.{Root}
+use Rattle.tree.specs.Rules.{underMap, standingBelow, judgedKinds, runKinds}
+use Rattle.tree.specs.declared.standing.Standing.{Standing}
+use Rattle.tree.specs.declared.standing.Standing.the-variants.{Root}
 use Rattle.schema.specs.Rows.{isMapParent, row, parentOf, afterFirst, rowsFrom, runRowsFrom, rows, rowWidth, kindsIn}
 use Rattle.schema.specs.declared.roles.Parent.{Parent}
 use Rattle.schema.specs.declared.roles.Parent.the-variants as parent
@@ -33,11 +33,11 @@ kindsIn-more (suc m) n zs =
 mutual
   unfolding rowsFrom row size listing judgedKinds kindsIn
 
-  tree-kinds : (t : Tree) (p : Place) (q : Parent) (at up : ℕ) (above : SlotBytes) (path : List Tree) (rest : List ℕ) → underMap p ≡ isMapParent q → kindsIn (rowsFrom at up q above path t ++ rest) (size t) ≡ judgedKinds p t
+  tree-kinds : (t : Tree) (p : Standing) (q : Parent) (at up : ℕ) (above : SlotBytes) (path : List Tree) (rest : List ℕ) → underMap p ≡ isMapParent q → kindsIn (rowsFrom at up q above path t ++ rest) (size t) ≡ judgedKinds p t
   tree-kinds (node s fs) p q at up above path rest e =
-      ap₂ _∷_ (ap (λ (b : Bool). kind b s) (sym e)) (run-kinds fs (placeBelow p s) (parentOf q above s fs) (suc at) at s (node s fs ∷ path) rest (map-below p q above s fs e))
+      ap₂ _∷_ (ap (λ (b : Bool). kind b s) (sym e)) (run-kinds fs (standingBelow p s) (parentOf q above s fs) (suc at) at s (node s fs ∷ path) rest (map-below p q above s fs e))
 
-  run-kinds : (fs : Fields) (p : Place) (q : Parent) (at up : ℕ) (above : SlotBytes) (path : List Tree) (rest : List ℕ) → underMap p ≡ isMapParent q → kindsIn (runRowsFrom at up q above path fs ++ rest) (length (listings fs)) ≡ runKinds p fs
+  run-kinds : (fs : Fields) (p : Standing) (q : Parent) (at up : ℕ) (above : SlotBytes) (path : List Tree) (rest : List ℕ) → underMap p ≡ isMapParent q → kindsIn (runRowsFrom at up q above path fs ++ rest) (length (listings fs)) ≡ runKinds p fs
   run-kinds empty p q at up above path rest e = refl
   run-kinds (field t fs) p q at up above path rest e =
       let first = rowsFrom at up q above path t in

@@ -6,7 +6,7 @@ use mathlib.Core.Logic.{_↔_}
 use lib.ListN.{getD, drop}
 use Rattle.tree.specs.Tree.{Tree, listing, size}
 use Rattle.tree.specs.Rules.{Keeps}
-use Rattle.tree.specs.declared.place.Place.the-variants.{Root}
+use Rattle.tree.specs.declared.standing.Standing.the-variants.{Root}
 use Rattle.schema.specs.Rows.{role, row, rows, rowWidth, numberIn}
 use Rattle.schema.specs.Roles.{ascent}
 use Rattle.schema.proofs.RewrittenTreeLaws.{rewrittenTree}

@@ -31,7 +31,7 @@ use Rattle.tree.specs.Tree.{SlotBytes, Tree, listing, size}
 use Rattle.tree.specs.Rules.{underMap, isList, isMap}
 use Rattle.tree.specs.Reading.{treeOf}
 use Rattle.tree.specs.Judgement.{judgement}
-use Rattle.tree.specs.declared.place.Place.the-variants.{Root}
+use Rattle.tree.specs.declared.standing.Standing.the-variants.{Root}
 use Rattle.refusal.specs.declared.answers.Verdict.{Verdict}
 use Rattle.tree.proofs.TreeOfLaws.{treeOf-listing}
 use Rattle.schema.specs.Rows.{KEY-VALUE-LAYER, rows, rowWidth, numberIn}
@@ -179,7 +179,7 @@ module _ (b : List ℕ) (t : Tree) (sound : Sound b) (tree : IsTreeOf b t) (k : 
   s = getD (listing t) k []
 
   abbrev under : Bool
-  under = underMap (own .place)
+  under = underMap (own .standing)
 
   long : childCountAt ≤ length s
   long = rw slot-is (omega (arith, slotAt-length b k))
@@ -189,7 +189,7 @@ module _ (b : List ℕ) (t : Tree) (sound : Sound b) (tree : IsTreeOf b t) (k : 
   unfolding rewriting writtenOf
   holds =
       subst (Holds (writtenAs (annotationOf (annotated s) under))) (sym (own .copied) ∙ copy-is)
-      (holds-rewritten under s (resolves (own .place) s (own .fields) long (own .keeps)))
+      (holds-rewritten under s (resolves (own .standing) s (own .fields) long (own .keeps)))
 
   -- the kind in its row is the one that the rules took it for
   kind-is : kindIn (rows t) k ≡ kind under s
@@ -208,7 +208,7 @@ module _ (b : List ℕ) (t : Tree) (sound : Sound b) (tree : IsTreeOf b t) (k : 
       let code = kind under s .kind in
       let some-kind : groupKind code ≡ true = group-kind (annotated s) under (own .keeps .placement) (layer .1) in
       by-test (eqb code PLAIN-GROUP) (λ e. eqb-true code PLAIN-GROUP e)
-      (λ e. absurd (true≢false (sym (rw (e, no-list (own .place) s (own .fields) (own .keeps) (layer .0)) at some-kind) ∙ no-map (own .place) s (own .fields) (own .keeps) (layer .0))))
+      (λ e. absurd (true≢false (sym (rw (e, no-list (own .standing) s (own .fields) (own .keeps) (layer .0)) at some-kind) ∙ no-map (own .standing) s (own .fields) (own .keeps) (layer .0))))
 
   pub key-value-bare : numberIn (rows t) k 8 ≡ KEY-VALUE-LAYER → Bare (slotAt (rewritten b) k)
   key-value-bare e =

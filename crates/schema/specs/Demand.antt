@@ -22,7 +22,7 @@ use Rattle.sheet.specs.Slot.{physical, repetition, converted as convertedOf, lo
 use Rattle.tree.specs.Tree.{SlotBytes, Tree, AtMostDeep, Claims, listing, mostDepth}
 use Rattle.tree.specs.Rules.{Keeps}
 use Rattle.schema.specs.Rows.{rowWidth, numberIn}
-use Rattle.tree.specs.declared.place.Place.the-variants.{Root}
+use Rattle.tree.specs.declared.standing.Standing.the-variants.{Root}
 use Rattle.refusal.specs.declared.answers.Counted.{Counted}
 
 -- a tree of a sheet: at most 32 deep, it keeps every rule, claims its children rightly and lists the sheet's nodes

@@ -12,11 +12,11 @@ use Rattle.annotation.specs.Rewriting.{writtenOf}
 use Rattle.annotation.specs.declared.rewriting.Written.{Written}
 use Rattle.tree.specs.Annotated.{annotated}
 use Rattle.tree.specs.Tree.{SlotBytes, Tree, Fields, node, empty, field}
-use Rattle.tree.specs.Rules.{underMap, placeBelow}
+use Rattle.tree.specs.Rules.{underMap, standingBelow}
 use Rattle.tree.specs.Reading.{treeOf}
 use Rattle.tree.specs.Judgement.{judgement}
-use Rattle.tree.specs.declared.place.Place.{Place}
-use Rattle.tree.specs.declared.place.Place.the-variants.{Root}
+use Rattle.tree.specs.declared.standing.Standing.{Standing}
+use Rattle.tree.specs.declared.standing.Standing.the-variants.{Root}
 use Rattle.refusal.specs.declared.answers.Verdict.{Verdict}
 use Rattle.refusal.specs.declared.answers.Counted.{Counted}
 
@@ -27,10 +27,10 @@ rewriting under s = writtenOf (annotated s) under
 
 -- of each node of a tree, in listing order
 unfoldable mutual
-  pub rewritings : Place → Tree → List Written
-  rewritings p (node s fs) = rewriting (underMap p) s ∷ runRewritings (placeBelow p s) fs
+  pub rewritings : Standing → Tree → List Written
+  rewritings p (node s fs) = rewriting (underMap p) s ∷ runRewritings (standingBelow p s) fs
 
-  pub runRewritings : Place → Fields → List Written
+  pub runRewritings : Standing → Fields → List Written
   runRewritings p empty = []
   runRewritings p (field t fs) = rewritings p t ++ runRewritings p fs
 

@@ -22,24 +22,24 @@ slotOf (node s fs) = s
 abbrev pub runOf : Tree → Fields
 runOf (node s fs) = fs
 
--- where a node stands: its place among its siblings, from 0, and the node with its run
-pub record Standing : Type 0 where
-  pub place : ℕ
+-- a step of the way from a node up to the root: a node's index among its siblings, from 0, and the node with its run
+pub record Step : Type 0 where
+  pub index : ℕ
   pub tree : Tree
 
 -- the way from a node up to the root: the node itself first, then its parent, and so on
 abbrev pub Ascent : Type 0
-Ascent = List Standing
+Ascent = List Step
 
 -- of each node of a tree, in listing order
 unfoldable mutual
   pub ascents : ℕ → Ascent → Tree → List Ascent
-  ascents place above (node s fs) =
-      (record { place = place; tree = node s fs } ∷ above) ∷ runAscents 0 (record { place = place; tree = node s fs } ∷ above) fs
+  ascents index above (node s fs) =
+      (record { index = index; tree = node s fs } ∷ above) ∷ runAscents 0 (record { index = index; tree = node s fs } ∷ above) fs
 
   pub runAscents : ℕ → Ascent → Fields → List Ascent
-  runAscents place above empty = []
-  runAscents place above (field t fs) = ascents place above t ++ runAscents (suc place) above fs
+  runAscents index above empty = []
+  runAscents index above (field t fs) = ascents index above t ++ runAscents (suc index) above fs
 
 -- from node k of a tree
 unfoldable pub ascent : Tree → ℕ → Ascent
@@ -60,10 +60,10 @@ unfoldable pub HasKind : ℕ → Ascent → Type 0
 HasKind code [] = ⊥
 HasKind code (n ∷ above) = kind (isResolvedMap above) (slotOf (n .tree)) .kind ≡ code
 
-abbrev pub IsGroup : Standing → Type 0
+abbrev pub IsGroup : Step → Type 0
 IsGroup n = physical (slotOf (n .tree)) ≡ GROUP
 
-abbrev pub IsRepeated : Standing → Type 0
+abbrev pub IsRepeated : Step → Type 0
 IsRepeated n = repetition (slotOf (n .tree)) ≡ REPEATED
 
 -- a LIST's group child is itself the element: (2) "with several fields"; (3) "with one field, named `array` or the list's name plus `_tuple`"; or, of
@@ -101,12 +101,12 @@ IsKeyValueLayer (n ∷ above) = HasKind logical.MAP above
 -- "5 key": its first field
 unfoldable pub IsKey : Ascent → Type 0
 IsKey [] = ⊥
-IsKey (n ∷ above) = IsKeyValueLayer above × (n .place ≡ 0)
+IsKey (n ∷ above) = IsKeyValueLayer above × (n .index ≡ 0)
 
 -- "6 value": a later one, of which rule 13 allows one
 unfoldable pub IsValue : Ascent → Type 0
 IsValue [] = ⊥
-IsValue (n ∷ above) = IsKeyValueLayer above × (0 < n .place)
+IsValue (n ∷ above) = IsKeyValueLayer above × (0 < n .index)
 
 -- "Rules 12 and 13 give 1 to 6"
 pub data HasLayerRole (a : Ascent) : Type 0 where

@@ -8,7 +8,7 @@ use crate::rows::ROW_WIDTH;
 use crate::rows::write_run;
 use refusal::Counted;
 use refusal::short_output;
-use tree::LEVELS;
+use tree::ALLOWED_DEPTHS;
 use tree::judge;
 
 // Judges a sheet and writes its rows, eleven numbers for each node in listing order, and answers the number of nodes. Where the sheet is refused or fewer numbers
@@ -24,7 +24,7 @@ pub fn resolve(sheet: &[u8], rows: &mut [u32]) -> Counted
             if rows.len() < ROW_WIDTH * total {
                 return Counted::Refused(short_output());
             }
-            write_run(sheet, rows, 0, 1, LEVELS, 0, Parent::Other, 0, 0);
+            write_run(sheet, rows, 0, 1, ALLOWED_DEPTHS, 0, Parent::Other, 0, 0);
             Counted::Count(total)
         }
     }

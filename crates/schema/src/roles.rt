@@ -7,6 +7,8 @@ use parquet::logical;
 use parquet::physical;
 use parquet::repetition;
 use sheet::Slot;
+use tree::Layer;
+use tree::layer_of;
 use tree::named_element;
 
 // What a node's parent is to it, as far as roles go.
@@ -55,14 +57,14 @@ pub(crate) fn is_map_parent(parent: Parent) -> bool
     }
 }
 
-// The role of the node at a number, under the node at up.
-pub(crate) fn role(sheet: &[u8], up: usize, at: usize, s: Slot, parent: Parent) -> u32
+// The role of the node at a number, under the parent.
+pub(crate) fn role(sheet: &[u8], parent_at: usize, at: usize, s: Slot, parent: Parent) -> u32
     requires { ⌜ Visited (now sheet) at s ⌝ }
-    ensures { λ r. ⌜ r ≡ Rows·role parent (slotAt (now (sheet .entry)) up) (slotAt (now (sheet .entry)) at) (fieldsAt (now (sheet .entry)) at) ⌝ }
+    ensures { λ r. ⌜ r ≡ Rows·role parent (slotAt (now (sheet .entry)) «parent_at») (slotAt (now (sheet .entry)) at) (fieldsAt (now (sheet .entry)) at) ⌝ }
 {
     match parent {
         Parent::Other => own_role(s.repetition),
-        Parent::List => list_role(sheet, up, at, s),
+        Parent::List => list_role(sheet, parent_at, at, s),
         Parent::ListLayer => ELEMENT,
         Parent::Map => KEY_VALUE_LAYER,
         Parent::KeyValue => KEY,
@@ -81,28 +83,25 @@ fn own_role(repetition: u8) -> u32
     }
 }
 
-// The role of the child of the LIST at up.
-fn list_role(sheet: &[u8], up: usize, at: usize, s: Slot) -> u32
+// The role of the child of the LIST at its parent's number.
+fn list_role(sheet: &[u8], parent_at: usize, at: usize, s: Slot) -> u32
     requires { ⌜ Visited (now sheet) at s ⌝ }
-    ensures { λ r. ⌜ r ≡ listRole (slotAt (now (sheet .entry)) up) (slotAt (now (sheet .entry)) at) (fieldsAt (now (sheet .entry)) at) ⌝ }
+    ensures { λ r. ⌜ r ≡ listRole (slotAt (now (sheet .entry)) «parent_at») (slotAt (now (sheet .entry)) at) (fieldsAt (now (sheet .entry)) at) ⌝ }
 {
     if s.physical != physical::GROUP {
         return ELEMENT;
     }
-    if s.children == 0 {
-        return LIST_LAYER;
+    let first = sheet::slot_at(sheet, at + 1);
+    match layer_of(s.children, first.repetition) {
+        Layer::Empty => LIST_LAYER,
+        Layer::Element => ELEMENT_LAYER,
+        Layer::ByName => {
+            if named_element(sheet, parent_at, at) {
+                return ELEMENT_LAYER;
+            }
+            LIST_LAYER
+        }
     }
-    if s.children != 1 {
-        return ELEMENT_LAYER;
-    }
-    let field = sheet::slot_at(sheet, at + 1);
-    if field.repetition == repetition::REPEATED {
-        return ELEMENT_LAYER;
-    }
-    if named_element(sheet, up, at) {
-        return ELEMENT_LAYER;
-    }
-    LIST_LAYER
 }
 
 // What a node of some kind and role is to its fields.

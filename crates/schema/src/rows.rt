@@ -1,4 +1,4 @@
-// The rows of a tree, written from a node to its run and back, while levels of depth and nodes are left.
+// The rows of a tree, written from a node to its run and back, while depths and nodes are left.
 ghost use mathlib.Core.Path.{_≡_};
 ghost use mathlib.Core.List.{List};
 ghost use Prim.Native.Nat.{suc, _+_, _*_, _≤_, _<_};
@@ -41,28 +41,28 @@ struct Row {
     repetition_level: u32,
 }
 
-// Writes the rows of the run of so many fields at a number, one field after the other, with so many levels of depth left, under the
+// Writes the rows of the run of so many fields at a number, one field after the other, with so many depths allowed, under the
 // node at up, which has this definition and this repetition level, and answers where the next tree stands.
 pub(crate) fn write_run(
     sheet: &[u8],
     rows: &mut [u32],
     start: usize,
     count: usize,
-    levels: usize,
-    up: usize,
+    allowed: usize,
+    parent_at: usize,
     parent: Parent,
     definition_level: u32,
     repetition_level: u32,
 ) -> usize
     requires { ⌜ Claimed (now sheet) ⌝ }
     requires { ⌜ count ≤ Tree·count (trees (drop start (slots (now sheet)))) ⌝ }
-    requires { ⌜ up < totalOf (now sheet) ⌝ }
+    requires { ⌜ «parent_at» < totalOf (now sheet) ⌝ }
     requires { ⌜ rowWidth * totalOf (now sheet) ≤ length (now rows) ⌝ }
     requires { ⌜ LevelsAtMost start «definition_level» «repetition_level» ⌝ }
-    requires { ⌜ levels ≤ suc mostDepth ⌝ }
-    requires { ⌜ NoneTooDeep (runDepths (depthAt levels) (runAt (slots (now sheet)) start count)) ⌝ }
+    requires { ⌜ allowed ≤ suc mostDepth ⌝ }
+    requires { ⌜ NoneTooDeep (runDepths (depthAt allowed) (runAt (slots (now sheet)) start count)) ⌝ }
     ensures { λ r. ⌜ r ≡ start + sizes (runAt (slots (now (sheet .entry))) start count) ⌝ }
-    ensures { λ _. ⌜ ((path : List Tree) → HasLevels path «definition_level» «repetition_level» → now (rows .exit) ≡ stretched (now (rows .entry)) (rowWidth * start) (runRowsFrom start up parent (slotAt (now (sheet .entry)) up) path (runAt (slots (now (sheet .entry))) start count))) ⌝ }
+    ensures { λ _. ⌜ ((path : List Tree) → HasLevels path «definition_level» «repetition_level» → now (rows .exit) ≡ stretched (now (rows .entry)) (rowWidth * start) (runRowsFrom start «parent_at» parent (slotAt (now (sheet .entry)) «parent_at») path (runAt (slots (now (sheet .entry))) start count))) ⌝ }
 {
     let mut at = start;
     let mut left = count;
@@ -72,8 +72,8 @@ pub(crate) fn write_run(
             sheet,
             rows,
             at,
-            levels,
-            up,
+            allowed,
+            parent_at,
             above,
             definition_level,
             repetition_level,
@@ -84,32 +84,32 @@ pub(crate) fn write_run(
     at
 }
 
-// Writes the rows of the tree at a number, with so many levels of depth left, under the node at up, which has this definition and this
+// Writes the rows of the tree at a number, with so many depths allowed, under the parent, which has this definition and this
 // repetition level, and answers where the next tree stands.
 fn write_tree(
     sheet: &[u8],
     rows: &mut [u32],
     at: usize,
-    levels: usize,
-    up: usize,
+    allowed: usize,
+    parent_at: usize,
     parent: Parent,
     definition_level: u32,
     repetition_level: u32,
 ) -> usize
     requires { ⌜ Claimed (now sheet) ⌝ }
     requires { ⌜ at < totalOf (now sheet) ⌝ }
-    requires { ⌜ up < totalOf (now sheet) ⌝ }
+    requires { ⌜ «parent_at» < totalOf (now sheet) ⌝ }
     requires { ⌜ rowWidth * totalOf (now sheet) ≤ length (now rows) ⌝ }
     requires { ⌜ LevelsAtMost at «definition_level» «repetition_level» ⌝ }
-    requires { ⌜ levels ≤ suc mostDepth ⌝ }
-    requires { ⌜ NoneTooDeep (depths (depthAt levels) (treeAt (slots (now sheet)) at)) ⌝ }
+    requires { ⌜ allowed ≤ suc mostDepth ⌝ }
+    requires { ⌜ NoneTooDeep (depths (depthAt allowed) (treeAt (slots (now sheet)) at)) ⌝ }
     ensures { λ r. ⌜ r ≡ at + size (treeAt (slots (now (sheet .entry))) at) ⌝ }
-    ensures { λ _. ⌜ ((path : List Tree) → HasLevels path «definition_level» «repetition_level» → now (rows .exit) ≡ stretched (now (rows .entry)) (rowWidth * at) (rowsFrom at up parent (slotAt (now (sheet .entry)) up) path (treeAt (slots (now (sheet .entry))) at))) ⌝ }
+    ensures { λ _. ⌜ ((path : List Tree) → HasLevels path «definition_level» «repetition_level» → now (rows .exit) ≡ stretched (now (rows .entry)) (rowWidth * at) (rowsFrom at «parent_at» parent (slotAt (now (sheet .entry)) «parent_at») path (treeAt (slots (now (sheet .entry))) at))) ⌝ }
 {
     let s = sheet::slot_at(sheet, at);
     let n = annotated(s);
     let kind = annotation::resolved_kind(n, is_map_parent(parent));
-    let own = role(sheet, up, at, s, parent);
+    let own = role(sheet, parent_at, at, s, parent);
     let own_definition = definition_level + in_definition(s.repetition);
     let own_repetition = repetition_level + in_repetition(s.repetition);
     let base = ROW_WIDTH * at;
@@ -123,7 +123,7 @@ fn write_tree(
             kind: kind.kind,
             p1: kind.p1,
             p2: kind.p2,
-            parent: up as u32,
+            parent: parent_at as u32,
             // It is known once the fields are written.
             end: 0,
             role: own,
@@ -136,7 +136,7 @@ fn write_tree(
         rows,
         at + 1,
         s.children as usize,
-        levels - 1,
+        allowed - 1,
         at,
         kind.kind,
         own,
@@ -147,15 +147,15 @@ fn write_tree(
     next
 }
 
-// Writes the rows of the run of so many fields at a number, with so many levels of depth left, under the node at up of some kind, role,
+// Writes the rows of the run of so many fields at a number, with so many depths allowed, under the parent of some kind, role,
 // definition and repetition level, and answers where the next tree stands: most nodes have no field, and are written without a call.
 fn write_fields(
     sheet: &[u8],
     rows: &mut [u32],
     at: usize,
     count: usize,
-    levels: usize,
-    up: usize,
+    allowed: usize,
+    parent_at: usize,
     kind: u32,
     own: u32,
     definition_level: u32,
@@ -163,13 +163,13 @@ fn write_fields(
 ) -> usize
     requires { ⌜ Claimed (now sheet) ⌝ }
     requires { ⌜ count ≤ Tree·count (trees (drop at (slots (now sheet)))) ⌝ }
-    requires { ⌜ up < totalOf (now sheet) ⌝ }
+    requires { ⌜ «parent_at» < totalOf (now sheet) ⌝ }
     requires { ⌜ rowWidth * totalOf (now sheet) ≤ length (now rows) ⌝ }
     requires { ⌜ LevelsAtMost at «definition_level» «repetition_level» ⌝ }
-    requires { ⌜ levels ≤ suc mostDepth ⌝ }
-    requires { ⌜ NoneTooDeep (runDepths (depthAt levels) (runAt (slots (now sheet)) at count)) ⌝ }
+    requires { ⌜ allowed ≤ suc mostDepth ⌝ }
+    requires { ⌜ NoneTooDeep (runDepths (depthAt allowed) (runAt (slots (now sheet)) at count)) ⌝ }
     ensures { λ r. ⌜ r ≡ at + sizes (runAt (slots (now (sheet .entry))) at count) ⌝ }
-    ensures { λ _. ⌜ ((path : List Tree) → HasLevels path «definition_level» «repetition_level» → now (rows .exit) ≡ stretched (now (rows .entry)) (rowWidth * at) (runRowsFrom at up (parentBy kind own) (slotAt (now (sheet .entry)) up) path (runAt (slots (now (sheet .entry))) at count))) ⌝ }
+    ensures { λ _. ⌜ ((path : List Tree) → HasLevels path «definition_level» «repetition_level» → now (rows .exit) ≡ stretched (now (rows .entry)) (rowWidth * at) (runRowsFrom at «parent_at» (parentBy kind own) (slotAt (now (sheet .entry)) «parent_at») path (runAt (slots (now (sheet .entry))) at count))) ⌝ }
 {
     if count == 0 {
         return at;
@@ -179,8 +179,8 @@ fn write_fields(
         rows,
         at,
         count,
-        levels,
-        up,
+        allowed,
+        parent_at,
         parent_by(kind, own),
         definition_level,
         repetition_level,

@@ -8,7 +8,7 @@ use lib.ListN.{length, getD}
 use lib.Seq.{ext-getD}
 use Rattle.sheet.specs.Block.{blockSize, firstSlotAt, slotSize, blockNumberAt, totalAt, blockAt, blockNumber, nodesHere, version, total, totalOf}
 use Rattle.sheet.specs.Check.{renewed}
-use Rattle.sheet.specs.Header.{fieldsRight, headerRight}
+use Rattle.sheet.specs.Header.{numbersRight, headerRight}
 use Rattle.sheet.specs.Slot.{slotStart, reaches, slotAt}
 use Rattle.sheet.proofs.NumberLaws.{numberAt-two}
 use Rattle.sheet.proofs.BlockLaws.{blockAt-byte, blockCount-same}
@@ -46,7 +46,7 @@ module _ (copy sheet : List ℕ) (same : SameHeaders copy sheet) where
 
   -- and a header is right where it was
   pub headerRight-same : (i : ℕ) → headerRight copy i ≡ headerRight sheet i
-  unfolding headerRight fieldsRight version nodesHere
+  unfolding headerRight numbersRight version nodesHere
   headerRight-same i =
       rw (number-same i, total-same i, totalOf-same, header-byte i 2 (omega arith), header-byte i 3 (omega arith), blockCount-same copy sheet (same .long))
 

@@ -12,7 +12,7 @@ use Rattle.sheet.specs.Check.{checkRight}
 use Rattle.sheet.specs.Slot.{physical, repetition, converted, logical, nameLength, slotStart, reaches, slotAt, emptySlot}
 use Rattle.sheet.specs.Sheet.{joinBelow, uncheckedBlock, blockOf, sheetOf}
 use Rattle.sheet.specs.Sound.{listed, physicalListed, repetitionListed, convertedListed, logicalListed, nameLengthRight, allZero, reservedZero, tailZero, codesListed, nameRight, slotSound, slotRight}
-use Rattle.sheet.specs.Header.{lengthRight, blocksFor, nodesIn, totalRight, fieldsRight, headerRight}
+use Rattle.sheet.specs.Header.{lengthRight, blocksFor, nodesIn, totalRight, numbersRight, headerRight}
 use Rattle.sheet.specs.First.{firstWrongFrom, firstWrong}
 use Rattle.sheet.specs.Opening.{atFirst, openOf, outcomeOf, outcome}
 use Rattle.refusal.specs.Outcome.{refused, refusal}
@@ -32,7 +32,7 @@ sheetOf-root = refl
 
 -- "One root alone" is a sound sheet
 open-root : openOf rootSheet ≡ Counted.Count 1
-unfolding rootSheet rootSlot openOf lengthRight atFirst firstWrong firstWrongFrom blockCount blockAt checkRight check storedCheck sumBelow weighted numberAt little headerRight fieldsRight blockNumber version total totalOf nodesHere nodesIn totalRight blocksFor slotRight slotAt reaches slotStart slotSound codesListed nameRight physicalListed repetitionListed convertedListed logicalListed listed physical repetition converted logical nameLength nameLengthRight reservedZero tailZero allZero
+unfolding rootSheet rootSlot openOf lengthRight atFirst firstWrong firstWrongFrom blockCount blockAt checkRight check storedCheck sumBelow weighted numberAt little headerRight numbersRight blockNumber version total totalOf nodesHere nodesIn totalRight blocksFor slotRight slotAt reaches slotStart slotSound codesListed nameRight physicalListed repetitionListed convertedListed logicalListed listed physical repetition converted logical nameLength nameLengthRight reservedZero tailZero allZero
 open-root = refl
 
 -- no bytes are refusal 1 at 0

@@ -8,7 +8,7 @@ use lib.Dec.{leb, eqb}
 use lib.ListN.{length}
 use borrow.Author.Tests.{le-leb, leb-true, eq-eqb, eqb-true}
 use Rattle.sheet.specs.Block.{blockSize, mostBytes, mostNodes, slotsInBlock, versionNow, blockCount, blockAt, blockNumber, nodesHere, version, total, totalOf}
-use Rattle.sheet.specs.Header.{lengthRight, blocksFor, nodesIn, totalRight, fieldsRight, headerRight}
+use Rattle.sheet.specs.Header.{lengthRight, blocksFor, nodesIn, totalRight, numbersRight, headerRight}
 
 module _ (n : ℕ) (right : lengthRight n ≡ true) where
   length-parts : So (leb 1 n && eqb (n % blockSize) 0) × So (leb n mostBytes)
@@ -74,9 +74,9 @@ pub record Fields (t i : ℕ) (block : List ℕ) : Type 0 where
   pub nodes-is : nodesHere block ≡ nodesIn t i
 
 module _ (t i : ℕ) (block : List ℕ) where
-  pub fieldsRight-fields : fieldsRight t i block ≡ true → Fields t i block
-  unfolding fieldsRight
-  fieldsRight-fields right =
+  pub numbersRight-fields : numbersRight t i block ≡ true → Fields t i block
+  unfolding numbersRight
+  numbersRight-fields right =
       let front = and-eq-true-iff (eqb (blockNumber block) i && eqb (version block) versionNow && eqb (total block) t) (eqb (nodesHere block) (nodesIn t i)) .0 right in
       let three = and-eq-true-iff (eqb (blockNumber block) i && eqb (version block) versionNow) (eqb (total block) t) .0 (front .0) in
       let two = and-eq-true-iff (eqb (blockNumber block) i) (eqb (version block) versionNow) .0 (three .0) in
@@ -87,9 +87,9 @@ module _ (t i : ℕ) (block : List ℕ) where
         nodes-is = eqb-true (nodesHere block) (nodesIn t i) (front .1);
       }
 
-  pub fields-fieldsRight : Fields t i block → fieldsRight t i block ≡ true
-  unfolding fieldsRight
-  fields-fieldsRight fields = rw (
+  pub fields-numbersRight : Fields t i block → numbersRight t i block ≡ true
+  unfolding numbersRight
+  fields-numbersRight fields = rw (
     eq-eqb (blockNumber block) i (fields .number-is),
     eq-eqb (version block) versionNow (fields .version-is),
     eq-eqb (total block) t (fields .total-is),
@@ -100,15 +100,15 @@ module _ (t i : ℕ) (block : List ℕ) where
 pub headerRight-fields : (sheet : List ℕ) (i : ℕ) → headerRight sheet i ≡ true → Fields (totalOf sheet) i (blockAt sheet i)
 unfolding headerRight
 headerRight-fields sheet i right =
-    fieldsRight-fields (totalOf sheet) i (blockAt sheet i)
-    (and-eq-true-iff (fieldsRight (totalOf sheet) i (blockAt sheet i)) (cond (eqb i 0) (totalRight (totalOf sheet) (blockCount sheet)) true) .0 right .0)
+    numbersRight-fields (totalOf sheet) i (blockAt sheet i)
+    (and-eq-true-iff (numbersRight (totalOf sheet) i (blockAt sheet i)) (cond (eqb i 0) (totalRight (totalOf sheet) (blockCount sheet)) true) .0 right .0)
 
 -- and is right where it says so, of a right total
 pub fields-headerRight : (sheet : List ℕ) (i : ℕ) → Fields (totalOf sheet) i (blockAt sheet i) → totalRight (totalOf sheet) (blockCount sheet) ≡ true
     → headerRight sheet i ≡ true
 unfolding headerRight
 fields-headerRight sheet i fields right =
-    rw (fields-fieldsRight (totalOf sheet) i (blockAt sheet i) fields, right) (either (eqb i 0))
+    rw (fields-numbersRight (totalOf sheet) i (blockAt sheet i) fields, right) (either (eqb i 0))
   where
     either : (b : Bool) → cond b true true ≡ true
     either true = refl

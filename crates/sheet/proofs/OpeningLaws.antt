@@ -10,7 +10,7 @@ use lib.ListN.{length}
 use borrow.Author.Tests.{lt-ltb, le-ltb}
 use Rattle.sheet.specs.Block.{mostNodes, slotsInBlock, blockCount, blockAt, totalOf}
 use Rattle.sheet.specs.Check.{checkRight}
-use Rattle.sheet.specs.Header.{lengthRight, blocksFor, totalRight, fieldsRight, headerRight}
+use Rattle.sheet.specs.Header.{lengthRight, blocksFor, totalRight, numbersRight, headerRight}
 use Rattle.sheet.specs.Slot.{slotAt, slots}
 use Rattle.sheet.specs.Sound.{slotSound, slotRight}
 use Rattle.sheet.specs.First.{firstWrong}
@@ -125,7 +125,7 @@ module _ (sheet : List ℕ) (t : ℕ) (opened : openOf sheet ≡ Counted.Count t
   openOf-total-right : totalRight (totalOf sheet) (blockCount sheet) ≡ true
   unfolding headerRight
   openOf-total-right =
-      and-eq-true-iff (fieldsRight (totalOf sheet) 0 (blockAt sheet 0)) (totalRight (totalOf sheet) (blockCount sheet)) .0
+      and-eq-true-iff (numbersRight (totalOf sheet) 0 (blockAt sheet 0)) (totalRight (totalOf sheet) (blockCount sheet)) .0
       (past-headers .0 0 (blockCount-least sheet (lengthRight-least (length sheet) openOf-length-right)))
       .1
 

@@ -5,7 +5,7 @@ use mathlib.Core.List.{List, _++_}
 use Prim.Native.Nat.{ℕ, _+_, _-_, _*_, _/_, _%_, _^_, _≤_, _<_}
 use native.Mathlib.Decide.{decLt}
 use native.Mathlib.Omega.{arith}
-use lib.ListN.{length, getD, take, drop, length-append, List·getD-eq-default, List·getD-append}
+use lib.ListN.{length, getD, take, drop, replicate, length-append, List·getD-eq-default, List·getD-append}
 use lib.Seq.{getD-take, take-all, take-take, drop-drop, take-at, getD-append-add, ext-getD}
 use borrow.Author.Tests.{eq-eqb, eqb-true}
 use Rattle.laws.specs.Bytes.{Bytes, little, bytesOf}
@@ -16,9 +16,9 @@ use Rattle.sheet.specs.Number.{numberAt}
 use Rattle.sheet.specs.Block.{blockSize, firstSlotAt, checkAt, slotsInBlock, slotSize, mostNodes, blockNumberAt, nodesHereAt, versionAt, totalAt, versionNow, blockCount, blockAt, blockNumber, nodesHere, version, total, storedCheck, totalOf}
 use Rattle.sheet.specs.Check.{checkRight}
 use Rattle.sheet.specs.Header.{blocksFor, nodesIn, totalRight}
-use Rattle.sheet.specs.Slot.{slotStart, reaches, emptySlot, slotAt, slots}
+use Rattle.sheet.specs.Slot.{nameAt, slotStart, reaches, emptySlot, slotAt, slots}
 use Rattle.sheet.specs.Sound.{allZero, slotSound, slotRight}
-use Rattle.sheet.specs.Sheet.{joinBelow, uncheckedBlock, blockOf, sheetOf}
+use Rattle.sheet.specs.Sheet.{joinBelow, uncheckedBlock, blockOf, sheetOf, slotOf}
 use Rattle.sheet.specs.Opening.{openOf, BlocksSound, SlotsSound}
 use Rattle.refusal.specs.declared.answers.Counted.{Counted}
 use Rattle.sheet.proofs.NumberLaws.{numberAt-one, numberAt-two}
@@ -339,3 +339,18 @@ module _ (used : List (List ℕ)) (given : SheetSlots used) where
   pub bytes-sheetOf : Bytes (sheetOf used)
   unfolding sheetOf
   bytes-sheetOf = joinBelow-bytes (blockOf used) blocks-of (λ i h. blockOf-bytes i)
+
+-- a slot made from its numbers and name is one of bytes
+pub bytes-slotOf : (codes : List ℕ) (children len scale precision : ℕ) (name : List ℕ) → Bytes codes → Bytes name → Bytes (slotOf codes children len scale precision name)
+bytes-slotOf codes children len scale precision name c n =
+    let counted = codes ++ bytesOf 2 children in
+    let long = counted ++ bytesOf 4 len in
+    let scaled = long ++ bytesOf 4 scale in
+    let precise = scaled ++ bytesOf 4 precision in
+    let lengthed = precise ++ bytesOf 4 (length name) in
+    let n₁ : Bytes counted = bytes-append codes (bytesOf 2 children) c (bytes-bytesOf 2 children) in
+    let n₂ : Bytes long = bytes-append counted (bytesOf 4 len) n₁ (bytes-bytesOf 4 len) in
+    let n₃ : Bytes scaled = bytes-append long (bytesOf 4 scale) n₂ (bytes-bytesOf 4 scale) in
+    let n₄ : Bytes precise = bytes-append scaled (bytesOf 4 precision) n₃ (bytes-bytesOf 4 precision) in
+    let n₅ : Bytes lengthed = bytes-append precise (bytesOf 4 (length name)) n₄ (bytes-bytesOf 4 (length name)) in
+    bytes-append (lengthed ++ name) (replicate (slotSize - nameAt - length name) 0) (bytes-append lengthed name n₅ n) (bytes-replicate (slotSize - nameAt - length name) 0 (omega arith))

@@ -22,8 +22,8 @@ unfoldable pub totalRight : ℕ → ℕ → Bool
 totalRight t blocks = leb 1 t && leb t mostNodes && eqb (blocksFor t) blocks
 
 -- what the header of block number i must say, of t nodes in all
-unfoldable pub fieldsRight : ℕ → ℕ → List ℕ → Bool
-fieldsRight t i block =
+unfoldable pub numbersRight : ℕ → ℕ → List ℕ → Bool
+numbersRight t i block =
     eqb (blockNumber block) i
     && eqb (version block) versionNow
     && eqb (total block) t
@@ -31,4 +31,4 @@ fieldsRight t i block =
 
 -- block i's header is right; a wrong T "is block 0's fault"
 unfoldable pub headerRight : List ℕ → ℕ → Bool
-headerRight sheet i = fieldsRight (totalOf sheet) i (blockAt sheet i) && cond (eqb i 0) (totalRight (totalOf sheet) (blockCount sheet)) true
+headerRight sheet i = numbersRight (totalOf sheet) i (blockAt sheet i) && cond (eqb i 0) (totalRight (totalOf sheet) (blockCount sheet)) true

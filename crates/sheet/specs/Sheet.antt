@@ -1,12 +1,12 @@
--- A sheet made from its used slots, laid out as "The sheet" of document 01 says.
-use Prim.Native.Nat.{ℕ, zero, suc, _+_, _*_}
+-- A sheet made from its used slots, and a slot from its numbers and name, laid out as "The sheet" of document 01 says.
+use Prim.Native.Nat.{ℕ, zero, suc, _+_, _*_, _-_}
 use mathlib.Core.List.{List, [], _++_}
-use lib.ListN.{length, getD}
+use lib.ListN.{length, getD, replicate}
 use Rattle.laws.specs.Bytes.{bytesOf}
 use Rattle.block_check.specs.Check.{check}
-use Rattle.sheet.specs.Block.{slotsInBlock, versionNow}
+use Rattle.sheet.specs.Block.{slotSize, slotsInBlock, versionNow}
 use Rattle.sheet.specs.Header.{blocksFor, nodesIn}
-use Rattle.sheet.specs.Slot.{emptySlot}
+use Rattle.sheet.specs.Slot.{nameAt, emptySlot}
 
 -- the bytes that f gives for the numbers below n, one behind the other
 unfoldable pub joinBelow : (ℕ → List ℕ) → ℕ → List ℕ
@@ -30,3 +30,16 @@ blockOf used i = uncheckedBlock used i ++ bytesOf 2 (check (uncheckedBlock used 
 -- the sheet of these slots: as many blocks as they need
 unfoldable pub sheetOf : List (List ℕ) → List ℕ
 sheetOf used = joinBelow (blockOf used) (blocksFor (length used))
+
+-- a slot of six codes ("0 physical; 1 repetition; 2 converted; 3 logical; 4 a; 5 b"), so many children, a type length, a scale and a precision that are not
+-- negative, and a name ("20 name length 1-48; 21-23 zero; 24-71 name, zero after its length")
+abbrev pub slotOf : List ℕ → ℕ → ℕ → ℕ → ℕ → List ℕ → List ℕ
+slotOf codes children len scale precision name =
+    codes
+    ++ bytesOf 2 children
+    ++ bytesOf 4 len
+    ++ bytesOf 4 scale
+    ++ bytesOf 4 precision
+    ++ bytesOf 4 (length name)
+    ++ name
+    ++ replicate (slotSize - nameAt - length name) 0

@@ -4,7 +4,7 @@ ghost use Prim.Native.Nat.{_+_, _*_, _^_, _≤_, _<_};
 ghost use lib.ListN.{length};
 ghost use Rattle.sheet.specs.Block.{blockSize, slotsInBlock, blockCount, blockAt, totalOf};
 ghost use Rattle.sheet.specs.Check.{checkRight};
-ghost use Rattle.sheet.specs.Header.{nodesIn, totalRight, fieldsRight, headerRight};
+ghost use Rattle.sheet.specs.Header.{nodesIn, totalRight, numbersRight, headerRight};
 use crate::layout;
 use crate::number::number16;
 use crate::number::wide;
@@ -59,7 +59,7 @@ pub(crate) fn block_at(sheet: &[u8], i: usize) -> &[u8]
 fn fields_right(block: &[u8], i: usize, total: usize) -> bool
     requires { ⌜ length (now block) ≡ blockSize ⌝ }
     requires { ⌜ slotsInBlock * i < 2 ^ 64 ⌝ }
-    ensures { λ r. ⌜ r ≡ fieldsRight total i (now (block .entry)) ⌝ }
+    ensures { λ r. ⌜ r ≡ numbersRight total i (now (block .entry)) ⌝ }
 {
     if number16(block, layout::BLOCK_NUMBER) as usize != i {
         return false;

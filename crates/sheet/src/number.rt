@@ -13,7 +13,8 @@ const LOWER_SIZE: usize = 4;
 
 const LOWER_COUNT: u64 = 0x1_0000_0000;
 
-const WHOLE: i64 = 0x1_0000_0000;
+// How many numbers 32 bits have.
+const NUMBERS: i64 = 0x1_0000_0000;
 
 // The number of two bytes from at on.
 pub(crate) fn number16(s: &[u8], at: usize) -> u32
@@ -47,7 +48,7 @@ pub(crate) fn signed32(n: u32) -> i32
     if n < HALF {
         return n as i32;
     }
-    (n as i64 - WHOLE) as i32
+    (n as i64 - NUMBERS) as i32
 }
 
 // A byte as a number.

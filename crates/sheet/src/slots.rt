@@ -12,10 +12,10 @@ use crate::number::signed32;
 // The bytes of a block that are in no slot.
 const BESIDE_SLOTS: usize = layout::BLOCK_SIZE - layout::SLOTS_IN_BLOCK * layout::SLOT_SIZE;
 
-// A seventh, rounded up, in parts of which a whole has so many: exact enough for the number of any node.
+// A seventh, rounded up, in so many parts: exact enough for the number of any node.
 const SEVENTH: usize = 9363;
 
-const WHOLE: usize = 65536;
+const PARTS: usize = 65536;
 
 // A slot's numbers, as its bytes have them.
 pub struct Slot {
@@ -51,7 +51,7 @@ pub(crate) fn slot_start(node: usize) -> usize
     requires { ⌜ node < mostNodes ⌝ }
     ensures { λ r. ⌜ r ≡ slotStart node ⌝ }
 {
-    let block = node * SEVENTH / WHOLE;
+    let block = node * SEVENTH / PARTS;
     layout::FIRST_SLOT + layout::SLOT_SIZE * node + BESIDE_SLOTS * block
 }
 

@@ -13,7 +13,8 @@ use Rattle.refusal.specs.Outcome.{Outcome, given, refused, unplaced}
 use Rattle.timestamp.specs.declared.fields.Fields.{Fields}
 use Rattle.timestamp.specs.Calendar.{isDate, dayNumber}
 use Rattle.timestamp.specs.Clock.{isTime, tickOfDay}
-use Rattle.timestamp.specs.Units.{TimeUnit, millis, micros, nanos, ticksPerSecond, ticksPerDay}
+use Rattle.logical_type.specs.declared.types.TimeUnit.{TimeUnit}
+use Rattle.timestamp.specs.Units.{ticksPerSecond, ticksPerDay}
 use Rattle.timestamp.specs.Count.{isDateTime, countOf, FieldsOf}
 use Rattle.timestamp.specs.Outcomes.{noDateTime, notRepresentable, isSigned64, Decodes, encodingIn, encoding}
 use Rattle.laws.proofs.BoolLaws.{and-both, both-and}
@@ -99,9 +100,9 @@ pub decodes-some : (unit : TimeUnit) (count : ℤ) → (f : Fields) × Decodes (
 decodes-some unit count = let some-fields = fields-some (ticksPerSecond unit) count (positive unit) in (some-fields .0, (some-fields .0, refl, some-fields .1))
   where
     positive : (unit : TimeUnit) → 0 < ticksPerSecond unit
-    positive millis = omega arith
-    positive micros = omega arith
-    positive nanos = omega arith
+    positive TimeUnit.Millis = omega arith
+    positive TimeUnit.Micros = omega arith
+    positive TimeUnit.Nanos = omega arith
 
 -- ---- encoding, refusal by refusal
 

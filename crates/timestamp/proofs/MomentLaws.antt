@@ -17,7 +17,8 @@ use Rattle.timestamp.specs.declared.moment.Moment.{Moment}
 use Rattle.timestamp.specs.Calendar.{isDate, dayNumber}
 use Rattle.timestamp.specs.Clock.{minutesPerHour, secondsPerMinute, secondsPerDay, isTime, tickOfDay}
 use Rattle.timestamp.specs.Count.{isDateTime, countOf}
-use Rattle.timestamp.specs.Units.{TimeUnit, ticksPerSecond}
+use Rattle.logical_type.specs.declared.types.TimeUnit.{TimeUnit}
+use Rattle.timestamp.specs.Units.{ticksPerSecond}
 use Rattle.timestamp.specs.Outcomes.{noDateTime, notRepresentable, encodingIn, encoding}
 use Rattle.timestamp.specs.Steps.{isClock, isFormed, secondOf, IsMoment, counting, encodingAt, encodingFor}
 use Rattle.laws.proofs.BoolLaws.{by-test, and-both, both-and}

@@ -8,7 +8,8 @@ use mathlib.Core.Option.{Option, none, some}
 use lib.IntN.{ℤ}
 use Rattle.refusal.specs.Outcome.{Outcome, given, refused}
 use Rattle.timestamp.specs.declared.fields.Fields.{Fields}
-use Rattle.timestamp.specs.Units.{TimeUnit, ticksPerSecond}
+use Rattle.logical_type.specs.declared.types.TimeUnit.{TimeUnit}
+use Rattle.timestamp.specs.Units.{ticksPerSecond}
 use Rattle.timestamp.specs.Count.{isDateTime, countOf}
 use Rattle.timestamp.specs.Outcomes.{noDateTime, notRepresentable, unknownUnit, isSigned64, encodingIn, encoding}
 use Rattle.laws.proofs.BoolLaws.{by-test}

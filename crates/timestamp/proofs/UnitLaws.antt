@@ -15,14 +15,15 @@ use Rattle.timestamp.specs.declared.fields.Fields.{Fields}
 use Rattle.timestamp.specs.declared.moment.Moment
 use Rattle.timestamp.specs.declared.moment.Moment.{Moment}
 use Rattle.timestamp.specs.declared.units.FoundUnit.{FoundUnit}
-use Rattle.timestamp.specs.Units.{TimeUnit, millis, micros, nanos, ticksPerSecond, unitOf}
+use Rattle.logical_type.specs.declared.types.TimeUnit.{TimeUnit}
+use Rattle.timestamp.specs.Units.{ticksPerSecond, unitOf}
 use Rattle.timestamp.specs.Outcomes.{Decodes, dayHas}
 use Rattle.timestamp.specs.Steps.{encodingFor, unitFound}
 use Rattle.timestamp.proofs.CountLaws.{decodes-one}
 
 pub unit-none : (n : ℕ) → (n ≡ 1 → ⊥) → (n ≡ 2 → ⊥) → (n ≡ 3 → ⊥) → unitOf n ≡ none
 unit-none n h k l =
-    ap (λ (b : Bool). cond b (some millis) (cond (eqb n 2) (some micros) (cond (eqb n 3) (some nanos) none))) (ne-eqb n 1 h) ∙ ap (λ (b : Bool). cond b (some micros) (cond (eqb n 3) (some nanos) none)) (ne-eqb n 2 k) ∙ ap (λ (b : Bool). cond b (some nanos) none) (ne-eqb n 3 l)
+    ap (λ (b : Bool). cond b (some TimeUnit.Millis) (cond (eqb n 2) (some TimeUnit.Micros) (cond (eqb n 3) (some TimeUnit.Nanos) none))) (ne-eqb n 1 h) ∙ ap (λ (b : Bool). cond b (some TimeUnit.Micros) (cond (eqb n 3) (some TimeUnit.Nanos) none)) (ne-eqb n 2 k) ∙ ap (λ (b : Bool). cond b (some TimeUnit.Nanos) none) (ne-eqb n 3 l)
 
 -- the unit of a number, by what was found of it
 unit-told : (u : Option TimeUnit) (r k : FoundUnit) → unitFound r ≡ u → r ≡ k → unitFound k ≡ u
@@ -48,12 +49,12 @@ day-told u r k tick o e told p = p ∙ ap (λ (v : Option TimeUnit). dayHas v ti
 
 -- each unit has a thousand ticks in a second or more
 pub ticks-least : (unit : TimeUnit) → 1000 ≤ ticksPerSecond unit
-ticks-least millis = omega arith
-ticks-least micros = omega arith
-ticks-least nanos = omega arith
+ticks-least TimeUnit.Millis = omega arith
+ticks-least TimeUnit.Micros = omega arith
+ticks-least TimeUnit.Nanos = omega arith
 
 -- and a thousand million at most
 pub ticks-most : (unit : TimeUnit) → ticksPerSecond unit ≤ 1000000000
-ticks-most millis = omega arith
-ticks-most micros = omega arith
-ticks-most nanos = omega arith
+ticks-most TimeUnit.Millis = omega arith
+ticks-most TimeUnit.Micros = omega arith
+ticks-most TimeUnit.Nanos = omega arith

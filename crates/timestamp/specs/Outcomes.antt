@@ -19,7 +19,8 @@ use Rattle.timestamp.specs.declared.encoding.Encoded.{Encoded}
 -- what in_day answers: `Within`, `Beyond` or `Refused`
 use Rattle.timestamp.specs.declared.units.InDay
 use Rattle.timestamp.specs.declared.units.InDay.{InDay}
-use Rattle.timestamp.specs.Units.{TimeUnit, ticksPerSecond, ticksPerDay}
+use Rattle.logical_type.specs.declared.types.TimeUnit.{TimeUnit}
+use Rattle.timestamp.specs.Units.{ticksPerSecond, ticksPerDay}
 use Rattle.timestamp.specs.Count.{isDateTime, countOf, FieldsOf}
 
 -- fields form no date or time

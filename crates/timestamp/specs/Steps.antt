@@ -23,7 +23,8 @@ use Rattle.timestamp.specs.declared.fields.Fields.{Fields}
 use Rattle.timestamp.specs.Calendar.{months, isDate, dayNumber}
 use Rattle.timestamp.specs.Clock.{hoursPerDay, minutesPerHour, secondsPerMinute, secondsPerDay}
 use Rattle.timestamp.specs.Outcomes.{isSigned64, noDateTime, notRepresentable, unknownUnit}
-use Rattle.timestamp.specs.Units.{TimeUnit, millis, micros, nanos, ticksPerSecond}
+use Rattle.logical_type.specs.declared.types.TimeUnit.{TimeUnit}
+use Rattle.timestamp.specs.Units.{ticksPerSecond}
 
 -- the day number of the day before the first of a month, in the year from 1 March of year 0 on
 abbrev pub offsetOf : ℕ → ℤ
@@ -87,7 +88,7 @@ encodingFor (some unit) moment fraction = encodingAt (ticksPerSecond unit) momen
 
 -- the unit that was found: one of the three, or none
 abbrev pub unitFound : FoundUnit → Option TimeUnit
-unitFound FoundUnit.Millis = some millis
-unitFound FoundUnit.Micros = some micros
-unitFound FoundUnit.Nanos = some nanos
+unitFound FoundUnit.Millis = some TimeUnit.Millis
+unitFound FoundUnit.Micros = some TimeUnit.Micros
+unitFound FoundUnit.Nanos = some TimeUnit.Nanos
 unitFound FoundUnit.Unknown = none

@@ -5,7 +5,8 @@ ghost use mathlib.Core.Bool.{true};
 ghost use Prim.Native.Nat.{_+_, _*_, _<_, _≤_};
 ghost use Rattle.timestamp.specs.Clock.{hoursPerDay, minutesPerHour, secondsPerMinute, secondsPerDay, isTime, tickOfDay};
 ghost use Rattle.timestamp.specs.Steps.{isClock};
-ghost use Rattle.timestamp.specs.Units.{nanos, ticksPerSecond, ticksPerDay};
+ghost use Rattle.logical_type.specs.declared.types.TimeUnit.{TimeUnit};
+ghost use Rattle.timestamp.specs.Units.{ticksPerSecond, ticksPerDay};
 
 const HOURS_PER_DAY: u32 = 24;
 
@@ -32,7 +33,7 @@ pub(crate) fn is_clock(time: Time) -> bool
 
 // The time at a tick of the day.
 pub(crate) fn time_of(ticks_per_second: u64, tick: u64) -> Time
-    requires { ⌜ (0 < «ticks_per_second») × («ticks_per_second» ≤ ticksPerSecond nanos) × (tick < ticksPerDay «ticks_per_second») ⌝ }
+    requires { ⌜ (0 < «ticks_per_second») × («ticks_per_second» ≤ ticksPerSecond TimeUnit.Nanos) × (tick < ticksPerDay «ticks_per_second») ⌝ }
     ensures { λ r. ⌜ (isTime «ticks_per_second» (r .hour) (r .minute) (r .second) (r .fraction) ≡ true) × (tickOfDay «ticks_per_second» (r .hour) (r .minute) (r .second) (r .fraction) ≡ tick) ⌝ }
 {
     let seconds = (tick / ticks_per_second) as u32;

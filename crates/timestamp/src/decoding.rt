@@ -5,7 +5,8 @@ ghost use Prim.Native.Nat.{_<_, _≤_, _^_};
 ghost use lib.IntN.{ℤ};
 ghost use lib.Signed.{mag};
 ghost use Rattle.refusal.specs.Outcome.{Outcome};
-ghost use Rattle.timestamp.specs.Units.{nanos, ticksPerSecond, ticksPerDay, unitOf};
+ghost use Rattle.logical_type.specs.declared.types.TimeUnit.{TimeUnit};
+ghost use Rattle.timestamp.specs.Units.{ticksPerSecond, ticksPerDay, unitOf};
 ghost use Rattle.timestamp.specs.FloorDivision.{FloorDivision};
 ghost use Rattle.timestamp.specs.Outcomes.{Decodes, DecodesIn, decoded};
 ghost use Rattle.timestamp.specs.declared.fields.Fields.{Fields};
@@ -43,7 +44,7 @@ pub fn decode(unit: u32, count: i64) -> Decoded
 
 // The fields of a day number and a tick of that day, at so many ticks in a second.
 fn decode_in(ticks_per_second: u64, division: Division) -> Decoded
-    requires { ⌜ (0 < «ticks_per_second») × («ticks_per_second» ≤ ticksPerSecond nanos) × (mag (division .day) < 2 ^ 37) × (division .rest < ticksPerDay «ticks_per_second») ⌝ }
+    requires { ⌜ (0 < «ticks_per_second») × («ticks_per_second» ≤ ticksPerSecond TimeUnit.Nanos) × (mag (division .day) < 2 ^ 37) × (division .rest < ticksPerDay «ticks_per_second») ⌝ }
     ensures { λ r. ⌜ ((count : ℤ) → FloorDivision count (ticksPerDay «ticks_per_second») division → DecodesIn «ticks_per_second» count (decoded r)) ⌝ }
 {
     let date = date_of(division.day);

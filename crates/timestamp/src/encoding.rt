@@ -4,7 +4,8 @@ ghost use mathlib.Core.Path.{_≡_};
 ghost use Prim.Native.Nat.{_<_, _≤_, _^_};
 ghost use lib.IntN.{pos, _+ℤ_, _*ℤ_};
 ghost use lib.Signed.{mag};
-ghost use Rattle.timestamp.specs.Units.{nanos, ticksPerSecond, unitOf};
+ghost use Rattle.logical_type.specs.declared.types.TimeUnit.{TimeUnit};
+ghost use Rattle.timestamp.specs.Units.{ticksPerSecond, unitOf};
 ghost use Rattle.timestamp.specs.Outcomes.{encoded, encoding};
 ghost use Rattle.timestamp.specs.Steps.{secondsReached, counting, encodingAt, encodingFor};
 ghost use Rattle.timestamp.specs.declared.moment.Moment;
@@ -79,7 +80,7 @@ fn encode_any(unit: u32, moment: Moment, fraction: u32) -> Encoded
 
 // The count at a fraction of a near second, at so many ticks in a second.
 pub(crate) fn encode_near_at(second: i64, fraction: u32, ticks_per_second: u64) -> Encoded
-    requires { ⌜ (mag second < secondsReached) × («ticks_per_second» ≤ ticksPerSecond nanos) ⌝ }
+    requires { ⌜ (mag second < secondsReached) × («ticks_per_second» ≤ ticksPerSecond TimeUnit.Nanos) ⌝ }
     ensures { λ r. ⌜ encoded r ≡ encodingAt «ticks_per_second» (Moment.Second second) fraction ⌝ }
 {
     if ticks_per_second <= fraction as u64 {
@@ -90,7 +91,7 @@ pub(crate) fn encode_near_at(second: i64, fraction: u32, ticks_per_second: u64) 
 
 // The count at a fraction of a moment's second, at so many ticks in a second.
 pub(crate) fn encode_at(moment: Moment, fraction: u32, ticks_per_second: u64) -> Encoded
-    requires { ⌜ «ticks_per_second» ≤ ticksPerSecond nanos ⌝ }
+    requires { ⌜ «ticks_per_second» ≤ ticksPerSecond TimeUnit.Nanos ⌝ }
     ensures { λ r. ⌜ encoded r ≡ encodingAt «ticks_per_second» moment fraction ⌝ }
 {
     if ticks_per_second <= fraction as u64 {

@@ -6,7 +6,8 @@ ghost use Prim.Native.Nat.{_<_};
 ghost use lib.Dec.{ltb};
 ghost use lib.Signed.{mag};
 ghost use Rattle.refusal.specs.Outcome.{given};
-ghost use Rattle.timestamp.specs.Units.{millis, micros, nanos, ticksPerSecond, ticksPerDay, unitOf};
+ghost use Rattle.logical_type.specs.declared.types.TimeUnit.{TimeUnit};
+ghost use Rattle.timestamp.specs.Units.{ticksPerSecond, ticksPerDay, unitOf};
 ghost use Rattle.timestamp.specs.FloorDivision.{FloorDivision};
 ghost use Rattle.timestamp.specs.declared.division.Division.{Division};
 ghost use Rattle.timestamp.specs.Outcomes.{encoded, dayAnswer, dayHas};
@@ -37,15 +38,15 @@ impl Millis {
 
     // The days of a count, rounded down, and the ticks left. There is one such division.
     pub fn divide(count: i64) -> Division
-        ensures { λ r. ⌜ FloorDivision count (ticksPerDay (ticksPerSecond millis)) r ⌝ }
-        ensures { λ r. ⌜ ((d : Division) → FloorDivision count (ticksPerDay (ticksPerSecond millis)) d → d ≡ r) ⌝ }
+        ensures { λ r. ⌜ FloorDivision count (ticksPerDay (ticksPerSecond TimeUnit.Millis)) r ⌝ }
+        ensures { λ r. ⌜ ((d : Division) → FloorDivision count (ticksPerDay (ticksPerSecond TimeUnit.Millis)) d → d ≡ r) ⌝ }
     {
         floor_divide(count, Self::TICKS_PER_DAY)
     }
 
     // The count at a fraction of a moment's second.
     pub(crate) fn encode(moment: Moment, fraction: u32) -> Encoded
-        ensures { λ r. ⌜ encoded r ≡ encodingAt (ticksPerSecond millis) moment fraction ⌝ }
+        ensures { λ r. ⌜ encoded r ≡ encodingAt (ticksPerSecond TimeUnit.Millis) moment fraction ⌝ }
     {
         encode_at(moment, fraction, Self::TICKS_PER_SECOND)
     }
@@ -53,14 +54,14 @@ impl Millis {
     // The same of a near second.
     pub(crate) fn encode_near(second: i64, fraction: u32) -> Encoded
         requires { ⌜ mag second < secondsReached ⌝ }
-        ensures { λ r. ⌜ encoded r ≡ encodingAt (ticksPerSecond millis) (Moment.Second second) fraction ⌝ }
+        ensures { λ r. ⌜ encoded r ≡ encodingAt (ticksPerSecond TimeUnit.Millis) (Moment.Second second) fraction ⌝ }
     {
         encode_near_at(second, fraction, Self::TICKS_PER_SECOND)
     }
 
     // Whether a day has this tick, the first being 0.
     pub fn has_tick(tick: u64) -> bool
-        ensures { λ r. ⌜ r ≡ ltb tick (ticksPerDay (ticksPerSecond millis)) ⌝ }
+        ensures { λ r. ⌜ r ≡ ltb tick (ticksPerDay (ticksPerSecond TimeUnit.Millis)) ⌝ }
     {
         tick < Self::TICKS_PER_DAY
     }
@@ -79,15 +80,15 @@ impl Micros {
 
     // The days of a count, rounded down, and the ticks left. There is one such division.
     pub fn divide(count: i64) -> Division
-        ensures { λ r. ⌜ FloorDivision count (ticksPerDay (ticksPerSecond micros)) r ⌝ }
-        ensures { λ r. ⌜ ((d : Division) → FloorDivision count (ticksPerDay (ticksPerSecond micros)) d → d ≡ r) ⌝ }
+        ensures { λ r. ⌜ FloorDivision count (ticksPerDay (ticksPerSecond TimeUnit.Micros)) r ⌝ }
+        ensures { λ r. ⌜ ((d : Division) → FloorDivision count (ticksPerDay (ticksPerSecond TimeUnit.Micros)) d → d ≡ r) ⌝ }
     {
         floor_divide(count, Self::TICKS_PER_DAY)
     }
 
     // The count at a fraction of a moment's second.
     pub(crate) fn encode(moment: Moment, fraction: u32) -> Encoded
-        ensures { λ r. ⌜ encoded r ≡ encodingAt (ticksPerSecond micros) moment fraction ⌝ }
+        ensures { λ r. ⌜ encoded r ≡ encodingAt (ticksPerSecond TimeUnit.Micros) moment fraction ⌝ }
     {
         encode_at(moment, fraction, Self::TICKS_PER_SECOND)
     }
@@ -95,14 +96,14 @@ impl Micros {
     // The same of a near second.
     pub(crate) fn encode_near(second: i64, fraction: u32) -> Encoded
         requires { ⌜ mag second < secondsReached ⌝ }
-        ensures { λ r. ⌜ encoded r ≡ encodingAt (ticksPerSecond micros) (Moment.Second second) fraction ⌝ }
+        ensures { λ r. ⌜ encoded r ≡ encodingAt (ticksPerSecond TimeUnit.Micros) (Moment.Second second) fraction ⌝ }
     {
         encode_near_at(second, fraction, Self::TICKS_PER_SECOND)
     }
 
     // Whether a day has this tick, the first being 0.
     pub fn has_tick(tick: u64) -> bool
-        ensures { λ r. ⌜ r ≡ ltb tick (ticksPerDay (ticksPerSecond micros)) ⌝ }
+        ensures { λ r. ⌜ r ≡ ltb tick (ticksPerDay (ticksPerSecond TimeUnit.Micros)) ⌝ }
     {
         tick < Self::TICKS_PER_DAY
     }
@@ -121,15 +122,15 @@ impl Nanos {
 
     // The days of a count, rounded down, and the ticks left. There is one such division.
     pub fn divide(count: i64) -> Division
-        ensures { λ r. ⌜ FloorDivision count (ticksPerDay (ticksPerSecond nanos)) r ⌝ }
-        ensures { λ r. ⌜ ((d : Division) → FloorDivision count (ticksPerDay (ticksPerSecond nanos)) d → d ≡ r) ⌝ }
+        ensures { λ r. ⌜ FloorDivision count (ticksPerDay (ticksPerSecond TimeUnit.Nanos)) r ⌝ }
+        ensures { λ r. ⌜ ((d : Division) → FloorDivision count (ticksPerDay (ticksPerSecond TimeUnit.Nanos)) d → d ≡ r) ⌝ }
     {
         floor_divide(count, Self::TICKS_PER_DAY)
     }
 
     // The count at a fraction of a moment's second.
     pub(crate) fn encode(moment: Moment, fraction: u32) -> Encoded
-        ensures { λ r. ⌜ encoded r ≡ encodingAt (ticksPerSecond nanos) moment fraction ⌝ }
+        ensures { λ r. ⌜ encoded r ≡ encodingAt (ticksPerSecond TimeUnit.Nanos) moment fraction ⌝ }
     {
         encode_at(moment, fraction, Self::TICKS_PER_SECOND)
     }
@@ -137,14 +138,14 @@ impl Nanos {
     // The same of a near second.
     pub(crate) fn encode_near(second: i64, fraction: u32) -> Encoded
         requires { ⌜ mag second < secondsReached ⌝ }
-        ensures { λ r. ⌜ encoded r ≡ encodingAt (ticksPerSecond nanos) (Moment.Second second) fraction ⌝ }
+        ensures { λ r. ⌜ encoded r ≡ encodingAt (ticksPerSecond TimeUnit.Nanos) (Moment.Second second) fraction ⌝ }
     {
         encode_near_at(second, fraction, Self::TICKS_PER_SECOND)
     }
 
     // Whether a day has this tick, the first being 0.
     pub fn has_tick(tick: u64) -> bool
-        ensures { λ r. ⌜ r ≡ ltb tick (ticksPerDay (ticksPerSecond nanos)) ⌝ }
+        ensures { λ r. ⌜ r ≡ ltb tick (ticksPerDay (ticksPerSecond TimeUnit.Nanos)) ⌝ }
     {
         tick < Self::TICKS_PER_DAY
     }

@@ -13,11 +13,11 @@ use lib.Dec.{leb}
 use lib.ListN.{length, getD}
 use Rattle.tree.specs.Annotated.{rule9, rule10, rule11}
 use Rattle.tree.specs.Tree.{SlotBytes, Tree, Fields, node, empty, field, depths, AtMostDeep, mostDepth}
-use Rattle.tree.specs.Rules.{rule8, rule12, rule13, underMap, placeBelow, KeepsAt, Keeps, KeepsAll}
+use Rattle.tree.specs.Rules.{rule8, rule12, rule13, underMap, standingBelow, KeepsAt, Keeps, KeepsAll}
 use Rattle.tree.specs.Faults.{broken, faults, runFaults}
 use Rattle.tree.specs.Judgement.{orElse, firstFault, deepness, tooDeep, unlawful}
-use Rattle.tree.specs.declared.place.Place.{Place}
-use Rattle.tree.specs.declared.place.Place.the-variants.{Root}
+use Rattle.tree.specs.declared.standing.Standing.{Standing}
+use Rattle.tree.specs.declared.standing.Standing.the-variants.{Root}
 use Rattle.refusal.specs.declared.answers.Refusal.{Refusal}
 
 pub firstFault-append : (k : ℕ) (ms ns : List ℕ) → firstFault k (ms ++ ns) ≡ orElse (firstFault k ms) (firstFault (k + length ms) ns)
@@ -51,7 +51,7 @@ zero-or-not zero k ns e = (refl, e)
 zero-or-not (suc n) k ns e = absurd (refused-not-lawful (refusal (suc n) k) e)
 
 -- the rule numbers of a node are all kept exactly where it breaks number 0
-pub keepsAt-broken : (p : Place) (s : SlotBytes) (fs : Fields) → KeepsAt p s fs → broken p s fs ≡ 0
+pub keepsAt-broken : (p : Standing) (s : SlotBytes) (fs : Fields) → KeepsAt p s fs → broken p s fs ≡ 0
 unfolding broken
 keepsAt-broken p s fs k = rw (k .shape, k .agreement, k .placement, k .decimals, k .lists, k .maps)
 
@@ -59,7 +59,7 @@ cond-zero : (b : Bool) (x m : ℕ) → cond b x (suc m) ≡ 0 → (b ≡ true) �
 cond-zero true x m e = (refl, e)
 cond-zero false x m e = absurd (omega arith)
 
-pub broken-keepsAt : (p : Place) (s : SlotBytes) (fs : Fields) → broken p s fs ≡ 0 → KeepsAt p s fs
+pub broken-keepsAt : (p : Standing) (s : SlotBytes) (fs : Fields) → broken p s fs ≡ 0 → KeepsAt p s fs
 unfolding broken
 broken-keepsAt p s fs e =
     let r8 = cond-zero (rule8 p s fs) _ 7 e in
@@ -74,10 +74,10 @@ mutual
   unfolding Keeps faults firstFault
 
   -- a tree that keeps every rule has no fault
-  pub keeps-no-fault : (t : Tree) (p : Place) (k : ℕ) → Keeps p t → firstFault k (faults p t) ≡ Lawful
-  keeps-no-fault (node s fs) p k h = rw (keepsAt-broken p s fs (h .0)) (keepsAll-no-fault fs (placeBelow p s) (suc k) (h .1))
+  pub keeps-no-fault : (t : Tree) (p : Standing) (k : ℕ) → Keeps p t → firstFault k (faults p t) ≡ Lawful
+  keeps-no-fault (node s fs) p k h = rw (keepsAt-broken p s fs (h .0)) (keepsAll-no-fault fs (standingBelow p s) (suc k) (h .1))
 
-  keepsAll-no-fault : (fs : Fields) (p : Place) (k : ℕ) → KeepsAll p fs → firstFault k (runFaults p fs) ≡ Lawful
+  keepsAll-no-fault : (fs : Fields) (p : Standing) (k : ℕ) → KeepsAll p fs → firstFault k (runFaults p fs) ≡ Lawful
   keepsAll-no-fault empty p k h = refl
   keepsAll-no-fault (field t fs) p k h =
       firstFault-append k (faults p t) (runFaults p fs)
@@ -87,12 +87,12 @@ mutual
   unfolding Keeps faults
 
   -- a tree with no fault keeps every rule
-  pub no-fault-keeps : (t : Tree) (p : Place) (k : ℕ) → firstFault k (faults p t) ≡ Lawful → Keeps p t
+  pub no-fault-keeps : (t : Tree) (p : Standing) (k : ℕ) → firstFault k (faults p t) ≡ Lawful → Keeps p t
   no-fault-keeps (node s fs) p k e =
-      let z = zero-or-not (broken p s fs) k (runFaults (placeBelow p s) fs) e in
-      (broken-keepsAt p s fs (z .0), no-fault-keepsAll fs (placeBelow p s) (suc k) (z .1))
+      let z = zero-or-not (broken p s fs) k (runFaults (standingBelow p s) fs) e in
+      (broken-keepsAt p s fs (z .0), no-fault-keepsAll fs (standingBelow p s) (suc k) (z .1))
 
-  no-fault-keepsAll : (fs : Fields) (p : Place) (k : ℕ) → firstFault k (runFaults p fs) ≡ Lawful → KeepsAll p fs
+  no-fault-keepsAll : (fs : Fields) (p : Standing) (k : ℕ) → firstFault k (runFaults p fs) ≡ Lawful → KeepsAll p fs
   no-fault-keepsAll empty p k e = tt
   no-fault-keepsAll (field t fs) p k e =
       let z = none-orElse _ _ (sym (firstFault-append k (faults p t) (runFaults p fs)) ∙ e) in

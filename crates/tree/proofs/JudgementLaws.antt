@@ -19,7 +19,7 @@ use Rattle.tree.specs.Faults.{faults}
 use Rattle.tree.specs.Reading.{treeOf}
 use Rattle.tree.specs.Judgement.{orElse, leftOver, missing, firstFault, deepness, tooDeep, unlawful, treeRefusal, judgedAs, judgement, judgedNodes, judgementOf}
 use Rattle.tree.specs.Steps.{Claimed, treeAt, runAt, lastOf, ruleWeight, faultFrom, firstOf, verdictOf, treeOrDeep, judgedTree, judgedOn, judgedRun, depthAt}
-use Rattle.tree.specs.declared.place.Place.{Place}
+use Rattle.tree.specs.declared.standing.Standing.{Standing}
 use Rattle.refusal.specs.declared.answers.Refusal.{Refusal}
 use Rattle.refusal.specs.declared.answers.Verdict.{Verdict}
 use Rattle.tree.specs.declared.judging.TreeJudged.{TreeJudged}
@@ -63,23 +63,23 @@ fault-verdict k (suc n ∷ ns) h =
 
 -- the whole tree judged
 module _ (t : Tree) where
-  root-deep : (k : ℕ) → judgedTree 0 (suc mostDepth) Place.Root t ≡ TreeJudged.Deep k → Verdict.Refused (refusal 7 k) ≡ orElse (tooDeep t) (unlawful t)
+  root-deep : (k : ℕ) → judgedTree 0 (suc mostDepth) Standing.Root t ≡ TreeJudged.Deep k → Verdict.Refused (refusal 7 k) ≡ orElse (tooDeep t) (unlawful t)
   unfolding judgedTree depthAt tooDeep
   root-deep k e = on (firstFault 0 (map deepness (depths 0 t))) refl e
     where
-      on : (v : Verdict) → firstFault 0 (map deepness (depths 0 t)) ≡ v → treeOrDeep v (TreeJudged.Judged (0 + size t) (lastOf 0 t) (faultFrom 0 (faults Place.Root t))) ≡ TreeJudged.Deep k → Verdict.Refused (refusal 7 k) ≡ orElse (firstFault 0 (map deepness (depths 0 t))) (unlawful t)
+      on : (v : Verdict) → firstFault 0 (map deepness (depths 0 t)) ≡ v → treeOrDeep v (TreeJudged.Judged (0 + size t) (lastOf 0 t) (faultFrom 0 (faults Standing.Root t))) ≡ TreeJudged.Deep k → Verdict.Refused (refusal 7 k) ≡ orElse (firstFault 0 (map deepness (depths 0 t))) (unlawful t)
       on Verdict.Lawful q w = absurd (unfold treeOrDeep in let z : _≡_ {A = ℕ} 0 1 = cc in omega arith)
       on (Verdict.Refused r) q w = unfold treeOrDeep orElse in rw q (let p : r .place ≡ k = cc in rw (← p) (deep-refusal (depths 0 t) 0 r q))
 
-  root-judged : size t ≤ ruleWeight → (next last f : ℕ) → judgedTree 0 (suc mostDepth) Place.Root t ≡ TreeJudged.Judged next last f → verdictOf f ≡ orElse (tooDeep t) (unlawful t)
+  root-judged : size t ≤ ruleWeight → (next last f : ℕ) → judgedTree 0 (suc mostDepth) Standing.Root t ≡ TreeJudged.Judged next last f → verdictOf f ≡ orElse (tooDeep t) (unlawful t)
   unfolding judgedTree depthAt tooDeep
   root-judged h next last f e = on (firstFault 0 (map deepness (depths 0 t))) refl e
     where
-      verdict : verdictOf (faultFrom 0 (faults Place.Root t)) ≡ firstFault 0 (faults Place.Root t)
-      verdict = fault-verdict 0 (faults Place.Root t) (omega (arith, length-faults t Place.Root))
+      verdict : verdictOf (faultFrom 0 (faults Standing.Root t)) ≡ firstFault 0 (faults Standing.Root t)
+      verdict = fault-verdict 0 (faults Standing.Root t) (omega (arith, length-faults t Standing.Root))
 
-      on : (u : Verdict) → firstFault 0 (map deepness (depths 0 t)) ≡ u → treeOrDeep u (TreeJudged.Judged (0 + size t) (lastOf 0 t) (faultFrom 0 (faults Place.Root t))) ≡ TreeJudged.Judged next last f → verdictOf f ≡ orElse (firstFault 0 (map deepness (depths 0 t))) (unlawful t)
-      on Verdict.Lawful q w = unfold treeOrDeep orElse unlawful in rw q (let p : faultFrom 0 (faults Place.Root t) ≡ f = cc in rw (← p) verdict)
+      on : (u : Verdict) → firstFault 0 (map deepness (depths 0 t)) ≡ u → treeOrDeep u (TreeJudged.Judged (0 + size t) (lastOf 0 t) (faultFrom 0 (faults Standing.Root t))) ≡ TreeJudged.Judged next last f → verdictOf f ≡ orElse (firstFault 0 (map deepness (depths 0 t))) (unlawful t)
+      on Verdict.Lawful q w = unfold treeOrDeep orElse unlawful in rw q (let p : faultFrom 0 (faults Standing.Root t) ≡ f = cc in rw (← p) verdict)
       on (Verdict.Refused r) q w = absurd (unfold treeOrDeep in let z : _≡_ {A = ℕ} 0 1 = cc in omega arith)
 
 root-at : (ss : List SlotBytes) {v : Verdict} → v ≡ orElse (tooDeep (treeAt ss 0)) (unlawful (treeAt ss 0)) → v ≡ orElse (tooDeep (treeOf ss)) (unlawful (treeOf ss))
@@ -90,25 +90,25 @@ module _ (b : List ℕ) (h : Claimed b) (l : 0 < totalOf b) where
   root : Tree
   root = treeAt (slots b) 0
 
-  root-run : judgedRun 0 (suc mostDepth) Place.Root (runAt (slots b) 0 1) ≡ runBy (judgedTree 0 (suc mostDepth) Place.Root root) (λ next within later. RunJudged.Judged next 0 within later)
+  root-run : judgedRun 0 (suc mostDepth) Standing.Root (runAt (slots b) 0 1) ≡ runBy (judgedTree 0 (suc mostDepth) Standing.Root root) (λ next within later. RunJudged.Judged next 0 within later)
   unfolding judgedRun root firstOf
   root-run =
-      ap (judgedOn 0 (suc mostDepth) Place.Root 0 0 0) (root-alone b h l)
-      ∙ judgedOn-field 0 (suc mostDepth) Place.Root 0 0 0 root empty
+      ap (judgedOn 0 (suc mostDepth) Standing.Root 0 0 0) (root-alone b h l)
+      ∙ judgedOn-field 0 (suc mostDepth) Standing.Root 0 0 0 root empty
       ∙ simp judgedOn-empty
 
-  pub run-deep : (k : ℕ) → judgedRun 0 (suc mostDepth) Place.Root (runAt (slots b) 0 1) ≡ RunJudged.Deep k → Verdict.Refused (refusal 7 k) ≡ orElse (tooDeep (treeOf (slots b))) (unlawful (treeOf (slots b)))
+  pub run-deep : (k : ℕ) → judgedRun 0 (suc mostDepth) Standing.Root (runAt (slots b) 0 1) ≡ RunJudged.Deep k → Verdict.Refused (refusal 7 k) ≡ orElse (tooDeep (treeOf (slots b))) (unlawful (treeOf (slots b)))
   unfolding runBy root
-  run-deep k e = root-at (slots b) (root-deep root k (on (judgedTree 0 (suc mostDepth) Place.Root root) (sym root-run ∙ e)))
+  run-deep k e = root-at (slots b) (root-deep root k (on (judgedTree 0 (suc mostDepth) Standing.Root root) (sym root-run ∙ e)))
     where
       on : (x : TreeJudged) → runBy x (λ next within later. RunJudged.Judged next 0 within later) ≡ RunJudged.Deep k → x ≡ TreeJudged.Deep k
       on (TreeJudged.Deep i) q = cc
       on (TreeJudged.Judged n w f) q = absurd (let z : _≡_ {A = ℕ} 0 1 = cc in omega arith)
 
-  pub run-judged : (next last inner f : ℕ) → judgedRun 0 (suc mostDepth) Place.Root (runAt (slots b) 0 1) ≡ RunJudged.Judged next last inner f → verdictOf f ≡ orElse (tooDeep (treeOf (slots b))) (unlawful (treeOf (slots b)))
+  pub run-judged : (next last inner f : ℕ) → judgedRun 0 (suc mostDepth) Standing.Root (runAt (slots b) 0 1) ≡ RunJudged.Judged next last inner f → verdictOf f ≡ orElse (tooDeep (treeOf (slots b))) (unlawful (treeOf (slots b)))
   unfolding runBy root
   run-judged next last inner f e =
-      root-at (slots b) (root-judged root small next inner f (on (judgedTree 0 (suc mostDepth) Place.Root root) (sym root-run ∙ e)))
+      root-at (slots b) (root-judged root small next inner f (on (judgedTree 0 (suc mostDepth) Standing.Root root) (sym root-run ∙ e)))
     where
       small : size root ≤ ruleWeight
       small = omega (arith, tree-within b 0 h l, h .most)
@@ -207,7 +207,7 @@ module _ (b : List ℕ) where
     pub judged-deep : AtMostDeep mostDepth (treeOf (slots b))
     judged-deep = none-atMostDeep (treeOf (slots b)) (none-orElse _ _ no-faults .0)
 
-    pub judged-keeps : Keeps Place.Root (treeOf (slots b))
+    pub judged-keeps : Keeps Standing.Root (treeOf (slots b))
     judged-keeps = none-keeps (treeOf (slots b)) (none-orElse _ _ no-faults .1)
 
     pub judged-listing : listing (treeOf (slots b)) ≡ slots b

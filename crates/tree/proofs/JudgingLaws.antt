@@ -7,11 +7,11 @@ use native.Mathlib.Nat.{add-zero, add-suc, suc-add}
 use borrow.Author.Tests.{le-leb}
 use lib.ListN.{length, length-append, length-map}
 use Rattle.tree.specs.Tree.{SlotBytes, Tree, Fields, node, empty, field, listing, listings, size, depths, runDepths, mostDepth}
-use Rattle.tree.specs.Rules.{placeBelow}
+use Rattle.tree.specs.Rules.{standingBelow}
 use Rattle.tree.specs.Faults.{broken, faults, runFaults}
 use Rattle.tree.specs.Judgement.{orElse, firstFault, deepness}
 use Rattle.tree.specs.Steps.{sizes, lastFrom, lastOf, innerFrom, ruleWeight, faultFrom, firstOf, depthAt, treeOrDeep, runOrDeep, judgedTree, judgedOn, judgedRun}
-use Rattle.tree.specs.declared.place.Place.{Place}
+use Rattle.tree.specs.declared.standing.Standing.{Standing}
 use Rattle.refusal.specs.declared.answers.Verdict.{Verdict}
 use Rattle.tree.specs.declared.judging.TreeJudged.{TreeJudged}
 use Rattle.tree.specs.declared.judging.RunJudged.{RunJudged}
@@ -31,10 +31,10 @@ mutual
 mutual
   unfolding faults size listing
 
-  pub length-faults : (t : Tree) (p : Place) → length (faults p t) ≡ size t
-  length-faults (node s fs) p = ap suc (length-runFaults fs (placeBelow p s))
+  pub length-faults : (t : Tree) (p : Standing) → length (faults p t) ≡ size t
+  length-faults (node s fs) p = ap suc (length-runFaults fs (standingBelow p s))
 
-  length-runFaults : (fs : Fields) (p : Place) → length (runFaults p fs) ≡ length (listings fs)
+  length-runFaults : (fs : Fields) (p : Standing) → length (runFaults p fs) ≡ length (listings fs)
   length-runFaults empty p = refl
   length-runFaults (field t fs) p = rw (length-append, length-append, length-faults t p, length-runFaults fs p)
 
@@ -64,7 +64,7 @@ faultFrom-append k (suc m ∷ ms) ns = sym (firstOf-some (ruleWeight * suc m + k
 -- a tree and its run -------------------------------------------------------------------------------------------------------
 
 -- a tree that has no level left is too deep
-pub judgedTree-deep : (at : ℕ) (p : Place) (t : Tree) → judgedTree at 0 p t ≡ TreeJudged.Deep at
+pub judgedTree-deep : (at : ℕ) (p : Standing) (t : Tree) → judgedTree at 0 p t ≡ TreeJudged.Deep at
 unfolding judgedTree treeOrDeep depthAt depths firstFault deepness
 judgedTree-deep at p (node s fs) = refl
 
@@ -98,13 +98,13 @@ deep-behind at l fs h = rw (not-deep l, deeper l h)
 node-end : (at : ℕ) (s : SlotBytes) (fs : Fields) → at + size (node s fs) ≡ suc at + sizes fs
 node-end at s fs = omega (arith, size-node s fs)
 
-pub judgedTree-node : (at l : ℕ) (p : Place) (s : SlotBytes) (fs : Fields) → suc l ≤ suc mostDepth → judgedTree at (suc l) p (node s fs) ≡ treeBy (broken p s fs) at (judgedRun (suc at) l (placeBelow p s) fs)
+pub judgedTree-node : (at l : ℕ) (p : Standing) (s : SlotBytes) (fs : Fields) → suc l ≤ suc mostDepth → judgedTree at (suc l) p (node s fs) ≡ treeBy (broken p s fs) at (judgedRun (suc at) l (standingBelow p s) fs)
 unfolding judgedTree judgedRun judgedOn depths faults lastOf firstOf
 judgedTree-node at l p s fs h = rw (deep-behind at l fs h, own-first, node-end) (tree-by _ _ _ _ _ _ _)
 
 -- a run and its first tree -------------------------------------------------------------------------------------------------
 
-pub judgedOn-empty : (at l : ℕ) (p : Place) (last inner f : ℕ) → judgedOn at l p last inner f empty ≡ RunJudged.Judged at last inner f
+pub judgedOn-empty : (at l : ℕ) (p : Standing) (last inner f : ℕ) → judgedOn at l p last inner f empty ≡ RunJudged.Judged at last inner f
 unfolding judgedOn runOrDeep runDepths firstFault sizes listings lastFrom innerFrom runFaults faultFrom
 judgedOn-empty at l p last inner f = rw (add-zero, firstOf-none)
 
@@ -124,7 +124,7 @@ deep-split at d t fs =
     (firstFault-append at (map deepness (depths d t)) (map deepness (runDepths d fs))
     ∙ rw (length-map, length-depths))
 
-fault-split : (at f : ℕ) (p : Place) (t : Tree) (fs : Fields) → firstOf f (faultFrom at (faults p t ++ runFaults p fs)) ≡ firstOf (firstOf f (faultFrom at (faults p t))) (faultFrom (at + size t) (runFaults p fs))
+fault-split : (at f : ℕ) (p : Standing) (t : Tree) (fs : Fields) → firstOf f (faultFrom at (faults p t ++ runFaults p fs)) ≡ firstOf (firstOf f (faultFrom at (faults p t))) (faultFrom (at + size t) (runFaults p fs))
 fault-split at f p t fs =
     ap (firstOf f) (faultFrom-append at (faults p t) (runFaults p fs) ∙ rw length-faults)
     ∙ sym (firstOf-assoc f (faultFrom at (faults p t)) (faultFrom (at + size t) (runFaults p fs)))
@@ -135,14 +135,14 @@ field-end at t fs = omega (arith, sizes-field t fs)
 run-parts : (a b : Verdict) (e f last inner v w : ℕ) → a ≡ b → e ≡ f → v ≡ w → runOrDeep a (RunJudged.Judged e last inner v) ≡ runOrDeep b (RunJudged.Judged f last inner w)
 run-parts a b e f last inner v w p q r = cc
 
-pub judgedOn-field : (at l : ℕ) (p : Place) (last inner f : ℕ) (t : Tree) (fs : Fields) → judgedOn at l p last inner f (field t fs) ≡ runBy (judgedTree at l p t) (λ next within later. judgedOn next l p at within (firstOf f later) fs)
+pub judgedOn-field : (at l : ℕ) (p : Standing) (last inner f : ℕ) (t : Tree) (fs : Fields) → judgedOn at l p last inner f (field t fs) ≡ runBy (judgedTree at l p t) (λ next within later. judgedOn next l p at within (firstOf f later) fs)
 unfolding judgedTree judgedOn runDepths runFaults lastFrom innerFrom
 judgedOn-field at l p last inner f t fs =
     run-parts _ _ _ _ _ _ _ _ (deep-split at (depthAt l) t fs) (field-end at t fs) (fault-split at f p t fs)
     ∙ run-by _ _ _ _ _ _ _ refl
 
 -- where a run is judged, the last field of its last field stands where it says
-pub judgedRun-inner : (at l : ℕ) (p : Place) (fs : Fields) (next last inner f : ℕ) → judgedRun at l p fs ≡ RunJudged.Judged next last inner f → inner ≡ innerFrom at at fs
+pub judgedRun-inner : (at l : ℕ) (p : Standing) (fs : Fields) (next last inner f : ℕ) → judgedRun at l p fs ≡ RunJudged.Judged next last inner f → inner ≡ innerFrom at at fs
 unfolding judgedRun judgedOn runOrDeep
 judgedRun-inner at l p fs next last inner f e = on (firstFault at (map deepness (runDepths (depthAt l) fs))) e
   where
@@ -150,7 +150,7 @@ judgedRun-inner at l p fs next last inner f e = on (firstFault at (map deepness 
     on Verdict.Lawful q = cc
     on (Verdict.Refused r) q = absurd (let z : _≡_ {A = ℕ} 0 1 = cc in omega arith)
 
-pub judgedTree-next : (at l : ℕ) (p : Place) (t : Tree) (next last f : ℕ) → judgedTree at l p t ≡ TreeJudged.Judged next last f → next ≡ at + size t
+pub judgedTree-next : (at l : ℕ) (p : Standing) (t : Tree) (next last f : ℕ) → judgedTree at l p t ≡ TreeJudged.Judged next last f → next ≡ at + size t
 unfolding judgedTree treeOrDeep
 judgedTree-next at l p t next last f e = on (firstFault at (map deepness (depths (depthAt l) t))) e
   where

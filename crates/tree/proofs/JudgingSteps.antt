@@ -9,35 +9,35 @@ use lib.ListN.{drop}
 use Rattle.sheet.specs.Slot.{slots, slotAt}
 use Rattle.sheet.specs.declared.slots.Slot.{Slot as Numbers}
 use Rattle.tree.specs.Tree.{Tree, node, count, size, mostDepth}
-use Rattle.tree.specs.Rules.{placeBelow}
+use Rattle.tree.specs.Rules.{standingBelow}
 use Rattle.tree.specs.Faults.{broken}
 use Rattle.tree.specs.Reading.{trees}
 use Rattle.tree.specs.Steps.{Claimed, Visited, treeAt, runAt, fieldsAt, innerFrom, faultFrom, firstOf, judgedTree, judgedOn, judgedRun}
-use Rattle.tree.specs.declared.place.Place.{Place}
+use Rattle.tree.specs.declared.standing.Standing.{Standing}
 use Rattle.tree.specs.declared.judging.TreeJudged.{TreeJudged}
 use Rattle.tree.specs.declared.judging.RunJudged.{RunJudged}
 use Rattle.tree.proofs.StandingLaws.{runAt-zero}
 use Rattle.tree.proofs.VisitLaws.{treeAt-slot, run-at, from-one, runAt-first, next-after, next-claimed}
 use Rattle.tree.proofs.JudgingLaws.{treeBy, runBy, judgedTree-deep, judgedTree-node, judgedOn-empty, judgedOn-field, judgedRun-inner, judgedTree-next}
 
-on-empty : (b : List ℕ) (at n l : ℕ) (p : Place) (last inner f : ℕ) → n ≡ 0 → RunJudged.Judged at last inner f ≡ judgedOn at l p last inner f (runAt (slots b) at n)
+on-empty : (b : List ℕ) (at n l : ℕ) (p : Standing) (last inner f : ℕ) → n ≡ 0 → RunJudged.Judged at last inner f ≡ judgedOn at l p last inner f (runAt (slots b) at n)
 on-empty b at n l p last inner f e = sym (rw (e, runAt-zero) (judgedOn-empty at l p last inner f))
 
-pub run-empty : (b : List ℕ) (at n l : ℕ) (p : Place) → n ≡ 0 → RunJudged.Judged at at at 0 ≡ judgedRun at l p (runAt (slots b) at n)
+pub run-empty : (b : List ℕ) (at n l : ℕ) (p : Standing) → n ≡ 0 → RunJudged.Judged at at at 0 ≡ judgedRun at l p (runAt (slots b) at n)
 unfolding judgedRun
 run-empty b at n l p e = on-empty b at n l p at at 0 e
 
 -- the fields of a run, judged up to one of them: what is found of them all is what was found so far and what the others find
-pub record Judging (b : List ℕ) (start n l : ℕ) (p : Place) (at left last inner f : ℕ) : Type 0 where
+pub record Judging (b : List ℕ) (start n l : ℕ) (p : Standing) (at left last inner f : ℕ) : Type 0 where
   pub reached : start ≤ at
   pub claimed : left ≤ count (trees (drop at (slots b)))
   pub found : judgedRun start l p (runAt (slots b) start n) ≡ judgedOn at l p last inner f (runAt (slots b) at left)
 
-pub judging-start : (b : List ℕ) (start n l : ℕ) (p : Place) → n ≤ count (trees (drop start (slots b))) → Judging b start n l p start n start start 0
+pub judging-start : (b : List ℕ) (start n l : ℕ) (p : Standing) → n ≤ count (trees (drop start (slots b))) → Judging b start n l p start n start start 0
 unfolding judgedRun
 judging-start b start n l p c = record { reached = le-refl start; claimed = c; found = refl }
 
-module _ (b : List ℕ) (start n l : ℕ) (p : Place) (at left last inner f : ℕ) (r : Judging b start n l p at left last inner f) where
+module _ (b : List ℕ) (start n l : ℕ) (p : Standing) (at left last inner f : ℕ) (r : Judging b start n l p at left last inner f) where
   pub judging-end : left ≡ 0 → RunJudged.Judged at last inner f ≡ judgedRun start l p (runAt (slots b) start n)
   judging-end e = on-empty b at left l p last inner f e ∙ sym (r .found)
 
@@ -62,12 +62,12 @@ module _ (b : List ℕ) (start n l : ℕ) (p : Place) (at left last inner f : �
           found = step ∙ rw (e, o, ← is);
         }
 
-pub tree-deep : (at l : ℕ) (p : Place) (t : Tree) → l ≡ 0 → TreeJudged.Deep at ≡ judgedTree at l p t
+pub tree-deep : (at l : ℕ) (p : Standing) (t : Tree) → l ≡ 0 → TreeJudged.Deep at ≡ judgedTree at l p t
 tree-deep at l p t e = sym (rw e (judgedTree-deep at p t))
 
 module _ (b : List ℕ) (at : ℕ) (s : Numbers) (v : Visited b at s) where
-  module _ (l : ℕ) (p q : Place) (w : q ≡ placeBelow p (slotAt b at)) (k : l ≡ 0 → ⊥) (m : l ≤ suc mostDepth) (r : RunJudged) (e : r ≡ judgedRun (at + 1) (l - 1) q (runAt (slots b) (at + 1) (s .children))) where
-    run-found : judgedRun (suc at) (l - 1) (placeBelow p (slotAt b at)) (fieldsAt b at) ≡ r
+  module _ (l : ℕ) (p q : Standing) (w : q ≡ standingBelow p (slotAt b at)) (k : l ≡ 0 → ⊥) (m : l ≤ suc mostDepth) (r : RunJudged) (e : r ≡ judgedRun (at + 1) (l - 1) q (runAt (slots b) (at + 1) (s .children))) where
+    run-found : judgedRun (suc at) (l - 1) (standingBelow p (slotAt b at)) (fieldsAt b at) ≡ r
     run-found = sym (e ∙ rw (run-at b at s (v .numbers), w, add-one))
 
     tree-step : judgedTree at l p (treeAt (slots b) at) ≡ treeBy (broken p (slotAt b at) (fieldsAt b at)) at r
@@ -83,23 +83,23 @@ module _ (b : List ℕ) (at : ℕ) (s : Numbers) (v : Visited b at s) where
 
     module _ (next last inner f : ℕ) (d : r ≡ RunJudged.Judged next last inner f) where
       pub tree-inner : inner ≡ innerFrom (suc at) (suc at) (fieldsAt b at)
-      tree-inner = judgedRun-inner (suc at) (l - 1) (placeBelow p (slotAt b at)) (fieldsAt b at) next last inner f (run-found ∙ d)
+      tree-inner = judgedRun-inner (suc at) (l - 1) (standingBelow p (slotAt b at)) (fieldsAt b at) next last inner f (run-found ∙ d)
 
       pub tree-judged : judgedTree at l p (treeAt (slots b) at) ≡ TreeJudged.Judged next last (firstOf (faultFrom at (broken p (slotAt b at) (fieldsAt b at) ∷ [])) f)
       unfolding treeBy
       tree-judged = tree-step ∙ rw d
 
--- what is left at a number with so many levels: the nodes from it on, and the levels
+-- what is left at a number with so many depths: the nodes from it on, and the depths
 abbrev pub remaining : ℕ → ℕ → ℕ → ℕ
-remaining total at levels = (total - at) + levels
+remaining total at allowed = (total - at) + allowed
 
--- the measures of the three calls: of the fields behind a tree's root, for which nodes and levels both fall; of the run of some fields; and of a tree of
+-- the measures of the three calls: of the fields behind a tree's root, for which nodes and depths both fall; of the run of some fields; and of a tree of
 -- a run that started earlier
-pub fields-falls : (total at levels t : ℕ) → at < total → (levels ≡ 0 → ⊥) → 3 * remaining total at levels ≡ t → 3 * remaining total (at + 1) (levels - 1) + 2 < t
-fields-falls total at levels t h k e = omega arith
+pub fields-falls : (total at allowed t : ℕ) → at < total → (allowed ≡ 0 → ⊥) → 3 * remaining total at allowed ≡ t → 3 * remaining total (at + 1) (allowed - 1) + 2 < t
+fields-falls total at allowed t h k e = omega arith
 
-pub run-falls : (total at levels t : ℕ) → 3 * remaining total at levels + 2 ≡ t → 3 * remaining total at levels + 1 < t
-run-falls total at levels t e = omega arith
+pub run-falls : (total at allowed t : ℕ) → 3 * remaining total at allowed + 2 ≡ t → 3 * remaining total at allowed + 1 < t
+run-falls total at allowed t e = omega arith
 
-pub tree-falls : (total start at levels t : ℕ) → start ≤ at → 3 * remaining total start levels + 1 ≡ t → 3 * remaining total at levels < t
-tree-falls total start at levels t h e = omega arith
+pub tree-falls : (total start at allowed t : ℕ) → start ≤ at → 3 * remaining total start allowed + 1 ≡ t → 3 * remaining total at allowed < t
+tree-falls total start at allowed t h e = omega arith

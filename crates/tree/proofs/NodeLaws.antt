@@ -22,10 +22,10 @@ use Rattle.annotation.specs.declared.resolution.Kind.{Kind}
 use Rattle.annotation.specs.declared.resolution.Resolution.{Resolution}
 use Rattle.tree.specs.Annotated.{annotatedBy, annotated, kind, rule9, rule10, rule11}
 use Rattle.tree.specs.Tree.{SlotBytes, Fields}
-use Rattle.tree.specs.Rules.{underMap, shape, rule8, isList, isMap, listKept, mapKept, rule12, rule13, placeUnder, placeBelow}
+use Rattle.tree.specs.Rules.{underMap, shape, rule8, isList, isMap, listKept, mapKept, rule12, rule13, standingUnder, standingBelow}
 use Rattle.tree.specs.Faults.{broken}
 use Rattle.tree.specs.Steps.{Visited, fieldsAt, brokenTo12, brokenWith13, listBroken}
-use Rattle.tree.specs.declared.place.Place.{Place}
+use Rattle.tree.specs.declared.standing.Standing.{Standing}
 use Rattle.tree.proofs.VisitLaws.{count-fieldsAt}
 
 -- the number of a resolution's refusal, or what its kind breaks
@@ -55,7 +55,7 @@ unfolding listBroken
 listBroken-kind n u s fs = rw (written-kind logical.LIST refl refl refl n u)
 
 -- rules 9 to 12 by the resolution of a slot's annotations
-to12-by : (p : Place) (s : SlotBytes) (fs : Fields) → brokenTo12 p s fs ≡ cond (rule8 p s fs) (brokenBy (resolutionOf (annotated s) (underMap p)) (λ k. listBroken (k .kind) s fs)) 8
+to12-by : (p : Standing) (s : SlotBytes) (fs : Fields) → brokenTo12 p s fs ≡ cond (rule8 p s fs) (brokenBy (resolutionOf (annotated s) (underMap p)) (λ k. listBroken (k .kind) s fs)) 8
 unfolding brokenTo12 rule9 rule10 rule11 rule12 isList kind listBroken resolutionOf
 to12-by p s fs =
     ap (λ (n : ℕ). cond (rule8 p s fs) n 8)
@@ -70,23 +70,23 @@ with13-cases true true false d e m = refl
 with13-cases true false c d e m = refl
 with13-cases false b c d e m = refl
 
-under-place : (b : Bool) → underMap (cond b Place.MapField Place.Field) ≡ b
+under-place : (b : Bool) → underMap (cond b Standing.MapField Standing.Field) ≡ b
 under-place true = refl
 under-place false = refl
 
 -- a node's fields are under a MAP where it is one
-pub under-below : (p : Place) (s : SlotBytes) → underMap (placeBelow p s) ≡ isMap p s
-unfolding placeBelow isMap
+pub under-below : (p : Standing) (s : SlotBytes) → underMap (standingBelow p s) ≡ isMap p s
+unfolding standingBelow isMap
 under-below p s = under-place (eqb (kind (underMap p) s .kind) logical.MAP)
 
-broken-with13 : (p : Place) (s : SlotBytes) (fs : Fields) → brokenWith13 (brokenTo12 p s fs) (placeBelow p s) s fs ≡ broken p s fs
+broken-with13 : (p : Standing) (s : SlotBytes) (fs : Fields) → brokenWith13 (brokenTo12 p s fs) (standingBelow p s) s fs ≡ broken p s fs
 unfolding brokenWith13 brokenTo12 broken rule13
 broken-with13 p s fs =
     rw under-below
     (with13-cases (rule8 p s fs) (rule9 s) (rule10 (underMap p) s) (rule11 (underMap p) s) (rule12 p s fs) (not (isMap p s) || mapKept s fs))
 
 -- by what the code finds before and behind the node's run
-pub own-is : (p q : Place) (s : SlotBytes) (fs : Fields) (least own : ℕ) → least ≡ brokenTo12 p s fs → q ≡ placeBelow p s → own ≡ brokenWith13 least q s fs → own ≡ broken p s fs
+pub own-is : (p q : Standing) (s : SlotBytes) (fs : Fields) (least own : ℕ) → least ≡ brokenTo12 p s fs → q ≡ standingBelow p s → own ≡ brokenWith13 least q s fs → own ≡ broken p s fs
 own-is p q s fs least own e d o = o ∙ rw (e, d) (broken-with13 p s fs)
 
 cond-most : {x y : ℕ} (b : Bool) → x ≤ 13 → y ≤ 13 → cond b x y ≤ 13
@@ -94,14 +94,14 @@ cond-most true h k = h
 cond-most false h k = k
 
 -- the greatest number of a rule
-pub broken-most : (p : Place) (s : SlotBytes) (fs : Fields) → broken p s fs ≤ 13
+pub broken-most : (p : Standing) (s : SlotBytes) (fs : Fields) → broken p s fs ≤ 13
 unfolding broken
 broken-most p s fs =
     let r13 : cond (rule13 p s fs) 0 13 ≤ 13 = cond-most (rule13 p s fs) (omega arith) (omega arith) in
     let r12 : cond (rule12 p s fs) (cond (rule13 p s fs) 0 13) 12 ≤ 13 = cond-most (rule12 p s fs) r13 (omega arith) in
     cond-most (rule8 p s fs) (cond-most (rule9 s) (cond-most (rule10 (underMap p) s) (cond-most (rule11 (underMap p) s) r12 (omega arith)) (omega arith)) (omega arith)) (omega arith)
 
-module _ (b : List ℕ) (at : ℕ) (s : Numbers) (p : Place) (v : Visited b at s) where
+module _ (b : List ℕ) (at : ℕ) (s : Numbers) (p : Standing) (v : Visited b at s) where
   shape-is : rule8 p (slotAt b at) (fieldsAt b at) ≡ shape p s (s .children)
   unfolding rule8 numbersOf
   shape-is =
@@ -127,11 +127,11 @@ module _ (b : List ℕ) (at : ℕ) (s : Numbers) (p : Place) (v : Visited b at s
         ∙ sym (to12-judged ∙ brokenBy-resolved (annotatedBy s) (underMap p) _ (sym d ∙ z))
 
   -- the place of a node's fields
-  pub placeBelow-is : (logical : ℕ) → logical ≡ writtenOf (annotatedBy s) (underMap p) .logical → placeUnder logical ≡ placeBelow p (slotAt b at)
-  unfolding placeBelow kind annotated
-  placeBelow-is code w =
-      ap placeUnder w
-      ∙ ap (λ (t : Bool). cond t Place.MapField Place.Field) (written-kind logical.MAP refl refl refl (annotatedBy s) (underMap p))
+  pub standingBelow-is : (logical : ℕ) → logical ≡ writtenOf (annotatedBy s) (underMap p) .logical → standingUnder logical ≡ standingBelow p (slotAt b at)
+  unfolding standingBelow kind annotated
+  standingBelow-is code w =
+      ap standingUnder w
+      ∙ ap (λ (t : Bool). cond t Standing.MapField Standing.Field) (written-kind logical.MAP refl refl refl (annotatedBy s) (underMap p))
       ∙ rw (v .numbers)
 
 -- rule 12 at a kind

@@ -7,9 +7,10 @@ use native.Mathlib.Nat.{eq-or-lt-of-le}
 use native.Mathlib.Numerals.{add-one}
 use mathlib.Core.List.{List}
 use native.Mathlib.Omega.{arith}
-use borrow.Author.Tests.{eq-eqb, ne-eqb}
+use borrow.Author.Tests.{eq-eqb, ne-eqb, eqb-true, eqb-false, le-leb}
 use lib.ListN.{drop}
-use lib.Dec.{eqb}
+use lib.Dec.{leb, eqb}
+use Rattle.laws.proofs.BoolLaws.{by-test}
 use Rattle.sheet.specs.Block.{totalOf}
 use Rattle.sheet.specs.Slot.{physical, repetition, childCount, slots, slotAt}
 use Rattle.sheet.specs.declared.slots.Slot.{Slot as Numbers}
@@ -20,6 +21,8 @@ use Rattle.tree.specs.Steps.{Claimed, Visited, treeAt, runAt, fieldsAt, 
 use Rattle.tree.proofs.StandingLaws.{runAt-suc, runAt-zero, runAt-end, size-positive}
 use Rattle.tree.proofs.VisitLaws.{treeAt-slot, count-fieldsAt, fieldsAt-first, first-below, rest-claimed, repetition-at, physical-at, children-at}
 use Rattle.tree.specs.Tree.{SlotBytes, Tree, Fields, node, empty, field, count, size}
+use Rattle.tree.specs.Layer.{layerOf, isElementBy, holdsBy}
+use Rattle.tree.specs.declared.layer.Layer.{Layer}
 use Rattle.tree.specs.Rules.{isGroup, isRequiredOrOptional, namedElement, isRepeated, isElementGroup, holdsElement, listChild, listRun, listKept, keyValue, mapRun, mapKept}
 
 -- a run by how many fields it has
@@ -57,27 +60,9 @@ module _ (list s : SlotBytes) (fs : Fields) where
     unfolding listChild
     listChild-leaf g = rw (r, g)
 
-    module _ (g : isGroup (physical s) ≡ true) where
-      pub listChild-none : count fs ≡ 0 → listChild list (node s fs) ≡ false
-      unfolding listChild isElementGroup holdsElement
-      listChild-none e = rw (r, g, run-none fs e)
-
-      pub listChild-many : 2 ≤ count fs → listChild list (node s fs) ≡ true
-      unfolding listChild isElementGroup
-      listChild-many h = rw (r, g, run-many fs h .3)
-
-      module _ (t : SlotBytes) (gs : Fields) (e : fs ≡ field (node t gs) empty) where
-        pub listChild-repeated : eqb (repetition t) REPEATED ≡ true → listChild list (node s fs) ≡ true
-        unfolding listChild isElementGroup isRepeated
-        listChild-repeated q = rw (r, g, e, q, or-true)
-
-        pub listChild-held : isRequiredOrOptional (repetition t) ≡ true → listChild list (node s fs) ≡ true
-        unfolding listChild holdsElement
-        listChild-held q = rw (r, g, e, q, or-true)
-
-        pub listChild-named : eqb (repetition t) REPEATED ≡ false → isRequiredOrOptional (repetition t) ≡ false → listChild list (node s fs) ≡ namedElement list s
-        unfolding listChild isElementGroup isRepeated holdsElement
-        listChild-named q n = rw (r, g, e, q, n, or-false (namedElement list s || false)) (or-false (namedElement list s))
+    pub listChild-group : isGroup (physical s) ≡ true → listChild list (node s fs) ≡ (isElementGroup list s fs || holdsElement fs)
+    unfolding listChild
+    listChild-group g = rw (r, g)
 
 -- a MAP has one child
 pub mapRun-none : (fs : Fields) → count fs ≡ 0 → mapRun fs ≡ false
@@ -156,6 +141,32 @@ module _ (b : List ℕ) (at : ℕ) (s : Numbers) (v : Visited b at s) where
       fieldsAt-first b at (v .claimed) (v .below) 0 claim
       ∙ rw (treeAt-slot b (suc at) (v .claimed) (first-below b at (v .claimed) (v .below) 0 claim), runAt-zero)
 
+  -- what is read of a LIST's repeated group tells whether it is the element, and whether its one field is
+
+  abbrev layer-at : Layer
+  layer-at = layerOf (s .children) (repetition (slotAt b (suc at)))
+
+  several : (s .children ≡ 0 → ⊥) → (s .children ≡ 1 → ⊥) → 2 ≤ count (fieldsAt b at)
+  several p q = omega (arith, own-count)
+
+  pub element-at : (list : SlotBytes) → isElementGroup list (slotAt b at) (fieldsAt b at) ≡ isElementBy layer-at (namedElement list (slotAt b at))
+  unfolding isElementGroup isRepeated layerOf isElementBy
+  element-at list =
+      by-test (eqb (s .children) 0) (λ z. rw (z, run-none (fieldsAt b at) (own-count ∙ eqb-true (s .children) 0 z)))
+      (λ z. by-test (eqb (s .children) 1)
+      (λ q. rw (z, q, only-field (eqb-true (s .children) 1 q))
+      (by-test (eqb (repetition (slotAt b (suc at))) REPEATED) (λ r. rw (r, or-true)) (λ r. rw (r, or-false))))
+      (λ q. rw (z, q, run-many (fieldsAt b at) (several (eqb-false (s .children) 0 z) (eqb-false (s .children) 1 q)) .3)))
+
+  pub held-at : holdsElement (fieldsAt b at) ≡ holdsBy layer-at (repetition (slotAt b (suc at)))
+  unfolding holdsElement layerOf holdsBy
+  held-at =
+      by-test (eqb (s .children) 0) (λ z. rw (z, run-none (fieldsAt b at) (own-count ∙ eqb-true (s .children) 0 z)))
+      (λ z. by-test (eqb (s .children) 1)
+      (λ q. rw (z, q, only-field (eqb-true (s .children) 1 q))
+      (by-test (eqb (repetition (slotAt b (suc at))) REPEATED) (λ r. rw (r, eqb-true (repetition (slotAt b (suc at))) REPEATED r)) (λ r. rw r)))
+      (λ q. let m = run-many (fieldsAt b at) (several (eqb-false (s .children) 0 z) (eqb-false (s .children) 1 q)) in rw (z, q, m .3, node-parts (m .0) .2)))
+
 -- rule 12 at the child of a LIST, and rule 13 at the child of a MAP: no repeated group
 module _ (b : List ℕ) (layer : ℕ) (s : Numbers) (v : Visited b layer s) where
   pub child-single : (list : SlotBytes) → (s .repetition ≡ REPEATED → ⊥) → false ≡ listChild list (treeAt (slots b) layer)
@@ -200,21 +211,10 @@ module _ (b : List ℕ) (layer : ℕ) (s : Numbers) (w : RepeatedGroup b layer s
 
   -- rule 12
   module _ (list : SlotBytes) where
-    pub child-none : s .children ≡ 0 → false ≡ listChild list (treeAt (slots b) layer)
-    child-none q = sym (rw tree-here (listChild-none list (slotAt b layer) fields is-repeated is-group (count-is ∙ q)))
-
-    pub child-many : (s .children ≡ 0 → ⊥) → (s .children ≡ 1 → ⊥) → true ≡ listChild list (treeAt (slots b) layer)
-    child-many p q = sym (rw tree-here (listChild-many list (slotAt b layer) fields is-repeated is-group (omega (arith, count-is))))
-
-    module _ (q : s .children ≡ 1) where
-      pub child-repeated : repetition (slotAt b (suc layer)) ≡ REPEATED → true ≡ listChild list (treeAt (slots b) layer)
-      child-repeated n = sym (rw tree-here (listChild-repeated list (slotAt b layer) fields is-repeated is-group (slotAt b (suc layer)) (fieldsAt b (suc layer)) (only-field b layer s (w .visited) q) (eq-eqb _ _ n)))
-
-      pub child-held : isRequiredOrOptional (repetition (slotAt b (suc layer))) ≡ true → true ≡ listChild list (treeAt (slots b) layer)
-      child-held n = sym (rw tree-here (listChild-held list (slotAt b layer) fields is-repeated is-group (slotAt b (suc layer)) (fieldsAt b (suc layer)) (only-field b layer s (w .visited) q) n))
-
-      pub child-named : (repetition (slotAt b (suc layer)) ≡ REPEATED → ⊥) → isRequiredOrOptional (repetition (slotAt b (suc layer))) ≡ false → listChild list (treeAt (slots b) layer) ≡ namedElement list (slotAt b layer)
-      child-named n m = rw tree-here (listChild-named list (slotAt b layer) fields is-repeated is-group (slotAt b (suc layer)) (fieldsAt b (suc layer)) (only-field b layer s (w .visited) q) (ne-eqb _ _ n) m)
+    pub child-by : listChild list (treeAt (slots b) layer) ≡ (isElementBy (layer-at b layer s (w .visited)) (namedElement list (slotAt b layer)) || holdsBy (layer-at b layer s (w .visited)) (repetition (slotAt b (suc layer))))
+    child-by =
+        rw (tree-here, ← element-at b layer s (w .visited) list, ← held-at b layer s (w .visited))
+        (listChild-group list (slotAt b layer) fields is-repeated is-group)
 
   -- rule 13
   layer-group : mapRun (field (treeAt (slots b) layer) empty) ≡ keyValue fields

@@ -4,11 +4,11 @@ use mathlib.Core.Bool.{cond}
 use mathlib.Core.List.{List, [], _∷_, _++_}
 use Rattle.tree.specs.Annotated.{rule9, rule10, rule11}
 use Rattle.tree.specs.Tree.{SlotBytes, Tree, Fields, node, empty, field}
-use Rattle.tree.specs.Rules.{underMap, placeBelow, rule8, rule12, rule13}
-use Rattle.tree.specs.declared.place.Place.{Place}
+use Rattle.tree.specs.Rules.{underMap, standingBelow, rule8, rule12, rule13}
+use Rattle.tree.specs.declared.standing.Standing.{Standing}
 
 -- the least number of a rule that a node breaks, and 0 where it keeps them all
-unfoldable pub broken : Place → SlotBytes → Fields → ℕ
+unfoldable pub broken : Standing → SlotBytes → Fields → ℕ
 broken p s fs =
     cond (rule8 p s fs)
     (cond (rule9 s)
@@ -19,9 +19,9 @@ broken p s fs =
 
 -- what each node breaks, in listing order
 unfoldable mutual
-  pub faults : Place → Tree → List ℕ
-  faults p (node s fs) = broken p s fs ∷ runFaults (placeBelow p s) fs
+  pub faults : Standing → Tree → List ℕ
+  faults p (node s fs) = broken p s fs ∷ runFaults (standingBelow p s) fs
 
-  pub runFaults : Place → Fields → List ℕ
+  pub runFaults : Standing → Fields → List ℕ
   runFaults p empty = []
   runFaults p (field t fs) = faults p t ++ runFaults p fs

@@ -13,7 +13,7 @@ use Rattle.tree.specs.Tree.{SlotBytes, Tree, depths, mostDepth}
 use Rattle.tree.specs.Faults.{faults}
 use Rattle.tree.specs.Reading.{treeOf}
 use Rattle.tree.specs.OpenPlaces.{openPlaces, isNoPlace}
-use Rattle.tree.specs.declared.place.Place.the-variants.{Root}
+use Rattle.tree.specs.declared.standing.Standing.the-variants.{Root}
 use Rattle.refusal.specs.declared.answers.Verdict.{Verdict}
 use Rattle.refusal.specs.declared.answers.Counted.{Counted}
 

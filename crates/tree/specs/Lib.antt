@@ -2,6 +2,7 @@
 pub mod Annotated
 pub mod Tree
 pub mod Rules
+pub mod Layer
 pub mod Reading
 pub mod OpenPlaces
 pub mod Faults

@@ -17,8 +17,8 @@ use Rattle.parquet.specs.Converted as converted
 use Rattle.parquet.specs.Logical as logical
 use Rattle.tree.specs.Annotated.{kind, rule9, rule10, rule11}
 use Rattle.tree.specs.Tree.{SlotBytes, Tree, Fields, node, empty, field, count}
-use Rattle.tree.specs.declared.place.Place.{Place}
-use Rattle.tree.specs.declared.place.Place.the-variants.{Root, Field, MapField}
+use Rattle.tree.specs.declared.standing.Standing.{Standing}
+use Rattle.tree.specs.declared.standing.Standing.the-variants.{Root, Field, MapField}
 
 -- "A node is a group where its physical is 255, else a leaf"
 abbrev pub isGroup : ℕ → Bool
@@ -28,33 +28,33 @@ isGroup code = eqb code physical.GROUP
 abbrev pub isRequiredOrOptional : ℕ → Bool
 isRequiredOrOptional code = eqb code REQUIRED || eqb code OPTIONAL
 
--- where a node stands, as far as the rules look above it (`Place`): it is the `Root`, a `Field` of a node that is no resolved MAP, or a `MapField`,
+-- where a node stands, as far as the rules look above it (`Standing`): it is the `Root`, a `Field` of a node that is no resolved MAP, or a `MapField`,
 -- a field of one. Whether its parent is a resolved MAP:
-abbrev pub underMap : Place → Bool
+abbrev pub underMap : Standing → Bool
 underMap Root = false
 underMap Field = false
 underMap MapField = true
 
 -- a node's resolved kind is LIST; is MAP
-unfoldable pub isList : Place → SlotBytes → Bool
+unfoldable pub isList : Standing → SlotBytes → Bool
 isList p s = eqb (kind (underMap p) s .kind) logical.LIST
 
-unfoldable pub isMap : Place → SlotBytes → Bool
+unfoldable pub isMap : Standing → SlotBytes → Bool
 isMap p s = eqb (kind (underMap p) s .kind) logical.MAP
 
 -- the place of the fields of a node of some kind
-abbrev pub placeUnder : ℕ → Place
-placeUnder code = cond (eqb code logical.MAP) MapField Field
+abbrev pub standingUnder : ℕ → Standing
+standingUnder code = cond (eqb code logical.MAP) MapField Field
 
-unfoldable pub placeBelow : Place → SlotBytes → Place
-placeBelow p s = placeUnder (kind (underMap p) s .kind)
+unfoldable pub standingBelow : Standing → SlotBytes → Standing
+standingBelow p s = standingUnder (kind (underMap p) s .kind)
 
 -- the resolved kind that the rules take each node of a tree for, in listing order
 unfoldable mutual
-  pub judgedKinds : Place → Tree → List Kind
-  judgedKinds p (node s fs) = kind (underMap p) s ∷ runKinds (placeBelow p s) fs
+  pub judgedKinds : Standing → Tree → List Kind
+  judgedKinds p (node s fs) = kind (underMap p) s ∷ runKinds (standingBelow p s) fs
 
-  pub runKinds : Place → Fields → List Kind
+  pub runKinds : Standing → Fields → List Kind
   runKinds p empty = []
   runKinds p (field t fs) = judgedKinds p t ++ runKinds p fs
 
@@ -69,10 +69,10 @@ abbrev pub fieldShape : ℕ → ℕ → ℕ → Bool
 fieldShape ph rep children = not (eqb rep repetition.NONE) && cond (isGroup ph) (leb 1 children) (eqb children 0)
 
 -- of a node's numbers and how many fields it has
-abbrev pub placeShape : Place → Numbers → ℕ → Bool
-placeShape Root n children = rootShape (n .physical) (n .repetition) (n .converted) (n .logical)
-placeShape Field n children = fieldShape (n .physical) (n .repetition) children
-placeShape MapField n children = fieldShape (n .physical) (n .repetition) children
+abbrev pub standingShape : Standing → Numbers → ℕ → Bool
+standingShape Root n children = rootShape (n .physical) (n .repetition) (n .converted) (n .logical)
+standingShape Field n children = fieldShape (n .physical) (n .repetition) children
+standingShape MapField n children = fieldShape (n .physical) (n .repetition) children
 
 -- an integer is 0
 unfoldable pub isNought : ℤ → Bool
@@ -87,12 +87,12 @@ lengthShape ph length = cond (eqb ph physical.FIXED-LEN-BYTE-ARRAY) (leZ (pos 1)
 unfoldable pub decimalShape : ℕ → ℕ → ℤ → ℤ → Bool
 decimalShape conv log sc pr = (eqb conv converted.DECIMAL || eqb log logical.DECIMAL) || (isNought sc && isNought pr)
 
-unfoldable pub shape : Place → Numbers → ℕ → Bool
+unfoldable pub shape : Standing → Numbers → ℕ → Bool
 shape p n children =
-    placeShape p n children && lengthShape (n .physical) (n .«type_length») && decimalShape (n .converted) (n .logical) (n .scale) (n .precision)
+    standingShape p n children && lengthShape (n .physical) (n .«type_length») && decimalShape (n .converted) (n .logical) (n .scale) (n .precision)
 
 -- rule 8
-unfoldable pub rule8 : Place → SlotBytes → Fields → Bool
+unfoldable pub rule8 : Standing → SlotBytes → Fields → Bool
 rule8 p s fs = shape p (numbersOf s) (count fs)
 
 -- rule 12 ----------------------------------------------------------------------------------------------------------------
@@ -140,7 +140,7 @@ unfoldable pub listKept : SlotBytes → Fields → Bool
 listKept s fs = isRequiredOrOptional (repetition s) && listRun s fs
 
 -- rule 12
-unfoldable pub rule12 : Place → SlotBytes → Fields → Bool
+unfoldable pub rule12 : Standing → SlotBytes → Fields → Bool
 rule12 p s fs = not (isList p s) || listKept s fs
 
 -- rule 13 ----------------------------------------------------------------------------------------------------------------
@@ -163,13 +163,13 @@ unfoldable pub mapKept : SlotBytes → Fields → Bool
 mapKept s fs = isRequiredOrOptional (repetition s) && mapRun fs
 
 -- rule 13
-unfoldable pub rule13 : Place → SlotBytes → Fields → Bool
+unfoldable pub rule13 : Standing → SlotBytes → Fields → Bool
 rule13 p s fs = not (isMap p s) || mapKept s fs
 
 -- every rule -------------------------------------------------------------------------------------------------------------
 
 -- a node keeps every rule
-pub record KeepsAt (p : Place) (s : SlotBytes) (fs : Fields) : Type 0 where
+pub record KeepsAt (p : Standing) (s : SlotBytes) (fs : Fields) : Type 0 where
   pub shape : rule8 p s fs ≡ true
   pub agreement : rule9 s ≡ true
   pub placement : rule10 (underMap p) s ≡ true
@@ -179,9 +179,9 @@ pub record KeepsAt (p : Place) (s : SlotBytes) (fs : Fields) : Type 0 where
 
 -- a tree keeps every rule at every node
 unfoldable mutual
-  pub Keeps : Place → Tree → Type 0
-  Keeps p (node s fs) = KeepsAt p s fs × KeepsAll (placeBelow p s) fs
+  pub Keeps : Standing → Tree → Type 0
+  Keeps p (node s fs) = KeepsAt p s fs × KeepsAll (standingBelow p s) fs
 
-  pub KeepsAll : Place → Fields → Type 0
+  pub KeepsAll : Standing → Fields → Type 0
   KeepsAll p empty = Unit {0}
   KeepsAll p (field t fs) = Keeps p t × KeepsAll p fs

@@ -16,7 +16,7 @@ use Rattle.tree.specs.Faults.{faults, runFaults}
 use Rattle.tree.specs.Reading.{trees, takeFields, firstTree}
 use Rattle.parquet.specs.Logical as logical
 use Rattle.tree.specs.Judgement.{deepness, firstFault}
-use Rattle.tree.specs.declared.place.Place.{Place}
+use Rattle.tree.specs.declared.standing.Standing.{Standing}
 use Rattle.refusal.specs.declared.answers.Verdict.{Verdict}
 use Rattle.tree.specs.declared.judging.TreeJudged.{TreeJudged}
 use Rattle.tree.specs.declared.judging.RunJudged.{RunJudged}
@@ -82,9 +82,9 @@ firstOf (suc f) g = suc f
 unfoldable pub verdictOf : ℕ → Verdict
 verdictOf f = cond (eqb f 0) Verdict.Lawful (Verdict.Refused (refusal (f / ruleWeight) (f % ruleWeight)))
 
--- the depth at which so many levels are left
+-- the depth at which so many are allowed from there on
 unfoldable pub depthAt : ℕ → ℕ
-depthAt levels = suc mostDepth - levels
+depthAt allowed = suc mostDepth - allowed
 
 unfoldable pub treeOrDeep : Verdict → TreeJudged → TreeJudged
 treeOrDeep Verdict.Lawful found = found
@@ -95,22 +95,22 @@ runOrDeep Verdict.Lawful found = found
 runOrDeep (Verdict.Refused r) found = RunJudged.Deep (r .place)
 
 -- what judging finds of a tree whose root has the number `at`
-unfoldable pub judgedTree : ℕ → ℕ → Place → Tree → TreeJudged
-judgedTree at levels p t =
-    treeOrDeep (firstFault at (map deepness (depths (depthAt levels) t))) (TreeJudged.Judged (at + size t) (lastOf at t) (faultFrom at (faults p t)))
+unfoldable pub judgedTree : ℕ → ℕ → Standing → Tree → TreeJudged
+judgedTree at allowed p t =
+    treeOrDeep (firstFault at (map deepness (depths (depthAt allowed) t))) (TreeJudged.Judged (at + size t) (lastOf at t) (faultFrom at (faults p t)))
 
 -- and of a run whose next field has it, where a last field, that field's last field and a first fault were found before
-unfoldable pub judgedOn : ℕ → ℕ → Place → ℕ → ℕ → ℕ → Fields → RunJudged
-judgedOn at levels p last inner fault fs =
-    runOrDeep (firstFault at (map deepness (runDepths (depthAt levels) fs)))
+unfoldable pub judgedOn : ℕ → ℕ → Standing → ℕ → ℕ → ℕ → Fields → RunJudged
+judgedOn at allowed p last inner fault fs =
+    runOrDeep (firstFault at (map deepness (runDepths (depthAt allowed) fs)))
     (RunJudged.Judged (at + sizes fs) (lastFrom last at fs) (innerFrom inner at fs) (firstOf fault (faultFrom at (runFaults p fs))))
 
 -- and of a whole run
-unfoldable pub judgedRun : ℕ → ℕ → Place → Fields → RunJudged
-judgedRun at levels p fs = judgedOn at levels p at at 0 fs
+unfoldable pub judgedRun : ℕ → ℕ → Standing → Fields → RunJudged
+judgedRun at allowed p fs = judgedOn at allowed p at at 0 fs
 
 -- the least of rules 8 to 12 that a node breaks, and 0 where it keeps them all
-unfoldable pub brokenTo12 : Place → SlotBytes → Fields → ℕ
+unfoldable pub brokenTo12 : Standing → SlotBytes → Fields → ℕ
 brokenTo12 p s fs =
     cond (rule8 p s fs)
     (cond (rule9 s)
@@ -119,7 +119,7 @@ brokenTo12 p s fs =
     (cond (rule12 p s fs) 0 12) 11) 10) 9) 8
 
 -- the least of all rules, where that is the least of rules 8 to 12 and the node's fields have such a place
-unfoldable pub brokenWith13 : ℕ → Place → SlotBytes → Fields → ℕ
+unfoldable pub brokenWith13 : ℕ → Standing → SlotBytes → Fields → ℕ
 brokenWith13 least below s fs = cond (eqb least 0) (cond (not (underMap below) || mapKept s fs) 0 13) least
 
 -- which rule, 12 or none, a node of some logical type breaks there

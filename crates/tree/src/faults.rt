@@ -8,12 +8,11 @@ ghost use Rattle.annotation.specs.Rewriting.{writtenOf};
 ghost use Rattle.tree.specs.Annotated.{annotatedBy};
 ghost use Rattle.tree.specs.Rules.{underMap};
 ghost use Rattle.tree.specs.Steps.{Claimed, Visited, fieldsAt, innerFrom, brokenTo12, brokenWith13, listBroken};
-use crate::place::Place;
-use crate::place::under_map;
 use crate::shape::shape_kept;
+use crate::standing::Standing;
+use crate::standing::under_map;
 use crate::structure::list_kept;
 use crate::structure::map_kept;
-use annotation::Annotated;
 use annotation::Judged;
 use parquet::logical;
 use refusal::numbers;
@@ -30,13 +29,19 @@ const BAD_MAP: u32 = numbers::BAD_MAP as u32;
 pub(crate) const KEPT: u32 = 0;
 
 // The number of the first of rules 8 to 12 that the node at a number breaks, or KEPT. Its annotations are judged so.
-pub(crate) fn broken_to_12(sheet: &[u8], at: usize, place: Place, s: Slot, judged: Judged) -> u32
+pub(crate) fn broken_to_12(
+    sheet: &[u8],
+    at: usize,
+    standing: Standing,
+    s: Slot,
+    judged: Judged,
+) -> u32
     requires { ⌜ Visited (now sheet) at s ⌝ }
-    requires { ⌜ judged .refusal ≡ refusalOf (resolutionOf (annotatedBy s) (underMap place)) ⌝ }
-    requires { ⌜ judged .logical ≡ writtenOf (annotatedBy s) (underMap place) .logical ⌝ }
-    ensures { λ r. ⌜ r ≡ brokenTo12 place (slotAt (now (sheet .entry)) at) (fieldsAt (now (sheet .entry)) at) ⌝ }
+    requires { ⌜ judged .refusal ≡ refusalOf (resolutionOf (annotatedBy s) (underMap standing)) ⌝ }
+    requires { ⌜ judged .logical ≡ writtenOf (annotatedBy s) (underMap standing) .logical ⌝ }
+    ensures { λ r. ⌜ r ≡ brokenTo12 standing (slotAt (now (sheet .entry)) at) (fieldsAt (now (sheet .entry)) at) ⌝ }
 {
-    if !shape_kept(place, s) {
+    if !shape_kept(standing, s) {
         return SHAPE;
     }
     if judged.refusal != KEPT {
@@ -45,9 +50,15 @@ pub(crate) fn broken_to_12(sheet: &[u8], at: usize, place: Place, s: Slot, judge
     list_broken(sheet, at, s, judged.logical)
 }
 
-// The number of the first rule that the node at a number breaks, or KEPT: of rules 8 to 12 it is known, its fields have such a place,
+// The number of the first rule that the node at a number breaks, or KEPT: of rules 8 to 12 it is known, its fields have such a standing,
 // and where it is a MAP, the last field of its child stands at value. Rule 13 waits for the node's run, which tells that.
-pub(crate) fn broken_with_13(sheet: &[u8], at: usize, below: Place, least: u32, value: usize) -> u32
+pub(crate) fn broken_with_13(
+    sheet: &[u8],
+    at: usize,
+    below: Standing,
+    least: u32,
+    value: usize,
+) -> u32
     requires { ⌜ Claimed (now sheet) ⌝ }
     requires { ⌜ at < totalOf (now sheet) ⌝ }
     requires { ⌜ value ≡ innerFrom (suc at) (suc at) (fieldsAt (now sheet) at) ⌝ }
@@ -63,22 +74,6 @@ pub(crate) fn broken_with_13(sheet: &[u8], at: usize, below: Place, least: u32, 
         return KEPT;
     }
     BAD_MAP
-}
-
-// The numbers of a slot that its annotations go by.
-pub fn annotated(s: Slot) -> Annotated
-    ensures { λ r. ⌜ r ≡ annotatedBy s ⌝ }
-{
-    Annotated {
-        physical: s.physical,
-        type_length: s.type_length,
-        converted: s.converted,
-        logical: s.logical,
-        a: s.a,
-        b: s.b,
-        scale: s.scale,
-        precision: s.precision,
-    }
 }
 
 // Rule 12 at a node of some logical type.

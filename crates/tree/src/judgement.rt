@@ -8,13 +8,13 @@ ghost use Rattle.refusal.specs.declared.answers.Counted.{Counted};
 ghost use Rattle.tree.specs.Reading.{treeOf};
 ghost use Rattle.tree.specs.Judgement.{orElse, tooDeep, unlawful, treeRefusal, judgedNodes, judgementOf};
 ghost use Rattle.tree.specs.Steps.{Claimed, verdictOf};
-use crate::judging::LEVELS;
+use crate::judging::ALLOWED_DEPTHS;
 use crate::judging::NO_FAULT;
 use crate::judging::RULE_WEIGHT;
 use crate::judging::RunJudged;
 use crate::judging::judge_run;
-use crate::place::Place;
 use crate::places::places_filled;
+use crate::standing::Standing;
 use refusal::Counted;
 use refusal::Refusal;
 use refusal::Verdict;
@@ -58,7 +58,7 @@ fn judge_root(sheet: &[u8]) -> Verdict
     requires { ⌜ 0 < totalOf (now sheet) ⌝ }
     ensures { λ r. ⌜ r ≡ orElse (tooDeep (treeOf (slots (now (sheet .entry))))) (unlawful (treeOf (slots (now (sheet .entry))))) ⌝ }
 {
-    let judged = judge_run(sheet, 0, 1, LEVELS, Place::Root);
+    let judged = judge_run(sheet, 0, 1, ALLOWED_DEPTHS, Standing::Root);
     match judged {
         RunJudged::Deep(node) => Verdict::Refused(Refusal {
             number: numbers::TOO_DEEP,

@@ -1,4 +1,4 @@
-// A tree judged by refusals 7 to 13: from a node to its run and back, while levels and nodes are left.
+// A tree judged by refusals 7 to 13: from a node to its run and back, while depths and nodes are left.
 ghost use mathlib.Core.Path.{_≡_};
 ghost use Prim.Native.Nat.{suc, _≤_, _<_};
 ghost use lib.ListN.{drop};
@@ -9,15 +9,15 @@ ghost use Rattle.tree.specs.Tree.{count as Tree·count, mostDepth};
 ghost use Rattle.tree.specs.Reading.{trees};
 ghost use Rattle.tree.specs.Steps.{Claimed, treeAt, runAt, judgedTree, judgedRun, firstOf, faultFrom};
 use crate::faults::KEPT;
-use crate::faults::annotated;
 use crate::faults::broken_to_12;
 use crate::faults::broken_with_13;
-use crate::place::Place;
-use crate::place::place_under;
-use crate::place::under_map;
+use crate::slots::annotated;
+use crate::standing::Standing;
+use crate::standing::standing_under;
+use crate::standing::under_map;
 
-// Levels that a tree may have: depths 0 to 32.
-pub const LEVELS: usize = 33;
+// Depths that a tree may have: 0 to 32.
+pub const ALLOWED_DEPTHS: usize = 33;
 
 // A fault is one number, so that it is handed on in a register: a rule's number counts so much in it, and the number of the node
 // that breaks the rule stands below.
@@ -52,13 +52,13 @@ pub(crate) fn judge_run(
     sheet: &[u8],
     start: usize,
     count: usize,
-    levels: usize,
-    place: Place,
+    allowed: usize,
+    standing: Standing,
 ) -> RunJudged
     requires { ⌜ Claimed (now sheet) ⌝ }
     requires { ⌜ count ≤ Tree·count (trees (drop start (slots (now sheet)))) ⌝ }
-    requires { ⌜ levels ≤ suc mostDepth ⌝ }
-    ensures { λ r. ⌜ r ≡ judgedRun start levels place (runAt (slots (now (sheet .entry))) start count) ⌝ }
+    requires { ⌜ allowed ≤ suc mostDepth ⌝ }
+    ensures { λ r. ⌜ r ≡ judgedRun start allowed standing (runAt (slots (now (sheet .entry))) start count) ⌝ }
 {
     let mut at = start;
     let mut left = count;
@@ -66,7 +66,7 @@ pub(crate) fn judge_run(
     let mut inner = start;
     let mut fault = NO_FAULT;
     while left > 0 {
-        let tree = judge_tree(sheet, at, levels, place);
+        let tree = judge_tree(sheet, at, allowed, standing);
         match tree {
             TreeJudged::Deep(node) => {
                 return RunJudged::Deep(node);
@@ -92,21 +92,21 @@ pub(crate) fn judge_run(
     }
 }
 
-// Judges the tree at a number, its root's place known, with so many levels left.
-fn judge_tree(sheet: &[u8], at: usize, levels: usize, place: Place) -> TreeJudged
+// Judges the tree at a number, its root's standing known, with so many depths allowed.
+fn judge_tree(sheet: &[u8], at: usize, allowed: usize, standing: Standing) -> TreeJudged
     requires { ⌜ Claimed (now sheet) ⌝ }
     requires { ⌜ at < totalOf (now sheet) ⌝ }
-    requires { ⌜ levels ≤ suc mostDepth ⌝ }
-    ensures { λ r. ⌜ r ≡ judgedTree at levels place (treeAt (slots (now (sheet .entry))) at) ⌝ }
+    requires { ⌜ allowed ≤ suc mostDepth ⌝ }
+    ensures { λ r. ⌜ r ≡ judgedTree at allowed standing (treeAt (slots (now (sheet .entry))) at) ⌝ }
 {
-    if levels == 0 {
+    if allowed == 0 {
         return TreeJudged::Deep(at);
     }
     let s = sheet::slot_at(sheet, at);
-    let judged = annotation::judge(annotated(s), under_map(place));
-    let below = place_under(judged.logical);
-    let least = broken_to_12(sheet, at, place, s, judged);
-    let run = judge_fields(sheet, at + 1, s.children as usize, levels - 1, below);
+    let judged = annotation::judge(annotated(s), under_map(standing));
+    let below = standing_under(judged.logical);
+    let least = broken_to_12(sheet, at, standing, s, judged);
+    let run = judge_fields(sheet, at + 1, s.children as usize, allowed - 1, below);
     match run {
         RunJudged::Deep(node) => TreeJudged::Deep(node),
         RunJudged::Judged {
@@ -126,11 +126,17 @@ fn judge_tree(sheet: &[u8], at: usize, levels: usize, place: Place) -> TreeJudge
 }
 
 // Judges the run of so many fields at a number: most nodes have none, and are judged without a call.
-fn judge_fields(sheet: &[u8], at: usize, count: usize, levels: usize, place: Place) -> RunJudged
+fn judge_fields(
+    sheet: &[u8],
+    at: usize,
+    count: usize,
+    allowed: usize,
+    standing: Standing,
+) -> RunJudged
     requires { ⌜ Claimed (now sheet) ⌝ }
     requires { ⌜ count ≤ Tree·count (trees (drop at (slots (now sheet)))) ⌝ }
-    requires { ⌜ levels ≤ suc mostDepth ⌝ }
-    ensures { λ r. ⌜ r ≡ judgedRun at levels place (runAt (slots (now (sheet .entry))) at count) ⌝ }
+    requires { ⌜ allowed ≤ suc mostDepth ⌝ }
+    ensures { λ r. ⌜ r ≡ judgedRun at allowed standing (runAt (slots (now (sheet .entry))) at count) ⌝ }
 {
     if count == 0 {
         return RunJudged::Judged {
@@ -140,7 +146,7 @@ fn judge_fields(sheet: &[u8], at: usize, count: usize, levels: usize, place: Pla
             fault: NO_FAULT,
         };
     }
-    judge_run(sheet, at, count, levels, place)
+    judge_run(sheet, at, count, allowed, standing)
 }
 
 // The first fault of two.

@@ -1,7 +1,7 @@
 // Rule 8: the shape of a node.
 ghost use mathlib.Core.Path.{_≡_};
-ghost use Rattle.tree.specs.Rules.{rootShape, fieldShape, lengthShape, decimalShape, isNought, placeShape, shape};
-use crate::place::Place;
+ghost use Rattle.tree.specs.Rules.{rootShape, fieldShape, lengthShape, decimalShape, isNought, standingShape, shape};
+use crate::standing::Standing;
 use parquet::converted;
 use parquet::logical;
 use parquet::physical;
@@ -9,10 +9,10 @@ use parquet::repetition;
 use sheet::Slot;
 
 // Whether a node keeps rule 8.
-pub(crate) fn shape_kept(place: Place, s: Slot) -> bool
-    ensures { λ r. ⌜ r ≡ shape place s (s .children) ⌝ }
+pub(crate) fn shape_kept(standing: Standing, s: Slot) -> bool
+    ensures { λ r. ⌜ r ≡ shape standing s (s .children) ⌝ }
 {
-    if !place_shape(place, s) {
+    if !standing_shape(standing, s) {
         return false;
     }
     if !length_shape(s.physical, s.type_length) {
@@ -21,13 +21,13 @@ pub(crate) fn shape_kept(place: Place, s: Slot) -> bool
     decimal_shape(s.converted, s.logical, s.scale, s.precision)
 }
 
-fn place_shape(place: Place, s: Slot) -> bool
-    ensures { λ r. ⌜ r ≡ placeShape place s (s .children) ⌝ }
+fn standing_shape(standing: Standing, s: Slot) -> bool
+    ensures { λ r. ⌜ r ≡ standingShape standing s (s .children) ⌝ }
 {
-    match place {
-        Place::Root => root_shape(s.physical, s.repetition, s.converted, s.logical),
-        Place::Field => field_shape(s.physical, s.repetition, s.children),
-        Place::MapField => field_shape(s.physical, s.repetition, s.children),
+    match standing {
+        Standing::Root => root_shape(s.physical, s.repetition, s.converted, s.logical),
+        Standing::Field => field_shape(s.physical, s.repetition, s.children),
+        Standing::MapField => field_shape(s.physical, s.repetition, s.children),
     }
 }
 

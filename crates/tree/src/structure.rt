@@ -6,6 +6,8 @@ ghost use Rattle.sheet.specs.Slot.{slots, slotAt};
 ghost use Rattle.tree.specs.Tree.{empty, field};
 ghost use Rattle.tree.specs.Rules.{namedElement, listKept, listChild, mapKept, mapRun};
 ghost use Rattle.tree.specs.Steps.{Claimed, Visited, treeAt, fieldsAt, innerFrom, lastOf};
+use crate::layer::Layer;
+use crate::layer::layer_of;
 use crate::repetitions::required_or_optional;
 use parquet::physical;
 use parquet::repetition;
@@ -25,8 +27,7 @@ pub(crate) fn list_kept(sheet: &[u8], at: usize, list: Slot) -> bool
     list_child(sheet, at, at + 1)
 }
 
-// Whether the child of a LIST is a repeated leaf, or a repeated group that is the element or holds it. The one field of a group tells that
-// by its repetition, whatever the group is named; only where it has none, the name does.
+// Whether the child of a LIST is a repeated leaf, or a repeated group that is the element or holds it. Its name is asked for last.
 fn list_child(sheet: &[u8], list: usize, layer: usize) -> bool
     requires { ⌜ Claimed (now sheet) ⌝ }
     requires { ⌜ layer < totalOf (now sheet) ⌝ }
@@ -39,20 +40,17 @@ fn list_child(sheet: &[u8], list: usize, layer: usize) -> bool
     if s.physical != physical::GROUP {
         return true;
     }
-    if s.children == 0 {
-        return false;
+    let first = sheet::slot_at(sheet, layer + 1);
+    match layer_of(s.children, first.repetition) {
+        Layer::Empty => false,
+        Layer::Element => true,
+        Layer::ByName => {
+            if required_or_optional(first.repetition) {
+                return true;
+            }
+            named_element(sheet, list, layer)
+        }
     }
-    if s.children != 1 {
-        return true;
-    }
-    let field = sheet::slot_at(sheet, layer + 1);
-    if field.repetition == repetition::REPEATED {
-        return true;
-    }
-    if required_or_optional(field.repetition) {
-        return true;
-    }
-    named_element(sheet, list, layer)
 }
 
 // Whether a LIST's repeated group has the name of an element: `array`, or the list's name plus `_tuple`.

@@ -12,7 +12,7 @@ use lib.Signed.{mag}
 use mir.Syntax.{w64}
 use mir.Val.{toZ, ofZ}
 use mir.ValLaws.{toZ-ofZ}
-use Rattle.timestamp.specs.Units.{TimeUnit}
+use Rattle.logical_type.specs.declared.types.TimeUnit.{TimeUnit}
 use Rattle.c_timestamps.specs.Timestamps.{at, areFields, encodingOf}
 use Rattle.c_timestamps.proofs.FieldLaws.{ranged, InRange, each, ranged-are, encoding-unformed}
 use Rattle.c_timestamps.proofs.timestamps.are_fields.Statement.{statement}

@@ -2,8 +2,8 @@
 -- Assumes nothing.
 use mathlib.Core.Path.{_≡_, sym, ap, _∙_}
 use borrow.Author.Needs.{needs}
-use Rattle.decimal.specs.declared.fit.Fit.{Fit}
-use Rattle.decimal.specs.Number.{number}
+use Rattle.decimal_bytes.specs.declared.fit.Fit.{Fit}
+use Rattle.decimal_bytes.specs.Number.{number}
 use Rattle.column.specs.Annotations.{inDigits}
 use Rattle.column.proofs.DecimalLaws.{isWithin, fits-within}
 use Rattle.column.proofs.annotations.decimal_keeps.Statement.{statement}

@@ -7,7 +7,7 @@ use native.Mathlib.Omega.{arith}
 use lib.ListN.{length, drop}
 use lib.Seq.{drop-length}
 use Rattle.laws.specs.Bytes.{little}
-use Rattle.decimal.proofs.UnsignedLaws.{pow-pos256}
+use Rattle.decimal_bytes.proofs.UnsignedLaws.{pow-pos256}
 use Rattle.column.proofs.NumberLaws.{little-back, power-back, little-start}
 use Rattle.column.proofs.numbers.little.Statement.{statement}
 use Rattle.column.proofs.numbers.little.Tie as tie

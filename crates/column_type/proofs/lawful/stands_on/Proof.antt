@@ -4,7 +4,7 @@ use mathlib.Core.Bool.{true, and-true, and-false}
 use lib.Dec.{leb, eqb}
 use borrow.Author.Needs.{needs}
 use borrow.Author.Tests.{ne-eqb}
-use Rattle.decimal.specs.Precision.{greatestPrecision}
+use Rattle.decimal_bytes.specs.Precision.{greatestPrecision}
 use Rattle.annotation.specs.Rule11.{physicalHolds}
 use Rattle.sheet.specs.Sound.{listed, physicalListed}
 use Rattle.tree.specs.Rules.{isNought, lengthShape}

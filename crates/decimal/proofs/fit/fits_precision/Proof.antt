@@ -2,7 +2,7 @@
 use mathlib.Core.Path.{_≡_, sym, ap, _∙_}
 use borrow.Author.Needs.{needs}
 use Rattle.decimal.specs.Outcome.{fitted}
-use Rattle.decimal.specs.declared.fit.Fit.{Fit}
+use Rattle.decimal_bytes.specs.declared.fit.Fit.{Fit}
 use Rattle.decimal.proofs.WordLaws.{isShort-bounds}
 use Rattle.decimal.proofs.fit.fits_precision.Statement.{statement}
 use Rattle.decimal.proofs.fit.fits_precision.Tie as tie

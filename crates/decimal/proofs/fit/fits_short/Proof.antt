@@ -8,10 +8,10 @@ use lib.IntN.{ℤ, natAbs}
 use lib.ListN.{length}
 use borrow.Author.Needs.{needs}
 use borrow.Author.Tests.{ltb-true, ltb-false}
-use Rattle.decimal.specs.Precision.{isLength}
-use Rattle.decimal.specs.Number.{number}
+use Rattle.decimal_bytes.specs.Precision.{isLength}
+use Rattle.decimal_bytes.specs.Number.{number}
 use Rattle.decimal.proofs.WordLaws.{short-length}
-use Rattle.decimal.proofs.FitLaws.{fitOf-within, fitOf-beyond}
+use Rattle.decimal_bytes.proofs.FitLaws.{fitOf-within, fitOf-beyond}
 use Rattle.decimal.proofs.fit.fits_short.Statement.{statement}
 use Rattle.decimal.proofs.fit.fits_short.Tie as tie
 

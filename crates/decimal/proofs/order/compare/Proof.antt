@@ -4,10 +4,10 @@ use Prim.Native.Nat.{_≤_}
 use lib.ListN.{length}
 use borrow.Author.Needs.{needs}
 use Rattle.decimal.specs.Outcome.{compared}
-use Rattle.decimal.specs.Order.{order}
-use Rattle.decimal.specs.declared.order.Order.{Order}
+use Rattle.decimal_bytes.specs.Order.{order}
+use Rattle.decimal_bytes.specs.declared.order.Order.{Order}
 use Rattle.decimal.proofs.WordLaws.{isShort-bounds, short-length}
-use Rattle.decimal.proofs.OrderLaws.{orderOf-order}
+use Rattle.decimal_bytes.proofs.OrderLaws.{orderOf-order}
 use Rattle.decimal.proofs.order.compare.Statement.{statement}
 use Rattle.decimal.proofs.order.compare.Tie as tie
 

@@ -5,7 +5,7 @@ use Prim.Native.Nat.{ℕ, _^_}
 use lib.Dec.{ltb}
 use borrow.Author.Needs.{needs}
 use Rattle.decimal.specs.Words.{valueOf}
-use Rattle.decimal.proofs.OrderLaws.{subℕ-order}
+use Rattle.decimal_bytes.proofs.OrderLaws.{subℕ-order}
 use Rattle.decimal.proofs.order.compare_words.Statement.{statement}
 use Rattle.decimal.proofs.order.compare_words.Tie as tie
 

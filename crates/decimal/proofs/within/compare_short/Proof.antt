@@ -8,11 +8,11 @@ use lib.IntN.{ℤ, natAbs}
 use lib.ListN.{length}
 use borrow.Author.Needs.{needs}
 use Rattle.decimal.specs.declared.within.Compared.{Compared}
-use Rattle.decimal.specs.Precision.{isLength}
-use Rattle.decimal.specs.Order.{order, orderOf}
+use Rattle.decimal_bytes.specs.Precision.{isLength}
+use Rattle.decimal_bytes.specs.Order.{order, orderOf}
 use Rattle.decimal.specs.Within.{asCompared, orderWithin}
 use Rattle.decimal.proofs.WordLaws.{short-length}
-use Rattle.decimal.proofs.OrderLaws.{orderOf-order}
+use Rattle.decimal_bytes.proofs.OrderLaws.{orderOf-order}
 use Rattle.decimal.proofs.WithinLaws.{within-both}
 use Rattle.decimal.proofs.within.compare_short.Statement.{statement}
 use Rattle.decimal.proofs.within.compare_short.Tie as tie

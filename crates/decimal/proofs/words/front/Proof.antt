@@ -4,14 +4,15 @@ use Prim.Native.Nat.{ℕ, _^_, _<_}
 use native.Mathlib.Omega.{arith}
 use lib.ListN.{take}
 use borrow.Author.Needs.{needs}
-use Rattle.decimal.specs.Number.{unsigned}
-use Rattle.decimal.proofs.UnsignedLaws.{Bytes, Bytes-getD}
+use Rattle.decimal_bytes.specs.Number.{unsigned}
+use Rattle.laws.proofs.ByteLaws.{EachByte}
+use Rattle.decimal_bytes.proofs.UnsignedLaws.{each-getD}
 use Rattle.decimal.proofs.WordLaws.{word-unsigned, lifted-front}
 use Rattle.decimal.proofs.words.front.Statement.{statement}
 use Rattle.decimal.proofs.words.front.Tie as tie
 
-bytes : (c : tie.After-shared-slice-known) → Bytes (c .before .args .bytes .now)
-bytes c = Bytes-getD (c .before .args .bytes .now) (λ k. c .shared-slice-known .given k .fits)
+bytes : (c : tie.After-shared-slice-known) → EachByte (c .before .args .bytes .now)
+bytes c = each-getD (c .before .args .bytes .now) (λ k. c .shared-slice-known .given k .fits)
 
 word-requires : tie.Need-word-requires
 word-requires c κs = search needs

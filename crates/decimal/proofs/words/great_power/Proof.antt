@@ -3,7 +3,7 @@ use mathlib.Core.Path.{refl}
 use mathlib.Core.Logic.{_≢_}
 use Prim.Native.Nat.{ℕ, _≤_, _<_}
 use native.Mathlib.Omega.{arith}
-use Rattle.decimal.proofs.PowerLaws.{past}
+use Rattle.decimal_bytes.proofs.PowerLaws.{past}
 use Rattle.decimal.proofs.words.great_power.Statement.{statement}
 use Rattle.decimal.proofs.words.great_power.Tie as tie
 

@@ -2,6 +2,7 @@
 use native.Mathlib.Nat.{one-le-pow}
 use native.Mathlib.Omega.{arith}
 use borrow.Author.Needs.{needs}
+use Rattle.decimal_bytes.proofs.PowerLaws.{power-held}
 use Rattle.decimal.proofs.words.power_words.Statement.{statement}
 use Rattle.decimal.proofs.words.power_words.Tie as tie
 
@@ -9,7 +10,9 @@ power-of-ten-requires : tie.Need-power-of-ten-requires
 power-of-ten-requires c κs = search needs
 
 returns : tie.Need-returns
-returns c = (search needs, rw (c .power-of-ten .ensures) (one-le-pow (c .before .before .args .exponent) 10 (omega arith)))
+returns c =
+    let power = power-held _ _ (c .power-of-ten .ensures) (omega arith) in
+    (search needs, rw power (one-le-pow (c .before .before .args .exponent) 10 (omega arith)))
 
 great-power-requires : tie.Need-great-power-requires
 great-power-requires c κs = search needs

@@ -5,7 +5,7 @@ use native.Mathlib.Nat.{lt-of-lt-of-le, pow-le-pow-right}
 use native.Mathlib.Omega.{arith}
 use lib.ListN.{take}
 use borrow.Author.Needs.{needs}
-use Rattle.decimal.specs.Number.{unsigned}
+use Rattle.decimal_bytes.specs.Number.{unsigned}
 use Rattle.decimal.proofs.WordLaws.{unsigned-next, power-next}
 use Rattle.decimal.proofs.words.unsigned_front.Statement.{statement}
 use Rattle.decimal.proofs.words.unsigned_front.Tie as tie

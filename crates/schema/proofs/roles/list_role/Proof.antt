@@ -1,34 +1,46 @@
 -- `schema::roles::list_role` meets its contract, answer by answer.
-use Prim.Native.Nat.{suc}
-use mathlib.Core.Path.{_≡_, sym, _∙_}
+use Prim.Native.Nat.{ℕ, suc}
+use mathlib.Core.Path.{_≡_, sym, ap, _∙_}
+use mathlib.Core.Bool.{cond}
+use mathlib.Core.List.{List}
 use borrow.Author.Needs.{needs}
 use Rattle.sheet.specs.Slot.{slotAt, repetition}
-use Rattle.schema.proofs.RolesLaws.{role-leaf, role-none, role-many, role-repeated, role-named, role-held}
+use Rattle.tree.specs.Rules.{namedElement}
+use Rattle.tree.specs.Layer.{layerOf, isElementBy}
+use Rattle.tree.specs.Steps.{fieldsAt}
+use Rattle.tree.specs.declared.layer.Layer.{Layer}
+use Rattle.tree.specs.declared.layer.Layer.the-variants.{Element, ByName, Empty}
 use Rattle.tree.proofs.VisitLaws.{repetition-behind}
+use Rattle.schema.specs.Rows.{listRole}
+use Rattle.schema.proofs.RolesLaws.{role-leaf, role-by}
 use Rattle.schema.proofs.roles.list_role.Statement.{statement}
 use Rattle.schema.proofs.roles.list_role.Tie as tie
 
--- the entry, from where the node is a group; and that place, from where its one field has been read
+-- the entry, from where the node is a group
 abbrev entry : tie.Else1 → tie.Start
 entry c = c .before .before .before
 
-abbrev of-one : tie.After-slot-at → tie.Else1
-of-one c = c .before .before .before .before .before
+-- the role, by what the group was told to be
+module _ (c : tie.After-layer-of) where
+  abbrev start : tie.Start
+  start = entry (c .before .before)
 
-field-repetition : (c : tie.After-slot-at) → c .slot-at .result .repetition ≡ repetition (slotAt (entry (of-one c) .args .sheet .now) (suc (entry (of-one c) .args .at)))
-field-repetition c = repetition-behind _ _ _ (c .slot-at .ensures)
+  abbrev own : List ℕ
+  own = slotAt (start .args .sheet .now) (start .args .at)
+
+  abbrev list : List ℕ
+  list = slotAt (start .args .sheet .now) (start .args .parent-at)
+
+  first-repetition : c .before .slot-at .result .repetition ≡ repetition (slotAt (start .args .sheet .now) (suc (start .args .at)))
+  first-repetition = repetition-behind _ _ _ (c .before .slot-at .ensures)
+
+  by-layer : (l : Layer) → c .layer-of .result ≡ l → listRole list own (fieldsAt (start .args .sheet .now) (start .args .at)) ≡ cond (isElementBy l (namedElement list own)) 3 1
+  by-layer l e =
+      let told = sym (c .layer-of .ensures ∙ ap (layerOf _) first-repetition) ∙ e in
+      rw (← told) (role-by _ _ _ (start .pre) _ (c .before .before .if1 .left))
 
 returns : tie.Need-returns
 returns c = role-leaf _ _ _ (c .before .before .before .pre) _ (c .if1 .taken)
-
-returns-2 : tie.Need-returns-2
-returns-2 c = let group = c .before .before in role-none _ _ _ (entry group .pre) _ (group .if1 .left) (c .if2 .taken)
-
-returns-3 : tie.Need-returns-3
-returns-3 c =
-    let some = c .before .before in
-    let group = some .before .before in
-    role-many _ _ _ (entry group .pre) _ (group .if1 .left) (some .if2 .left) (c .if3 .taken)
 
 add-slot-at : tie.Need-add-slot-at
 add-slot-at c = search needs
@@ -36,26 +48,54 @@ add-slot-at c = search needs
 slot-at-requires : tie.Need-slot-at-requires
 slot-at-requires c κs = search needs
 
-returns-4 : tie.Need-returns-4
-returns-4 c =
-    let one = c .before .before in
-    role-repeated _ _ _ (entry (of-one one) .pre) _ (of-one one .if1 .left) (one .before .if3 .left) (sym (field-repetition one) ∙ c .if4 .taken)
+layer-of-requires : tie.Need-layer-of-requires
+layer-of-requires c κs = search needs
+
+enum-told : tie.Need-enum-told
+enum-told c = search needs
+
+enum-told-2 : tie.Need-enum-told-2
+enum-told-2 c = search needs
+
+enum-told-3 : tie.Need-enum-told-3
+enum-told-3 c = search needs
 
 named-element-requires : tie.Need-named-element-requires
 named-element-requires c κs = search needs
 
-returns-5 : tie.Need-returns-5
-returns-5 c =
-    let single = c .before .before in
-    let one = single .before .before in
-    role-named _ _ _ (entry (of-one one) .pre) _ (of-one one .if1 .left) (one .before .if3 .left) (λ q. single .if4 .left (field-repetition one ∙ q)) (sym (c .before .named-element .ensures) ∙ c .if5 .taken)
+returns-2 : tie.Need-returns-2
+unfolding isElementBy
+returns-2 c =
+    let told = c .before .before in
+    sym (by-layer (told .before .before) ByName (told .enum-told3 .given .1) ∙ rw (sym (c .before .named-element .ensures) ∙ c .if2 .taken))
 
-returns-6 : tie.Need-returns-6
-returns-6 c =
-    let single = c .before .before in
-    let one = single .before .before in
-    role-held _ _ _ (entry (of-one one) .pre) _ (of-one one .if1 .left) (one .before .if3 .left) (λ q. single .if4 .left (field-repetition one ∙ q)) (sym (c .before .named-element .ensures) ∙ c .if5 .left)
+returns-3 : tie.Need-returns-3
+unfolding isElementBy
+returns-3 c = sym (by-layer (c .before .before) Empty (c .enum-told .given .1))
+
+returns-4 : tie.Need-returns-4
+unfolding isElementBy
+returns-4 c = sym (by-layer (c .before .before) Element (c .enum-told2 .given .1))
+
+returns-5 : tie.Need-returns-5
+unfolding isElementBy
+returns-5 c =
+    let told = c .before .before in
+    sym (by-layer (told .before .before) ByName (told .enum-told3 .given .1) ∙ rw (sym (c .before .named-element .ensures) ∙ c .if2 .left))
 
 pub list-role-spec : {M : Type 1} → statement M
 list-role-spec =
-    tie.close (tie.spec returns returns-2 returns-3 add-slot-at slot-at-requires returns-4 named-element-requires returns-5 returns-6)
+    tie.close
+    (tie.spec
+    returns
+    add-slot-at
+    slot-at-requires
+    layer-of-requires
+    enum-told
+    enum-told-2
+    enum-told-3
+    named-element-requires
+    returns-2
+    returns-3
+    returns-4
+    returns-5)

@@ -99,10 +99,10 @@ write-fields-returns-2 : (t : ℕ) → write-fields-lts.Need-returns-2 (write-fi
 write-fields-returns-2 t c = rw (c .before .before .before .parent-by .ensures) at (c .before .before .write-run .ensures)
 
 abbrev write-run-Inv-loop : write-run-lts.InvT-loop
-write-run-Inv-loop sheet rows₀ start count levels up definition repetition at₀ left₀ above₀ rows at left above = Behind sheet rows₀ start count levels up above₀ (slotAt sheet up) definition repetition rows at left above
+write-run-Inv-loop sheet rows₀ start count allowed up definition repetition at₀ left₀ above₀ rows at left above = Behind sheet rows₀ start count allowed up above₀ (slotAt sheet up) definition repetition rows at left above
 
 abbrev write-run-μ-loop : write-run-lts.MeasureT-loop
-write-run-μ-loop sheet rows₀ start count levels up definition repetition at₀ left₀ above₀ rows at left above = left
+write-run-μ-loop sheet rows₀ start count allowed up definition repetition at₀ left₀ above₀ rows at left above = left
 
 -- what a run calls
 abbrev write-run-calls : ℕ → write-run-lts.Claims
@@ -239,7 +239,7 @@ write-tree-cast-write-fields t c = search needs
 write-tree-sub-write-fields : (t : ℕ) → write-tree-lts.Need-sub-write-fields (write-tree-calls t) (write-tree-at t) write-tree.Post
 write-tree-sub-write-fields t c =
     let start = entry t (slot t c) in
-    omega (arith, level-left (start .args .levels) _ (start .pre .1 .1 .1 .1 .1 .1 .1))
+    omega (arith, level-left (start .args .allowed) _ (start .pre .1 .1 .1 .1 .1 .1 .1))
 
 write-tree-write-fields-requires : (t : ℕ) → write-tree-lts.Need-write-fields-requires (write-tree-calls t) (write-tree-at t) write-tree.Post
 write-tree-write-fields-requires t c κs =
@@ -288,18 +288,18 @@ write-tree-returns t c =
     let here = visited t (slot t (called t c)) in
     let run = c .before .before .write-fields in
     let end = tree-end (start .args .sheet .now) (start .args .at) _ here _ (run .ensures .0) in
-    let above = slotAt (start .args .sheet .now) (start .args .up) in
+    let above = slotAt (start .args .sheet .now) (start .args .parent-at) in
     let level = levelled t (rowed t (called t c)) in
     let own = level .before .before in
     let numbers = own .before .before .before .annotated .ensures in
     let map = own .before .before .is-map-parent .ensures in
     let kind = own .before .resolved-kind .ensures in
-    let below = parent-is (start .args .sheet .now) (start .args .rows .now) (start .args .at) (start .args .up) _ (start .args .parent) above here _ _ _ _ _ numbers map kind (own .role .ensures) refl in (
+    let below = parent-is (start .args .sheet .now) (start .args .rows .now) (start .args .at) (start .args .parent-at) _ (start .args .parent) above here _ _ _ _ _ numbers map kind (own .role .ensures) refl in (
       end,
       λ path g.
           let levels = levels-below (start .args .sheet .now) (start .args .at) _ _ _ _ _ _ _ (level .before .in-definition .ensures) (level .in-repetition .ensures) refl refl here path g in
-          let row = row-is (start .args .sheet .now) (start .args .rows .now) (start .args .at) (start .args .up) _ (start .args .parent) above here path _ _ levels _ _ _ _ _ _ numbers map kind (own .role .ensures) end (rowed t (called t c) .before .type-length .ensures) in
-          tree-rows (start .args .sheet .now) (start .args .rows .now) (start .args .at) (start .args .up) _ (start .args .parent) above here path (start .pre .1 .1 .1 .1 .0) _ below _ _ _ refl (written t c .write-row .ensures) (run .ensures .1 _ levels) _ _ row refl,
+          let row = row-is (start .args .sheet .now) (start .args .rows .now) (start .args .at) (start .args .parent-at) _ (start .args .parent) above here path _ _ levels _ _ _ _ _ _ numbers map kind (own .role .ensures) end (rowed t (called t c) .before .type-length .ensures) in
+          tree-rows (start .args .sheet .now) (start .args .rows .now) (start .args .at) (start .args .parent-at) _ (start .args .parent) above here path (start .pre .1 .1 .1 .1 .0) _ below _ _ _ refl (written t c .write-row .ensures) (run .ensures .1 _ levels) _ _ row refl,
     )
 
 pub +write-fields+write-run+write-tree-spec : {M : Type 1} → statement M

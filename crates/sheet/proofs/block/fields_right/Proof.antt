@@ -6,15 +6,15 @@ use mathlib.Core.List.{List}
 use Prim.Native.Nat.{ℕ}
 use lib.Dec.{eqb}
 use Rattle.sheet.specs.Block.{versionNow, blockNumber, nodesHere, version, total}
-use Rattle.sheet.specs.Header.{fieldsRight, nodesIn}
+use Rattle.sheet.specs.Header.{numbersRight, nodesIn}
 use Rattle.sheet.proofs.TestLaws.{differs, agrees}
 use Rattle.sheet.proofs.block.fields_right.Statement.{statement}
 use Rattle.sheet.proofs.block.fields_right.Tie as tie
 
 -- where all but the count of nodes is right, that count decides
 rest-right : (t i : ℕ) (block : List ℕ) → eqb (blockNumber block) i ≡ true → eqb (version block) versionNow ≡ true → eqb (total block) t ≡ true
-    → fieldsRight t i block ≡ eqb (nodesHere block) (nodesIn t i)
-unfolding fieldsRight
+    → numbersRight t i block ≡ eqb (nodesHere block) (nodesIn t i)
+unfolding numbersRight
 rest-right t i block a b c = rw (a, b, c)
 
 number16-requires : tie.Need-number16-requires
@@ -24,7 +24,7 @@ cast-if1 : tie.Need-cast-if1
 cast-if1 c = search needs
 
 returns : tie.Need-returns
-unfolding fieldsRight blockNumber
+unfolding numbersRight blockNumber
 returns c = simp (differs (c .before .number16 .ensures .0) (c .if1 .taken))
 
 shared-slice-read-wide : tie.Need-shared-slice-read-wide
@@ -34,7 +34,7 @@ wide-requires : tie.Need-wide-requires
 wide-requires c κs = search needs
 
 returns-2 : tie.Need-returns-2
-unfolding fieldsRight blockNumber version
+unfolding numbersRight blockNumber version
 returns-2 c =
     let at-if1 = c .before .before .before in
     let at-number16 = at-if1 .before in
@@ -48,7 +48,7 @@ cast-if3 : tie.Need-cast-if3
 cast-if3 c = search needs
 
 returns-3 : tie.Need-returns-3
-unfolding fieldsRight blockNumber version total
+unfolding numbersRight blockNumber version total
 returns-3 c =
     let at-if2 = c .before .before in
     let at-wide = at-if2 .before in

@@ -5,18 +5,18 @@ use Prim.Native.Nat.{ℕ}
 use borrow.Author.Needs.{needs}
 use borrow.Author.Tests.{eq-eqb, ne-eqb}
 use Rattle.sheet.specs.Block.{blockAt, totalOf}
-use Rattle.sheet.specs.Header.{totalRight, fieldsRight, headerRight}
+use Rattle.sheet.specs.Header.{totalRight, numbersRight, headerRight}
 use Rattle.sheet.proofs.TestLaws.{failed, passed}
 use Rattle.sheet.proofs.block.header_right.Statement.{statement}
 use Rattle.sheet.proofs.block.header_right.Tie as tie
 
 -- what the call answers, said of the sheet
 fields : (c : tie.After-fields-right)
-    → c .fields-right .result ≡ fieldsRight (totalOf (c .before .before .before .args .sheet .now)) (c .before .before .before .args .i) (blockAt (c .before .before .before .args .sheet .now) (c .before .before .before .args .i))
+    → c .fields-right .result ≡ numbersRight (totalOf (c .before .before .before .args .sheet .now)) (c .before .before .before .args .i) (blockAt (c .before .before .before .args .sheet .now) (c .before .before .before .args .i))
 fields c =
     let start = c .before .before .before in
     c .fields-right .ensures
-    ∙ ap₂ (λ (t : ℕ) (block : List ℕ). fieldsRight t (start .args .i) block) (start .pre .1 .0)
+    ∙ ap₂ (λ (t : ℕ) (block : List ℕ). numbersRight t (start .args .i) block) (start .pre .1 .0)
     (c .before .block-at .ensures .0)
 
 block-at-requires : tie.Need-block-at-requires

@@ -14,7 +14,7 @@ use Rattle.timestamp.specs.declared.near.Near
 use Rattle.timestamp.specs.declared.near.Near.{Near}
 use Rattle.timestamp.specs.declared.moment.Moment
 use Rattle.timestamp.specs.declared.moment.Moment.{Moment}
-use Rattle.timestamp.specs.Units.{TimeUnit}
+use Rattle.logical_type.specs.declared.types.TimeUnit.{TimeUnit}
 use Rattle.timestamp.specs.Outcomes.{encoding}
 use Rattle.timestamp.specs.Steps.{secondsReached, IsNear, encodingFor}
 use Rattle.timestamp.proofs.MomentLaws.{moment-for}

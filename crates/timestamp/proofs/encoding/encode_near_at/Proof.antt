@@ -13,7 +13,8 @@ use mir.ValLaws.{toZ-ofZ}
 use Rattle.refusal.specs.Outcome.{given}
 use Rattle.timestamp.specs.declared.moment.Moment
 use Rattle.timestamp.specs.declared.moment.Moment.{Moment}
-use Rattle.timestamp.specs.Units.{nanos, ticksPerSecond}
+use Rattle.logical_type.specs.declared.types.TimeUnit.{TimeUnit}
+use Rattle.timestamp.specs.Units.{ticksPerSecond}
 use Rattle.timestamp.specs.Outcomes.{notRepresentable}
 use Rattle.timestamp.specs.Steps.{secondsReached, encodingAt}
 use Rattle.timestamp.proofs.FloorLaws.{joined, joined-asked, joined-told, signed-fits}
@@ -23,7 +24,7 @@ use Rattle.timestamp.proofs.encoding.encode_near_at.Tie as tie
 
 module _ (s : ℤ) (t : ℕ) (fits : SFits w64 s) where
   -- its ticks are a number of 63 bits
-  ticks-asked : mag s < secondsReached → t ≤ ticksPerSecond nanos → suc (mag (toZ w64 (ofZ w64 s))) * t < 2 ^ 63
+  ticks-asked : mag s < secondsReached → t ≤ ticksPerSecond TimeUnit.Nanos → suc (mag (toZ w64 (ofZ w64 s))) * t < 2 ^ 63
   ticks-asked h k =
       let most : suc (mag s) * t ≤ 9223286400 * 1000000000 = mul-le-mul h k in
       joined-asked t fits (omega arith)

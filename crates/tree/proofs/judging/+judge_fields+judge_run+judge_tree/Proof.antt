@@ -10,14 +10,14 @@ use Rattle.sheet.specs.Slot.{slotAt}
 use Rattle.annotation.specs.Outcome.{resolutionOf, refusalOf}
 use Rattle.annotation.specs.Rewriting.{writtenOf}
 use Rattle.annotation.specs.declared.slot.Annotated.{Annotated}
-use Rattle.tree.specs.Rules.{underMap, placeBelow}
+use Rattle.tree.specs.Rules.{underMap, standingBelow}
 use Rattle.tree.specs.Faults.{broken}
 use Rattle.tree.specs.Annotated.{annotatedBy}
 use Rattle.tree.specs.Steps.{Visited, fieldsAt, firstOf, faultFrom}
 use Rattle.tree.specs.declared.judging.TreeJudged.{TreeJudged}
 use Rattle.tree.proofs.JudgingSteps.{Judging, judging-start, judging-end, judging-deep, judging-next, run-empty, tree-deep, tree-inner, tree-run-deep, tree-judged, remaining, tree-falls, run-falls, fields-falls}
 use Rattle.tree.proofs.VisitLaws.{run-below, children-claimed}
-use Rattle.tree.proofs.NodeLaws.{placeBelow-is, own-is, broken-most}
+use Rattle.tree.proofs.NodeLaws.{standingBelow-is, own-is, broken-most}
 use borrow.Fn.Kinds.{In}
 use borrow.Fn.PlainCycle.{Measures, is, falls, and}
 use Rattle.tree.proofs.judging.judge_fields.Reads as judge-fields
@@ -31,17 +31,17 @@ use Rattle.tree.proofs.judging.judge_tree.Kinds as judge-tree-kinds
 use Rattle.tree.proofs.judging.+judge_fields+judge_run+judge_tree.Lts-judge_tree as judge-tree-lts
 use Rattle.annotation.proofs.judge.Reads as judge-reads
 use Rattle.sheet.proofs.slot_at.Reads as slot-at-reads
-use Rattle.tree.proofs.faults.annotated.Reads as annotated-reads
+use Rattle.tree.proofs.slots.annotated.Reads as annotated-reads
 use Rattle.tree.proofs.faults.broken_to_12.Reads as broken-to-12-reads
 use Rattle.tree.proofs.faults.broken_with_13.Reads as broken-with-13-reads
 use Rattle.tree.proofs.judging.first_of.Reads as first-of-reads
 use Rattle.tree.proofs.judging.own_first.Reads as own-first-reads
-use Rattle.tree.proofs.place.place_under.Reads as place-under-reads
-use Rattle.tree.proofs.place.under_map.Reads as under-map-reads
+use Rattle.tree.proofs.standing.standing_under.Reads as standing-under-reads
+use Rattle.tree.proofs.standing.under_map.Reads as under-map-reads
 use Rattle.tree.proofs.judging.+judge_fields+judge_run+judge_tree.{statement}
 use Rattle.tree.proofs.judging.+judge_fields+judge_run+judge_tree.Tie.{close}
 
--- Remaining nodes and levels fall: from a tree at k to its root's fields at k + 1 both by one, from those fields to their run neither, and from a run to its trees,
+-- Remaining nodes and depths fall: from a tree at k to its root's fields at k + 1 both by one, from those fields to their run neither, and from a run to its trees,
 -- which stand where it starts or behind, nodes alone. With x of both, a tree's measure is 3x, a run's 3x + 1, that of some fields 3x + 2.
 abbrev μ-judge-fields : Measures 1 judge-fields-kinds.ps ℕ
 μ-judge-fields κs a = 3 * remaining (totalOf (a .0 .now)) (a .1 .0) (a .1 .1 .1 .0) + 2
@@ -98,10 +98,10 @@ judge-fields-returns-2 : (t : ℕ) → judge-fields-lts.Need-returns-2 (judge-fi
 judge-fields-returns-2 t c = c .judge-run .ensures
 
 abbrev judge-run-Inv-loop : judge-run-lts.InvT-loop
-judge-run-Inv-loop sheet start count levels place at₀ left₀ last₀ inner₀ fault₀ at left last inner fault = Judging sheet start count levels place at left last inner fault
+judge-run-Inv-loop sheet start count allowed place at₀ left₀ last₀ inner₀ fault₀ at left last inner fault = Judging sheet start count allowed place at left last inner fault
 
 abbrev judge-run-μ-loop : judge-run-lts.MeasureT-loop
-judge-run-μ-loop sheet start count levels place at₀ left₀ last₀ inner₀ fault₀ at left last inner fault = left
+judge-run-μ-loop sheet start count allowed place at₀ left₀ last₀ inner₀ fault₀ at left last inner fault = left
 
 -- what a run calls
 abbrev judge-run-calls : ℕ → judge-run-lts.Claims
@@ -155,14 +155,14 @@ judge-run-returns-2 t c = judging-end _ _ _ _ _ _ _ _ _ _ (c .before .loop .inv)
 
 -- what a tree calls
 abbrev judge-tree-calls : ℕ → judge-tree-lts.Claims
-judge-tree-calls t = (slot-at-reads.Asked, slot-at-reads.Learnt, annotated-reads.Asked, annotated-reads.Learnt, under-map-reads.Asked, under-map-reads.Learnt, judge-reads.Asked, judge-reads.Learnt, place-under-reads.Asked, place-under-reads.Learnt, broken-to-12-reads.Asked, broken-to-12-reads.Learnt, judge-fields-below t, judge-fields.Post, broken-with-13-reads.Asked, broken-with-13-reads.Learnt, own-first-reads.Asked, own-first-reads.Learnt)
+judge-tree-calls t = (slot-at-reads.Asked, slot-at-reads.Learnt, annotated-reads.Asked, annotated-reads.Learnt, under-map-reads.Asked, under-map-reads.Learnt, judge-reads.Asked, judge-reads.Learnt, standing-under-reads.Asked, standing-under-reads.Learnt, broken-to-12-reads.Asked, broken-to-12-reads.Learnt, judge-fields-below t, judge-fields.Post, broken-with-13-reads.Asked, broken-with-13-reads.Learnt, own-first-reads.Asked, own-first-reads.Learnt)
 
 -- in a tree: where its slot has been read, where the place of its fields is known, and where these are judged
 abbrev Read : ℕ → Type 0
 Read t = judge-tree-lts.After-slot-at (judge-tree-calls t) (judge-tree-at t) judge-tree.Post
 
 abbrev Placed : ℕ → Type 0
-Placed t = judge-tree-lts.After-place-under (judge-tree-calls t) (judge-tree-at t) judge-tree.Post
+Placed t = judge-tree-lts.After-standing-under (judge-tree-calls t) (judge-tree-at t) judge-tree.Post
 
 abbrev Ran : ℕ → Type 0
 Ran t = judge-tree-lts.After-judge-fields (judge-tree-calls t) (judge-tree-at t) judge-tree.Post
@@ -179,11 +179,11 @@ placed t c = c .before .before .before
 visited : (t : ℕ) (c : Read t) → Visited (entry t c .args .sheet .now) (entry t c .args .at) (c .slot-at .result)
 visited t c = record { claimed = entry t c .pre .1 .0; below = entry t c .pre .1 .1 .0; numbers = c .slot-at .ensures }
 
-logical-told : (t : ℕ) (c : Placed t) → c .before .judge .result .logical ≡ writtenOf (annotatedBy (read t c .slot-at .result)) (underMap (entry t (read t c) .args .place)) .logical
+logical-told : (t : ℕ) (c : Placed t) → c .before .judge .result .logical ≡ writtenOf (annotatedBy (read t c .slot-at .result)) (underMap (entry t (read t c) .args .standing)) .logical
 logical-told t c = c .before .judge .ensures .1 ∙ ap₂ (λ (n : Annotated) (u : Bool). writtenOf n u .logical) (c .before .before .before .annotated .ensures) (c .before .before .under-map .ensures)
 
-place-told : (t : ℕ) (c : Placed t) → c .place-under .result ≡ placeBelow (entry t (read t c) .args .place) (slotAt (entry t (read t c) .args .sheet .now) (entry t (read t c) .args .at))
-place-told t c = c .place-under .ensures ∙ placeBelow-is _ _ _ (entry t (read t c) .args .place) (visited t (read t c)) _ (logical-told t c)
+place-told : (t : ℕ) (c : Placed t) → c .standing-under .result ≡ standingBelow (entry t (read t c) .args .standing) (slotAt (entry t (read t c) .args .sheet .now) (entry t (read t c) .args .at))
+place-told t c = c .standing-under .ensures ∙ standingBelow-is _ _ _ (entry t (read t c) .args .standing) (visited t (read t c)) _ (logical-told t c)
 
 judge-tree-returns : (t : ℕ) → judge-tree-lts.Need-returns (judge-tree-calls t) (judge-tree-at t) judge-tree.Post
 judge-tree-returns t c = tree-deep _ _ _ _ (c .if1 .taken)
@@ -200,8 +200,8 @@ judge-tree-under-map-requires t c κs = search needs
 judge-tree-judge-requires : (t : ℕ) → judge-tree-lts.Need-judge-requires (judge-tree-calls t) (judge-tree-at t) judge-tree.Post
 judge-tree-judge-requires t c κs = search needs
 
-judge-tree-place-under-requires : (t : ℕ) → judge-tree-lts.Need-place-under-requires (judge-tree-calls t) (judge-tree-at t) judge-tree.Post
-judge-tree-place-under-requires t c κs = search needs
+judge-tree-standing-under-requires : (t : ℕ) → judge-tree-lts.Need-standing-under-requires (judge-tree-calls t) (judge-tree-at t) judge-tree.Post
+judge-tree-standing-under-requires t c κs = search needs
 
 judge-tree-broken-to-12-requires : (t : ℕ) → judge-tree-lts.Need-broken-to-12-requires (judge-tree-calls t) (judge-tree-at t) judge-tree.Post
 judge-tree-broken-to-12-requires t c κs =
@@ -247,14 +247,14 @@ ran t c = c .before .before .before .before
 abbrev start-of : (t : ℕ) → Owned t → judge-tree-lts.Start (judge-tree-calls t) (judge-tree-at t) judge-tree.Post
 start-of t c = entry t (read t (placed t (ran t c)))
 
-own-told : (t : ℕ) (c : Owned t) → c .broken-with-13 .result ≡ broken (start-of t c .args .place) (slotAt (start-of t c .args .sheet .now) (start-of t c .args .at)) (fieldsAt (start-of t c .args .sheet .now) (start-of t c .args .at))
+own-told : (t : ℕ) (c : Owned t) → c .broken-with-13 .result ≡ broken (start-of t c .args .standing) (slotAt (start-of t c .args .sheet .now) (start-of t c .args .at)) (fieldsAt (start-of t c .args .sheet .now) (start-of t c .args .at))
 own-told t c = own-is _ _ _ _ _ _ (ran t c .before .before .broken-to-12 .ensures) (place-told t (placed t (ran t c))) (c .broken-with-13 .ensures)
 
 judge-tree-own-first-requires : (t : ℕ) → judge-tree-lts.Need-own-first-requires (judge-tree-calls t) (judge-tree-at t) judge-tree.Post
 judge-tree-own-first-requires t c κs =
     let start = start-of t c in
     let here = visited t (read t (placed t (ran t c))) in
-    (omega (arith, own-told t c, broken-most (start .args .place) (slotAt (start .args .sheet .now) (start .args .at)) (fieldsAt (start .args .sheet .now) (start .args .at))), omega (arith, here .below, here .claimed .most))
+    (omega (arith, own-told t c, broken-most (start .args .standing) (slotAt (start .args .sheet .now) (start .args .at)) (fieldsAt (start .args .sheet .now) (start .args .at))), omega (arith, here .below, here .claimed .most))
 
 judge-tree-returns-2 : (t : ℕ) → judge-tree-lts.Need-returns-2 (judge-tree-calls t) (judge-tree-at t) judge-tree.Post
 judge-tree-returns-2 t c =
@@ -301,7 +301,7 @@ pub +judge-fields+judge-run+judge-tree-spec : {M : Type 1} → statement M
     (judge-tree-annotated-requires t)
     (judge-tree-under-map-requires t)
     (judge-tree-judge-requires t)
-    (judge-tree-place-under-requires t)
+    (judge-tree-standing-under-requires t)
     (judge-tree-broken-to-12-requires t)
     (judge-tree-add-judge-fields t)
     (judge-tree-cast-judge-fields t)

@@ -1,0 +1,13 @@
+-- `tree::place::standing_under` meets its contract.
+use borrow.Author.Tests.{eq-eqb, ne-eqb}
+use Rattle.tree.proofs.standing.standing_under.Statement.{statement}
+use Rattle.tree.proofs.standing.standing_under.Tie as tie
+
+returns : tie.Need-returns
+returns c = rw (eq-eqb _ _ (c .if1 .taken))
+
+returns-2 : tie.Need-returns-2
+returns-2 c = rw (ne-eqb _ _ (c .if1 .left))
+
+pub standing-under-spec : {M : Type 1} → statement M
+standing-under-spec = tie.close (tie.spec returns returns-2)
