@@ -14,16 +14,16 @@ use Rattle.annotation.specs.declared.slot.Annotated.{Annotated}
 use Rattle.annotation.specs.declared.resolution.Kind.{Kind}
 use Rattle.annotation.specs.declared.resolution.Resolution.{Resolution}
 
--- rules 9, 10 and 11 all hold
-pub record Keeps (n : Annotated) (underMap : Bool) : Type 0 where
+-- rules 9, 10 and 11 all hold in an edition
+pub record Keeps (edition : ℕ) (n : Annotated) (underMap : Bool) : Type 0 where
   pub nine : rule9 n ≡ true
   pub ten : rule10 n underMap ≡ true
-  pub eleven : rule11 n underMap ≡ true
+  pub eleven : rule11 edition n underMap ≡ true
 
 -- where they hold, the numbers resolve to their kind
-pub resolved-of-keeps : (n : Annotated) (underMap : Bool) → Keeps n underMap → resolutionOf n underMap ≡ Resolution.Resolved (kindOf n underMap)
+pub resolved-of-keeps : (edition : ℕ) (n : Annotated) (underMap : Bool) → Keeps edition n underMap → resolutionOf edition n underMap ≡ Resolution.Resolved (kindOf n underMap)
 unfolding resolutionOf
-resolved-of-keeps n underMap k = rw (k .nine, k .ten, k .eleven)
+resolved-of-keeps edition n underMap k = rw (k .nine, k .ten, k .eleven)
 
 -- the three tests in order, as truth values
 InOrder : Bool → Bool → Bool → Kind → Resolution
@@ -37,38 +37,38 @@ all-held true false eleven k k′ e = (refl, (cc), (cc), (cc))
 all-held false ten eleven k k′ e = ((cc), (cc), (cc), (cc))
 
 -- numbers that resolve keep the three rules, and what they resolve to is their kind
-pub keeps-of-resolved : (n : Annotated) (underMap : Bool) (k : Kind) → resolutionOf n underMap ≡ Resolution.Resolved k → Keeps n underMap
+pub keeps-of-resolved : (edition : ℕ) (n : Annotated) (underMap : Bool) (k : Kind) → resolutionOf edition n underMap ≡ Resolution.Resolved k → Keeps edition n underMap
 unfolding resolutionOf InOrder
-keeps-of-resolved n underMap k e =
-    let held = all-held (rule9 n) (rule10 n underMap) (rule11 n underMap) (kindOf n underMap) k e in
+keeps-of-resolved edition n underMap k e =
+    let held = all-held (rule9 n) (rule10 n underMap) (rule11 edition n underMap) (kindOf n underMap) k e in
     record { nine = held .0; ten = held .1; eleven = held .2 }
 
-pub kind-of-resolved : (n : Annotated) (underMap : Bool) (k : Kind) → resolutionOf n underMap ≡ Resolution.Resolved k → kindOf n underMap ≡ k
+pub kind-of-resolved : (edition : ℕ) (n : Annotated) (underMap : Bool) (k : Kind) → resolutionOf edition n underMap ≡ Resolution.Resolved k → kindOf n underMap ≡ k
 unfolding resolutionOf InOrder
-kind-of-resolved n underMap k e = all-held (rule9 n) (rule10 n underMap) (rule11 n underMap) (kindOf n underMap) k e .3
+kind-of-resolved edition n underMap k e = all-held (rule9 n) (rule10 n underMap) (rule11 edition n underMap) (kindOf n underMap) k e .3
 
 -- an answer that resolving gives has the outcome of the numbers
-pub with-outcome : (n : Annotated) (underMap : Bool) (r : Resolution) → r ≡ resolutionOf n underMap → (r ≡ resolutionOf n underMap) × ((k : ℕ) → outcomeOf k r ≡ outcome k n underMap)
+pub with-outcome : (edition : ℕ) (n : Annotated) (underMap : Bool) (r : Resolution) → r ≡ resolutionOf edition n underMap → (r ≡ resolutionOf edition n underMap) × ((k : ℕ) → outcomeOf k r ≡ outcome edition k n underMap)
 unfolding outcome
-with-outcome n underMap r e = (e, λ k. ap (outcomeOf k) e)
+with-outcome edition n underMap r e = (e, λ k. ap (outcomeOf k) e)
 
 -- the refusals, each where its rule is the first to fail
-pub refused-nine : (n : Annotated) (underMap : Bool) → rule9 n ≡ false → resolutionOf n underMap ≡ Resolution.Refused DISAGREEMENT
+pub refused-nine : (edition : ℕ) (n : Annotated) (underMap : Bool) → rule9 n ≡ false → resolutionOf edition n underMap ≡ Resolution.Refused DISAGREEMENT
 unfolding resolutionOf
-refused-nine n underMap e = rw e
+refused-nine edition n underMap e = rw e
 
-pub refused-ten : (n : Annotated) (underMap : Bool) → rule9 n ≡ true → rule10 n underMap ≡ false → resolutionOf n underMap ≡ Resolution.Refused MISPLACED
+pub refused-ten : (edition : ℕ) (n : Annotated) (underMap : Bool) → rule9 n ≡ true → rule10 n underMap ≡ false → resolutionOf edition n underMap ≡ Resolution.Refused MISPLACED
 unfolding resolutionOf
-refused-ten n underMap e f = rw (e, f)
+refused-ten edition n underMap e f = rw (e, f)
 
-pub refused-eleven : (n : Annotated) (underMap : Bool) → rule9 n ≡ true → rule10 n underMap ≡ true → rule11 n underMap ≡ false → resolutionOf n underMap ≡ Resolution.Refused BAD-DECIMAL
+pub refused-eleven : (edition : ℕ) (n : Annotated) (underMap : Bool) → rule9 n ≡ true → rule10 n underMap ≡ true → rule11 edition n underMap ≡ false → resolutionOf edition n underMap ≡ Resolution.Refused BAD-DECIMAL
 unfolding resolutionOf
-refused-eleven n underMap e f g = rw (e, f, g)
+refused-eleven edition n underMap e f g = rw (e, f, g)
 
 -- numbers that are not refused resolve to their kind
-pub resolved-of-refusal : (n : Annotated) (underMap : Bool) → 0 ≡ refusalOf (resolutionOf n underMap) → resolutionOf n underMap ≡ Resolution.Resolved (kindOf n underMap)
+pub resolved-of-refusal : (edition : ℕ) (n : Annotated) (underMap : Bool) → 0 ≡ refusalOf (resolutionOf edition n underMap) → resolutionOf edition n underMap ≡ Resolution.Resolved (kindOf n underMap)
 unfolding resolutionOf InOrder
-resolved-of-refusal n underMap e = cases (rule9 n) (rule10 n underMap) (rule11 n underMap) e
+resolved-of-refusal edition n underMap e = cases (rule9 n) (rule10 n underMap) (rule11 edition n underMap) e
   where
     cases : (nine ten eleven : Bool) → 0 ≡ refusalOf (InOrder nine ten eleven (kindOf n underMap)) → InOrder nine ten eleven (kindOf n underMap) ≡ Resolution.Resolved (kindOf n underMap)
     cases true true true z = refl

@@ -77,18 +77,18 @@ kind-written Annotation.Interval n w = refl
 kind-written Annotation.Unreadable n w = refl
 
 -- what rewriting writes is accepted, and resolves to the same kind, p1 and p2
-pub resolved-rewritten : (n : Annotated) (underMap : Bool) (k : Kind) → resolutionOf n underMap ≡ Resolution.Resolved k → resolutionOf (rewritten n underMap) underMap ≡ Resolution.Resolved k
+pub resolved-rewritten : (edition : ℕ) (n : Annotated) (underMap : Bool) (k : Kind) → resolutionOf edition n underMap ≡ Resolution.Resolved k → resolutionOf edition (rewritten n underMap) underMap ≡ Resolution.Resolved k
 unfolding rewritten writtenOf rule10 rule11 decimalHolds kindOf
-resolved-rewritten n underMap k e =
-    let keeps = keeps-of-resolved n underMap k e in
+resolved-rewritten edition n underMap k e =
+    let keeps = keeps-of-resolved edition n underMap k e in
     let same = annotation-rewritten n underMap (keeps .ten) in
-    resolved-of-keeps (rewritten n underMap) underMap
+    resolved-of-keeps edition (rewritten n underMap) underMap
     (record {
       nine = nine-written (annotationOf n underMap) n;
       ten = rw same (keeps .ten);
       eleven = rw same (keeps .eleven);
     })
-    ∙ ap Resolution.Resolved (rw (same, kind-written (annotationOf n underMap) n (writtenOf n underMap)) (kind-of-resolved n underMap k e))
+    ∙ ap Resolution.Resolved (rw (same, kind-written (annotationOf n underMap) n (writtenOf n underMap)) (kind-of-resolved edition n underMap k e))
 
 written-settled : (says : Annotation) → writtenAs (settled says) ≡ writtenAs says
 written-settled Annotation.Plain = refl
@@ -174,9 +174,9 @@ module _ (n : Annotated) (underMap : Bool) (nine : rule9 n ≡ true) (ten : rule
       written-decimal (annotationOf n underMap) (decimal-by-either (eqb (n .converted) converted.DECIMAL) refl e)
 
 -- an answer that rewriting gives has the outcome of the numbers
-pub with-outcome : (n : Annotated) (underMap : Bool) (r : Rewriting) → r ≡ rewritingOf n underMap → (r ≡ rewritingOf n underMap) × ((k : ℕ) → outcomeOf k r ≡ outcome k n underMap)
+pub with-outcome : (edition : ℕ) (n : Annotated) (underMap : Bool) (r : Rewriting) → r ≡ rewritingOf edition n underMap → (r ≡ rewritingOf edition n underMap) × ((k : ℕ) → outcomeOf k r ≡ outcome edition k n underMap)
 unfolding outcome
-with-outcome n underMap r e = (e, λ k. ap (outcomeOf k) e)
+with-outcome edition n underMap r e = (e, λ k. ap (outcomeOf k) e)
 
 -- what is written of the numbers of a slot says whether their kind is a code, but for the codes of nodes without logical type
 module _ (code : ℕ) (none : eqb logical.NONE code ≡ false) (group : eqb PLAIN-GROUP code ≡ false) (interval : eqb converted.INTERVAL code ≡ false) where
@@ -195,11 +195,11 @@ module _ (code : ℕ) (none : eqb logical.NONE code ≡ false) (group : eqb PLAI
   written-kind n underMap = written-code (annotationOf n underMap) n
 
 -- what rewriting answers for numbers that are not refused
-pub written-rewriting : (n : Annotated) (underMap : Bool) (w : Written) → 0 ≡ refusalOf (resolutionOf n underMap) → w ≡ writtenOf n underMap → Rewriting.Written w ≡ rewritingOf n underMap
+pub written-rewriting : (edition : ℕ) (n : Annotated) (underMap : Bool) (w : Written) → 0 ≡ refusalOf (resolutionOf edition n underMap) → w ≡ writtenOf n underMap → Rewriting.Written w ≡ rewritingOf edition n underMap
 unfolding rewritingOf
-written-rewriting n underMap w e same = rw (resolved-of-refusal n underMap e) (ap Rewriting.Written same)
+written-rewriting edition n underMap w e same = rw (resolved-of-refusal edition n underMap e) (ap Rewriting.Written same)
 
 -- and for those that are
-pub refused-rewriting : (n : Annotated) (underMap : Bool) (number : ℕ) → number ≡ refusalOf (resolutionOf n underMap) → (number ≡ 0 → ⊥) → Rewriting.Refused number ≡ rewritingOf n underMap
+pub refused-rewriting : (edition : ℕ) (n : Annotated) (underMap : Bool) (number : ℕ) → number ≡ refusalOf (resolutionOf edition n underMap) → (number ≡ 0 → ⊥) → Rewriting.Refused number ≡ rewritingOf edition n underMap
 unfolding rewritingOf
-refused-rewriting n underMap number e h = rw (← refused-of-number (resolutionOf n underMap) number e h)
+refused-rewriting edition n underMap number e h = rw (← refused-of-number (resolutionOf edition n underMap) number e h)

@@ -73,11 +73,11 @@ unfolding readingOf writtenOf
 reading-written n underMap = written-by (rule9 n) (annotationOf n underMap)
 
 -- the outcome of the numbers of a slot by whether its annotations agree and what they say
-resolutionAs : Bool → Annotation → Annotated → Resolution
-resolutionAs agree says n =
+resolutionAs : ℕ → Bool → Annotation → Annotated → Resolution
+resolutionAs edition agree says n =
     cond agree
     (cond (annotationOn says (n .physical) (natural (n .«type_length»)))
-    (cond (digitsAllowed says n) (Resolution.Resolved (kindAs says n)) (Resolution.Refused BAD-DECIMAL))
+    (cond (digitsAllowed edition says n) (Resolution.Resolved (kindAs says n)) (Resolution.Refused BAD-DECIMAL))
     (Resolution.Refused MISPLACED))
     (Resolution.Refused DISAGREEMENT)
 
@@ -95,14 +95,14 @@ by-ten-eleven true false k = refl
 by-ten-eleven false eleven k = refl
 
 -- rules 10 and 11 by what an annotation demands and the logical type that is written for it
-placedBy : Annotation → Annotated → ℕ
-placedBy says n =
+placedBy : ℕ → Annotation → Annotated → ℕ
+placedBy edition says n =
     cond (eqb (n .physical) (demandOf says)) 0
     (cond (eqb (demandOf says) ANY-PHYSICAL) 0
-    (cond (eqb (demandOf says) OWN-RULE) (ownFault (writtenAs says .logical) (n .physical) (natural (n .«type_length»)) (n .precision) (n .scale))
+    (cond (eqb (demandOf says) OWN-RULE) (ownFault edition (writtenAs says .logical) (n .physical) (natural (n .«type_length»)) (n .precision) (n .scale))
     MISPLACED))
 
-module _ (n : Annotated) (byte : n .physical < 2 ^ 8) where
+module _ (edition : ℕ) (n : Annotated) (byte : n .physical < 2 ^ 8) where
   -- an annotation keeps rules 10 and 11 as its demand says; a demand that is no physical type is above a byte
 
   apart : (above : ℕ) → 2 ^ 8 ≤ above → eqb (n .physical) above ≡ false
@@ -113,14 +113,14 @@ module _ (n : Annotated) (byte : n .physical < 2 ^ 8) where
       cond on 0 MISPLACED ≡ refusalOf (cond on (Resolution.Resolved (kindAs (Annotation.Logical l) n)) (Resolution.Refused MISPLACED))
   kept l = by-ten (logicalOn l (n .physical) (natural (n .«type_length»))) (kindAs (Annotation.Logical l) n)
 
-  logical-placed : (l : LogicalType) → placedBy (Annotation.Logical l) n ≡ refusalOf (resolutionAs true (Annotation.Logical l) n)
+  logical-placed : (l : LogicalType) → placedBy edition (Annotation.Logical l) n ≡ refusalOf (resolutionAs edition true (Annotation.Logical l) n)
   unfolding placedBy resolutionAs ownFault ownOn digitsHold decimalHolds
   logical-placed LogicalType.String = kept LogicalType.String
   logical-placed LogicalType.Map = kept LogicalType.Map
   logical-placed LogicalType.List = kept LogicalType.List
   logical-placed LogicalType.Enum = kept LogicalType.Enum
   logical-placed LogicalType.Decimal =
-      rw (apart OWN-RULE (omega arith)) (by-ten-eleven (decimalOn (n .physical)) (decimalHolds n) (decimalKind n))
+      rw (apart OWN-RULE (omega arith)) (by-ten-eleven (decimalOn (n .physical)) (decimalHolds edition n) (decimalKind n))
   logical-placed LogicalType.Date = kept LogicalType.Date
   logical-placed (LogicalType.Time TimeUnit.Millis utc) = kept (LogicalType.Time TimeUnit.Millis utc)
   logical-placed (LogicalType.Time TimeUnit.Micros utc) = kept (LogicalType.Time TimeUnit.Micros utc)
@@ -135,7 +135,7 @@ module _ (n : Annotated) (byte : n .physical < 2 ^ 8) where
   logical-placed LogicalType.Bson = kept LogicalType.Bson
   logical-placed LogicalType.Uuid = rw (apart OWN-RULE (omega arith)) (kept LogicalType.Uuid)
 
-  placed : (says : Annotation) → placedBy says n ≡ refusalOf (resolutionAs true says n)
+  placed : (says : Annotation) → placedBy edition says n ≡ refusalOf (resolutionAs edition true says n)
   unfolding placedBy resolutionAs ownFault ownOn
   placed Annotation.Plain = either (eqb (n .physical) ANY-PHYSICAL)
     where
@@ -148,7 +148,7 @@ module _ (n : Annotated) (byte : n .physical < 2 ^ 8) where
   placed Annotation.Unreadable = rw (apart NO-PHYSICAL (omega arith))
 
   fault-by : (agree : Bool) (says : Annotation)
-      → faultBy (marked agree (packedOf says)) (n .physical) (n .«type_length») (n .precision) (n .scale) ≡ refusalOf (resolutionAs agree says n)
+      → faultBy edition (marked agree (packedOf says)) (n .physical) (n .«type_length») (n .precision) (n .scale) ≡ refusalOf (resolutionAs edition agree says n)
   unfolding faultBy resolutionAs placedBy
   fault-by false says = rw (le-leb DISAGREEMENT-MARK (packedOf says + DISAGREEMENT-MARK) (omega arith))
   fault-by true says =
@@ -156,14 +156,14 @@ module _ (n : Annotated) (byte : n .physical < 2 ^ 8) where
 
   -- the first rule that a slot breaks by its packed annotation
   reading-fault : (underMap : Bool)
-      → faultBy (readingOf n underMap) (n .physical) (n .«type_length») (n .precision) (n .scale) ≡ refusalOf (resolutionOf n underMap)
+      → faultBy edition (readingOf n underMap) (n .physical) (n .«type_length») (n .precision) (n .scale) ≡ refusalOf (resolutionOf edition n underMap)
   unfolding readingOf resolutionOf resolutionAs rule10 rule11 kindOf
   reading-fault underMap = fault-by (rule9 n) (annotationOf n underMap)
 
 -- where a packed annotation tells at once that no rule is broken, none is
-stands-kept : (packed code : ℕ) (length precision scale : ℤ) → code < 2 ^ 8 → standsBy packed code ≡ true → 0 ≡ faultBy packed code length precision scale
+stands-kept : (edition : ℕ) (packed code : ℕ) (length precision scale : ℤ) → code < 2 ^ 8 → standsBy packed code ≡ true → 0 ≡ faultBy edition packed code length precision scale
 unfolding faultBy
-stands-kept packed code length precision scale byte e =
+stands-kept edition packed code length precision scale byte e =
     rw (e, lt-leb DISAGREEMENT-MARK packed (let z = eqb-true code (demandPart packed) e in omega arith))
 
 -- what the packed annotation that was read of a slot tells of it
@@ -177,17 +177,17 @@ module _ (n : Annotated) (underMap : Bool) (packed : ℕ) (read : packed ≡ rea
   pub written-read : writtenBy packed ≡ writtenOf n underMap
   written-read = rw reading (reading-written n underMap)
 
-  fault-read : n .physical < 2 ^ 8 → faultBy packed (n .physical) (n .«type_length») (n .precision) (n .scale) ≡ refusalOf (resolutionOf n underMap)
-  fault-read byte = rw reading (reading-fault n byte underMap)
+  fault-read : (edition : ℕ) → n .physical < 2 ^ 8 → faultBy edition packed (n .physical) (n .«type_length») (n .precision) (n .scale) ≡ refusalOf (resolutionOf edition n underMap)
+  fault-read edition byte = rw reading (reading-fault edition n byte underMap)
 
   -- the same where signed numbers are passed as bits, whose numbers they are again
-  pub fault-passed : n .physical < 2 ^ 8 → SFits w32 (n .«type_length») → SFits w32 (n .precision) → SFits w32 (n .scale)
-      → faultBy packed (n .physical) (toZ w32 (ofZ w32 (n .«type_length»))) (toZ w32 (ofZ w32 (n .precision))) (toZ w32 (ofZ w32 (n .scale))) ≡ refusalOf (resolutionOf n underMap)
-  fault-passed byte length precision scale = rw (toZ-ofZ length, toZ-ofZ precision, toZ-ofZ scale) (fault-read byte)
+  pub fault-passed : (edition : ℕ) → n .physical < 2 ^ 8 → SFits w32 (n .«type_length») → SFits w32 (n .precision) → SFits w32 (n .scale)
+      → faultBy edition packed (n .physical) (toZ w32 (ofZ w32 (n .«type_length»))) (toZ w32 (ofZ w32 (n .precision))) (toZ w32 (ofZ w32 (n .scale))) ≡ refusalOf (resolutionOf edition n underMap)
+  fault-passed edition byte length precision scale = rw (toZ-ofZ length, toZ-ofZ precision, toZ-ofZ scale) (fault-read edition byte)
 
   -- no rule is broken where it tells so at once
-  pub kept-read : n .physical < 2 ^ 8 → standsBy packed (n .physical) ≡ true → 0 ≡ refusalOf (resolutionOf n underMap)
-  kept-read byte e = stands-kept packed (n .physical) (n .«type_length») (n .precision) (n .scale) byte e ∙ fault-read byte
+  pub kept-read : (edition : ℕ) → n .physical < 2 ^ 8 → standsBy packed (n .physical) ≡ true → 0 ≡ refusalOf (resolutionOf edition n underMap)
+  kept-read edition byte e = stands-kept edition packed (n .physical) (n .«type_length») (n .precision) (n .scale) byte e ∙ fault-read edition byte
 
 -- a slot without annotation and parameters
 module _ (n : Annotated) (underMap : Bool) (plain : isPlain n ≡ true) where
@@ -206,9 +206,9 @@ module _ (n : Annotated) (underMap : Bool) (plain : isPlain n ≡ true) where
   says-plain = rw (each .0, each .1, each .2, each .3)
 
   -- no rule is broken, no logical type is written, and the kind is the plain one
-  pub plain-kept : 0 ≡ refusalOf (resolutionOf n underMap)
+  pub plain-kept : (edition : ℕ) → 0 ≡ refusalOf (resolutionOf edition n underMap)
   unfolding resolutionOf rule9 rule10 rule11
-  plain-kept = sym (rw (says-plain, eq-eqb (n .converted) converted.NONE (each .0)))
+  plain-kept edition = sym (rw (says-plain, eq-eqb (n .converted) converted.NONE (each .0)))
 
   pub plain-logical : logical.NONE ≡ writtenOf n underMap .logical
   unfolding writtenOf

@@ -1,4 +1,4 @@
--- The outcome of the numbers of a slot: their kind, or the first of the rules 9, 10 and 11 that they break.
+-- The outcome of the numbers of a slot in an edition: their kind, or the first of the rules 9, 10 and 11 that they break.
 use Prim.Native.Nat.{ℕ}
 use mathlib.Core.Bool.{Bool, cond}
 use Rattle.refusal.specs.Numbers.{DISAGREEMENT, MISPLACED, BAD-DECIMAL}
@@ -13,11 +13,11 @@ use Rattle.annotation.specs.declared.resolution.Kind.{Kind}
 use Rattle.annotation.specs.declared.resolution.Resolution.{Resolution}
 
 -- "at one node in number order" (01, "Numbered refusals")
-unfoldable pub resolutionOf : Annotated → Bool → Resolution
-resolutionOf n underMap =
+unfoldable pub resolutionOf : ℕ → Annotated → Bool → Resolution
+resolutionOf edition n underMap =
     cond (rule9 n)
     (cond (rule10 n underMap)
-    (cond (rule11 n underMap) (Resolution.Resolved (kindOf n underMap)) (Resolution.Refused BAD-DECIMAL))
+    (cond (rule11 edition n underMap) (Resolution.Resolved (kindOf n underMap)) (Resolution.Refused BAD-DECIMAL))
     (Resolution.Refused MISPLACED))
     (Resolution.Refused DISAGREEMENT)
 
@@ -32,5 +32,5 @@ outcomeOf k (Resolution.Resolved kind) = given kind
 outcomeOf k (Resolution.Refused number) = refused (refusal number k)
 
 -- the outcome of the numbers of any slot at any node
-unfoldable pub outcome : ℕ → Annotated → Bool → Outcome Kind
-outcome k n underMap = outcomeOf k (resolutionOf n underMap)
+unfoldable pub outcome : ℕ → ℕ → Annotated → Bool → Outcome Kind
+outcome edition k n underMap = outcomeOf k (resolutionOf edition n underMap)

@@ -44,8 +44,8 @@ rewritingAs (Resolution.Resolved kind) w = Rewriting.Written w
 rewritingAs (Resolution.Refused number) w = Rewriting.Refused number
 
 -- what rewriting answers for the numbers of a slot
-unfoldable pub rewritingOf : Annotated → Bool → Rewriting
-rewritingOf n underMap = rewritingAs (resolutionOf n underMap) (writtenOf n underMap)
+unfoldable pub rewritingOf : ℕ → Annotated → Bool → Rewriting
+rewritingOf edition n underMap = rewritingAs (resolutionOf edition n underMap) (writtenOf n underMap)
 
 -- what each answer stands for at a node, which is the place of its refusal
 abbrev pub outcomeOf : ℕ → Rewriting → Outcome Written
@@ -53,8 +53,8 @@ outcomeOf k (Rewriting.Written w) = given w
 outcomeOf k (Rewriting.Refused number) = refused (refusal number k)
 
 -- the outcome of rewriting the numbers of any slot at any node
-unfoldable pub outcome : ℕ → Annotated → Bool → Outcome Written
-outcome k n underMap = outcomeOf k (rewritingOf n underMap)
+unfoldable pub outcome : ℕ → ℕ → Annotated → Bool → Outcome Written
+outcome edition k n underMap = outcomeOf k (rewritingOf edition n underMap)
 
 -- the numbers of a slot with others for its annotations: "All else .. is copied"
 abbrev pub withWritten : Annotated → Written → Annotated

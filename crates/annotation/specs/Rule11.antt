@@ -1,9 +1,10 @@
--- Rule 11: precision and scale of a DECIMAL.
+-- Rule 11: precision and scale of a DECIMAL, by edition.
 use Prim.Native.Nat.{ℕ}
 use mathlib.Core.Bool.{Bool, true, false, not, cond, _&&_, _||_}
 use lib.Dec.{eqb, leb}
 use lib.IntN.{ℤ, pos}
 use lib.Signed.{leZ, ltZ}
+use Rattle.edition.specs.Editions.{scaleMayEqual}
 use Rattle.decimal_bytes.specs.Precision.{isLength, greatestPrecision}
 use Rattle.parquet.specs.Physical as physical
 use Rattle.parquet.specs.Logical as logical
@@ -21,9 +22,13 @@ INT32-DIGITS = 9
 abbrev pub INT64-DIGITS : ℕ
 INT64-DIGITS = 18
 
+-- "scale < precision", or equal where the edition allows it
+unfoldable pub scaleAllowed : ℕ → ℤ → ℤ → Bool
+scaleAllowed edition precision scale = cond (scaleMayEqual edition) (leZ scale precision) (ltZ scale precision)
+
 -- "1 <= precision, 0 <= scale < precision"
-unfoldable pub ordered : ℤ → ℤ → Bool
-ordered precision scale = leZ (pos 1) precision && leZ (pos 0) scale && ltZ scale precision
+unfoldable pub ordered : ℕ → ℤ → ℤ → Bool
+ordered edition precision scale = leZ (pos 1) precision && leZ (pos 0) scale && scaleAllowed edition precision scale
 
 -- "FIXED n: n to 256 .., and precision to the greatest d with 10^d <= 2^(8n-1) - 1"
 abbrev pub fixedHolds : ℕ → ℕ → Bool
@@ -45,14 +50,14 @@ isDecimal Annotation.Interval = false
 isDecimal Annotation.Unreadable = false
 
 -- what rule 11 asks of a DECIMAL
-unfoldable pub decimalHolds : Annotated → Bool
-decimalHolds n =
-    ordered (n .precision) (n .scale) && physicalHolds (n .physical) (natural (n .«type_length»)) (natural (n .precision))
+unfoldable pub decimalHolds : ℕ → Annotated → Bool
+decimalHolds edition n =
+    ordered edition (n .precision) (n .scale) && physicalHolds (n .physical) (natural (n .«type_length»)) (natural (n .precision))
 
 -- it asks nothing of another annotation
-abbrev pub digitsAllowed : Annotation → Annotated → Bool
-digitsAllowed says n = not (isDecimal says) || decimalHolds n
+abbrev pub digitsAllowed : ℕ → Annotation → Annotated → Bool
+digitsAllowed edition says n = not (isDecimal says) || decimalHolds edition n
 
 -- "DECIMAL scale or precision" is what it refuses (01, rule 11)
-unfoldable pub rule11 : Annotated → Bool → Bool
-rule11 n underMap = digitsAllowed (annotationOf n underMap) n
+unfoldable pub rule11 : ℕ → Annotated → Bool → Bool
+rule11 edition n underMap = digitsAllowed edition (annotationOf n underMap) n

@@ -55,23 +55,23 @@ ownOn named code length =
     (cond (eqb named logical.UUID) (isFixed UUID-LENGTH code length) (isFixed INTERVAL-LENGTH code length)))
 
 -- what rule 11 asks of a DECIMAL
-unfoldable pub digitsHold : ℕ → ℕ → ℤ → ℤ → Bool
-digitsHold code length precision scale = ordered precision scale && physicalHolds code length (natural precision)
+unfoldable pub digitsHold : ℕ → ℕ → ℕ → ℤ → ℤ → Bool
+digitsHold edition code length precision scale = ordered edition precision scale && physicalHolds code length (natural precision)
 
 -- the number of the first of the rules 10 and 11 that one of these breaks, and 0 of none
-unfoldable pub ownFault : ℕ → ℕ → ℕ → ℤ → ℤ → ℕ
-ownFault named code length precision scale =
+unfoldable pub ownFault : ℕ → ℕ → ℕ → ℕ → ℤ → ℤ → ℕ
+ownFault edition named code length precision scale =
     cond (ownOn named code length)
-    (cond (eqb named logical.DECIMAL) (cond (digitsHold code length precision scale) 0 BAD-DECIMAL) 0)
+    (cond (eqb named logical.DECIMAL) (cond (digitsHold edition code length precision scale) 0 BAD-DECIMAL) 0)
     MISPLACED
 
 -- the number of the first of the rules 9, 10 and 11 that the numbers of a slot break, by its packed annotation
-unfoldable pub faultBy : ℕ → ℕ → ℤ → ℤ → ℤ → ℕ
-faultBy packed code length precision scale =
+unfoldable pub faultBy : ℕ → ℕ → ℕ → ℤ → ℤ → ℤ → ℕ
+faultBy edition packed code length precision scale =
     cond (leb DISAGREEMENT-MARK packed) DISAGREEMENT
     (cond (eqb code (demandPart packed)) 0
     (cond (eqb (demandPart packed) ANY-PHYSICAL) 0
-    (cond (eqb (demandPart packed) OWN-RULE) (ownFault (logicalPart packed) code (natural length) precision scale) MISPLACED)))
+    (cond (eqb (demandPart packed) OWN-RULE) (ownFault edition (logicalPart packed) code (natural length) precision scale) MISPLACED)))
 
 -- whether a packed annotation tells at once that none is broken: it demands this physical type
 abbrev pub standsBy : ℕ → ℕ → Bool

@@ -43,14 +43,21 @@ const PLAIN_LEAF: u32 = 0;
 
 const PLAIN_GROUP: u32 = 30;
 
-// Resolves the numbers of a slot. under_map says that the parent's resolved kind is MAP. Codes outside the lists are
+// Resolves the numbers of a slot by an edition, which may be any number. under_map says that the parent's resolved kind is MAP. Codes outside the lists are
 // refused like parameters that a type does not take: beside the other annotation by 9, alone by 10.
-pub fn resolve(n: Annotated, under_map: bool) -> Resolution
-    ensures { λ r. ⌜ r ≡ resolutionOf n «under_map» ⌝ }
-    ensures { λ r. ⌜ ((k : ℕ) → outcomeOf k r ≡ outcome k n «under_map») ⌝ }
+pub fn resolve(edition: u32, n: Annotated, under_map: bool) -> Resolution
+    ensures { λ r. ⌜ r ≡ resolutionOf edition n «under_map» ⌝ }
+    ensures { λ r. ⌜ ((k : ℕ) → outcomeOf k r ≡ outcome edition k n «under_map») ⌝ }
 {
     let annotation = annotation_of(n.converted, n.logical, n.a, n.b, under_map);
-    let number = fault(annotation, n.physical, n.type_length, n.precision, n.scale);
+    let number = fault(
+        edition,
+        annotation,
+        n.physical,
+        n.type_length,
+        n.precision,
+        n.scale,
+    );
     if number == NO_REFUSAL {
         return Resolution::Resolved(kind_as(annotation, n));
     }
@@ -71,8 +78,8 @@ pub fn resolved_kind(n: Annotated, under_map: bool) -> Kind
 }
 
 // Judges the numbers of a slot.
-pub fn judge(n: Annotated, under_map: bool) -> Judged
-    ensures { λ r. ⌜ r .refusal ≡ refusalOf (resolutionOf n «under_map») ⌝ }
+pub fn judge(edition: u32, n: Annotated, under_map: bool) -> Judged
+    ensures { λ r. ⌜ r .refusal ≡ refusalOf (resolutionOf edition n «under_map») ⌝ }
     ensures { λ r. ⌜ r .logical ≡ writtenOf n «under_map» .logical ⌝ }
 {
     if is_plain(n) {
@@ -89,7 +96,14 @@ pub fn judge(n: Annotated, under_map: bool) -> Judged
         };
     }
     Judged {
-        refusal: fault(annotation, n.physical, n.type_length, n.precision, n.scale),
+        refusal: fault(
+            edition,
+            annotation,
+            n.physical,
+            n.type_length,
+            n.precision,
+            n.scale,
+        ),
         logical: packed::logical(annotation),
     }
 }

@@ -25,12 +25,19 @@ pub enum Rewriting {
 
 // Every logical annotation with its parameters and its forward image, INTERVAL as converted alone, else none: what is
 // written where the numbers of a slot resolve. under_map is as for resolve.
-pub fn rewrite(n: Annotated, under_map: bool) -> Rewriting
-    ensures { λ r. ⌜ r ≡ rewritingOf n «under_map» ⌝ }
-    ensures { λ r. ⌜ ((k : ℕ) → outcomeOf k r ≡ outcome k n «under_map») ⌝ }
+pub fn rewrite(edition: u32, n: Annotated, under_map: bool) -> Rewriting
+    ensures { λ r. ⌜ r ≡ rewritingOf edition n «under_map» ⌝ }
+    ensures { λ r. ⌜ ((k : ℕ) → outcomeOf k r ≡ outcome edition k n «under_map») ⌝ }
 {
     let annotation = annotation_of(n.converted, n.logical, n.a, n.b, under_map);
-    let number = fault(annotation, n.physical, n.type_length, n.precision, n.scale);
+    let number = fault(
+        edition,
+        annotation,
+        n.physical,
+        n.type_length,
+        n.precision,
+        n.scale,
+    );
     if number == NO_REFUSAL {
         return Rewriting::Written(written_as(annotation));
     }

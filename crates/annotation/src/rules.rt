@@ -27,13 +27,14 @@ pub(crate) fn stands(annotation: u64, physical: u64) -> bool
 
 // The number of the first rule that the numbers of a slot break, or NO_REFUSAL, by its packed annotation.
 pub(crate) fn fault(
+    edition: u32,
     annotation: u64,
     physical: u8,
     type_length: i32,
     precision: i32,
     scale: i32,
 ) -> u32
-    ensures { λ r. ⌜ r ≡ faultBy annotation physical «type_length» precision scale ⌝ }
+    ensures { λ r. ⌜ r ≡ faultBy edition annotation physical «type_length» precision scale ⌝ }
 {
     if annotation >= packed::DISAGREEMENT_MARK {
         return DISAGREEMENT;
@@ -45,6 +46,7 @@ pub(crate) fn fault(
     match demand {
         packed::ANY_PHYSICAL => NO_REFUSAL,
         packed::OWN_RULE => own_fault(
+            edition,
             packed::logical(annotation),
             physical,
             natural(type_length),
@@ -56,8 +58,15 @@ pub(crate) fn fault(
 }
 
 // The same of rules 10 and 11 for an annotation that has a rule of its own.
-fn own_fault(logical: u8, physical: u8, length: u32, precision: i32, scale: i32) -> u32
-    ensures { λ r. ⌜ r ≡ ownFault logical physical length precision scale ⌝ }
+fn own_fault(
+    edition: u32,
+    logical: u8,
+    physical: u8,
+    length: u32,
+    precision: i32,
+    scale: i32,
+) -> u32
+    ensures { λ r. ⌜ r ≡ ownFault edition logical physical length precision scale ⌝ }
 {
     if !own_on(logical, physical, length) {
         return MISPLACED;
@@ -65,7 +74,7 @@ fn own_fault(logical: u8, physical: u8, length: u32, precision: i32, scale: i32)
     if logical != logical::DECIMAL {
         return NO_REFUSAL;
     }
-    if digits_hold(physical, length, precision, scale) {
+    if digits_hold(edition, physical, length, precision, scale) {
         return NO_REFUSAL;
     }
     BAD_DECIMAL

@@ -1,4 +1,4 @@
--- The numbers of document 01's "Numbered refusals", each under one name.
+-- The numbers of document 01's "Numbered refusals" and of document 02's requests, each under one name.
 use Prim.Native.Nat.{ℕ}
 
 -- "sheet length 0, not a multiple of 512, or over 65,536"
@@ -80,3 +80,7 @@ NOT-REPRESENTABLE = 19
 -- "no accepted sheet has a leaf of this column type, or a time unit is not 1 to 3"
 abbrev pub UNKNOWN-TYPE : ℕ
 UNKNOWN-TYPE = 20
+
+-- "edition unknown, before all others" (document 02, R-4)
+abbrev pub UNKNOWN-EDITION : ℕ
+UNKNOWN-EDITION = 21

@@ -4,7 +4,7 @@ use Prim.Native.Nat.{ℕ}
 use Rattle.refusal.specs.declared.answers.Refusal.{Refusal}
 -- a type of the code: Count, with how many there are, or Refused, with a refusal
 use Rattle.refusal.specs.declared.answers.Counted.{Counted}
-use Rattle.refusal.specs.Numbers.{SHORT-OUTPUT}
+use Rattle.refusal.specs.Numbers.{SHORT-OUTPUT, UNKNOWN-EDITION}
 
 -- a refusal of its number and place
 abbrev pub refusal : ℕ → ℕ → Refusal
@@ -22,6 +22,10 @@ unplaced number = refusal number 0
 -- "output too short" is at 0
 abbrev pub shortOutput : Refusal
 shortOutput = unplaced SHORT-OUTPUT
+
+-- "21, edition unknown, .. place 0"
+abbrev pub unknownEdition : Refusal
+unknownEdition = unplaced UNKNOWN-EDITION
 
 -- the outcome of a call that answers how many there are
 abbrev pub counted : Counted → Outcome ℕ

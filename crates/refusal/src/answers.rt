@@ -1,6 +1,6 @@
 // A refusal, and the answers that several crates give.
 ghost use mathlib.Core.Path.{_≡_};
-ghost use Rattle.refusal.specs.Outcome.{shortOutput};
+ghost use Rattle.refusal.specs.Outcome.{shortOutput, unknownEdition};
 use crate::numbers;
 
 // A refusal: its number, and the block, node or byte that it names, or 0 where it names none.
@@ -40,6 +40,16 @@ pub fn short_output() -> Refusal
 {
     Refusal {
         number: numbers::SHORT_OUTPUT,
+        place: 0,
+    }
+}
+
+// The refusal of an edition that is none.
+pub fn unknown_edition() -> Refusal
+    ensures { λ r. ⌜ r ≡ unknownEdition ⌝ }
+{
+    Refusal {
+        number: numbers::UNKNOWN_EDITION,
         place: 0,
     }
 }

@@ -10,3 +10,4 @@ pub use answers::Refusal;
 pub use answers::SECOND;
 pub use answers::Verdict;
 pub use answers::short_output;
+pub use answers::unknown_edition;

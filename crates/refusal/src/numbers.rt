@@ -1,4 +1,4 @@
-// The refusals' numbers, in the order in which they are judged.
+// The refusals' numbers. Those of document 01 are judged in their order.
 
 // A sheet's length is 0, not a multiple of 512, or over 65,536.
 pub const SHEET_LENGTH: u8 = 1;
@@ -59,3 +59,6 @@ pub const NOT_REPRESENTABLE: u8 = 19;
 
 // No accepted sheet has a leaf of this column type, or a time unit is not 1 to 3.
 pub const UNKNOWN_TYPE: u8 = 20;
+
+// An edition is unknown: judged before all others.
+pub const UNKNOWN_EDITION: u8 = 21;

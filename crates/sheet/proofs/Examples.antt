@@ -7,6 +7,7 @@ use lib.ListN.{replicate}
 use Rattle.laws.specs.Bytes.{little, bytesOf, twosComplement}
 use Rattle.sheet.specs.Number.{numberAt, signed32}
 use Rattle.sheet.specs.Block.{blockCount, blockAt, blockNumber, nodesHere, version, total, storedCheck, totalOf}
+use Rattle.edition.specs.Editions.{FIRST, isKnown}
 use Rattle.block_check.specs.Check.{sumBelow, weighted, check}
 use Rattle.sheet.specs.Check.{checkRight}
 use Rattle.sheet.specs.Slot.{physical, repetition, converted, logical, nameLength, slotStart, reaches, slotAt, emptySlot}
@@ -31,14 +32,19 @@ unfolding rootSheet rootSlot sheetOf blockOf uncheckedBlock joinBelow bytesOf bl
 sheetOf-root = refl
 
 -- "One root alone" is a sound sheet
-open-root : openOf rootSheet ≡ Counted.Count 1
-unfolding rootSheet rootSlot openOf lengthRight atFirst firstWrong firstWrongFrom blockCount blockAt checkRight check storedCheck sumBelow weighted numberAt little headerRight numbersRight blockNumber version total totalOf nodesHere nodesIn totalRight blocksFor slotRight slotAt reaches slotStart slotSound codesListed nameRight physicalListed repetitionListed convertedListed logicalListed listed physical repetition converted logical nameLength nameLengthRight reservedZero tailZero allZero
+open-root : openOf FIRST rootSheet ≡ Counted.Count 1
+unfolding rootSheet rootSlot openOf isKnown lengthRight atFirst firstWrong firstWrongFrom blockCount blockAt checkRight check storedCheck sumBelow weighted numberAt little headerRight numbersRight blockNumber version total totalOf nodesHere nodesIn totalRight blocksFor slotRight slotAt reaches slotStart slotSound codesListed nameRight physicalListed repetitionListed convertedListed logicalListed listed physical repetition converted logical nameLength nameLengthRight reservedZero tailZero allZero
 open-root = refl
 
 -- no bytes are refusal 1 at 0
-outcome-none : outcome [] ≡ refused (refusal 1 0)
-unfolding outcome outcomeOf openOf lengthRight
+outcome-none : outcome FIRST [] ≡ refused (refusal 1 0)
+unfolding outcome outcomeOf openOf isKnown lengthRight
 outcome-none = refl
+
+-- and 21 at 0 in no edition
+outcome-unknown : outcome 0 [] ≡ refused (refusal 21 0)
+unfolding outcome outcomeOf openOf isKnown
+outcome-unknown = refl
 
 -- two's complement
 signed32-most : signed32 (2 ^ 31 - 1) ≡ pos 2147483647

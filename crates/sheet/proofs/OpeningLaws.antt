@@ -8,6 +8,7 @@ use native.Mathlib.Decide.{decLe}
 use native.Mathlib.Omega.{arith}
 use lib.ListN.{length}
 use borrow.Author.Tests.{lt-ltb, le-ltb}
+use Rattle.edition.specs.Editions.{isKnown}
 use Rattle.sheet.specs.Block.{mostNodes, slotsInBlock, blockCount, blockAt, totalOf}
 use Rattle.sheet.specs.Check.{checkRight}
 use Rattle.sheet.specs.Header.{lengthRight, blocksFor, totalRight, numbersRight, headerRight}
@@ -20,7 +21,7 @@ use Rattle.sheet.proofs.SlotLaws.{slots-length}
 use Rattle.sheet.proofs.SoundLaws.{slotRight-used}
 use Rattle.sheet.proofs.HeaderLaws.{lengthRight-least, blockCount-least, totalRight-least, totalRight-most, totalRight-within, totalRight-needed}
 use Rattle.refusal.specs.Numbers.{SHEET-LENGTH, BLOCK-CHECK, BLOCK-HEADER, SLOT}
-use Rattle.refusal.specs.Outcome.{refusal, unplaced}
+use Rattle.refusal.specs.Outcome.{refusal, unplaced, unknownEdition}
 use Rattle.refusal.specs.declared.answers.Refusal.{Refusal}
 use Rattle.refusal.specs.declared.answers.Counted.{Counted}
 
@@ -35,35 +36,40 @@ module _ (right : ℕ → Bool) (n number : ℕ) (next : Counted) where
   unfolding atFirst
   atFirst-none {i} e h = rw (← e, le-ltb i n h)
 
--- a wrong length is refused first
-pub openOf-length : (sheet : List ℕ) → lengthRight (length sheet) ≡ false → openOf sheet ≡ Counted.Refused (unplaced SHEET-LENGTH)
+-- an unknown edition is refused first
+pub openOf-unknown : (edition : ℕ) (sheet : List ℕ) → isKnown edition ≡ false → openOf edition sheet ≡ Counted.Refused unknownEdition
 unfolding openOf
-openOf-length sheet e = rw e
+openOf-unknown edition sheet e = rw e
 
-module _ (sheet : List ℕ) (right : lengthRight (length sheet) ≡ true) {check : ℕ} (check-is : check ≡ firstWrong (checkRight sheet) (blockCount sheet)) where
+-- then a wrong length
+pub openOf-length : (edition : ℕ) (sheet : List ℕ) → isKnown edition ≡ true → lengthRight (length sheet) ≡ false → openOf edition sheet ≡ Counted.Refused (unplaced SHEET-LENGTH)
+unfolding openOf
+openOf-length edition sheet known e = rw (known, e)
+
+module _ (edition : ℕ) (sheet : List ℕ) (known : isKnown edition ≡ true) (right : lengthRight (length sheet) ≡ true) {check : ℕ} (check-is : check ≡ firstWrong (checkRight sheet) (blockCount sheet)) where
   -- then a wrong check
-  pub openOf-check : check < blockCount sheet → openOf sheet ≡ Counted.Refused (refusal BLOCK-CHECK check)
+  pub openOf-check : check < blockCount sheet → openOf edition sheet ≡ Counted.Refused (refusal BLOCK-CHECK check)
   unfolding openOf
-  openOf-check h = rw right (atFirst-at _ _ _ _ check-is h)
+  openOf-check h = rw (known, right) (atFirst-at _ _ _ _ check-is h)
 
   module _ (checks : blockCount sheet ≤ check) {header : ℕ} (header-is : header ≡ firstWrong (headerRight sheet) (blockCount sheet)) where
     -- then a wrong header
-    pub openOf-header : header < blockCount sheet → openOf sheet ≡ Counted.Refused (refusal BLOCK-HEADER header)
+    pub openOf-header : header < blockCount sheet → openOf edition sheet ≡ Counted.Refused (refusal BLOCK-HEADER header)
     unfolding openOf
-    openOf-header h = rw right (atFirst-none _ _ _ _ check-is checks ∙ atFirst-at _ _ _ _ header-is h)
+    openOf-header h = rw (known, right) (atFirst-none _ _ _ _ check-is checks ∙ atFirst-at _ _ _ _ header-is h)
 
     module _ (headers : blockCount sheet ≤ header) {slot : ℕ} (slot-is : slot ≡ firstWrong (slotRight sheet) (slotsInBlock * blockCount sheet)) where
       -- then a wrong slot
-      pub openOf-slot : slot < slotsInBlock * blockCount sheet → openOf sheet ≡ Counted.Refused (refusal SLOT slot)
+      pub openOf-slot : slot < slotsInBlock * blockCount sheet → openOf edition sheet ≡ Counted.Refused (refusal SLOT slot)
       unfolding openOf
       openOf-slot h =
-          rw right (atFirst-none _ _ _ _ check-is checks ∙ atFirst-none _ _ _ _ header-is headers ∙ atFirst-at _ _ _ _ slot-is h)
+          rw (known, right) (atFirst-none _ _ _ _ check-is checks ∙ atFirst-none _ _ _ _ header-is headers ∙ atFirst-at _ _ _ _ slot-is h)
 
       -- and a sheet with nothing wrong has its nodes
-      pub openOf-nodes : slotsInBlock * blockCount sheet ≤ slot → openOf sheet ≡ Counted.Count (totalOf sheet)
+      pub openOf-nodes : slotsInBlock * blockCount sheet ≤ slot → openOf edition sheet ≡ Counted.Count (totalOf sheet)
       unfolding openOf
       openOf-nodes h =
-          rw right (atFirst-none _ _ _ _ check-is checks ∙ atFirst-none _ _ _ _ header-is headers ∙ atFirst-none _ _ _ _ slot-is h)
+          rw (known, right) (atFirst-none _ _ _ _ check-is checks ∙ atFirst-none _ _ _ _ header-is headers ∙ atFirst-none _ _ _ _ slot-is h)
 
 -- a refusal is no number of nodes
 pub refused-other : (r : Refusal) (t : ℕ) → Counted.Refused r ≡ Counted.Count t → ⊥
@@ -79,14 +85,22 @@ atFirst-nodes right n number next t e = cases (decLe n (firstWrong right n))
     cases (yes h) = (firstWrong-all right n h, sym (atFirst-none right n number next refl h) ∙ e)
     cases (no h) = absurd (refused-other (refusal number (firstWrong right n)) t (sym (atFirst-at right n number next refl (omega arith)) ∙ e))
 
-module _ (sheet : List ℕ) (t : ℕ) (opened : openOf sheet ≡ Counted.Count t) where
-  -- a sheet that opens has a right length
+module _ (edition : ℕ) (sheet : List ℕ) (t : ℕ) (opened : openOf edition sheet ≡ Counted.Count t) where
+  -- a sheet opens in a known edition
+  pub openOf-known : isKnown edition ≡ true
+  openOf-known = cases (isKnown edition) refl
+    where
+      cases : (b : Bool) → isKnown edition ≡ b → isKnown edition ≡ true
+      cases true e = e
+      cases false e = absurd (refused-other unknownEdition t (sym (openOf-unknown edition sheet e) ∙ opened))
+
+  -- and has a right length
   openOf-length-right : lengthRight (length sheet) ≡ true
   openOf-length-right = cases (lengthRight (length sheet)) refl
     where
       cases : (b : Bool) → lengthRight (length sheet) ≡ b → lengthRight (length sheet) ≡ true
       cases true e = e
-      cases false e = absurd (refused-other (unplaced SHEET-LENGTH) t (sym (openOf-length sheet e) ∙ opened))
+      cases false e = absurd (refused-other (unplaced SHEET-LENGTH) t (sym (openOf-length edition sheet openOf-known e) ∙ opened))
 
   past-length : atFirst (checkRight sheet) (blockCount sheet) BLOCK-CHECK
       (atFirst (headerRight sheet) (blockCount sheet) BLOCK-HEADER
@@ -94,7 +108,7 @@ module _ (sheet : List ℕ) (t : ℕ) (opened : openOf sheet ≡ Counted.Count t
       (Counted.Count (totalOf sheet))))
       ≡ Counted.Count t
   unfolding openOf
-  past-length = rw openOf-length-right at opened
+  past-length = rw (openOf-known, openOf-length-right) at opened
 
   past-checks : ((i : ℕ) → i < blockCount sheet → checkRight sheet i ≡ true)
       × (atFirst (headerRight sheet) (blockCount sheet) BLOCK-HEADER
@@ -154,14 +168,19 @@ module _ (sheet : List ℕ) (t : ℕ) (opened : openOf sheet ≡ Counted.Count t
   openOf-sound k h =
       sym (slotRight-used sheet k (omega (arith, openOf-total))) ∙ past-slots .0 k (omega (arith, openOf-within))
 
--- a sheet of sound blocks and slots opens
-pub openOf-accepts : (sheet : List ℕ) → BlocksSound sheet → SlotsSound sheet → openOf sheet ≡ Counted.Count (totalOf sheet)
-openOf-accepts sheet blocks slots-sound =
-    openOf-nodes sheet (blocks .length-right) refl (le-of-eq (sym (firstWrong-none _ _ (blocks .checks-right))))
+-- a sheet of sound blocks and slots opens in a known edition
+pub openOf-accepts : (edition : ℕ) (sheet : List ℕ) → isKnown edition ≡ true → BlocksSound sheet → SlotsSound sheet → openOf edition sheet ≡ Counted.Count (totalOf sheet)
+openOf-accepts edition sheet known blocks slots-sound =
+    openOf-nodes edition sheet known (blocks .length-right) refl (le-of-eq (sym (firstWrong-none _ _ (blocks .checks-right))))
     refl (le-of-eq (sym (firstWrong-none _ _ (blocks .headers-right))))
     refl (le-of-eq (sym (firstWrong-none _ _ (slots-sound .slots-right))))
 
 -- an answer that opening gives has the sheet's outcome
-pub with-outcome : (sheet : List ℕ) (r : Counted) → r ≡ openOf sheet → (r ≡ openOf sheet) × (outcomeOf sheet r ≡ outcome sheet)
+pub with-outcome : (edition : ℕ) (sheet : List ℕ) (r : Counted) → r ≡ openOf edition sheet → (r ≡ openOf edition sheet) × (outcomeOf sheet r ≡ outcome edition sheet)
 unfolding outcome
-with-outcome sheet r e = (e, ap (outcomeOf sheet) e)
+with-outcome edition sheet r e = (e, ap (outcomeOf sheet) e)
+
+-- opening answers the same in every known edition
+pub openOf-edition : (edition other : ℕ) (sheet : List ℕ) → isKnown edition ≡ true → isKnown other ≡ true → openOf edition sheet ≡ openOf other sheet
+unfolding openOf
+openOf-edition edition other sheet known known′ = rw (known, known′)

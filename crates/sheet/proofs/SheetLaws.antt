@@ -19,6 +19,7 @@ use Rattle.sheet.specs.Header.{blocksFor, nodesIn, totalRight}
 use Rattle.sheet.specs.Slot.{nameAt, slotStart, reaches, emptySlot, slotAt, slots}
 use Rattle.sheet.specs.Sound.{allZero, slotSound, slotRight}
 use Rattle.sheet.specs.Sheet.{joinBelow, uncheckedBlock, blockOf, sheetOf, slotOf}
+use Rattle.edition.specs.Editions.{isKnown}
 use Rattle.sheet.specs.Opening.{openOf, BlocksSound, SlotsSound}
 use Rattle.refusal.specs.declared.answers.Counted.{Counted}
 use Rattle.sheet.proofs.NumberLaws.{numberAt-one, numberAt-two}
@@ -71,9 +72,9 @@ emptySlot-zero = refl
 
 -- ---- a sheet that opens is the sheet of its slots
 
-module _ (sheet : List ℕ) (t : ℕ) (bytes : Bytes sheet) (opened : openOf sheet ≡ Counted.Count t) where
+module _ (edition : ℕ) (sheet : List ℕ) (t : ℕ) (bytes : Bytes sheet) (opened : openOf edition sheet ≡ Counted.Count t) where
   blocks : BlocksSound sheet
-  blocks = openOf-blocks sheet t opened
+  blocks = openOf-blocks edition sheet t opened
 
   -- its bytes reach every slot of its blocks
   reached : (k : ℕ) → k < slotsInBlock * blockCount sheet → reaches sheet k ≡ true
@@ -88,7 +89,7 @@ module _ (sheet : List ℕ) (t : ℕ) (bytes : Bytes sheet) (opened : openOf she
       cases (yes l) = slots-at sheet k emptySlot l
       cases (no l) =
           List·getD-eq-default (slots sheet) emptySlot {n = k} (omega (arith, slots-length sheet))
-          ∙ sym (zeros-empty (slotAt sheet k) (slotAt-length sheet k) (sym (slotRight-unused sheet k (omega arith)) ∙ openOf-slots sheet t opened .slots-right k h))
+          ∙ sym (zeros-empty (slotAt sheet k) (slotAt-length sheet k) (sym (slotRight-unused sheet k (omega arith)) ∙ openOf-slots edition sheet t opened .slots-right k h))
 
   -- block i, field by field
   module _ (i : ℕ) (h : i < blockCount sheet) where
@@ -146,7 +147,7 @@ module _ (sheet : List ℕ) (t : ℕ) (bytes : Bytes sheet) (opened : openOf she
   pub sheetOf-slots : sheetOf (slots sheet) ≡ sheet
   unfolding sheetOf blockAt blockCount
   sheetOf-slots =
-      ap (joinBelow (blockOf (slots sheet))) (ap blocksFor (openOf-slots-length sheet t opened) ∙ openOf-needed sheet t opened)
+      ap (joinBelow (blockOf (slots sheet))) (ap blocksFor (openOf-slots-length edition sheet t opened) ∙ openOf-needed edition sheet t opened)
       ∙ joinBelow-take (blockOf (slots sheet)) blockSize sheet (blockCount sheet) block-is
       ∙ take-all (blockSize * blockCount sheet) sheet (omega (arith, lengthRight-whole (length sheet) (blocks .length-right)))
 
@@ -325,9 +326,9 @@ module _ (used : List (List ℕ)) (given : SheetSlots used) where
       cases k h (no l) =
           slotRight-unused (sheetOf used) k (omega (arith, sheetOf-total)) ∙ ap allZero (sheetOf-slot k h ∙ empty-behind k (omega arith)) ∙ emptySlot-zero
 
-  -- the sheet of sound slots opens
-  pub openOf-sheetOf : openOf (sheetOf used) ≡ Counted.Count (length used)
-  openOf-sheetOf = openOf-accepts (sheetOf used) sheetOf-blocks-sound sheetOf-slots-sound ∙ ap Counted.Count sheetOf-total
+  -- the sheet of sound slots opens in a known edition
+  pub openOf-sheetOf : (edition : ℕ) → isKnown edition ≡ true → openOf edition (sheetOf used) ≡ Counted.Count (length used)
+  openOf-sheetOf edition known = openOf-accepts edition (sheetOf used) known sheetOf-blocks-sound sheetOf-slots-sound ∙ ap Counted.Count sheetOf-total
 
   -- it has these slots
   pub slots-sheetOf : slots (sheetOf used) ≡ used

@@ -1,4 +1,4 @@
--- What opening a sheet gives: its nodes, or one of refusals 1 to 4 with its place.
+-- What opening a sheet gives in an edition: its nodes, or refusal 21, or one of refusals 1 to 4 with its place.
 use mathlib.Core.Path.{_≡_}
 use Prim.Native.Nat.{ℕ, _*_, _<_}
 use mathlib.Core.Bool.{Bool, true, cond}
@@ -6,7 +6,8 @@ use mathlib.Core.List.{List}
 use lib.Dec.{ltb}
 use lib.ListN.{length}
 use Rattle.refusal.specs.Numbers.{SHEET-LENGTH, BLOCK-CHECK, BLOCK-HEADER, SLOT}
-use Rattle.refusal.specs.Outcome.{Outcome, given, refused, refusal, unplaced}
+use Rattle.refusal.specs.Outcome.{Outcome, given, refused, refusal, unplaced, unknownEdition}
+use Rattle.edition.specs.Editions.{isKnown}
 use Rattle.refusal.specs.declared.answers.Counted.{Counted}
 use Rattle.sheet.specs.Block.{slotsInBlock, blockCount, totalOf}
 use Rattle.sheet.specs.Check.{checkRight}
@@ -19,15 +20,17 @@ use Rattle.sheet.specs.First.{firstWrong}
 unfoldable pub atFirst : (ℕ → Bool) → ℕ → ℕ → Counted → Counted
 atFirst right n number next = cond (ltb (firstWrong right n) n) (Counted.Refused (refusal number (firstWrong right n))) next
 
--- the answer for any bytes: each refusal is judged over the whole sheet before the next
-unfoldable pub openOf : List ℕ → Counted
-openOf sheet =
-    cond (lengthRight (length sheet))
+-- the answer for any bytes: the edition is judged "before all others", then each refusal over the whole sheet before the next
+unfoldable pub openOf : ℕ → List ℕ → Counted
+openOf edition sheet =
+    cond (isKnown edition)
+    (cond (lengthRight (length sheet))
     (atFirst (checkRight sheet) (blockCount sheet) BLOCK-CHECK
     (atFirst (headerRight sheet) (blockCount sheet) BLOCK-HEADER
     (atFirst (slotRight sheet) (slotsInBlock * blockCount sheet) SLOT
     (Counted.Count (totalOf sheet)))))
-    (Counted.Refused (unplaced SHEET-LENGTH))
+    (Counted.Refused (unplaced SHEET-LENGTH)))
+    (Counted.Refused unknownEdition)
 
 -- "blocks are sound where refusals 1 to 3 don't hold"
 pub record BlocksSound (sheet : List ℕ) : Type 0 where
@@ -49,6 +52,6 @@ unfoldable pub outcomeOf : List ℕ → Counted → Outcome Nodes
 outcomeOf sheet (Counted.Count t) = given (record { total = t; used = slots sheet })
 outcomeOf sheet (Counted.Refused r) = refused r
 
--- the outcome of any list of bytes
-unfoldable pub outcome : List ℕ → Outcome Nodes
-outcome sheet = outcomeOf sheet (openOf sheet)
+-- the outcome of any list of bytes in any edition
+unfoldable pub outcome : ℕ → List ℕ → Outcome Nodes
+outcome edition sheet = outcomeOf sheet (openOf edition sheet)

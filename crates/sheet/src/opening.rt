@@ -1,4 +1,4 @@
-// Opening a sheet: refusals 1 to 4, each judged over the whole sheet before the next.
+// Opening a sheet: refusal 21, then 1 to 4, each judged over the whole sheet before the next.
 ghost use mathlib.Core.Path.{_≡_};
 ghost use Prim.Native.Nat.{_*_, _≤_, _<_};
 ghost use lib.ListN.{length};
@@ -13,15 +13,20 @@ use crate::block::header_right;
 use crate::block::total_of;
 use crate::layout;
 use crate::soundness::slot_right;
+use edition::is_known;
 use refusal::Counted;
 use refusal::Refusal;
 use refusal::numbers;
+use refusal::unknown_edition;
 
-// The number of nodes of a sheet, or the first refusal that holds of it.
-pub fn open(sheet: &[u8]) -> Counted
-    ensures { λ r. ⌜ r ≡ openOf (now (sheet .entry)) ⌝ }
-    ensures { λ r. ⌜ outcomeOf (now (sheet .entry)) r ≡ outcome (now (sheet .entry)) ⌝ }
+// The number of nodes of a sheet, or the first refusal that holds of the edition and of it.
+pub fn open(edition: u32, sheet: &[u8]) -> Counted
+    ensures { λ r. ⌜ r ≡ openOf edition (now (sheet .entry)) ⌝ }
+    ensures { λ r. ⌜ outcomeOf (now (sheet .entry)) r ≡ outcome edition (now (sheet .entry)) ⌝ }
 {
+    if !is_known(edition) {
+        return Counted::Refused(unknown_edition());
+    }
     if !length_right(sheet.len()) {
         return Counted::Refused(Refusal {
             number: numbers::SHEET_LENGTH,

@@ -17,19 +17,19 @@ abbrev asked : tie.After-fault → tie.After-stands
 asked c = c .before .before .before .before .before
 
 -- the number of that rule
-number : (c : tie.After-fault) → let a = read (asked c) .before .before .before .args in c .fault .result ≡ refusalOf (resolutionOf (a .n) (a .under-map))
+number : (c : tie.After-fault) → let a = read (asked c) .before .before .before .args in c .fault .result ≡ refusalOf (resolutionOf (a .edition) (a .n) (a .under-map))
 number c = c .fault .ensures ∙ search (needs, fault-passed)
 
 returns : tie.Need-returns
 returns c =
     let plain = sym (c .before .is-plain .ensures) ∙ c .if1 .taken in
-    (plain-kept _ _ plain, plain-logical _ _ plain)
+    (plain-kept _ _ plain _, plain-logical _ _ plain)
 
 returns-2 : tie.Need-returns-2
 returns-2 c =
     let asked = c .before .before in
     let packed = read asked .annotation-of .ensures in (
-      kept-read _ _ _ packed (search needs) (sym (asked .stands .ensures) ∙ c .before .if2 .taken),
+      kept-read _ _ _ packed _ (search needs) (sym (asked .stands .ensures) ∙ c .before .if2 .taken),
       c .logical .ensures ∙ ap (λ (w : Written). w .logical) (written-read _ _ _ packed),
     )
 

@@ -14,17 +14,17 @@ abbrev read : tie.After-fault → tie.After-annotation-of
 read c = c .before .before .before .before
 
 -- the number of that rule
-number : (c : tie.After-fault) → let a = read c .before .args in c .fault .result ≡ refusalOf (resolutionOf (a .n) (a .under-map))
+number : (c : tie.After-fault) → let a = read c .before .args in c .fault .result ≡ refusalOf (resolutionOf (a .edition) (a .n) (a .under-map))
 number c = c .fault .ensures ∙ search (needs, fault-passed)
 
 returns : tie.Need-returns
 returns c =
     let asked = c .before .before in
     let kind = c .kind-as .ensures ∙ kind-read _ _ _ (read asked .annotation-of .ensures) in
-    with-outcome _ _ _ (ap Resolution.Resolved kind ∙ sym (resolved-of-refusal _ _ (sym (c .before .if1 .taken) ∙ number asked)))
+    with-outcome _ _ _ _ (ap Resolution.Resolved kind ∙ sym (resolved-of-refusal _ _ _ (sym (c .before .if1 .taken) ∙ number asked)))
 
 returns-2 : tie.Need-returns-2
-returns-2 c = with-outcome _ _ _ (refused-of-number _ _ (number (c .before)) (c .if1 .left))
+returns-2 c = with-outcome _ _ _ _ (refused-of-number _ _ (number (c .before)) (c .if1 .left))
 
 pub resolve-spec : {M : Type 1} → statement M
 resolve-spec =

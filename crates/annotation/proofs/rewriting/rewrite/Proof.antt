@@ -13,17 +13,17 @@ abbrev read : tie.After-fault → tie.After-annotation-of
 read c = c .before .before .before .before
 
 -- the number of that rule
-number : (c : tie.After-fault) → let a = read c .before .args in c .fault .result ≡ refusalOf (resolutionOf (a .n) (a .under-map))
+number : (c : tie.After-fault) → let a = read c .before .args in c .fault .result ≡ refusalOf (resolutionOf (a .edition) (a .n) (a .under-map))
 number c = c .fault .ensures ∙ search (needs, fault-passed)
 
 returns : tie.Need-returns
 returns c =
     let asked = c .before .before in
-    with-outcome _ _ _
-    (written-rewriting _ _ _ (sym (c .before .if1 .taken) ∙ number asked) (c .written-as .ensures ∙ written-read _ _ _ (read asked .annotation-of .ensures)))
+    with-outcome _ _ _ _
+    (written-rewriting _ _ _ _ (sym (c .before .if1 .taken) ∙ number asked) (c .written-as .ensures ∙ written-read _ _ _ (read asked .annotation-of .ensures)))
 
 returns-2 : tie.Need-returns-2
-returns-2 c = with-outcome _ _ _ (refused-rewriting _ _ _ (number (c .before)) (c .if1 .left))
+returns-2 c = with-outcome _ _ _ _ (refused-rewriting _ _ _ _ (number (c .before)) (c .if1 .left))
 
 pub rewrite-spec : {M : Type 1} → statement M
 rewrite-spec =

@@ -17,7 +17,7 @@ placed c = sym (c .before .own-on .ensures) ∙ not-false _ (c .if1 .left)
 abbrev start : tie.After-digits-hold → tie.Start
 start c = c .before .before .before .before
 
-held : (c : tie.After-digits-hold) → let a = start c .args in c .digits-hold .result ≡ digitsHold (a .physical) (a .length) (a .precision) (a .scale)
+held : (c : tie.After-digits-hold) → let a = start c .args in c .digits-hold .result ≡ digitsHold (a .edition) (a .physical) (a .length) (a .precision) (a .scale)
 held c =
     c .digits-hold .ensures ∙ rw (toZ-ofZ {w = w32} (start c .fits .precision), toZ-ofZ {w = w32} (start c .fits .scale))
 

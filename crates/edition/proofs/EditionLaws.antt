@@ -1,0 +1,43 @@
+-- Which editions are known, and how they differ.
+-- Assumes nothing.
+use Prim.Native.Nat.{ℕ, zero, suc, _≤_}
+use mathlib.Core.Path.{_≡_, refl}
+use mathlib.Core.Bool.{Bool, true, false}
+use native.Mathlib.Omega.{arith}
+use lib.Dec.{leb}
+use borrow.Author.Tests.{leb-true}
+use Rattle.edition.specs.Editions.{FIRST, SECOND, isKnown, scaleMayEqual}
+use Rattle.laws.proofs.BoolLaws.{and-both}
+
+-- the editions are 1 and 2
+pub data OneOf : ℕ → Type 0 where
+  first : OneOf FIRST
+  second : OneOf SECOND
+
+pub known-of : {edition : ℕ} → OneOf edition → isKnown edition ≡ true
+unfolding isKnown
+known-of first = refl
+known-of second = refl
+
+-- and there is no other
+pub one-of-known : (edition : ℕ) → isKnown edition ≡ true → OneOf edition
+unfolding isKnown
+one-of-known edition e = cases edition (leb-true FIRST edition (held .0)) (leb-true edition SECOND (held .1))
+  where
+    held : (leb FIRST edition ≡ true) × (leb edition SECOND ≡ true)
+    held = and-both (leb FIRST edition) (leb edition SECOND) e
+
+    cases : (n : ℕ) → FIRST ≤ n → n ≤ SECOND → OneOf n
+    cases zero h m = absurd (omega arith)
+    cases (suc zero) h m = first
+    cases (suc (suc zero)) h m = second
+    cases (suc (suc (suc n))) h m = absurd (omega arith)
+
+-- the first asks for a scale below the precision, the second does not
+pub first-below : scaleMayEqual FIRST ≡ false
+unfolding scaleMayEqual
+first-below = refl
+
+pub second-equal : scaleMayEqual SECOND ≡ true
+unfolding scaleMayEqual
+second-equal = refl

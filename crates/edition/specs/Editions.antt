@@ -1,0 +1,20 @@
+-- Which editions there are, and a question for each thing that one decides.
+use Prim.Native.Nat.{ℕ}
+use mathlib.Core.Bool.{Bool, _&&_}
+use lib.Dec.{leb}
+
+-- "1 keeps the old rule"
+abbrev pub FIRST : ℕ
+FIRST = 1
+
+-- "2 has the new one"
+abbrev pub SECOND : ℕ
+SECOND = 2
+
+-- any other number is "21, edition unknown"
+unfoldable pub isKnown : ℕ → Bool
+isKnown edition = leb FIRST edition && leb edition SECOND
+
+-- may a DECIMAL's scale equal its precision? "Format 2.6.0 asks scale below precision; the present text allows equal"
+unfoldable pub scaleMayEqual : ℕ → Bool
+scaleMayEqual edition = leb SECOND edition
