@@ -51,21 +51,21 @@ zero-or-not zero k ns e = (refl, e)
 zero-or-not (suc n) k ns e = absurd (refused-not-lawful (refusal (suc n) k) e)
 
 -- the rule numbers of a node are all kept exactly where it breaks number 0
-pub keepsAt-broken : (p : Standing) (s : SlotBytes) (fs : Fields) → KeepsAt p s fs → broken p s fs ≡ 0
+pub keepsAt-broken : (edition : ℕ) (p : Standing) (s : SlotBytes) (fs : Fields) → KeepsAt edition p s fs → broken edition p s fs ≡ 0
 unfolding broken
-keepsAt-broken p s fs k = rw (k .shape, k .agreement, k .placement, k .decimals, k .lists, k .maps)
+keepsAt-broken edition p s fs k = rw (k .shape, k .agreement, k .placement, k .decimals, k .lists, k .maps)
 
 cond-zero : (b : Bool) (x m : ℕ) → cond b x (suc m) ≡ 0 → (b ≡ true) × (x ≡ 0)
 cond-zero true x m e = (refl, e)
 cond-zero false x m e = absurd (omega arith)
 
-pub broken-keepsAt : (p : Standing) (s : SlotBytes) (fs : Fields) → broken p s fs ≡ 0 → KeepsAt p s fs
+pub broken-keepsAt : (edition : ℕ) (p : Standing) (s : SlotBytes) (fs : Fields) → broken edition p s fs ≡ 0 → KeepsAt edition p s fs
 unfolding broken
-broken-keepsAt p s fs e =
+broken-keepsAt edition p s fs e =
     let r8 = cond-zero (rule8 p s fs) _ 7 e in
     let r9 = cond-zero (rule9 s) _ 8 (r8 .1) in
     let r10 = cond-zero (rule10 (underMap p) s) _ 9 (r9 .1) in
-    let r11 = cond-zero (rule11 (underMap p) s) _ 10 (r10 .1) in
+    let r11 = cond-zero (rule11 edition (underMap p) s) _ 10 (r10 .1) in
     let r12 = cond-zero (rule12 p s fs) _ 11 (r11 .1) in
     let r13 = cond-zero (rule13 p s fs) _ 12 (r12 .1) in
     record { shape = r8 .0; agreement = r9 .0; placement = r10 .0; decimals = r11 .0; lists = r12 .0; maps = r13 .0 }
@@ -74,29 +74,29 @@ mutual
   unfolding Keeps faults firstFault
 
   -- a tree that keeps every rule has no fault
-  pub keeps-no-fault : (t : Tree) (p : Standing) (k : ℕ) → Keeps p t → firstFault k (faults p t) ≡ Lawful
-  keeps-no-fault (node s fs) p k h = rw (keepsAt-broken p s fs (h .0)) (keepsAll-no-fault fs (standingBelow p s) (suc k) (h .1))
+  pub keeps-no-fault : (edition : ℕ) (t : Tree) (p : Standing) (k : ℕ) → Keeps edition p t → firstFault k (faults edition p t) ≡ Lawful
+  keeps-no-fault edition (node s fs) p k h = rw (keepsAt-broken edition p s fs (h .0)) (keepsAll-no-fault edition fs (standingBelow p s) (suc k) (h .1))
 
-  keepsAll-no-fault : (fs : Fields) (p : Standing) (k : ℕ) → KeepsAll p fs → firstFault k (runFaults p fs) ≡ Lawful
-  keepsAll-no-fault empty p k h = refl
-  keepsAll-no-fault (field t fs) p k h =
-      firstFault-append k (faults p t) (runFaults p fs)
-      ∙ orElse-none _ _ (keeps-no-fault t p k (h .0)) (keepsAll-no-fault fs p (k + length (faults p t)) (h .1))
+  keepsAll-no-fault : (edition : ℕ) (fs : Fields) (p : Standing) (k : ℕ) → KeepsAll edition p fs → firstFault k (runFaults edition p fs) ≡ Lawful
+  keepsAll-no-fault edition empty p k h = refl
+  keepsAll-no-fault edition (field t fs) p k h =
+      firstFault-append k (faults edition p t) (runFaults edition p fs)
+      ∙ orElse-none _ _ (keeps-no-fault edition t p k (h .0)) (keepsAll-no-fault edition fs p (k + length (faults edition p t)) (h .1))
 
 mutual
   unfolding Keeps faults
 
   -- a tree with no fault keeps every rule
-  pub no-fault-keeps : (t : Tree) (p : Standing) (k : ℕ) → firstFault k (faults p t) ≡ Lawful → Keeps p t
-  no-fault-keeps (node s fs) p k e =
-      let z = zero-or-not (broken p s fs) k (runFaults (standingBelow p s) fs) e in
-      (broken-keepsAt p s fs (z .0), no-fault-keepsAll fs (standingBelow p s) (suc k) (z .1))
+  pub no-fault-keeps : (edition : ℕ) (t : Tree) (p : Standing) (k : ℕ) → firstFault k (faults edition p t) ≡ Lawful → Keeps edition p t
+  no-fault-keeps edition (node s fs) p k e =
+      let z = zero-or-not (broken edition p s fs) k (runFaults edition (standingBelow p s) fs) e in
+      (broken-keepsAt edition p s fs (z .0), no-fault-keepsAll edition fs (standingBelow p s) (suc k) (z .1))
 
-  no-fault-keepsAll : (fs : Fields) (p : Standing) (k : ℕ) → firstFault k (runFaults p fs) ≡ Lawful → KeepsAll p fs
-  no-fault-keepsAll empty p k e = tt
-  no-fault-keepsAll (field t fs) p k e =
-      let z = none-orElse _ _ (sym (firstFault-append k (faults p t) (runFaults p fs)) ∙ e) in
-      (no-fault-keeps t p k (z .0), no-fault-keepsAll fs p (k + length (faults p t)) (z .1))
+  no-fault-keepsAll : (edition : ℕ) (fs : Fields) (p : Standing) (k : ℕ) → firstFault k (runFaults edition p fs) ≡ Lawful → KeepsAll edition p fs
+  no-fault-keepsAll edition empty p k e = tt
+  no-fault-keepsAll edition (field t fs) p k e =
+      let z = none-orElse _ _ (sym (firstFault-append k (faults edition p t) (runFaults edition p fs)) ∙ e) in
+      (no-fault-keeps edition t p k (z .0), no-fault-keepsAll edition fs p (k + length (faults edition p t)) (z .1))
 
 -- depths of which none is beyond the most
 shallow-none : (ds : List ℕ) (k : ℕ) → ((i : ℕ) → getD ds i 0 ≤ mostDepth) → firstFault k (map deepness ds) ≡ Lawful
@@ -121,10 +121,10 @@ pub none-atMostDeep : (t : Tree) → tooDeep t ≡ Lawful → AtMostDeep mostDep
 unfolding AtMostDeep tooDeep
 none-atMostDeep t e = none-shallow (depths 0 t) 0 e
 
-pub keeps-none : (t : Tree) → Keeps Root t → unlawful t ≡ Lawful
+pub keeps-none : (edition : ℕ) (t : Tree) → Keeps edition Root t → unlawful edition t ≡ Lawful
 unfolding unlawful
-keeps-none t h = keeps-no-fault t Root 0 h
+keeps-none edition t h = keeps-no-fault edition t Root 0 h
 
-pub none-keeps : (t : Tree) → unlawful t ≡ Lawful → Keeps Root t
+pub none-keeps : (edition : ℕ) (t : Tree) → unlawful edition t ≡ Lawful → Keeps edition Root t
 unfolding unlawful
-none-keeps t e = no-fault-keeps t Root 0 e
+none-keeps edition t e = no-fault-keeps edition t Root 0 e

@@ -62,53 +62,53 @@ fault-verdict k (suc n ∷ ns) h =
     rw (some, rule, place)
 
 -- the whole tree judged
-module _ (t : Tree) where
-  root-deep : (k : ℕ) → judgedTree 0 (suc mostDepth) Standing.Root t ≡ TreeJudged.Deep k → Verdict.Refused (refusal 7 k) ≡ orElse (tooDeep t) (unlawful t)
+module _ (edition : ℕ) (t : Tree) where
+  root-deep : (k : ℕ) → judgedTree edition 0 (suc mostDepth) Standing.Root t ≡ TreeJudged.Deep k → Verdict.Refused (refusal 7 k) ≡ orElse (tooDeep t) (unlawful edition t)
   unfolding judgedTree depthAt tooDeep
   root-deep k e = on (firstFault 0 (map deepness (depths 0 t))) refl e
     where
-      on : (v : Verdict) → firstFault 0 (map deepness (depths 0 t)) ≡ v → treeOrDeep v (TreeJudged.Judged (0 + size t) (lastOf 0 t) (faultFrom 0 (faults Standing.Root t))) ≡ TreeJudged.Deep k → Verdict.Refused (refusal 7 k) ≡ orElse (firstFault 0 (map deepness (depths 0 t))) (unlawful t)
+      on : (v : Verdict) → firstFault 0 (map deepness (depths 0 t)) ≡ v → treeOrDeep v (TreeJudged.Judged (0 + size t) (lastOf 0 t) (faultFrom 0 (faults edition Standing.Root t))) ≡ TreeJudged.Deep k → Verdict.Refused (refusal 7 k) ≡ orElse (firstFault 0 (map deepness (depths 0 t))) (unlawful edition t)
       on Verdict.Lawful q w = absurd (unfold treeOrDeep in let z : _≡_ {A = ℕ} 0 1 = cc in omega arith)
       on (Verdict.Refused r) q w = unfold treeOrDeep orElse in rw q (let p : r .place ≡ k = cc in rw (← p) (deep-refusal (depths 0 t) 0 r q))
 
-  root-judged : size t ≤ ruleWeight → (next last f : ℕ) → judgedTree 0 (suc mostDepth) Standing.Root t ≡ TreeJudged.Judged next last f → verdictOf f ≡ orElse (tooDeep t) (unlawful t)
+  root-judged : size t ≤ ruleWeight → (next last f : ℕ) → judgedTree edition 0 (suc mostDepth) Standing.Root t ≡ TreeJudged.Judged next last f → verdictOf f ≡ orElse (tooDeep t) (unlawful edition t)
   unfolding judgedTree depthAt tooDeep
   root-judged h next last f e = on (firstFault 0 (map deepness (depths 0 t))) refl e
     where
-      verdict : verdictOf (faultFrom 0 (faults Standing.Root t)) ≡ firstFault 0 (faults Standing.Root t)
-      verdict = fault-verdict 0 (faults Standing.Root t) (omega (arith, length-faults t Standing.Root))
+      verdict : verdictOf (faultFrom 0 (faults edition Standing.Root t)) ≡ firstFault 0 (faults edition Standing.Root t)
+      verdict = fault-verdict 0 (faults edition Standing.Root t) (omega (arith, length-faults edition t Standing.Root))
 
-      on : (u : Verdict) → firstFault 0 (map deepness (depths 0 t)) ≡ u → treeOrDeep u (TreeJudged.Judged (0 + size t) (lastOf 0 t) (faultFrom 0 (faults Standing.Root t))) ≡ TreeJudged.Judged next last f → verdictOf f ≡ orElse (firstFault 0 (map deepness (depths 0 t))) (unlawful t)
-      on Verdict.Lawful q w = unfold treeOrDeep orElse unlawful in rw q (let p : faultFrom 0 (faults Standing.Root t) ≡ f = cc in rw (← p) verdict)
+      on : (u : Verdict) → firstFault 0 (map deepness (depths 0 t)) ≡ u → treeOrDeep u (TreeJudged.Judged (0 + size t) (lastOf 0 t) (faultFrom 0 (faults edition Standing.Root t))) ≡ TreeJudged.Judged next last f → verdictOf f ≡ orElse (firstFault 0 (map deepness (depths 0 t))) (unlawful edition t)
+      on Verdict.Lawful q w = unfold treeOrDeep orElse unlawful in rw q (let p : faultFrom 0 (faults edition Standing.Root t) ≡ f = cc in rw (← p) verdict)
       on (Verdict.Refused r) q w = absurd (unfold treeOrDeep in let z : _≡_ {A = ℕ} 0 1 = cc in omega arith)
 
-root-at : (ss : List SlotBytes) {v : Verdict} → v ≡ orElse (tooDeep (treeAt ss 0)) (unlawful (treeAt ss 0)) → v ≡ orElse (tooDeep (treeOf ss)) (unlawful (treeOf ss))
-root-at ss e = rw treeAt-zero at e
+root-at : (edition : ℕ) (ss : List SlotBytes) {v : Verdict} → v ≡ orElse (tooDeep (treeAt ss 0)) (unlawful edition (treeAt ss 0)) → v ≡ orElse (tooDeep (treeOf ss)) (unlawful edition (treeOf ss))
+root-at edition ss e = rw treeAt-zero at e
 
 -- the run of the one tree of a sheet whose slots claim rightly
-module _ (b : List ℕ) (h : Claimed b) (l : 0 < totalOf b) where
+module _ (edition : ℕ) (b : List ℕ) (h : Claimed b) (l : 0 < totalOf b) where
   root : Tree
   root = treeAt (slots b) 0
 
-  root-run : judgedRun 0 (suc mostDepth) Standing.Root (runAt (slots b) 0 1) ≡ runBy (judgedTree 0 (suc mostDepth) Standing.Root root) (λ next within later. RunJudged.Judged next 0 within later)
+  root-run : judgedRun edition 0 (suc mostDepth) Standing.Root (runAt (slots b) 0 1) ≡ runBy (judgedTree edition 0 (suc mostDepth) Standing.Root root) (λ next within later. RunJudged.Judged next 0 within later)
   unfolding judgedRun root firstOf
   root-run =
-      ap (judgedOn 0 (suc mostDepth) Standing.Root 0 0 0) (root-alone b h l)
-      ∙ judgedOn-field 0 (suc mostDepth) Standing.Root 0 0 0 root empty
+      ap (judgedOn edition 0 (suc mostDepth) Standing.Root 0 0 0) (root-alone b h l)
+      ∙ judgedOn-field edition 0 (suc mostDepth) Standing.Root 0 0 0 root empty
       ∙ simp judgedOn-empty
 
-  pub run-deep : (k : ℕ) → judgedRun 0 (suc mostDepth) Standing.Root (runAt (slots b) 0 1) ≡ RunJudged.Deep k → Verdict.Refused (refusal 7 k) ≡ orElse (tooDeep (treeOf (slots b))) (unlawful (treeOf (slots b)))
+  pub run-deep : (k : ℕ) → judgedRun edition 0 (suc mostDepth) Standing.Root (runAt (slots b) 0 1) ≡ RunJudged.Deep k → Verdict.Refused (refusal 7 k) ≡ orElse (tooDeep (treeOf (slots b))) (unlawful edition (treeOf (slots b)))
   unfolding runBy root
-  run-deep k e = root-at (slots b) (root-deep root k (on (judgedTree 0 (suc mostDepth) Standing.Root root) (sym root-run ∙ e)))
+  run-deep k e = root-at edition (slots b) (root-deep edition root k (on (judgedTree edition 0 (suc mostDepth) Standing.Root root) (sym root-run ∙ e)))
     where
       on : (x : TreeJudged) → runBy x (λ next within later. RunJudged.Judged next 0 within later) ≡ RunJudged.Deep k → x ≡ TreeJudged.Deep k
       on (TreeJudged.Deep i) q = cc
       on (TreeJudged.Judged n w f) q = absurd (let z : _≡_ {A = ℕ} 0 1 = cc in omega arith)
 
-  pub run-judged : (next last inner f : ℕ) → judgedRun 0 (suc mostDepth) Standing.Root (runAt (slots b) 0 1) ≡ RunJudged.Judged next last inner f → verdictOf f ≡ orElse (tooDeep (treeOf (slots b))) (unlawful (treeOf (slots b)))
+  pub run-judged : (next last inner f : ℕ) → judgedRun edition 0 (suc mostDepth) Standing.Root (runAt (slots b) 0 1) ≡ RunJudged.Judged next last inner f → verdictOf f ≡ orElse (tooDeep (treeOf (slots b))) (unlawful edition (treeOf (slots b)))
   unfolding runBy root
   run-judged next last inner f e =
-      root-at (slots b) (root-judged root small next inner f (on (judgedTree 0 (suc mostDepth) Standing.Root root) (sym root-run ∙ e)))
+      root-at edition (slots b) (root-judged edition root small next inner f (on (judgedTree edition 0 (suc mostDepth) Standing.Root root) (sym root-run ∙ e)))
     where
       small : size root ≤ ruleWeight
       small = omega (arith, tree-within b 0 h l, h .most)
@@ -118,20 +118,20 @@ module _ (b : List ℕ) (h : Claimed b) (l : 0 < totalOf b) where
       on (TreeJudged.Judged n w g) q = cc
 
 -- refusals 5 and 6, then 7 to 13
-pub treeRefusal-places : (ss : List SlotBytes) → treeRefusal ss ≡ orElse (orElse (leftOver ss) (missing ss)) (orElse (tooDeep (treeOf ss)) (unlawful (treeOf ss)))
+pub treeRefusal-places : (edition : ℕ) (ss : List SlotBytes) → treeRefusal edition ss ≡ orElse (orElse (leftOver ss) (missing ss)) (orElse (tooDeep (treeOf ss)) (unlawful edition (treeOf ss)))
 unfolding treeRefusal
-treeRefusal-places ss = sym (orElse-assoc (leftOver ss) (missing ss) (orElse (tooDeep (treeOf ss)) (unlawful (treeOf ss))))
+treeRefusal-places edition ss = sym (orElse-assoc (leftOver ss) (missing ss) (orElse (tooDeep (treeOf ss)) (unlawful edition (treeOf ss))))
 
 -- a sheet that neither 5 nor 6 refuses claims rightly
-module _ (b : List ℕ) (t : ℕ) (o : sheet.openOf b ≡ Counted.Count t) where
+module _ (edition : ℕ) (b : List ℕ) (t : ℕ) (o : sheet.openOf edition b ≡ Counted.Count t) where
   pub nodes-total : t ≡ totalOf b
-  nodes-total = openOf-total b t o
+  nodes-total = openOf-total edition b t o
 
   pub nodes-most : t ≤ mostNodes
-  nodes-most = openOf-most b t o
+  nodes-most = openOf-most edition b t o
 
   pub nodes-some : 0 < totalOf b
-  nodes-some = omega (arith, nodes-total, openOf-least b t o)
+  nodes-some = omega (arith, nodes-total, openOf-least edition b t o)
 
   pub places-claimed : orElse (leftOver (slots b)) (missing (slots b)) ≡ Verdict.Lawful → Claimed b
   places-claimed e =
@@ -142,24 +142,24 @@ module _ (b : List ℕ) (t : ℕ) (o : sheet.openOf b ≡ Counted.Count t) where
         claims = fills-trees (accepted-fills (slots b) (q .0) (q .1)) .1;
       }
 
-  pub judgement-nodes : judgement b ≡ treeRefusal (slots b)
+  pub judgement-nodes : judgement edition b ≡ treeRefusal edition (slots b)
   unfolding judgement judgedAs sheet.outcome sheet.outcomeOf
   judgement-nodes = rw o
 
 -- a sheet that does not open is refused so
-module _ (b : List ℕ) where
-  pub judgement-refused : (r : Refusal) → sheet.openOf b ≡ Counted.Refused r → judgement b ≡ Verdict.Refused r
+module _ (edition : ℕ) (b : List ℕ) where
+  pub judgement-refused : (r : Refusal) → sheet.openOf edition b ≡ Counted.Refused r → judgement edition b ≡ Verdict.Refused r
   unfolding judgement judgedAs sheet.outcome sheet.outcomeOf
   judgement-refused r o = rw o
 
   -- an opened sheet that is lawful
-  pub lawful-opened : judgement b ≡ Verdict.Lawful → (t : ℕ) × (sheet.openOf b ≡ Counted.Count t)
-  lawful-opened e = on (sheet.openOf b) refl
+  pub lawful-opened : judgement edition b ≡ Verdict.Lawful → (t : ℕ) × (sheet.openOf edition b ≡ Counted.Count t)
+  lawful-opened e = on (sheet.openOf edition b) refl
     where
-      no : (r : Refusal) → judgement b ≡ Verdict.Refused r → ⊥
+      no : (r : Refusal) → judgement edition b ≡ Verdict.Refused r → ⊥
       no r q = let z : _≡_ {A = ℕ} 0 1 = cc in omega arith
 
-      on : (o : Counted) → sheet.openOf b ≡ o → (t : ℕ) × (sheet.openOf b ≡ Counted.Count t)
+      on : (o : Counted) → sheet.openOf edition b ≡ o → (t : ℕ) × (sheet.openOf edition b ≡ Counted.Count t)
       on (Counted.Count t) q = (t, q)
       on (Counted.Refused r) q = absurd (no r (judgement-refused r q))
 
@@ -174,41 +174,41 @@ module _ (b : List ℕ) where
   judgedNodes-refused (Verdict.Refused s) t r e = cc
 
   -- a refused sheet
-  pub judged-refused : (r : Refusal) → judgementOf b ≡ Counted.Refused r → judgement b ≡ Verdict.Refused r
+  pub judged-refused : (r : Refusal) → judgementOf edition b ≡ Counted.Refused r → judgement edition b ≡ Verdict.Refused r
   unfolding judgementOf
-  judged-refused r e = judgedNodes-refused (judgement b) (totalOf b) r e
+  judged-refused r e = judgedNodes-refused (judgement edition b) (totalOf b) r e
 
-  module _ (n : ℕ) (e : judgementOf b ≡ Counted.Count n) where
-    pub judged-lawful : (judgement b ≡ Verdict.Lawful) × (n ≡ totalOf b)
+  module _ (n : ℕ) (e : judgementOf edition b ≡ Counted.Count n) where
+    pub judged-lawful : (judgement edition b ≡ Verdict.Lawful) × (n ≡ totalOf b)
     unfolding judgementOf
-    judged-lawful = judgedNodes-lawful (judgement b) (totalOf b) n e
+    judged-lawful = judgedNodes-lawful (judgement edition b) (totalOf b) n e
 
-    opened : (t : ℕ) × (sheet.openOf b ≡ Counted.Count t)
+    opened : (t : ℕ) × (sheet.openOf edition b ≡ Counted.Count t)
     opened = lawful-opened (judged-lawful .0)
 
     pub judged-total : n ≡ totalOf b
     judged-total = judged-lawful .1
 
     pub judged-some : 0 < totalOf b
-    judged-some = nodes-some b (opened .0) (opened .1)
+    judged-some = nodes-some edition b (opened .0) (opened .1)
 
     no-places : orElse (leftOver (slots b)) (missing (slots b)) ≡ Verdict.Lawful
     no-places =
-        none-orElse _ _ (sym (treeRefusal-places (slots b)) ∙ sym (judgement-nodes b (opened .0) (opened .1)) ∙ judged-lawful .0) .0
+        none-orElse _ _ (sym (treeRefusal-places edition (slots b)) ∙ sym (judgement-nodes edition b (opened .0) (opened .1)) ∙ judged-lawful .0) .0
 
     pub judged-claimed : Claimed b
-    judged-claimed = places-claimed b (opened .0) (opened .1) no-places
+    judged-claimed = places-claimed edition b (opened .0) (opened .1) no-places
 
-    no-faults : orElse (tooDeep (treeOf (slots b))) (unlawful (treeOf (slots b))) ≡ Verdict.Lawful
+    no-faults : orElse (tooDeep (treeOf (slots b))) (unlawful edition (treeOf (slots b))) ≡ Verdict.Lawful
     no-faults =
-        none-orElse _ _ (sym (treeRefusal-places (slots b)) ∙ sym (judgement-nodes b (opened .0) (opened .1)) ∙ judged-lawful .0) .1
+        none-orElse _ _ (sym (treeRefusal-places edition (slots b)) ∙ sym (judgement-nodes edition b (opened .0) (opened .1)) ∙ judged-lawful .0) .1
 
     -- its tree is not too deep, keeps every rule and lists its slots
     pub judged-deep : AtMostDeep mostDepth (treeOf (slots b))
     judged-deep = none-atMostDeep (treeOf (slots b)) (none-orElse _ _ no-faults .0)
 
-    pub judged-keeps : Keeps Standing.Root (treeOf (slots b))
-    judged-keeps = none-keeps (treeOf (slots b)) (none-orElse _ _ no-faults .1)
+    pub judged-keeps : Keeps edition Standing.Root (treeOf (slots b))
+    judged-keeps = none-keeps edition (treeOf (slots b)) (none-orElse _ _ no-faults .1)
 
     pub judged-listing : listing (treeOf (slots b)) ≡ slots b
     judged-listing =

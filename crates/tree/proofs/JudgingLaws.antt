@@ -31,12 +31,12 @@ mutual
 mutual
   unfolding faults size listing
 
-  pub length-faults : (t : Tree) (p : Standing) → length (faults p t) ≡ size t
-  length-faults (node s fs) p = ap suc (length-runFaults fs (standingBelow p s))
+  pub length-faults : (edition : ℕ) (t : Tree) (p : Standing) → length (faults edition p t) ≡ size t
+  length-faults edition (node s fs) p = ap suc (length-runFaults edition fs (standingBelow p s))
 
-  length-runFaults : (fs : Fields) (p : Standing) → length (runFaults p fs) ≡ length (listings fs)
-  length-runFaults empty p = refl
-  length-runFaults (field t fs) p = rw (length-append, length-append, length-faults t p, length-runFaults fs p)
+  length-runFaults : (edition : ℕ) (fs : Fields) (p : Standing) → length (runFaults edition p fs) ≡ length (listings fs)
+  length-runFaults edition empty p = refl
+  length-runFaults edition (field t fs) p = rw (length-append, length-append, length-faults edition t p, length-runFaults edition fs p)
 
 -- the first fault of two ---------------------------------------------------------------------------------------------------
 
@@ -64,9 +64,9 @@ faultFrom-append k (suc m ∷ ms) ns = sym (firstOf-some (ruleWeight * suc m + k
 -- a tree and its run -------------------------------------------------------------------------------------------------------
 
 -- a tree that has no level left is too deep
-pub judgedTree-deep : (at : ℕ) (p : Standing) (t : Tree) → judgedTree at 0 p t ≡ TreeJudged.Deep at
+pub judgedTree-deep : (edition : ℕ) (at : ℕ) (p : Standing) (t : Tree) → judgedTree edition at 0 p t ≡ TreeJudged.Deep at
 unfolding judgedTree treeOrDeep depthAt depths firstFault deepness
-judgedTree-deep at p (node s fs) = refl
+judgedTree-deep edition at p (node s fs) = refl
 
 -- what a tree's run finds is what the tree finds, with the root's own fault first
 unfoldable pub treeBy : ℕ → ℕ → RunJudged → TreeJudged
@@ -98,15 +98,15 @@ deep-behind at l fs h = rw (not-deep l, deeper l h)
 node-end : (at : ℕ) (s : SlotBytes) (fs : Fields) → at + size (node s fs) ≡ suc at + sizes fs
 node-end at s fs = omega (arith, size-node s fs)
 
-pub judgedTree-node : (at l : ℕ) (p : Standing) (s : SlotBytes) (fs : Fields) → suc l ≤ suc mostDepth → judgedTree at (suc l) p (node s fs) ≡ treeBy (broken p s fs) at (judgedRun (suc at) l (standingBelow p s) fs)
+pub judgedTree-node : (edition : ℕ) (at l : ℕ) (p : Standing) (s : SlotBytes) (fs : Fields) → suc l ≤ suc mostDepth → judgedTree edition at (suc l) p (node s fs) ≡ treeBy (broken edition p s fs) at (judgedRun edition (suc at) l (standingBelow p s) fs)
 unfolding judgedTree judgedRun judgedOn depths faults lastOf firstOf
-judgedTree-node at l p s fs h = rw (deep-behind at l fs h, own-first, node-end) (tree-by _ _ _ _ _ _ _)
+judgedTree-node edition at l p s fs h = rw (deep-behind at l fs h, own-first, node-end) (tree-by _ _ _ _ _ _ _)
 
 -- a run and its first tree -------------------------------------------------------------------------------------------------
 
-pub judgedOn-empty : (at l : ℕ) (p : Standing) (last inner f : ℕ) → judgedOn at l p last inner f empty ≡ RunJudged.Judged at last inner f
+pub judgedOn-empty : (edition : ℕ) (at l : ℕ) (p : Standing) (last inner f : ℕ) → judgedOn edition at l p last inner f empty ≡ RunJudged.Judged at last inner f
 unfolding judgedOn runOrDeep runDepths firstFault sizes listings lastFrom innerFrom runFaults faultFrom
-judgedOn-empty at l p last inner f = rw (add-zero, firstOf-none)
+judgedOn-empty edition at l p last inner f = rw (add-zero, firstOf-none)
 
 -- what a run's first tree and the shorter run find is what the run finds
 unfoldable pub runBy : TreeJudged → (ℕ → ℕ → ℕ → RunJudged) → RunJudged
@@ -124,10 +124,10 @@ deep-split at d t fs =
     (firstFault-append at (map deepness (depths d t)) (map deepness (runDepths d fs))
     ∙ rw (length-map, length-depths))
 
-fault-split : (at f : ℕ) (p : Standing) (t : Tree) (fs : Fields) → firstOf f (faultFrom at (faults p t ++ runFaults p fs)) ≡ firstOf (firstOf f (faultFrom at (faults p t))) (faultFrom (at + size t) (runFaults p fs))
-fault-split at f p t fs =
-    ap (firstOf f) (faultFrom-append at (faults p t) (runFaults p fs) ∙ rw length-faults)
-    ∙ sym (firstOf-assoc f (faultFrom at (faults p t)) (faultFrom (at + size t) (runFaults p fs)))
+fault-split : (edition : ℕ) (at f : ℕ) (p : Standing) (t : Tree) (fs : Fields) → firstOf f (faultFrom at (faults edition p t ++ runFaults edition p fs)) ≡ firstOf (firstOf f (faultFrom at (faults edition p t))) (faultFrom (at + size t) (runFaults edition p fs))
+fault-split edition at f p t fs =
+    ap (firstOf f) (faultFrom-append at (faults edition p t) (runFaults edition p fs) ∙ rw length-faults)
+    ∙ sym (firstOf-assoc f (faultFrom at (faults edition p t)) (faultFrom (at + size t) (runFaults edition p fs)))
 
 field-end : (at : ℕ) (t : Tree) (fs : Fields) → at + sizes (field t fs) ≡ at + size t + sizes fs
 field-end at t fs = omega (arith, sizes-field t fs)
@@ -135,25 +135,25 @@ field-end at t fs = omega (arith, sizes-field t fs)
 run-parts : (a b : Verdict) (e f last inner v w : ℕ) → a ≡ b → e ≡ f → v ≡ w → runOrDeep a (RunJudged.Judged e last inner v) ≡ runOrDeep b (RunJudged.Judged f last inner w)
 run-parts a b e f last inner v w p q r = cc
 
-pub judgedOn-field : (at l : ℕ) (p : Standing) (last inner f : ℕ) (t : Tree) (fs : Fields) → judgedOn at l p last inner f (field t fs) ≡ runBy (judgedTree at l p t) (λ next within later. judgedOn next l p at within (firstOf f later) fs)
+pub judgedOn-field : (edition : ℕ) (at l : ℕ) (p : Standing) (last inner f : ℕ) (t : Tree) (fs : Fields) → judgedOn edition at l p last inner f (field t fs) ≡ runBy (judgedTree edition at l p t) (λ next within later. judgedOn edition next l p at within (firstOf f later) fs)
 unfolding judgedTree judgedOn runDepths runFaults lastFrom innerFrom
-judgedOn-field at l p last inner f t fs =
-    run-parts _ _ _ _ _ _ _ _ (deep-split at (depthAt l) t fs) (field-end at t fs) (fault-split at f p t fs)
+judgedOn-field edition at l p last inner f t fs =
+    run-parts _ _ _ _ _ _ _ _ (deep-split at (depthAt l) t fs) (field-end at t fs) (fault-split edition at f p t fs)
     ∙ run-by _ _ _ _ _ _ _ refl
 
 -- where a run is judged, the last field of its last field stands where it says
-pub judgedRun-inner : (at l : ℕ) (p : Standing) (fs : Fields) (next last inner f : ℕ) → judgedRun at l p fs ≡ RunJudged.Judged next last inner f → inner ≡ innerFrom at at fs
+pub judgedRun-inner : (edition : ℕ) (at l : ℕ) (p : Standing) (fs : Fields) (next last inner f : ℕ) → judgedRun edition at l p fs ≡ RunJudged.Judged next last inner f → inner ≡ innerFrom at at fs
 unfolding judgedRun judgedOn runOrDeep
-judgedRun-inner at l p fs next last inner f e = on (firstFault at (map deepness (runDepths (depthAt l) fs))) e
+judgedRun-inner edition at l p fs next last inner f e = on (firstFault at (map deepness (runDepths (depthAt l) fs))) e
   where
-    on : (w : Verdict) → runOrDeep w (RunJudged.Judged (at + sizes fs) (lastFrom at at fs) (innerFrom at at fs) (firstOf 0 (faultFrom at (runFaults p fs)))) ≡ RunJudged.Judged next last inner f → inner ≡ innerFrom at at fs
+    on : (w : Verdict) → runOrDeep w (RunJudged.Judged (at + sizes fs) (lastFrom at at fs) (innerFrom at at fs) (firstOf 0 (faultFrom at (runFaults edition p fs)))) ≡ RunJudged.Judged next last inner f → inner ≡ innerFrom at at fs
     on Verdict.Lawful q = cc
     on (Verdict.Refused r) q = absurd (let z : _≡_ {A = ℕ} 0 1 = cc in omega arith)
 
-pub judgedTree-next : (at l : ℕ) (p : Standing) (t : Tree) (next last f : ℕ) → judgedTree at l p t ≡ TreeJudged.Judged next last f → next ≡ at + size t
+pub judgedTree-next : (edition : ℕ) (at l : ℕ) (p : Standing) (t : Tree) (next last f : ℕ) → judgedTree edition at l p t ≡ TreeJudged.Judged next last f → next ≡ at + size t
 unfolding judgedTree treeOrDeep
-judgedTree-next at l p t next last f e = on (firstFault at (map deepness (depths (depthAt l) t))) e
+judgedTree-next edition at l p t next last f e = on (firstFault at (map deepness (depths (depthAt l) t))) e
   where
-    on : (w : Verdict) → treeOrDeep w (TreeJudged.Judged (at + size t) (lastOf at t) (faultFrom at (faults p t))) ≡ TreeJudged.Judged next last f → next ≡ at + size t
+    on : (w : Verdict) → treeOrDeep w (TreeJudged.Judged (at + size t) (lastOf at t) (faultFrom at (faults edition p t))) ≡ TreeJudged.Judged next last f → next ≡ at + size t
     on Verdict.Lawful q = cc
     on (Verdict.Refused r) q = absurd (let z : _≡_ {A = ℕ} 0 1 = cc in omega arith)

@@ -63,8 +63,8 @@ tree-neither ss t c e =
     (fills-leftOver ss f, fills-missing ss f)
 
 -- refusals 7 to 13, with their places, are those of the one tree that claims rightly and lists the slots
-pub treeRefusal-tree : (ss : List SlotBytes) (t : Tree) → Claims t → listing t ≡ ss → treeRefusal ss ≡ orElse (tooDeep t) (unlawful t)
+pub treeRefusal-tree : (edition : ℕ) (ss : List SlotBytes) (t : Tree) → Claims t → listing t ≡ ss → treeRefusal edition ss ≡ orElse (tooDeep t) (unlawful edition t)
 unfolding treeRefusal orElse
-treeRefusal-tree ss t c e =
+treeRefusal-tree edition ss t c e =
     let none = tree-neither ss t c e in
     rw (none .0, none .1, treeOf-listing t ss c e)

@@ -40,5 +40,5 @@ rule9 s = nine.rule9 (annotated s)
 unfoldable pub rule10 : Bool → List ℕ → Bool
 rule10 under s = ten.rule10 (annotated s) under
 
-unfoldable pub rule11 : Bool → List ℕ → Bool
-rule11 under s = eleven.rule11 (annotated s) under
+unfoldable pub rule11 : ℕ → Bool → List ℕ → Bool
+rule11 edition under s = eleven.rule11 edition (annotated s) under

@@ -1,4 +1,4 @@
--- What judging a sheet answers: refusals 1 to 13 in their order, with their places, or none.
+-- What judging a sheet answers in an edition: refusals 21 and 1 to 13 in their order, with their places, or none.
 use Prim.Native.Nat.{ℕ, zero, suc}
 use mathlib.Core.Bool.{cond, not}
 use mathlib.Core.List.{List, [], _∷_, map}
@@ -46,26 +46,26 @@ unfoldable pub tooDeep : Tree → Verdict
 tooDeep t = firstFault 0 (map deepness (depths 0 t))
 
 -- refusals 8 to 13, "node by node, at one node in number order"
-unfoldable pub unlawful : Tree → Verdict
-unlawful t = firstFault 0 (faults Root t)
+unfoldable pub unlawful : ℕ → Tree → Verdict
+unlawful edition t = firstFault 0 (faults edition Root t)
 
 -- refusals 6, then 5 ("otherwise"), then 7, then 8 to 13, each judged over the whole sheet
-unfoldable pub treeRefusal : List SlotBytes → Verdict
-treeRefusal ss = orElse (leftOver ss) (orElse (missing ss) (orElse (tooDeep (treeOf ss)) (unlawful (treeOf ss))))
+unfoldable pub treeRefusal : ℕ → List SlotBytes → Verdict
+treeRefusal edition ss = orElse (leftOver ss) (orElse (missing ss) (orElse (tooDeep (treeOf ss)) (unlawful edition (treeOf ss))))
 
--- refusals 1 to 13
-unfoldable pub judgedAs : Outcome sheet.Nodes → Verdict
-judgedAs (refused r) = Verdict.Refused r
-judgedAs (given nodes) = treeRefusal (nodes .used)
+-- refusals 21, then 1 to 13
+unfoldable pub judgedAs : ℕ → Outcome sheet.Nodes → Verdict
+judgedAs edition (refused r) = Verdict.Refused r
+judgedAs edition (given nodes) = treeRefusal edition (nodes .used)
 
-unfoldable pub judgement : List ℕ → Verdict
-judgement bytes = judgedAs (sheet.outcome bytes)
+unfoldable pub judgement : ℕ → List ℕ → Verdict
+judgement edition bytes = judgedAs edition (sheet.outcome edition bytes)
 
 -- an answer to a sheet of so many nodes: that number where it is lawful, or the refusal
 unfoldable pub judgedNodes : Verdict → ℕ → Counted
 judgedNodes Verdict.Lawful total = Counted.Count total
 judgedNodes (Verdict.Refused r) total = Counted.Refused r
 
--- what judging answers for any bytes
-unfoldable pub judgementOf : List ℕ → Counted
-judgementOf bytes = judgedNodes (judgement bytes) (totalOf bytes)
+-- what judging answers for any bytes in any edition
+unfoldable pub judgementOf : ℕ → List ℕ → Counted
+judgementOf edition bytes = judgedNodes (judgement edition bytes) (totalOf bytes)

@@ -1,4 +1,4 @@
--- The listed rules 8 to 13, kept at every node and judged on the tree alone.
+-- The listed rules 8 to 13, kept at every node and judged on the tree alone. Of them an edition decides rule 11.
 use Prim.Native.Nat.{ℕ}
 use mathlib.Core.Path.{_≡_}
 use mathlib.Core.Bool.{Bool, true, false, cond, not, _&&_, _||_}
@@ -168,20 +168,20 @@ rule13 p s fs = not (isMap p s) || mapKept s fs
 
 -- every rule -------------------------------------------------------------------------------------------------------------
 
--- a node keeps every rule
-pub record KeepsAt (p : Standing) (s : SlotBytes) (fs : Fields) : Type 0 where
+-- a node keeps every rule of an edition
+pub record KeepsAt (edition : ℕ) (p : Standing) (s : SlotBytes) (fs : Fields) : Type 0 where
   pub shape : rule8 p s fs ≡ true
   pub agreement : rule9 s ≡ true
   pub placement : rule10 (underMap p) s ≡ true
-  pub decimals : rule11 (underMap p) s ≡ true
+  pub decimals : rule11 edition (underMap p) s ≡ true
   pub lists : rule12 p s fs ≡ true
   pub maps : rule13 p s fs ≡ true
 
--- a tree keeps every rule at every node
+-- a tree keeps every rule of it at every node
 unfoldable mutual
-  pub Keeps : Standing → Tree → Type 0
-  Keeps p (node s fs) = KeepsAt p s fs × KeepsAll (standingBelow p s) fs
+  pub Keeps : ℕ → Standing → Tree → Type 0
+  Keeps edition p (node s fs) = KeepsAt edition p s fs × KeepsAll edition (standingBelow p s) fs
 
-  pub KeepsAll : Standing → Fields → Type 0
-  KeepsAll p empty = Unit {0}
-  KeepsAll p (field t fs) = Keeps p t × KeepsAll p fs
+  pub KeepsAll : ℕ → Standing → Fields → Type 0
+  KeepsAll edition p empty = Unit {0}
+  KeepsAll edition p (field t fs) = Keeps edition p t × KeepsAll edition p fs

@@ -10,8 +10,7 @@ use Rattle.sheet.specs.Block.{totalOf, mostNodes}
 use Rattle.sheet.specs.Slot.{slots, slotAt, childCount, numbersOf}
 use Rattle.sheet.specs.declared.slots.Slot.{Slot as Numbers}
 use Rattle.tree.specs.Tree.{SlotBytes, Tree, Fields, node, empty, field, listings, size, depths, runDepths, ClaimsAll, mostDepth}
-use Rattle.tree.specs.Annotated.{rule9, rule10, rule11}
-use Rattle.tree.specs.Rules.{underMap, rule8, rule12, listKept, mapKept}
+use Rattle.tree.specs.Rules.{underMap, rule8, listKept, mapKept}
 use Rattle.tree.specs.Faults.{faults, runFaults}
 use Rattle.tree.specs.Reading.{trees, takeFields, firstTree}
 use Rattle.parquet.specs.Logical as logical
@@ -95,28 +94,19 @@ runOrDeep Verdict.Lawful found = found
 runOrDeep (Verdict.Refused r) found = RunJudged.Deep (r .place)
 
 -- what judging finds of a tree whose root has the number `at`
-unfoldable pub judgedTree : ℕ → ℕ → Standing → Tree → TreeJudged
-judgedTree at allowed p t =
-    treeOrDeep (firstFault at (map deepness (depths (depthAt allowed) t))) (TreeJudged.Judged (at + size t) (lastOf at t) (faultFrom at (faults p t)))
+unfoldable pub judgedTree : ℕ → ℕ → ℕ → Standing → Tree → TreeJudged
+judgedTree edition at allowed p t =
+    treeOrDeep (firstFault at (map deepness (depths (depthAt allowed) t))) (TreeJudged.Judged (at + size t) (lastOf at t) (faultFrom at (faults edition p t)))
 
 -- and of a run whose next field has it, where a last field, that field's last field and a first fault were found before
-unfoldable pub judgedOn : ℕ → ℕ → Standing → ℕ → ℕ → ℕ → Fields → RunJudged
-judgedOn at allowed p last inner fault fs =
+unfoldable pub judgedOn : ℕ → ℕ → ℕ → Standing → ℕ → ℕ → ℕ → Fields → RunJudged
+judgedOn edition at allowed p last inner fault fs =
     runOrDeep (firstFault at (map deepness (runDepths (depthAt allowed) fs)))
-    (RunJudged.Judged (at + sizes fs) (lastFrom last at fs) (innerFrom inner at fs) (firstOf fault (faultFrom at (runFaults p fs))))
+    (RunJudged.Judged (at + sizes fs) (lastFrom last at fs) (innerFrom inner at fs) (firstOf fault (faultFrom at (runFaults edition p fs))))
 
 -- and of a whole run
-unfoldable pub judgedRun : ℕ → ℕ → Standing → Fields → RunJudged
-judgedRun at allowed p fs = judgedOn at allowed p at at 0 fs
-
--- the least of rules 8 to 12 that a node breaks, and 0 where it keeps them all
-unfoldable pub brokenTo12 : Standing → SlotBytes → Fields → ℕ
-brokenTo12 p s fs =
-    cond (rule8 p s fs)
-    (cond (rule9 s)
-    (cond (rule10 (underMap p) s)
-    (cond (rule11 (underMap p) s)
-    (cond (rule12 p s fs) 0 12) 11) 10) 9) 8
+unfoldable pub judgedRun : ℕ → ℕ → ℕ → Standing → Fields → RunJudged
+judgedRun edition at allowed p fs = judgedOn edition at allowed p at at 0 fs
 
 -- the least of all rules, where that is the least of rules 8 to 12 and the node's fields have such a place
 unfoldable pub brokenWith13 : ℕ → Standing → SlotBytes → Fields → ℕ
@@ -125,3 +115,8 @@ brokenWith13 least below s fs = cond (eqb least 0) (cond (not (underMap below) |
 -- which rule, 12 or none, a node of some logical type breaks there
 unfoldable pub listBroken : ℕ → SlotBytes → Fields → ℕ
 listBroken code s fs = cond (not (eqb code logical.LIST) || listKept s fs) 0 12
+
+-- the least of rules 8 to 12 that a node breaks, and 0 where it keeps them all, by what judging its annotations found: the number of their refusal,
+-- or 0, and their logical type
+unfoldable pub brokenAs : ℕ → ℕ → Standing → SlotBytes → Fields → ℕ
+brokenAs refusal code p s fs = cond (rule8 p s fs) (cond (eqb refusal 0) (listBroken code s fs) refusal) 8

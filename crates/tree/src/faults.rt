@@ -3,11 +3,7 @@ ghost use mathlib.Core.Path.{_≡_};
 ghost use Prim.Native.Nat.{suc, _<_};
 ghost use Rattle.sheet.specs.Block.{totalOf};
 ghost use Rattle.sheet.specs.Slot.{slotAt};
-ghost use Rattle.annotation.specs.Outcome.{resolutionOf, refusalOf};
-ghost use Rattle.annotation.specs.Rewriting.{writtenOf};
-ghost use Rattle.tree.specs.Annotated.{annotatedBy};
-ghost use Rattle.tree.specs.Rules.{underMap};
-ghost use Rattle.tree.specs.Steps.{Claimed, Visited, fieldsAt, innerFrom, brokenTo12, brokenWith13, listBroken};
+ghost use Rattle.tree.specs.Steps.{Claimed, Visited, fieldsAt, innerFrom, brokenAs, brokenWith13, listBroken};
 use crate::shape::shape_kept;
 use crate::standing::Standing;
 use crate::standing::under_map;
@@ -37,9 +33,7 @@ pub(crate) fn broken_to_12(
     judged: Judged,
 ) -> u32
     requires { ⌜ Visited (now sheet) at s ⌝ }
-    requires { ⌜ judged .refusal ≡ refusalOf (resolutionOf (annotatedBy s) (underMap standing)) ⌝ }
-    requires { ⌜ judged .logical ≡ writtenOf (annotatedBy s) (underMap standing) .logical ⌝ }
-    ensures { λ r. ⌜ r ≡ brokenTo12 standing (slotAt (now (sheet .entry)) at) (fieldsAt (now (sheet .entry)) at) ⌝ }
+    ensures { λ r. ⌜ r ≡ brokenAs (judged .refusal) (judged .logical) standing (slotAt (now (sheet .entry)) at) (fieldsAt (now (sheet .entry)) at) ⌝ }
 {
     if !shape_kept(standing, s) {
         return SHAPE;

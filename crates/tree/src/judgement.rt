@@ -1,4 +1,4 @@
-// A sheet judged by refusals 1 to 13.
+// A sheet judged in an edition: refusals 21 and 1 to 13.
 ghost use mathlib.Core.Path.{_≡_};
 ghost use Prim.Native.Nat.{_<_};
 ghost use Rattle.sheet.specs.Block.{totalOf};
@@ -20,13 +20,13 @@ use refusal::Refusal;
 use refusal::Verdict;
 use refusal::numbers;
 
-// The number of nodes of a sheet, or the first of refusals 1 to 13.
-pub fn judge(sheet: &[u8]) -> Counted
-    ensures { λ r. ⌜ r ≡ judgementOf (now (sheet .entry)) ⌝ }
+// The number of nodes of a sheet, or the first of refusals 21 and 1 to 13.
+pub fn judge(edition: u32, sheet: &[u8]) -> Counted
+    ensures { λ r. ⌜ r ≡ judgementOf edition (now (sheet .entry)) ⌝ }
 {
-    let opened = sheet::open(sheet);
+    let opened = sheet::open(edition, sheet);
     match opened {
-        Counted::Count(total) => nodes_or(judge_slots(sheet, total), total),
+        Counted::Count(total) => nodes_or(judge_slots(edition, sheet, total), total),
         Counted::Refused(r) => Counted::Refused(r),
     }
 }
@@ -41,24 +41,24 @@ fn nodes_or(verdict: Verdict, total: usize) -> Counted
 }
 
 // Refusals 5 to 13 of an open sheet.
-fn judge_slots(sheet: &[u8], total: usize) -> Verdict
-    requires { ⌜ openOf (now sheet) ≡ Counted.Count total ⌝ }
-    ensures { λ r. ⌜ r ≡ treeRefusal (slots (now (sheet .entry))) ⌝ }
+fn judge_slots(edition: u32, sheet: &[u8], total: usize) -> Verdict
+    requires { ⌜ openOf edition (now sheet) ≡ Counted.Count total ⌝ }
+    ensures { λ r. ⌜ r ≡ treeRefusal edition (slots (now (sheet .entry))) ⌝ }
 {
     let places = places_filled(sheet, total);
     match places {
         Verdict::Refused(r) => Verdict::Refused(r),
-        Verdict::Lawful => judge_root(sheet),
+        Verdict::Lawful => judge_root(edition, sheet),
     }
 }
 
 // Refusals 7 to 13 of a sheet whose slots claim rightly.
-fn judge_root(sheet: &[u8]) -> Verdict
+fn judge_root(edition: u32, sheet: &[u8]) -> Verdict
     requires { ⌜ Claimed (now sheet) ⌝ }
     requires { ⌜ 0 < totalOf (now sheet) ⌝ }
-    ensures { λ r. ⌜ r ≡ orElse (tooDeep (treeOf (slots (now (sheet .entry))))) (unlawful (treeOf (slots (now (sheet .entry))))) ⌝ }
+    ensures { λ r. ⌜ r ≡ orElse (tooDeep (treeOf (slots (now (sheet .entry))))) (unlawful edition (treeOf (slots (now (sheet .entry))))) ⌝ }
 {
-    let judged = judge_run(sheet, 0, 1, ALLOWED_DEPTHS, Standing::Root);
+    let judged = judge_run(edition, sheet, 0, 1, ALLOWED_DEPTHS, Standing::Root);
     match judged {
         RunJudged::Deep(node) => Verdict::Refused(Refusal {
             number: numbers::TOO_DEEP,

@@ -49,6 +49,7 @@ pub enum RunJudged {
 
 // Judges the run of so many fields at a number, one after the other.
 pub(crate) fn judge_run(
+    edition: u32,
     sheet: &[u8],
     start: usize,
     count: usize,
@@ -58,7 +59,7 @@ pub(crate) fn judge_run(
     requires { ⌜ Claimed (now sheet) ⌝ }
     requires { ⌜ count ≤ Tree·count (trees (drop start (slots (now sheet)))) ⌝ }
     requires { ⌜ allowed ≤ suc mostDepth ⌝ }
-    ensures { λ r. ⌜ r ≡ judgedRun start allowed standing (runAt (slots (now (sheet .entry))) start count) ⌝ }
+    ensures { λ r. ⌜ r ≡ judgedRun edition start allowed standing (runAt (slots (now (sheet .entry))) start count) ⌝ }
 {
     let mut at = start;
     let mut left = count;
@@ -66,7 +67,7 @@ pub(crate) fn judge_run(
     let mut inner = start;
     let mut fault = NO_FAULT;
     while left > 0 {
-        let tree = judge_tree(sheet, at, allowed, standing);
+        let tree = judge_tree(edition, sheet, at, allowed, standing);
         match tree {
             TreeJudged::Deep(node) => {
                 return RunJudged::Deep(node);
@@ -93,20 +94,20 @@ pub(crate) fn judge_run(
 }
 
 // Judges the tree at a number, its root's standing known, with so many depths allowed.
-fn judge_tree(sheet: &[u8], at: usize, allowed: usize, standing: Standing) -> TreeJudged
+fn judge_tree(edition: u32, sheet: &[u8], at: usize, allowed: usize, standing: Standing) -> TreeJudged
     requires { ⌜ Claimed (now sheet) ⌝ }
     requires { ⌜ at < totalOf (now sheet) ⌝ }
     requires { ⌜ allowed ≤ suc mostDepth ⌝ }
-    ensures { λ r. ⌜ r ≡ judgedTree at allowed standing (treeAt (slots (now (sheet .entry))) at) ⌝ }
+    ensures { λ r. ⌜ r ≡ judgedTree edition at allowed standing (treeAt (slots (now (sheet .entry))) at) ⌝ }
 {
     if allowed == 0 {
         return TreeJudged::Deep(at);
     }
     let s = sheet::slot_at(sheet, at);
-    let judged = annotation::judge(annotated(s), under_map(standing));
+    let judged = annotation::judge(edition, annotated(s), under_map(standing));
     let below = standing_under(judged.logical);
     let least = broken_to_12(sheet, at, standing, s, judged);
-    let run = judge_fields(sheet, at + 1, s.children as usize, allowed - 1, below);
+    let run = judge_fields(edition, sheet, at + 1, s.children as usize, allowed - 1, below);
     match run {
         RunJudged::Deep(node) => TreeJudged::Deep(node),
         RunJudged::Judged {
@@ -127,6 +128,7 @@ fn judge_tree(sheet: &[u8], at: usize, allowed: usize, standing: Standing) -> Tr
 
 // Judges the run of so many fields at a number: most nodes have none, and are judged without a call.
 fn judge_fields(
+    edition: u32,
     sheet: &[u8],
     at: usize,
     count: usize,
@@ -136,7 +138,7 @@ fn judge_fields(
     requires { ⌜ Claimed (now sheet) ⌝ }
     requires { ⌜ count ≤ Tree·count (trees (drop at (slots (now sheet)))) ⌝ }
     requires { ⌜ allowed ≤ suc mostDepth ⌝ }
-    ensures { λ r. ⌜ r ≡ judgedRun at allowed standing (runAt (slots (now (sheet .entry))) at count) ⌝ }
+    ensures { λ r. ⌜ r ≡ judgedRun edition at allowed standing (runAt (slots (now (sheet .entry))) at count) ⌝ }
 {
     if count == 0 {
         return RunJudged::Judged {
@@ -146,7 +148,7 @@ fn judge_fields(
             fault: NO_FAULT,
         };
     }
-    judge_run(sheet, at, count, allowed, standing)
+    judge_run(edition, sheet, at, count, allowed, standing)
 }
 
 // The first fault of two.

@@ -1,6 +1,6 @@
-// The tree of a sheet, judged by refusals 5 to 13 behind 1 to 4.
+// The tree of a sheet, judged by refusals 5 to 13 behind 21 and 1 to 4.
 mod faults; // faults.rt: the least rule that a node breaks
-mod judgement; // judgement.rt: a sheet judged by refusals 1 to 13
+mod judgement; // judgement.rt: a sheet judged by refusals 21 and 1 to 13
 mod judging; // judging.rt: a tree and its run judged, too deep or at fault
 mod layer; // layer.rt: what a LIST's repeated group is
 mod places; // places.rt: refusals 5 and 6

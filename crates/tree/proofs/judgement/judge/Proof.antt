@@ -28,11 +28,11 @@ returns c =
     let at-open = at-opened .before .before in
     let o = sym (at-open .open .ensures .0) ∙ at-opened .opened .given .1 in
     c .nodes-or .ensures
-    ∙ rw (judgement-nodes _ _ o, ← nodes-total _ _ o, ← c .before .judge-slots .ensures)
+    ∙ rw (judgement-nodes _ _ _ o, ← nodes-total _ _ _ o, ← c .before .judge-slots .ensures)
 
 returns-2 : tie.Need-returns-2
 unfolding judgementOf judgedNodes
-returns-2 c = sym (rw (judgement-refused _ _ (sym (c .before .before .before .open .ensures .0) ∙ c .before .opened2 .given .1)))
+returns-2 c = sym (rw (judgement-refused _ _ _ (sym (c .before .before .before .open .ensures .0) ∙ c .before .opened2 .given .1)))
 
 pub judge-spec : {M : Type 1} → statement M
 judge-spec =

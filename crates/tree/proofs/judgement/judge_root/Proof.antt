@@ -23,7 +23,7 @@ returns : tie.Need-returns
 returns c =
     let at-judge-run = c .before .before .before in
     let start = at-judge-run .before .before in
-    run-deep _ (start .pre .0) (start .pre .1) _ (sym (at-judge-run .judge-run .ensures) ∙ c .before .judged .given .1)
+    run-deep _ _ (start .pre .0) (start .pre .1) _ (sym (at-judge-run .judge-run .ensures) ∙ c .before .judged .given .1)
 
 returns-2 : tie.Need-returns-2
 returns-2 c =
@@ -31,7 +31,7 @@ returns-2 c =
     let at-judge-run = at-judged2 .before .before in
     let start = at-judge-run .before .before in
     c .verdict-of .ensures
-    ∙ run-judged _ (start .pre .0) (start .pre .1) _ _ _ _ (sym (at-judge-run .judge-run .ensures) ∙ at-judged2 .judged2 .given .1)
+    ∙ run-judged _ _ (start .pre .0) (start .pre .1) _ _ _ _ (sym (at-judge-run .judge-run .ensures) ∙ at-judged2 .judged2 .given .1)
 
 pub judge-root-spec : {M : Type 1} → statement M
 judge-root-spec =

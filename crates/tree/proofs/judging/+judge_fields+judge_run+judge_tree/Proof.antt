@@ -17,7 +17,7 @@ use Rattle.tree.specs.Steps.{Visited, fieldsAt, firstOf, faultFrom}
 use Rattle.tree.specs.declared.judging.TreeJudged.{TreeJudged}
 use Rattle.tree.proofs.JudgingSteps.{Judging, judging-start, judging-end, judging-deep, judging-next, run-empty, tree-deep, tree-inner, tree-run-deep, tree-judged, remaining, tree-falls, run-falls, fields-falls}
 use Rattle.tree.proofs.VisitLaws.{run-below, children-claimed}
-use Rattle.tree.proofs.NodeLaws.{standingBelow-is, own-is, broken-most}
+use Rattle.tree.proofs.NodeLaws.{to12-judged, standingBelow-is, own-is, broken-most}
 use borrow.Fn.Kinds.{In}
 use borrow.Fn.PlainCycle.{Measures, is, falls, and}
 use Rattle.tree.proofs.judging.judge_fields.Reads as judge-fields
@@ -44,13 +44,13 @@ use Rattle.tree.proofs.judging.+judge_fields+judge_run+judge_tree.Tie.{
 -- Remaining nodes and depths fall: from a tree at k to its root's fields at k + 1 both by one, from those fields to their run neither, and from a run to its trees,
 -- which stand where it starts or behind, nodes alone. With x of both, a tree's measure is 3x, a run's 3x + 1, that of some fields 3x + 2.
 abbrev μ-judge-fields : Measures 1 judge-fields-kinds.ps ℕ
-μ-judge-fields κs a = 3 * remaining (totalOf (a .0 .now)) (a .1 .0) (a .1 .1 .1 .0) + 2
+μ-judge-fields κs a = 3 * remaining (totalOf (a .1 .0 .now)) (a .1 .1 .0) (a .1 .1 .1 .1 .0) + 2
 
 abbrev μ-judge-run : Measures 1 judge-run-kinds.ps ℕ
-μ-judge-run κs a = 3 * remaining (totalOf (a .0 .now)) (a .1 .0) (a .1 .1 .1 .0) + 1
+μ-judge-run κs a = 3 * remaining (totalOf (a .1 .0 .now)) (a .1 .1 .0) (a .1 .1 .1 .1 .0) + 1
 
 abbrev μ-judge-tree : Measures 1 judge-tree-kinds.ps ℕ
-μ-judge-tree κs a = 3 * remaining (totalOf (a .0 .now)) (a .1 .0) (a .1 .1 .0)
+μ-judge-tree κs a = 3 * remaining (totalOf (a .1 .0 .now)) (a .1 .1 .0) (a .1 .1 .1 .0)
 
 abbrev judge-fields-at : ℕ → In 1 judge-fields-kinds.ps
 judge-fields-at t =
@@ -89,7 +89,7 @@ judge-fields-returns :
     (judge-fields-calls t)
     (judge-fields-at t)
     judge-fields.Post
-judge-fields-returns t c = run-empty _ _ _ _ _ (c .if1 .taken)
+judge-fields-returns t c = run-empty _ _ _ _ _ _ (c .if1 .taken)
 
 judge-fields-judge-run-requires : (t : ℕ) → judge-fields-lts.Need-judge-run-requires (judge-fields-calls t) (judge-fields-at t) judge-fields.Post
 judge-fields-judge-run-requires t c κs = (run-falls _ _ _ _ (c .before .before .pre .0), c .before .before .pre .1)
@@ -98,17 +98,17 @@ judge-fields-returns-2 : (t : ℕ) → judge-fields-lts.Need-returns-2 (judge-fi
 judge-fields-returns-2 t c = c .judge-run .ensures
 
 abbrev judge-run-Inv-loop : judge-run-lts.InvT-loop
-judge-run-Inv-loop sheet start count allowed place at₀ left₀ last₀ inner₀ fault₀ at left last inner fault = Judging sheet start count allowed place at left last inner fault
+judge-run-Inv-loop edition sheet start count allowed place at₀ left₀ last₀ inner₀ fault₀ at left last inner fault = Judging edition sheet start count allowed place at left last inner fault
 
 abbrev judge-run-μ-loop : judge-run-lts.MeasureT-loop
-judge-run-μ-loop sheet start count allowed place at₀ left₀ last₀ inner₀ fault₀ at left last inner fault = left
+judge-run-μ-loop edition sheet start count allowed place at₀ left₀ last₀ inner₀ fault₀ at left last inner fault = left
 
 -- what a run calls
 abbrev judge-run-calls : ℕ → judge-run-lts.Claims
 judge-run-calls t = (judge-tree-below t, judge-tree.Post, first-of-reads.Asked, first-of-reads.Learnt)
 
 judge-run-loop-holds : (t : ℕ) → judge-run-lts.Need-loop-holds (judge-run-calls t) (judge-run-at t) judge-run.Post judge-run-Inv-loop judge-run-μ-loop
-judge-run-loop-holds t c = judging-start _ _ _ _ _ (c .before .pre .1 .1 .0)
+judge-run-loop-holds t c = judging-start _ _ _ _ _ _ (c .before .pre .1 .1 .0)
 
 judge-run-judge-tree-requires : (t : ℕ) → judge-run-lts.Need-judge-tree-requires (judge-run-calls t) (judge-run-at t) judge-run.Post judge-run-Inv-loop judge-run-μ-loop
 judge-run-judge-tree-requires t c κs =
@@ -127,7 +127,7 @@ judge-run-returns t c =
     let at-loop-test = at-judge-tree .before in
     let loop = at-loop-test .before in
     let some : loop .loop .left ≡ 0 → ⊥ = λ e. omega (arith, at-loop-test .loop-test .taken) in
-    judging-deep _ _ _ _ _ _ _ _ _ _ (loop .loop .inv) (loop .before .before .pre .1 .0) some _ (sym (at-judge-tree .judge-tree .ensures) ∙ c .before .tree .given .1)
+    judging-deep _ _ _ _ _ _ _ _ _ _ _ (loop .loop .inv) (loop .before .before .pre .1 .0) some _ (sym (at-judge-tree .judge-tree .ensures) ∙ c .before .tree .given .1)
 
 judge-run-enum-known-tree-2 : (t : ℕ) → judge-run-lts.Need-enum-known-tree-2 (judge-run-calls t) (judge-run-at t) judge-run.Post judge-run-Inv-loop judge-run-μ-loop
 judge-run-enum-known-tree-2 t c = search needs
@@ -148,10 +148,10 @@ judge-run-loop-again t c =
     let at-loop-test = at-judge-tree .before in
     let loop = at-loop-test .before in
     let some : loop .loop .left ≡ 0 → ⊥ = λ e. omega (arith, at-loop-test .loop-test .taken) in
-    judging-next _ _ _ _ _ _ _ _ _ _ (loop .loop .inv) (loop .before .before .pre .1 .0) some _ _ _ _ (sym (at-judge-tree .judge-tree .ensures) ∙ at-tree2 .tree2 .given .1) (c .first-of .ensures)
+    judging-next _ _ _ _ _ _ _ _ _ _ _ (loop .loop .inv) (loop .before .before .pre .1 .0) some _ _ _ _ (sym (at-judge-tree .judge-tree .ensures) ∙ at-tree2 .tree2 .given .1) (c .first-of .ensures)
 
 judge-run-returns-2 : (t : ℕ) → judge-run-lts.Need-returns-2 (judge-run-calls t) (judge-run-at t) judge-run.Post judge-run-Inv-loop judge-run-μ-loop
-judge-run-returns-2 t c = judging-end _ _ _ _ _ _ _ _ _ _ (c .before .loop .inv) (omega (arith, c .loop-test .left))
+judge-run-returns-2 t c = judging-end _ _ _ _ _ _ _ _ _ _ _ (c .before .loop .inv) (omega (arith, c .loop-test .left))
 
 -- what a tree calls
 abbrev judge-tree-calls : ℕ → judge-tree-lts.Claims
@@ -182,11 +182,14 @@ visited t c = record { claimed = entry t c .pre .1 .0; below = entry t c .pre .1
 logical-told : (t : ℕ) (c : Placed t) → c .before .judge .result .logical ≡ writtenOf (annotatedBy (read t c .slot-at .result)) (underMap (entry t (read t c) .args .standing)) .logical
 logical-told t c = c .before .judge .ensures .1 ∙ ap₂ (λ (n : Annotated) (u : Bool). writtenOf n u .logical) (c .before .before .before .annotated .ensures) (c .before .before .under-map .ensures)
 
+refusal-told : (t : ℕ) (c : Placed t) → c .before .judge .result .refusal ≡ refusalOf (resolutionOf (entry t (read t c) .args .edition) (annotatedBy (read t c .slot-at .result)) (underMap (entry t (read t c) .args .standing)))
+refusal-told t c = c .before .judge .ensures .0 ∙ ap₂ (λ (n : Annotated) (u : Bool). refusalOf (resolutionOf (entry t (read t c) .args .edition) n u)) (c .before .before .before .annotated .ensures) (c .before .before .under-map .ensures)
+
 place-told : (t : ℕ) (c : Placed t) → c .standing-under .result ≡ standingBelow (entry t (read t c) .args .standing) (slotAt (entry t (read t c) .args .sheet .now) (entry t (read t c) .args .at))
 place-told t c = c .standing-under .ensures ∙ standingBelow-is _ _ _ (entry t (read t c) .args .standing) (visited t (read t c)) _ (logical-told t c)
 
 judge-tree-returns : (t : ℕ) → judge-tree-lts.Need-returns (judge-tree-calls t) (judge-tree-at t) judge-tree.Post
-judge-tree-returns t c = tree-deep _ _ _ _ (c .if1 .taken)
+judge-tree-returns t c = tree-deep _ _ _ _ _ (c .if1 .taken)
 
 judge-tree-slot-at-requires : (t : ℕ) → judge-tree-lts.Need-slot-at-requires (judge-tree-calls t) (judge-tree-at t) judge-tree.Post
 judge-tree-slot-at-requires t c κs = search needs
@@ -204,9 +207,7 @@ judge-tree-standing-under-requires : (t : ℕ) → judge-tree-lts.Need-standing-
 judge-tree-standing-under-requires t c κs = search needs
 
 judge-tree-broken-to-12-requires : (t : ℕ) → judge-tree-lts.Need-broken-to-12-requires (judge-tree-calls t) (judge-tree-at t) judge-tree.Post
-judge-tree-broken-to-12-requires t c κs =
-    let refusal = c .before .judge .ensures .0 ∙ ap₂ (λ (n : Annotated) (u : Bool). refusalOf (resolutionOf n u)) (c .before .before .before .annotated .ensures) (c .before .before .under-map .ensures) in
-    (visited t (read t c), (refusal, logical-told t c))
+judge-tree-broken-to-12-requires t c κs = visited t (read t c)
 
 judge-tree-add-judge-fields : (t : ℕ) → judge-tree-lts.Need-add-judge-fields (judge-tree-calls t) (judge-tree-at t) judge-tree.Post
 judge-tree-add-judge-fields t c = let here = visited t (read t (c .before)) in omega (arith, here .below, here .claimed .most)
@@ -235,7 +236,7 @@ judge-tree-broken-with-13-requires t c κs =
     let ran = c .before .before .before in
     let slot = read t (placed t ran) in
     let here = visited t slot in
-    (here .claimed, (here .below, tree-inner _ _ _ here _ _ _ (place-told t (placed t ran)) (slot .before .if1 .left) (entry t slot .pre .1 .1 .1) _ (ran .judge-fields .ensures) _ _ _ _ (c .before .run2 .given .1)))
+    (here .claimed, (here .below, tree-inner _ _ _ _ here _ _ _ (place-told t (placed t ran)) (slot .before .if1 .left) (entry t slot .pre .1 .1 .1) _ (ran .judge-fields .ensures) _ _ _ _ (c .before .run2 .given .1)))
 
 -- where a node's own rules are judged, once its fields are
 abbrev Owned : ℕ → Type 0
@@ -247,20 +248,23 @@ ran t c = c .before .before .before .before
 abbrev start-of : (t : ℕ) → Owned t → judge-tree-lts.Start (judge-tree-calls t) (judge-tree-at t) judge-tree.Post
 start-of t c = entry t (read t (placed t (ran t c)))
 
-own-told : (t : ℕ) (c : Owned t) → c .broken-with-13 .result ≡ broken (start-of t c .args .standing) (slotAt (start-of t c .args .sheet .now) (start-of t c .args .at)) (fieldsAt (start-of t c .args .sheet .now) (start-of t c .args .at))
-own-told t c = own-is _ _ _ _ _ _ (ran t c .before .before .broken-to-12 .ensures) (place-told t (placed t (ran t c))) (c .broken-with-13 .ensures)
+own-told : (t : ℕ) (c : Owned t) → c .broken-with-13 .result ≡ broken (start-of t c .args .edition) (start-of t c .args .standing) (slotAt (start-of t c .args .sheet .now) (start-of t c .args .at)) (fieldsAt (start-of t c .args .sheet .now) (start-of t c .args .at))
+own-told t c =
+    let told = placed t (ran t c) in
+    let least = to12-judged _ _ _ _ (visited t (read t told)) _ _ _ (refusal-told t told) (logical-told t told) in
+    own-is _ _ _ _ _ _ _ (ran t c .before .before .broken-to-12 .ensures ∙ least) (place-told t told) (c .broken-with-13 .ensures)
 
 judge-tree-own-first-requires : (t : ℕ) → judge-tree-lts.Need-own-first-requires (judge-tree-calls t) (judge-tree-at t) judge-tree.Post
 judge-tree-own-first-requires t c κs =
     let start = start-of t c in
     let here = visited t (read t (placed t (ran t c))) in
-    (omega (arith, own-told t c, broken-most (start .args .standing) (slotAt (start .args .sheet .now) (start .args .at)) (fieldsAt (start .args .sheet .now) (start .args .at))), omega (arith, here .below, here .claimed .most))
+    (omega (arith, own-told t c, broken-most (start .args .edition) (start .args .standing) (slotAt (start .args .sheet .now) (start .args .at)) (fieldsAt (start .args .sheet .now) (start .args .at))), omega (arith, here .below, here .claimed .most))
 
 judge-tree-returns-2 : (t : ℕ) → judge-tree-lts.Need-returns-2 (judge-tree-calls t) (judge-tree-at t) judge-tree.Post
 judge-tree-returns-2 t c =
     let ran = c .before .before .before in
     let slot = read t (placed t ran) in
-    tree-run-deep _ _ _ (visited t slot) _ _ _ (place-told t (placed t ran)) (slot .before .if1 .left) (entry t slot .pre .1 .1 .1) _ (ran .judge-fields .ensures) _ (c .before .run .given .1)
+    tree-run-deep _ _ _ _ (visited t slot) _ _ _ (place-told t (placed t ran)) (slot .before .if1 .left) (entry t slot .pre .1 .1 .1) _ (ran .judge-fields .ensures) _ (c .before .run .given .1)
 
 judge-tree-returns-3 : (t : ℕ) → judge-tree-lts.Need-returns-3 (judge-tree-calls t) (judge-tree-at t) judge-tree.Post
 judge-tree-returns-3 t c =
@@ -268,7 +272,7 @@ judge-tree-returns-3 t c =
     let slot = read t (placed t (ran t owned)) in
     let run = owned .before .before .run2 .given in
     ap (TreeJudged.Judged (run .0 .0) (run .0 .1 .0)) (c .own-first .ensures ∙ ap (λ (n : ℕ). firstOf (faultFrom (entry t slot .args .at) (n ∷ [])) (run .0 .1 .1 .1 .0)) (own-told t owned))
-    ∙ sym (tree-judged _ _ _ (visited t slot) _ _ _ (place-told t (placed t (ran t owned))) (slot .before .if1 .left) (entry t slot .pre .1 .1 .1) _ (ran t owned .judge-fields .ensures) _ _ _ _ (run .1))
+    ∙ sym (tree-judged _ _ _ _ (visited t slot) _ _ _ (place-told t (placed t (ran t owned))) (slot .before .if1 .left) (entry t slot .pre .1 .1 .1) _ (ran t owned .judge-fields .ensures) _ _ _ _ (run .1))
 
 pub +judge-fields+judge-run+judge-tree-spec : {M : Type 1} → statement M
 +judge-fields+judge-run+judge-tree-spec =
