@@ -1,8 +1,9 @@
--- The definitions, computed: a reader opened on no bytes, and readers made by hand.
+-- The definitions, computed: readers opened on no bytes, and readers made by hand.
 use mathlib.Core.Path.{_≡_, refl}
 use mathlib.Core.List.{List, [], _∷_}
 use Prim.Native.Nat.{ℕ, _^_, _-_}
 use denote.Ref.{RefT}
+use Rattle.edition.specs.Editions.{FIRST, isKnown}
 use Rattle.sheet.specs.Header.{lengthRight}
 use Rattle.sheet.specs.Name.{stretchOf}
 use Rattle.sheet.specs.Opening.{openOf}
@@ -22,9 +23,14 @@ abbrev by-hand : ℕ → Counted → Reader
 by-hand next opened = record { sheet = none; next = next; opened = opened }
 
 -- no bytes are refused, and nothing is handed out
-opened-on-none : steps 2 (openedOn none) ≡ End ∷ End ∷ []
-unfolding openOf lengthRight total stepAt nodeAfter steps
+opened-on-none : steps 2 (openedOn FIRST none) ≡ End ∷ End ∷ []
+unfolding openOf isKnown lengthRight total stepAt nodeAfter steps
 opened-on-none = refl
+
+-- in an unknown edition they are refused for that
+opened-unknown : openedOn 0 none ≡ by-hand 0 (Counted.Refused (refusal 21 0))
+unfolding openOf isKnown
+opened-unknown = refl
 
 -- a reader that says two nodes hands out two slots, empty where there are no bytes, and then ends
 two-by-hand : steps 3 (by-hand 0 (Counted.Count 2)) ≡ Slot (numbersOf emptySlot) (stretchOf [] 0) ∷ Slot (numbersOf emptySlot) (stretchOf [] 1) ∷ End ∷ []

@@ -36,10 +36,10 @@ stepOf-movedBy (suc n) reader = stepOf-movedBy n (movedOn reader) ∙ cases (dec
         ap (λ (node : ℕ). stepAt (now (reader .sheet)) node (reader .opened)) (omega (arith, nodeAfter-next (reader .next) (reader .opened) (omega arith)))
 
 -- so a reader that is opened and set on a node hands out what it would after that many steps
-pub stepAfter-at : (sheet : RefT (List ℕ)) (n : ℕ) → stepAfter sheet n ≡ stepAt (now sheet) n (openOf (now sheet))
+pub stepAfter-at : (edition : ℕ) (sheet : RefT (List ℕ)) (n : ℕ) → stepAfter edition sheet n ≡ stepAt (now sheet) n (openOf edition (now sheet))
 unfolding stepAfter
-stepAfter-at sheet n =
-    stepOf-movedBy n (openedOn sheet) ∙ ap (λ (node : ℕ). stepAt (now sheet) node (openOf (now sheet))) (zero-add n)
+stepAfter-at edition sheet n =
+    stepOf-movedBy n (openedOn edition sheet) ∙ ap (λ (node : ℕ). stepAt (now sheet) node (openOf edition (now sheet))) (zero-add n)
 
 -- ---- how many are left
 
@@ -78,35 +78,35 @@ steps-from (suc n) (suc m) p reader e h =
 
 -- ---- the promise
 
--- "It opens under refusals 1 to 4": what a reader opened with is the sheet's outcome
-pub openedOn-outcome : (sheet : RefT (List ℕ)) → outcomeOf (now sheet) (openedOn sheet .opened) ≡ outcome (now sheet)
+-- "It opens under refusals 1 to 4", and under 21 before them: what a reader opened with is the sheet's outcome in the edition
+pub openedOn-outcome : (edition : ℕ) (sheet : RefT (List ℕ)) → outcomeOf (now sheet) (openedOn edition sheet .opened) ≡ outcome edition (now sheet)
 unfolding outcome
-openedOn-outcome sheet = refl
+openedOn-outcome edition sheet = refl
 
 -- what n steps over a sheet hand out, by what opening answered
-module _ (sheet : RefT (List ℕ)) (n : ℕ) where
-  none-handed : total (openOf (now sheet)) ≡ 0 → map (handoutOf (now sheet)) (steps n (openedOn sheet)) ≡ replicate n ended
+module _ (edition : ℕ) (sheet : RefT (List ℕ)) (n : ℕ) where
+  none-handed : total (openOf edition (now sheet)) ≡ 0 → map (handoutOf (now sheet)) (steps n (openedOn edition sheet)) ≡ replicate n ended
   unfolding slotsFrom
   none-handed e =
-      steps-from n 0 n (openedOn sheet) (zero-add 0 ∙ sym e) (omega arith)
+      steps-from n 0 n (openedOn edition sheet) (zero-add 0 ∙ sym e) (omega arith)
       ∙ take-all n (replicate n ended) (le-of-eq (length-replicate n ended))
 
-  kept : (opened : Counted) → openOf (now sheet) ≡ opened → map (handoutOf (now sheet)) (steps n (openedOn sheet)) ≡ handouts (outcomeOf (now sheet) opened) n
+  kept : (opened : Counted) → openOf edition (now sheet) ≡ opened → map (handoutOf (now sheet)) (steps n (openedOn edition sheet)) ≡ handouts (outcomeOf (now sheet) opened) n
   unfolding outcomeOf handouts total slots
-  kept (Counted.Count t) e = steps-from n (totalOf (now sheet)) n (openedOn sheet) (zero-add _ ∙ sym (ap total e ∙ openOf-total (now sheet) t e)) (omega arith)
+  kept (Counted.Count t) e = steps-from n (totalOf (now sheet)) n (openedOn edition sheet) (zero-add _ ∙ sym (ap total e ∙ openOf-total edition (now sheet) t e)) (omega arith)
   kept (Counted.Refused r) e = none-handed (ap total e)
 
   -- "hands out each slot once, in order, ending after T steps": n steps over an accepted sheet hand out its used slots and then nothing, and over a refused one nothing
-  pub steps-handouts : map (handoutOf (now sheet)) (steps n (openedOn sheet)) ≡ handouts (outcome (now sheet)) n
+  pub steps-handouts : map (handoutOf (now sheet)) (steps n (openedOn edition sheet)) ≡ handouts (outcome edition (now sheet)) n
   unfolding outcome
-  steps-handouts = kept (openOf (now sheet)) refl
+  steps-handouts = kept (openOf edition (now sheet)) refl
 
 -- so the first T steps hand out all of them
-pub steps-all : (sheet : RefT (List ℕ)) (t : ℕ) → openOf (now sheet) ≡ Counted.Count t → map (handoutOf (now sheet)) (steps t (openedOn sheet)) ≡ map slotHanded (slots (now sheet))
+pub steps-all : (edition : ℕ) (sheet : RefT (List ℕ)) (t : ℕ) → openOf edition (now sheet) ≡ Counted.Count t → map (handoutOf (now sheet)) (steps t (openedOn edition sheet)) ≡ map slotHanded (slots (now sheet))
 unfolding outcomeOf handouts
-steps-all sheet t e =
-    kept sheet t (Counted.Count t) e
-    ∙ take-at (map slotHanded (slots (now sheet))) (replicate t ended) t (length-map (slots (now sheet)) slotHanded ∙ openOf-slots-length (now sheet) t e)
+steps-all edition sheet t e =
+    kept edition sheet t (Counted.Count t) e
+    ∙ take-at (map slotHanded (slots (now sheet))) (replicate t ended) t (length-map (slots (now sheet)) slotHanded ∙ openOf-slots-length edition (now sheet) t e)
 
 -- a reader keeps the sheet that it was opened on, and what opening found
 pub movedBy-sheet : (n : ℕ) (reader : Reader) → movedBy n reader .sheet ≡ reader .sheet

@@ -9,9 +9,9 @@ use Rattle.sheet_reader.specs.Step.{stepAt, nodeAfter, Handout, ended, s
 use Rattle.sheet_reader.specs.declared.reading.Reader.{Reader}
 use Rattle.sheet_reader.specs.declared.stepping.Step.{Step}
 
--- "It opens under refusals 1 to 4": at node 0, with what opening answers
-abbrev pub openedOn : RefT (List ℕ) → Reader
-openedOn sheet = record { sheet = sheet; next = 0; opened = openOf (now sheet) }
+-- "It opens under refusals 1 to 4", and under 21 before them: at node 0, with what opening answers in the edition
+abbrev pub openedOn : ℕ → RefT (List ℕ) → Reader
+openedOn edition sheet = record { sheet = sheet; next = 0; opened = openOf edition (now sheet) }
 
 -- what a step hands out
 abbrev pub stepOf : Reader → Step
@@ -26,9 +26,9 @@ unfoldable pub movedBy : ℕ → Reader → Reader
 movedBy zero reader = reader
 movedBy (suc n) reader = movedBy n (movedOn reader)
 
--- what a reader opened on a sheet hands out after n steps
-unfoldable pub stepAfter : RefT (List ℕ) → ℕ → Step
-stepAfter sheet n = stepOf (movedBy n (openedOn sheet))
+-- what a reader opened on a sheet in an edition hands out after n steps
+unfoldable pub stepAfter : ℕ → RefT (List ℕ) → ℕ → Step
+stepAfter edition sheet n = stepOf (movedBy n (openedOn edition sheet))
 
 -- what n steps hand out
 unfoldable pub steps : ℕ → Reader → List Step

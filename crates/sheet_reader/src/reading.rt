@@ -14,14 +14,14 @@ pub struct Reader<'a> {
     pub opened: Counted,
 }
 
-// A reader at the first node of a sheet.
-pub fn open<'a>(sheet: &'a [u8]) -> Reader<'a>
-    ensures { λ r. ⌜ r ≡ openedOn (sheet .entry) ⌝ }
+// A reader at the first node of a sheet, opened in an edition.
+pub fn open<'a>(edition: u32, sheet: &'a [u8]) -> Reader<'a>
+    ensures { λ r. ⌜ r ≡ openedOn edition (sheet .entry) ⌝ }
 {
     Reader {
         sheet,
         next: 0,
-        opened: sheet::open(sheet),
+        opened: sheet::open(edition, sheet),
     }
 }
 
@@ -35,11 +35,11 @@ pub fn next<'s, 'a>(reader: &'s mut Reader<'a>) -> Step
     step_at(reader.sheet, node, opened)
 }
 
-// What a reader opened on a sheet hands out after so many steps.
-pub fn slot_after(sheet: &[u8], steps: usize) -> Step
-    ensures { λ r. ⌜ r ≡ stepAfter (sheet .entry) steps ⌝ }
+// What a reader opened on a sheet in an edition hands out after so many steps.
+pub fn slot_after(edition: u32, sheet: &[u8], steps: usize) -> Step
+    ensures { λ r. ⌜ r ≡ stepAfter edition (sheet .entry) steps ⌝ }
 {
-    let mut reader = open(sheet);
+    let mut reader = open(edition, sheet);
     reader.next = steps;
     next(&mut reader)
 }
