@@ -11,7 +11,7 @@ use Rattle.refusal.specs.Outcome.{shortOutput}
 use Rattle.sheet.specs.Block.{totalOf}
 use Rattle.sheet.specs.Opening as sheet
 use Rattle.refusal.specs.declared.answers.Counted.{Counted}
-use Rattle.sheet.proofs.OpeningLaws.{openOf-blocks, openOf-slots}
+use Rattle.sheet.proofs.OpeningLaws.{openOf-known, openOf-blocks, openOf-slots}
 use Rattle.tree.specs.Tree.{Tree}
 use Rattle.schema.specs.Rows.{rowWidth, rows}
 use Rattle.tree.specs.Judgement.{judgement}
@@ -42,32 +42,32 @@ answer-rows Lawful t lent n e = by-test (ltb lent (rowWidth * t)) e
     by-test true q = absurd (let z : _≡_ {A = ℕ} 0 1 = cc in omega arith)
     by-test false q = cc
 
-module _ (bytes : List ℕ) (lent : ℕ) (accepted : Accepted (outcome bytes lent)) where
+module _ (edition : ℕ) (bytes : List ℕ) (lent : ℕ) (accepted : Accepted (outcome edition bytes lent)) where
   -- an accepted sheet opens
-  opens : (t : ℕ) × (sheet.openOf bytes ≡ Counted.Count t)
+  opens : (t : ℕ) × (sheet.openOf edition bytes ≡ Counted.Count t)
   unfolding outcome
-  opens = lawful-opened bytes (accepted-no-refusal (judgement bytes) (totalOf bytes) lent accepted)
+  opens = lawful-opened edition bytes (accepted-no-refusal (judgement edition bytes) (totalOf bytes) lent accepted)
 
   -- its blocks and slots are sound
-  pub accepted-sound : Sound bytes
-  accepted-sound = record { blocks = openOf-blocks bytes (opens .0) (opens .1); slots = openOf-slots bytes (opens .0) (opens .1) }
+  pub accepted-sound : Sound edition bytes
+  accepted-sound = record { known = openOf-known edition bytes (opens .0) (opens .1); blocks = openOf-blocks edition bytes (opens .0) (opens .1); slots = openOf-slots edition bytes (opens .0) (opens .1) }
 
   -- and its output is enough
   pub accepted-enough : EnoughOutput bytes lent
   unfolding outcome EnoughOutput
-  accepted-enough = answer-enough (judgement bytes) (totalOf bytes) lent accepted
+  accepted-enough = answer-enough (judgement edition bytes) (totalOf bytes) lent accepted
 
 -- it has a tree, with whose rows the lent numbers then begin; what stood past them stays
-pub accepted-rows : (bytes lent : List ℕ) → Accepted (outcome bytes (length lent)) → (t : Tree) × IsTreeOf bytes t × (written (outcome bytes (length lent)) bytes lent ≡ rows t ++ drop (rowWidth * totalOf bytes) lent)
-accepted-rows bytes lent a =
-    let sound = accepted-sound bytes (length lent) a in
-    let enough = accepted-enough bytes (length lent) a in
-    let tree = accepted-exactly bytes (length lent) sound enough .0 a in
-    (tree .0, tree .1, rows-are bytes lent (tree .0) sound enough (tree .1))
+pub accepted-rows : (edition : ℕ) (bytes lent : List ℕ) → Accepted (outcome edition bytes (length lent)) → (t : Tree) × IsTreeOf edition bytes t × (written (outcome edition bytes (length lent)) bytes lent ≡ rows t ++ drop (rowWidth * totalOf bytes) lent)
+accepted-rows edition bytes lent a =
+    let sound = accepted-sound edition bytes (length lent) a in
+    let enough = accepted-enough edition bytes (length lent) a in
+    let tree = accepted-exactly edition bytes (length lent) sound enough .0 a in
+    (tree .0, tree .1, rows-are edition bytes lent (tree .0) sound enough (tree .1))
 
 -- as many numbers are lent as the rows that are answered take
-pub rows-fit : (bytes : List ℕ) (lent n : ℕ) → outcome bytes lent ≡ Counted.Count n → rowWidth * n ≤ lent
+pub rows-fit : (edition : ℕ) (bytes : List ℕ) (lent n : ℕ) → outcome edition bytes lent ≡ Counted.Count n → rowWidth * n ≤ lent
 unfolding outcome Accepted EnoughOutput
-rows-fit bytes lent n e =
-    let enough = accepted-enough bytes lent (subst Accepted (sym e) tt) in
-    omega (arith, answer-rows (judgement bytes) (totalOf bytes) lent n e)
+rows-fit edition bytes lent n e =
+    let enough = accepted-enough edition bytes lent (subst Accepted (sym e) tt) in
+    omega (arith, answer-rows (judgement edition bytes) (totalOf bytes) lent n e)

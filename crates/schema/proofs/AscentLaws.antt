@@ -303,7 +303,7 @@ map-parent k r =
     (λ l. by-test (eqb k logical.MAP) (λ m. rw (l, m))
     (λ m. by-test (eqb r LIST-LAYER) (λ x. rw (l, m, x)) (λ x. by-test (eqb r KEY-VALUE-LAYER) (λ y. rw (l, m, x, y)) (λ y. rw (l, m, x, y)))))
 
-module _ (p : Standing) (q : Parent) (i : ℕ) (above : SlotBytes) (a : Ascent) (u : Under q i above a) (s : SlotBytes) (fs : Fields) (keeps : KeepsAt p s fs) (alike : underMap p ≡ isMapParent q) (lists : HasKind logical.LIST a → repetition s ≡ REPEATED) (maps : HasKind logical.MAP a → IsLayer s) where
+module _ (edition : ℕ) (p : Standing) (q : Parent) (i : ℕ) (above : SlotBytes) (a : Ascent) (u : Under q i above a) (s : SlotBytes) (fs : Fields) (keeps : KeepsAt edition p s fs) (alike : underMap p ≡ isMapParent q) (lists : HasKind logical.LIST a → repetition s ≡ REPEATED) (maps : HasKind logical.MAP a → IsLayer s) where
   abbrev mine : Ascent
   mine = record { index = i; tree = node s fs } ∷ a
 
@@ -325,8 +325,8 @@ module _ (p : Standing) (q : Parent) (i : ℕ) (above : SlotBytes) (a : Ascent) 
   neither : repetition s ≡ REPEATED → (eqb K logical.LIST ≡ false) × (eqb K logical.MAP ≡ false)
   unfolding isList isMap
   neither r = (
-    subst (λ (b : Bool). eqb (kind b s .kind) logical.LIST ≡ false) alike (no-list p s fs keeps r),
-    subst (λ (b : Bool). eqb (kind b s .kind) logical.MAP ≡ false) alike (no-map p s fs keeps r),
+    subst (λ (b : Bool). eqb (kind b s .kind) logical.LIST ≡ false) alike (no-list edition p s fs keeps r),
+    subst (λ (b : Bool). eqb (kind b s .kind) logical.MAP ≡ false) alike (no-map edition p s fs keeps r),
   )
 
   parent-says : Says (parentBy K R) 0 mine

@@ -12,7 +12,7 @@ use Rattle.sheet.specs.Block.{totalOf}
 use Rattle.sheet.specs.Opening as sheet
 use Rattle.sheet.specs.Slot.{slots}
 use Rattle.refusal.specs.declared.answers.Counted.{Counted}
-use Rattle.sheet.proofs.OpeningLaws.{openOf-accepts, openOf-blocks, openOf-slots}
+use Rattle.sheet.proofs.OpeningLaws.{openOf-accepts, openOf-known, openOf-blocks, openOf-slots}
 use Rattle.sheet.proofs.SlotLaws.{slots-length}
 use Rattle.tree.specs.Tree.{Tree, size}
 use Rattle.schema.specs.Rows.{rows, rowWidth}
@@ -30,32 +30,32 @@ use Rattle.tree.proofs.PlacesLaws.{fills-leftOver, fills-missing}
 use Rattle.tree.proofs.FaultLaws.{orElse-none, none-orElse, atMostDeep-none, none-atMostDeep, keeps-none, none-keeps}
 
 -- no refusal of 5 to 13 holds where the slots are listed by a tree that is not too deep, keeps every rule and claims rightly
-pub tree-accepted : (bytes : List ℕ) (t : Tree) → IsTreeOf bytes t → treeRefusal (slots bytes) ≡ Lawful
+pub tree-accepted : (edition : ℕ) (bytes : List ℕ) (t : Tree) → IsTreeOf edition bytes t → treeRefusal edition (slots bytes) ≡ Lawful
 unfolding treeRefusal
-tree-accepted bytes t h =
+tree-accepted edition bytes t h =
     let f : Fills 1 (slots bytes) = subst (Fills 1) (h .lists) (tree-fills t (h .claims)) in
     let e : treeOf (slots bytes) ≡ t = treeOf-listing t (slots bytes) (h .claims) (h .lists) in
     orElse-none _ _ (fills-leftOver (slots bytes) f)
     (orElse-none _ _ (fills-missing (slots bytes) f)
-    (orElse-none _ _ (rw e (atMostDeep-none t (h .deep))) (rw e (keeps-none t (h .keeps)))))
+    (orElse-none _ _ (rw e (atMostDeep-none t (h .deep))) (rw e (keeps-none edition t (h .keeps)))))
 
-pub accepted-tree : (bytes : List ℕ) → treeRefusal (slots bytes) ≡ Lawful → IsTreeOf bytes (treeOf (slots bytes))
+pub accepted-tree : (edition : ℕ) (bytes : List ℕ) → treeRefusal edition (slots bytes) ≡ Lawful → IsTreeOf edition bytes (treeOf (slots bytes))
 unfolding treeRefusal
-accepted-tree bytes e =
+accepted-tree edition bytes e =
     let a = none-orElse _ _ e in
     let b = none-orElse _ _ (a .1) in
     let c = none-orElse _ _ (b .1) in
     let f : Fills 1 (slots bytes) = accepted-fills (slots bytes) (a .0) (b .0) in
     record {
       deep = none-atMostDeep (treeOf (slots bytes)) (c .0);
-      keeps = none-keeps (treeOf (slots bytes)) (c .1);
+      keeps = none-keeps edition (treeOf (slots bytes)) (c .1);
       claims = fills-claims (slots bytes) f;
       lists = fills-listing (slots bytes) f;
     }
 
-pub sound-judgement : (bytes : List ℕ) → Sound bytes → judgement bytes ≡ treeRefusal (slots bytes)
+pub sound-judgement : (edition : ℕ) (bytes : List ℕ) → Sound edition bytes → judgement edition bytes ≡ treeRefusal edition (slots bytes)
 unfolding judgement judgedAs sheet.outcome sheet.outcomeOf
-sound-judgement bytes s = rw (openOf-accepts bytes (s .blocks) (s .slots))
+sound-judgement edition bytes s = rw (openOf-accepts edition bytes (s .known) (s .blocks) (s .slots))
 
 pub accepted-no-refusal : (r : Verdict) (t lent : ℕ) → Accepted (answer r t lent) → r ≡ Lawful
 unfolding Accepted answer
@@ -67,52 +67,52 @@ unfolding answer
 no-refusal-rows r t lent e h = rw (e, le-ltb lent (rowWidth * t) h)
 
 -- where a sheet has a tree and output is enough, the answer is its T rows
-pub tree-rows : (bytes : List ℕ) (lent : ℕ) (t : Tree) → Sound bytes → EnoughOutput bytes lent → IsTreeOf bytes t → outcome bytes lent ≡ Counted.Count (totalOf bytes)
+pub tree-rows : (edition : ℕ) (bytes : List ℕ) (lent : ℕ) (t : Tree) → Sound edition bytes → EnoughOutput bytes lent → IsTreeOf edition bytes t → outcome edition bytes lent ≡ Counted.Count (totalOf bytes)
 unfolding outcome EnoughOutput
-tree-rows bytes lent t s n h =
-    no-refusal-rows (judgement bytes) (totalOf bytes) lent (sound-judgement bytes s ∙ tree-accepted bytes t h) n
+tree-rows edition bytes lent t s n h =
+    no-refusal-rows (judgement edition bytes) (totalOf bytes) lent (sound-judgement edition bytes s ∙ tree-accepted edition bytes t h) n
 
 -- a sheet is accepted exactly where some tree, at most 32 deep, keeps every rule, claims its children rightly and lists the sheet's nodes
-pub accepted-exactly : (bytes : List ℕ) (lent : ℕ) → Sound bytes → EnoughOutput bytes lent → Accepted (outcome bytes lent) ↔ ((t : Tree) × IsTreeOf bytes t)
+pub accepted-exactly : (edition : ℕ) (bytes : List ℕ) (lent : ℕ) → Sound edition bytes → EnoughOutput bytes lent → Accepted (outcome edition bytes lent) ↔ ((t : Tree) × IsTreeOf edition bytes t)
 unfolding outcome Accepted
-accepted-exactly bytes lent s n = (
-  (λ a. (treeOf (slots bytes), accepted-tree bytes (sym (sound-judgement bytes s) ∙ accepted-no-refusal (judgement bytes) (totalOf bytes) lent a))),
-  (λ h. subst Accepted (sym (tree-rows bytes lent (h .0) s n (h .1))) tt),
+accepted-exactly edition bytes lent s n = (
+  (λ a. (treeOf (slots bytes), accepted-tree edition bytes (sym (sound-judgement edition bytes s) ∙ accepted-no-refusal (judgement edition bytes) (totalOf bytes) lent a))),
+  (λ h. subst Accepted (sym (tree-rows edition bytes lent (h .0) s n (h .1))) tt),
 )
 
 -- any two such trees are equal
-pub one-tree : (bytes : List ℕ) (t u : Tree) → IsTreeOf bytes t → IsTreeOf bytes u → t ≡ u
-one-tree bytes t u h k = listing-injective t u (h .claims) (k .claims) (h .lists ∙ sym (k .lists))
+pub one-tree : (edition : ℕ) (bytes : List ℕ) (t u : Tree) → IsTreeOf edition bytes t → IsTreeOf edition bytes u → t ≡ u
+one-tree edition bytes t u h k = listing-injective t u (h .claims) (k .claims) (h .lists ∙ sym (k .lists))
 
 -- the rows written are that tree's, and what stood past them stays
-pub rows-are : (bytes lent : List ℕ) (t : Tree) → Sound bytes → EnoughOutput bytes (length lent) → IsTreeOf bytes t → written (outcome bytes (length lent)) bytes lent ≡ rows t ++ drop (rowWidth * totalOf bytes) lent
+pub rows-are : (edition : ℕ) (bytes lent : List ℕ) (t : Tree) → Sound edition bytes → EnoughOutput bytes (length lent) → IsTreeOf edition bytes t → written (outcome edition bytes (length lent)) bytes lent ≡ rows t ++ drop (rowWidth * totalOf bytes) lent
 unfolding written
-rows-are bytes lent t s n h =
-    rw (tree-rows bytes (length lent) t s n h, treeOf-listing t (slots bytes) (h .claims) (h .lists))
+rows-are edition bytes lent t s n h =
+    rw (tree-rows edition bytes (length lent) t s n h, treeOf-listing t (slots bytes) (h .claims) (h .lists))
 
 -- what judging refuses, resolving refuses so, whatever is lent
-pub refused-resolving : (bytes : List ℕ) (lent : ℕ) (r : Refusal) → judgement bytes ≡ Refused r → outcome bytes lent ≡ Counted.Refused r
+pub refused-resolving : (edition : ℕ) (bytes : List ℕ) (lent : ℕ) (r : Refusal) → judgement edition bytes ≡ Refused r → outcome edition bytes lent ≡ Counted.Refused r
 unfolding outcome answer
-refused-resolving bytes lent r e = rw e
+refused-resolving edition bytes lent r e = rw e
 
 -- a refusal changes nothing
-pub refused-unchanged : (bytes lent : List ℕ) (r : Refusal) → outcome bytes (length lent) ≡ Counted.Refused r → written (outcome bytes (length lent)) bytes lent ≡ lent
+pub refused-unchanged : (edition : ℕ) (bytes lent : List ℕ) (r : Refusal) → outcome edition bytes (length lent) ≡ Counted.Refused r → written (outcome edition bytes (length lent)) bytes lent ≡ lent
 unfolding written
-refused-unchanged bytes lent r e = rw e
+refused-unchanged edition bytes lent r e = rw e
 
 -- a sheet's tree has T nodes
-pub size-is : (bytes : List ℕ) (t : Tree) → IsTreeOf bytes t → size t ≡ totalOf bytes
+pub size-is : (edition : ℕ) (bytes : List ℕ) (t : Tree) → IsTreeOf edition bytes t → size t ≡ totalOf bytes
 unfolding size
-size-is bytes t h = ap length (h .lists) ∙ slots-length bytes
+size-is edition bytes t h = ap length (h .lists) ∙ slots-length bytes
 
 -- the rows of a sheet's tree are as many numbers as its nodes need
-pub rows-length : (bytes : List ℕ) (t : Tree) → IsTreeOf bytes t → length (rows t) ≡ rowWidth * totalOf bytes
+pub rows-length : (edition : ℕ) (bytes : List ℕ) (t : Tree) → IsTreeOf edition bytes t → length (rows t) ≡ rowWidth * totalOf bytes
 unfolding rows
-rows-length bytes t h = length-rowsFrom t 0 0 Other [] [] ∙ ap (λ (n : ℕ). rowWidth * n) (size-is bytes t h)
+rows-length edition bytes t h = length-rowsFrom t 0 0 Other [] [] ∙ ap (λ (n : ℕ). rowWidth * n) (size-is edition bytes t h)
 
 -- blocks and slots are sound exactly where opening gives no refusal
-pub sound-exactly : (bytes : List ℕ) → Sound bytes ↔ (sheet.openOf bytes ≡ Counted.Count (totalOf bytes))
-sound-exactly bytes = (
-  (λ s. openOf-accepts bytes (s .blocks) (s .slots)),
-  (λ e. record { blocks = openOf-blocks bytes (totalOf bytes) e; slots = openOf-slots bytes (totalOf bytes) e }),
+pub sound-exactly : (edition : ℕ) (bytes : List ℕ) → Sound edition bytes ↔ (sheet.openOf edition bytes ≡ Counted.Count (totalOf bytes))
+sound-exactly edition bytes = (
+  (λ s. openOf-accepts edition bytes (s .known) (s .blocks) (s .slots)),
+  (λ e. record { known = openOf-known edition bytes (totalOf bytes) e; blocks = openOf-blocks edition bytes (totalOf bytes) e; slots = openOf-slots edition bytes (totalOf bytes) e }),
 )

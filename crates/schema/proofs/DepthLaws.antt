@@ -60,6 +60,6 @@ module _ (b : List ℕ) (at n l : ℕ) (h : Claimed b) (k : n ≡ 0 → ⊥) (c 
   rest-deep next e = none-behind (depths (depthAt l) (treeAt (slots b) at)) _ (run-deep next e)
 
 -- no node of a lawful sheet is too deep, where all levels are left at its root
-pub root-deep : (b : List ℕ) (n : ℕ) → judgementOf b ≡ Counted.Count n → NoneTooDeep (runDepths (depthAt (suc mostDepth)) (runAt (slots b) 0 1))
+pub root-deep : (edition : ℕ) (b : List ℕ) (n : ℕ) → judgementOf edition b ≡ Counted.Count n → NoneTooDeep (runDepths (depthAt (suc mostDepth)) (runAt (slots b) 0 1))
 unfolding NoneTooDeep AtMostDeep runDepths depthAt
-root-deep b n e = rw (root-alone b (judged-claimed b n e) (judged-some b n e), append-nil, treeAt-zero) (judged-deep b n e)
+root-deep edition b n e = rw (root-alone b (judged-claimed edition b n e) (judged-some edition b n e), append-nil, treeAt-zero) (judged-deep edition b n e)

@@ -171,18 +171,18 @@ unfolding howMany
 root-repetition s fs e = rw e
 
 -- numbers that begin with the rows of a tree
-module _ (numbers rest : List ℕ) where
+module _ (edition : ℕ) (numbers rest : List ℕ) where
   root-row : (s : SlotBytes) (fs : Fields) → numbers ≡ rows (node s fs) ++ rest → drop (rowWidth * 0) numbers ≡ row 0 0 Parent.Other [] [] s fs ++ (runRowsFrom 1 0 (parentOf Parent.Other [] s fs) s (node s fs ∷ []) fs ++ rest)
   unfolding rows rowsFrom
   root-row s fs e = e ∙ append-assoc (row 0 0 Parent.Other [] [] s fs) _ rest
 
-  pub root-levels : (t : Tree) → numbers ≡ rows t ++ rest → Keeps Root t → (numberIn numbers 0 9 ≡ 0) × (numberIn numbers 0 10 ≡ 0)
+  pub root-levels : (t : Tree) → numbers ≡ rows t ++ rest → Keeps edition Root t → (numberIn numbers 0 9 ≡ 0) × (numberIn numbers 0 10 ≡ 0)
   unfolding Keeps
   root-levels (node s fs) e h =
       let none = root-none s fs (h .0 .shape) in
       (own-definition numbers 0 0 Parent.Other [] [] s fs _ (root-row s fs e) ∙ root-definition s fs none, own-repetitions numbers 0 0 Parent.Other [] [] s fs _ (root-row s fs e) ∙ root-repetition s fs none)
 
-  levels-by-depth : (t : Tree) → numbers ≡ rows t ++ rest → Keeps Root t → (k : ℕ) → suc k < size t → InRow numbers (suc k) (getD (depths 0 t) (suc k) 0)
+  levels-by-depth : (t : Tree) → numbers ≡ rows t ++ rest → Keeps edition Root t → (k : ℕ) → suc k < size t → InRow numbers (suc k) (getD (depths 0 t) (suc k) 0)
   unfolding Keeps depths size listing
   levels-by-depth (node s fs) e h k l =
       let own = root-row s fs e in
@@ -195,7 +195,7 @@ module _ (numbers rest : List ℕ) where
       k (omega arith))
 
   -- of every node but the root
-  pub field-levels : (t : Tree) → numbers ≡ rows t ++ rest → Keeps Root t → (n : ℕ) → AtMostDeep n t → (k : ℕ) → 0 < k → k < size t → InRow numbers k n
+  pub field-levels : (t : Tree) → numbers ≡ rows t ++ rest → Keeps edition Root t → (n : ℕ) → AtMostDeep n t → (k : ℕ) → 0 < k → k < size t → InRow numbers k n
   unfolding AtMostDeep
   field-levels t e h n deep zero p l = absurd (omega arith)
   field-levels t e h n deep (suc k) p l =

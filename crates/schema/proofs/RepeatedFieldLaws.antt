@@ -1,4 +1,5 @@
 -- Document 02, R-2: a LIST's layer whose one field is repeated keeps rule 12 and is the element; the field is a repeated node as any other.
+use Prim.Native.Nat.{ℕ}
 use mathlib.Core.Path.{_≡_, sym, _∙_}
 use mathlib.Core.Bool.{true, false, true≢false, or-true}
 use borrow.Author.Tests.{eq-eqb, ne-eqb}
@@ -26,13 +27,13 @@ unfolding rule13 mapKept
 repeated-map p s fs m r = rw (m, r)
 
 -- so a repeated node that keeps the rules is neither
-pub no-list : (p : Standing) (s : SlotBytes) (fs : Fields) → KeepsAt p s fs → repetition s ≡ REPEATED → isList p s ≡ false
-no-list p s fs h r = by-test (isList p s) (λ l. absurd (true≢false (sym (h .lists) ∙ repeated-list p s fs l r))) (λ l. l)
+pub no-list : (edition : ℕ) (p : Standing) (s : SlotBytes) (fs : Fields) → KeepsAt edition p s fs → repetition s ≡ REPEATED → isList p s ≡ false
+no-list edition p s fs h r = by-test (isList p s) (λ l. absurd (true≢false (sym (h .lists) ∙ repeated-list p s fs l r))) (λ l. l)
 
-pub no-map : (p : Standing) (s : SlotBytes) (fs : Fields) → KeepsAt p s fs → repetition s ≡ REPEATED → isMap p s ≡ false
-no-map p s fs h r = by-test (isMap p s) (λ m. absurd (true≢false (sym (h .maps) ∙ repeated-map p s fs m r))) (λ m. m)
+pub no-map : (edition : ℕ) (p : Standing) (s : SlotBytes) (fs : Fields) → KeepsAt edition p s fs → repetition s ≡ REPEATED → isMap p s ≡ false
+no-map edition p s fs h r = by-test (isMap p s) (λ m. absurd (true≢false (sym (h .maps) ∙ repeated-map p s fs m r))) (λ m. m)
 
-module _ (list layer s : SlotBytes) (fs : Fields) (g : isGroup (physical layer) ≡ true) (l : repetition layer ≡ REPEATED) where
+module _ (edition : ℕ) (list layer s : SlotBytes) (fs : Fields) (g : isGroup (physical layer) ≡ true) (l : repetition layer ≡ REPEATED) where
   -- a field that is neither repeated, required nor optional is no element, where its layer is not so named
   pub no-element : (p : Standing) → isList p list ≡ true → namedElement list layer ≡ false → (repetition s ≡ REPEATED → ⊥) → isRequiredOrOptional (repetition s) ≡ false → rule12 p list (field (node layer (field (node s fs) empty)) empty) ≡ false
   unfolding rule12 listKept listRun listChild holdsElement
@@ -55,11 +56,11 @@ module _ (list layer s : SlotBytes) (fs : Fields) (g : isGroup (physical layer) 
       unfolding role listRole
       layer-role gs = rw (list-parent gs, g, element-repeated list layer s fs (eq-eqb _ _ r))
 
-      module _ (h : KeepsAt Field layer (field (node s fs) empty)) (gs : Fields) where
+      module _ (h : KeepsAt edition Field layer (field (node s fs) empty)) (gs : Fields) where
         layer-parent : parentOf (parentOf q above list gs) list layer (field (node s fs) empty) ≡ parent.Other
         unfolding parentOf parentBy isList isMap
         layer-parent =
-            rw (layer-role gs, list-parent gs, no-list Field layer (field (node s fs) empty) h l, no-map Field layer (field (node s fs) empty) h l)
+            rw (layer-role gs, list-parent gs, no-list edition Field layer (field (node s fs) empty) h l, no-map edition Field layer (field (node s fs) empty) h l)
 
         pub field-role : role (parentOf (parentOf q above list gs) list layer (field (node s fs) empty)) layer s fs ≡ BARE-REPEATED
         unfolding role

@@ -46,11 +46,11 @@ spelled-kind Annotation.Interval n code a b length s e = absurd s
 spelled-kind Annotation.Unreadable n code a b length s e = absurd (true≢false (sym e))
 
 -- precision and scale in order are not negative
-ordered-natural : (p s : ℤ) → ordered p s ≡ true → (pos (natural p) ≡ p) × (pos (natural s) ≡ s)
+ordered-natural : (edition : ℕ) (p s : ℤ) → ordered edition p s ≡ true → (pos (natural p) ≡ p) × (pos (natural s) ≡ s)
 unfolding ordered natural
-ordered-natural (pos p) (pos s) e = (refl, refl)
-ordered-natural (pos p) (negsuc s) e = absurd (true≢false (sym (and-right (leb 1 p) false (and-left (leb 1 p && false) true e))))
-ordered-natural (negsuc p) s e = absurd (true≢false (sym e))
+ordered-natural edition (pos p) (pos s) e = (refl, refl)
+ordered-natural edition (pos p) (negsuc s) e = absurd (true≢false (sym (and-right (leb 1 p) false (and-left (leb 1 p && false) _ e))))
+ordered-natural edition (negsuc p) s e = absurd (true≢false (sym e))
 
 -- the kind of a DECIMAL that keeps rule 11
 plain-no-decimal : (group : Bool) → cond group PLAIN-GROUP PLAIN-LEAF ≡ logical.DECIMAL → ⊥
@@ -72,7 +72,7 @@ decimal-numbers (Annotation.Logical l) n e = rw e (refl, refl)
 decimal-numbers Annotation.Interval n e = absurd (true≢false (sym e))
 decimal-numbers Annotation.Unreadable n e = absurd (true≢false (sym e))
 
-module _ (n : Annotated) (under : Bool) (kept10 : ten.rule10 n under ≡ true) (kept11 : eleven.rule11 n under ≡ true) where
+module _ (edition : ℕ) (n : Annotated) (under : Bool) (kept10 : ten.rule10 n under ≡ true) (kept11 : eleven.rule11 edition n under ≡ true) where
   stated : (n .logical ≡ logical.NONE → ⊥) → annotationOf n under ≡ statedOf (n .logical) (n .a) (n .b)
   unfolding annotationOf
   stated h = rw (ne-eqb (n .logical) logical.NONE h)
@@ -102,33 +102,33 @@ module _ (n : Annotated) (under : Bool) (kept10 : ten.rule10 n under ≡ true) (
   digits e =
       let decimal = decimal-kind (annotationOf n under) n e in
       let numbers = decimal-numbers (annotationOf n under) n decimal in
-      let ordered-is = and-left (ordered (n .precision) (n .scale)) _ (rw decimal at kept11) in
-      let both = ordered-natural (n .precision) (n .scale) ordered-is in
+      let ordered-is = and-left (ordered edition (n .precision) (n .scale)) _ (rw decimal at kept11) in
+      let both = ordered-natural edition (n .precision) (n .scale) ordered-is in
       (ap pos (numbers .0) ∙ both .0, ap pos (numbers .1) ∙ both .1)
 
-resolves-to : (under : Bool) (s : SlotBytes) → rule10 under s ≡ true → rule11 under s ≡ true → ResolvesTo under s (kind under s)
+resolves-to : (edition : ℕ) (under : Bool) (s : SlotBytes) → rule10 under s ≡ true → rule11 edition under s ≡ true → ResolvesTo under s (kind under s)
 unfolding kind rule10 rule11 annotated numbersOf
-resolves-to under s t e =
+resolves-to edition under s t e =
     let n = annotated s in
     record {
-      logical-kind = λ h. stated-kind n under t e h .0;
-      logical-p1 = λ h d. stated-kind n under t e h .1 d .0;
-      logical-p2 = λ h d. stated-kind n under t e h .1 d .1;
-      converted-kind = λ h l b. alone-logical n under t e h l b .0;
-      converted-p1 = λ h l b d. alone-logical n under t e h l b .1 d .0;
-      converted-p2 = λ h l b d. alone-logical n under t e h l b .1 d .1;
-      interval-kind = λ h b. ap (λ (k : Kind). k .kind) (alone-kind n under t e h Annotation.Interval b);
-      plain-leaf = λ h b g. ap (λ (k : Kind). k .kind) (alone-kind n under t e h Annotation.Plain b) ∙ rw (ne-eqb (physical s) GROUP g);
-      plain-group = λ h b g. ap (λ (k : Kind). k .kind) (alone-kind n under t e h Annotation.Plain b) ∙ rw g;
-      decimal-p1 = λ h. digits n under t e h .0;
-      decimal-p2 = λ h. digits n under t e h .1;
+      logical-kind = λ h. stated-kind edition n under t e h .0;
+      logical-p1 = λ h d. stated-kind edition n under t e h .1 d .0;
+      logical-p2 = λ h d. stated-kind edition n under t e h .1 d .1;
+      converted-kind = λ h l b. alone-logical edition n under t e h l b .0;
+      converted-p1 = λ h l b d. alone-logical edition n under t e h l b .1 d .0;
+      converted-p2 = λ h l b d. alone-logical edition n under t e h l b .1 d .1;
+      interval-kind = λ h b. ap (λ (k : Kind). k .kind) (alone-kind edition n under t e h Annotation.Interval b);
+      plain-leaf = λ h b g. ap (λ (k : Kind). k .kind) (alone-kind edition n under t e h Annotation.Plain b) ∙ rw (ne-eqb (physical s) GROUP g);
+      plain-group = λ h b g. ap (λ (k : Kind). k .kind) (alone-kind edition n under t e h Annotation.Plain b) ∙ rw g;
+      decimal-p1 = λ h. digits edition n under t e h .0;
+      decimal-p2 = λ h. digits edition n under t e h .1;
     }
 
 -- of each node of a tree that keeps the rules
-pub node-resolves : (t : Tree) → Keeps Root t → (k : ℕ) → k < size t → ResolvesTo (isUnderMap (ascent t k)) (getD (listing t) k []) (kindIn (rows t) k)
-node-resolves t keeps k below =
-    let r = node-row t keeps [] k below in
+pub node-resolves : (edition : ℕ) (t : Tree) → Keeps edition Root t → (k : ℕ) → k < size t → ResolvesTo (isUnderMap (ascent t k)) (getD (listing t) k []) (kindIn (rows t) k)
+node-resolves edition t keeps k below =
+    let r = node-row edition t keeps [] k below in
     let s = getD (listing t) k [] in
-    rw (row-kind t keeps k below, r .stands)
+    rw (row-kind edition t keeps k below, r .stands)
     (subst (λ (under : Bool). ResolvesTo under s (kind (isMapParent (r .«parent»)) s)) (r .under .map-alike)
-    (subst (λ (under : Bool). ResolvesTo under s (kind under s)) (r .alike) (resolves-to (underMap (r .standing)) s (r .keeps .placement) (r .keeps .decimals))))
+    (subst (λ (under : Bool). ResolvesTo under s (kind under s)) (r .alike) (resolves-to edition (underMap (r .standing)) s (r .keeps .placement) (r .keeps .decimals))))

@@ -18,7 +18,7 @@ use Rattle.sheet.specs.Opening as sheet
 use Rattle.refusal.specs.declared.answers.Counted.{Counted}
 use Rattle.sheet.proofs.BlockLaws.{blockCount-same}
 use Rattle.sheet.proofs.CopyLaws.{totalOf-same, headerRight-same, slotAt-renewed}
-use Rattle.sheet.proofs.OpeningLaws.{openOf-blocks, openOf-slots, openOf-total, openOf-most, openOf-within, openOf-sound}
+use Rattle.sheet.proofs.OpeningLaws.{openOf-known, openOf-blocks, openOf-slots, openOf-total, openOf-most, openOf-within, openOf-sound}
 use Rattle.sheet.proofs.RenewalLaws.{renewed-right, renewed-renewed}
 use Rattle.sheet.proofs.SlotLaws.{slotStart-within, reaches-true, slotAt-length, slots-length}
 use Rattle.sheet.proofs.SoundLaws.{slotRight-used, slotRight-unused}
@@ -43,19 +43,19 @@ use Rattle.schema.proofs.RewrittenTreeLaws.{rewrittenTree, Long, depths
 use Rattle.schema.proofs.RewrittenRowsLaws.{rows-rewritten}
 use Rattle.schema.proofs.RewrittenLaws.{copied-rewriting, LongSlot, SoundSlot, pairwise, listing-rewritten, slotsFrom-rewritings, slotsFrom-same, slotAt-behind, Each, each-slotsFrom, slotsFrom-each, long-listing, sound-listing, HoldsEach, holds-listing, withRewritings-same, headers-rewritings, rewritten-headers, length-rewritten}
 
-module _ (b : List ℕ) (lawful : judgement b ≡ Verdict.Lawful) where
+module _ (edition : ℕ) (b : List ℕ) (lawful : judgement edition b ≡ Verdict.Lawful) where
   abbrev t : Tree
   t = treeOf (slots b)
 
   abbrev rs : List Written
   rs = rewritings Root (treeOf (slots b))
 
-  opened : (n : ℕ) × (sheet.openOf b ≡ Counted.Count n)
-  opened = lawful-opened b lawful
+  opened : (n : ℕ) × (sheet.openOf edition b ≡ Counted.Count n)
+  opened = lawful-opened edition b lawful
 
   -- the sheet's tree
-  tree : IsTreeOf b t
-  tree = accepted-tree b (sym (judgement-nodes b (opened .0) (opened .1)) ∙ lawful)
+  tree : IsTreeOf edition b t
+  tree = accepted-tree edition b (sym (judgement-nodes edition b (opened .0) (opened .1)) ∙ lawful)
 
   every-long : Each LongSlot (slots b)
   unfolding slots
@@ -71,8 +71,8 @@ module _ (b : List ℕ) (lawful : judgement b ≡ Verdict.Lawful) where
   -- the bytes reach every node's slot
   there : (j : ℕ) → j < totalOf b → reaches b j ≡ true
   there j h =
-      reaches-true b j (omega (arith, openOf-total b (opened .0) (opened .1), openOf-most b (opened .0) (opened .1)))
-      (slotStart-within b j (omega (arith, openOf-total b (opened .0) (opened .1), openOf-within b (opened .0) (opened .1))))
+      reaches-true b j (omega (arith, openOf-total edition b (opened .0) (opened .1), openOf-most edition b (opened .0) (opened .1)))
+      (slotStart-within b j (omega (arith, openOf-total edition b (opened .0) (opened .1), openOf-within edition b (opened .0) (opened .1))))
 
   pub total-is : totalOf (rewritten b) ≡ totalOf b
   total-is = totalOf-same (rewritten b) b (rewritten-headers b)
@@ -92,7 +92,7 @@ module _ (b : List ℕ) (lawful : judgement b ≡ Verdict.Lawful) where
   blocks-sound : sheet.BlocksSound (rewritten b)
   unfolding rewritten
   blocks-sound =
-      let old = openOf-blocks b (opened .0) (opened .1) in
+      let old = openOf-blocks edition b (opened .0) (opened .1) in
       let same = blockCount-same (rewritten b) b (rewritten-headers b .long) in
       record {
         length-right = rw (rewritten-headers b .long) (old .length-right);
@@ -104,10 +104,10 @@ module _ (b : List ℕ) (lawful : judgement b ≡ Verdict.Lawful) where
   unfolding slots
   every-sound =
       each-slotsFrom SoundSlot (totalOf b) b 0
-      (λ j l h. openOf-sound b (opened .0) (opened .1) j (omega (arith, openOf-total b (opened .0) (opened .1))))
+      (λ j l h. openOf-sound edition b (opened .0) (opened .1) j (omega (arith, openOf-total edition b (opened .0) (opened .1))))
 
   still-sound : Each SoundSlot (slots (rewritten b))
-  still-sound = rw slots-are (sound-listing t Root long (tree .keeps) (subst (Each SoundSlot) (sym (tree .lists)) every-sound))
+  still-sound = rw slots-are (sound-listing edition t Root long (tree .keeps) (subst (Each SoundSlot) (sym (tree .lists)) every-sound))
 
   -- and so are its slots
   slots-sound : sheet.SlotsSound (rewritten b)
@@ -122,40 +122,40 @@ module _ (b : List ℕ) (lawful : judgement b ≡ Verdict.Lawful) where
           slotRight-unused (rewritten b) k (omega (arith, total-is))
           ∙ ap allZero (slotAt-renewed (withRewritings b 0 rs) k ∙ slotAt-behind rs b 0 k (omega (arith, count-is)))
           ∙ sym (slotRight-unused b k (omega arith))
-          ∙ openOf-slots b (opened .0) (opened .1) .slots-right k (omega (arith, blockCount-same (rewritten b) b (rewritten-headers b .long)))
+          ∙ openOf-slots edition b (opened .0) (opened .1) .slots-right k (omega (arith, blockCount-same (rewritten b) b (rewritten-headers b .long)))
 
   -- the rewritten tree is its tree
-  rewritten-tree : IsTreeOf (rewritten b) (rewrittenTree Root t)
+  rewritten-tree : IsTreeOf edition (rewritten b) (rewrittenTree Root t)
   unfolding AtMostDeep
   rewritten-tree =
       record {
         deep = λ k. rw (depths-rewritten t Root 0) (tree .deep k);
-        keeps = keeps-rewritten t Root long (tree .keeps);
+        keeps = keeps-rewritten edition t Root long (tree .keeps);
         claims = claims-rewritten t Root (tree .claims);
         lists = sym slots-are;
       }
 
   -- what rewriting writes is accepted
-  pub rewritten-lawful : judgement (rewritten b) ≡ Verdict.Lawful
+  pub rewritten-lawful : judgement edition (rewritten b) ≡ Verdict.Lawful
   rewritten-lawful =
-      sound-judgement (rewritten b) (record { blocks = blocks-sound; slots = slots-sound })
-      ∙ tree-accepted (rewritten b) (rewrittenTree Root t) rewritten-tree
+      sound-judgement edition (rewritten b) (record { known = openOf-known edition b (opened .0) (opened .1); blocks = blocks-sound; slots = slots-sound })
+      ∙ tree-accepted edition (rewritten b) (rewrittenTree Root t) rewritten-tree
 
   tree-is : treeOf (slots (rewritten b)) ≡ rewrittenTree Root t
   tree-is = treeOf-listing (rewrittenTree Root t) (slots (rewritten b)) (rewritten-tree .claims) (rewritten-tree .lists)
 
   rows-are : rows (treeOf (slots (rewritten b))) ≡ rows (treeOf (slots b))
-  rows-are = ap rows tree-is ∙ rows-rewritten t long (tree .keeps)
+  rows-are = ap rows tree-is ∙ rows-rewritten edition t long (tree .keeps)
 
   -- resolving it answers what resolving the sheet does
-  pub rewritten-outcome : (lent : ℕ) → outcome (rewritten b) lent ≡ outcome b lent
+  pub rewritten-outcome : (lent : ℕ) → outcome edition (rewritten b) lent ≡ outcome edition b lent
   unfolding outcome
   rewritten-outcome lent = rw (rewritten-lawful, lawful, total-is)
 
   -- and writes the same rows
-  pub rewritten-rows : (lent : List ℕ) → written (outcome (rewritten b) (length lent)) (rewritten b) lent ≡ written (outcome b (length lent)) b lent
+  pub rewritten-rows : (lent : List ℕ) → written (outcome edition (rewritten b) (length lent)) (rewritten b) lent ≡ written (outcome edition b (length lent)) b lent
   unfolding written
-  rewritten-rows lent = ap (λ (r : Counted). written r (rewritten b) lent) (rewritten-outcome (length lent)) ∙ same (outcome b (length lent))
+  rewritten-rows lent = ap (λ (r : Counted). written r (rewritten b) lent) (rewritten-outcome (length lent)) ∙ same (outcome edition b (length lent))
     where
       same : (r : Counted) → written r (rewritten b) lent ≡ written r b lent
       same (Counted.Refused r) = refl
@@ -166,8 +166,8 @@ module _ (b : List ℕ) (lawful : judgement b ≡ Verdict.Lawful) where
   unfolding rewritten slots
   rewritten-rewritten =
       ap (λ (u : Tree). renewed (withRewritings (rewritten b) 0 (rewritings Root u))) tree-is
-      ∙ ap (λ (us : List Written). renewed (withRewritings (rewritten b) 0 us)) (rewritings-rewritten t Root long (tree .keeps))
-      ∙ ap renewed (withRewritings-same rs (rewritten b) 0 (subst (HoldsEach rs) (sym slots-are ∙ ap (slotsFrom (rewritten b) 0) (total-is ∙ sym count-is)) (holds-listing t Root long (tree .keeps))))
+      ∙ ap (λ (us : List Written). renewed (withRewritings (rewritten b) 0 us)) (rewritings-rewritten edition t Root long (tree .keeps))
+      ∙ ap renewed (withRewritings-same rs (rewritten b) 0 (subst (HoldsEach rs) (sym slots-are ∙ ap (slotsFrom (rewritten b) 0) (total-is ∙ sym count-is)) (holds-listing edition t Root long (tree .keeps))))
       ∙ renewed-renewed (withRewritings b 0 rs)
 
 -- all else is copied ---------------------------------------------------------------------------------------------------
@@ -198,21 +198,21 @@ unfolding AcceptedRewriting rewriteAnswer
 lawful-accepted v enough n e f = rw (e, f) tt
 
 -- what judging refuses, rewriting refuses so, whatever is lent
-pub refused-rewriting : (b : List ℕ) (lent start : ℕ) (r : Refusal) → judgement b ≡ Verdict.Refused r → rewriteOutcome b lent start ≡ Counted.Refused r
+pub refused-rewriting : (edition : ℕ) (b : List ℕ) (lent start : ℕ) (r : Refusal) → judgement edition b ≡ Verdict.Refused r → rewriteOutcome edition b lent start ≡ Counted.Refused r
 unfolding rewriteOutcome rewriteAnswer
-refused-rewriting b lent start r e = rw e
+refused-rewriting edition b lent start r e = rw e
 
 -- where both outputs are enough, rewriting accepts a sheet exactly where resolving does
-pub rewriting-accepts : (b : List ℕ) (lent start places : ℕ) → EnoughRoom b lent start → EnoughOutput b places → AcceptedRewriting (rewriteOutcome b lent start) ↔ Accepted (outcome b places)
+pub rewriting-accepts : (edition : ℕ) (b : List ℕ) (lent start places : ℕ) → EnoughRoom b lent start → EnoughOutput b places → AcceptedRewriting (rewriteOutcome edition b lent start) ↔ Accepted (outcome edition b places)
 unfolding EnoughRoom EnoughOutput rewriteOutcome outcome Accepted
-rewriting-accepts b lent start places room enough = (
-  (λ a. subst Accepted (sym (no-refusal-rows (judgement b) (totalOf b) places (accepted-lawful (judgement b) (fits b lent start) (length b) a) enough)) tt),
-  (λ a. lawful-accepted (judgement b) (fits b lent start) (length b) (accepted-no-refusal (judgement b) (totalOf b) places a) (le-leb (start + length b) lent room)),
+rewriting-accepts edition b lent start places room enough = (
+  (λ a. subst Accepted (sym (no-refusal-rows (judgement edition b) (totalOf b) places (accepted-lawful (judgement edition b) (fits b lent start) (length b) a) enough)) tt),
+  (λ a. lawful-accepted (judgement edition b) (fits b lent start) (length b) (accepted-no-refusal (judgement edition b) (totalOf b) places a) (le-leb (start + length b) lent room)),
 )
 
-module _ (b lent : List ℕ) (start : ℕ) (lawful : judgement b ≡ Verdict.Lawful) (room : EnoughRoom b (length lent) start) where
+module _ (edition : ℕ) (b lent : List ℕ) (start : ℕ) (lawful : judgement edition b ≡ Verdict.Lawful) (room : EnoughRoom b (length lent) start) where
   abbrev after : List ℕ
-  after = rewriteWritten (rewriteOutcome b (length lent) start) b lent start
+  after = rewriteWritten (rewriteOutcome edition b (length lent) start) b lent start
 
   after-is : after ≡ stretched lent start (rewritten b)
   unfolding rewriteWritten rewriteOutcome rewriteAnswer EnoughRoom

@@ -19,30 +19,30 @@ use Rattle.refusal.specs.declared.answers.Counted.{Counted}
 use Rattle.schema.proofs.RewrittenLaws.{length-rewritten}
 use Rattle.tree.proofs.JudgementLaws.{judged-refused, judged-lawful}
 
-module _ (b lent : List ℕ) (start : ℕ) where
+module _ (edition : ℕ) (b lent : List ℕ) (start : ℕ) where
   -- a refused sheet
-  pub rewrite-refused : (r : Refusal) → judgementOf b ≡ Counted.Refused r → rewriteOutcome b (length lent) start ≡ Counted.Refused r
+  pub rewrite-refused : (r : Refusal) → judgementOf edition b ≡ Counted.Refused r → rewriteOutcome edition b (length lent) start ≡ Counted.Refused r
   unfolding rewriteOutcome rewriteAnswer
-  rewrite-refused r e = rw (judged-refused b r e)
+  rewrite-refused r e = rw (judged-refused edition b r e)
 
   -- a refusal changes nothing
-  pub rewrite-kept : (r : Refusal) → rewriteOutcome b (length lent) start ≡ Counted.Refused r → rewriteWritten (rewriteOutcome b (length lent) start) b lent start ≡ lent
+  pub rewrite-kept : (r : Refusal) → rewriteOutcome edition b (length lent) start ≡ Counted.Refused r → rewriteWritten (rewriteOutcome edition b (length lent) start) b lent start ≡ lent
   unfolding rewriteWritten
   rewrite-kept r e = rw e
 
-  module _ (n : ℕ) (e : judgementOf b ≡ Counted.Count n) where
+  module _ (n : ℕ) (e : judgementOf edition b ≡ Counted.Count n) where
     -- an output that is not enough
-    pub rewrite-short : length lent < start + length b → rewriteOutcome b (length lent) start ≡ Counted.Refused shortOutput
+    pub rewrite-short : length lent < start + length b → rewriteOutcome edition b (length lent) start ≡ Counted.Refused shortOutput
     unfolding rewriteOutcome rewriteAnswer
-    rewrite-short h = rw (judged-lawful b n e .0, lt-leb (start + length b) (length lent) h)
+    rewrite-short h = rw (judged-lawful edition b n e .0, lt-leb (start + length b) (length lent) h)
 
     -- and one that is
-    pub rewrite-bytes : start + length b ≤ length lent → rewriteOutcome b (length lent) start ≡ Counted.Count (length b)
+    pub rewrite-bytes : start + length b ≤ length lent → rewriteOutcome edition b (length lent) start ≡ Counted.Count (length b)
     unfolding rewriteOutcome rewriteAnswer
-    rewrite-bytes h = rw (judged-lawful b n e .0, le-leb (start + length b) (length lent) h)
+    rewrite-bytes h = rw (judged-lawful edition b n e .0, le-leb (start + length b) (length lent) h)
 
     -- the part from the start on holds the rewritten sheet
-    pub rewrite-written : start + length b ≤ length lent → (m : List ℕ) → m ≡ rewritten b → putMid start (start + length b - start) lent m ≡ rewriteWritten (rewriteOutcome b (length lent) start) b lent start
+    pub rewrite-written : start + length b ≤ length lent → (m : List ℕ) → m ≡ rewritten b → putMid start (start + length b - start) lent m ≡ rewriteWritten (rewriteOutcome edition b (length lent) start) b lent start
     unfolding rewriteWritten stretched
     rewrite-written h m e =
         ap (λ (after : List ℕ). take start lent ++ (m ++ after)) (post-is start (start + length b) lent (le-add-right start (length b)))
@@ -50,9 +50,9 @@ module _ (b lent : List ℕ) (start : ℕ) where
         ∙ sym (rw (rewrite-bytes h, length-rewritten b, e))
 
 -- bytes are answered only where they fit from the start on
-pub bytes-fit : (b : List ℕ) (lent start n : ℕ) → rewriteOutcome b lent start ≡ Counted.Count n → start + n ≤ lent
+pub bytes-fit : (edition : ℕ) (b : List ℕ) (lent start n : ℕ) → rewriteOutcome edition b lent start ≡ Counted.Count n → start + n ≤ lent
 unfolding rewriteOutcome rewriteAnswer
-bytes-fit b lent start n e = by-verdict (judgement b) (fits b lent start) refl e
+bytes-fit edition b lent start n e = by-verdict (judgement edition b) (fits b lent start) refl e
   where
     by-verdict : (v : Verdict) (enough : Bool) → leb (start + length b) lent ≡ enough → rewriteAnswer v enough (length b) ≡ Counted.Count n → start + n ≤ lent
     by-verdict (Verdict.Refused r) enough f q = absurd (let z : _≡_ {A = ℕ} 0 1 = cc in omega arith)

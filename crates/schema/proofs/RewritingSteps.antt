@@ -80,30 +80,30 @@ order-first t fs p rest b e h =
 mutual
   unfolding listing rewriting rewritings writtenInOrder Keeps Alone
 
-  order-tree : (t : Tree) (p : Standing) (rest : List SlotBytes) → Keeps p t → writtenInOrder (underMap p) (listing t ++ rest) ≡ rewritings p t ++ writtenInOrder false rest
-  order-tree (node s fs) p rest k =
+  order-tree : (edition : ℕ) (t : Tree) (p : Standing) (rest : List SlotBytes) → Keeps edition p t → writtenInOrder (underMap p) (listing t ++ rest) ≡ rewritings p t ++ writtenInOrder false rest
+  order-tree edition (node s fs) p rest k =
       let own = writtenOf (annotated s) (underMap p) in
       ap (λ (b : Bool). own ∷ writtenInOrder b (listings fs ++ rest)) (map-below p s)
-      ∙ ap (λ (rs : List numbers.Written). own ∷ rs) (order-run fs (standingBelow p s) rest (underMap (standingBelow p s)) refl (kept-alone p s fs (underMap (standingBelow p s)) (sym (under-below p s)) (k .0 .maps)) (k .1))
+      ∙ ap (λ (rs : List numbers.Written). own ∷ rs) (order-run edition fs (standingBelow p s) rest (underMap (standingBelow p s)) refl (kept-alone p s fs (underMap (standingBelow p s)) (sym (under-below p s)) (k .0 .maps)) (k .1))
 
-  order-run : (fs : Fields) (p : Standing) (rest : List SlotBytes) (b : Bool) → underMap p ≡ b → Alone b fs → KeepsAll p fs → writtenInOrder b (listings fs ++ rest) ≡ runRewritings p fs ++ writtenInOrder false rest
-  order-run empty p rest false e a k = refl
-  order-run empty p rest true e a k = absurd a
-  order-run (field t fs) p rest false e a k =
-      order-first t fs p rest false e (order-tree t p (listings fs ++ rest) (k .0))
-      ∙ ap (λ (rs : List numbers.Written). rewritings p t ++ rs) (order-run fs p rest false e tt (k .1))
+  order-run : (edition : ℕ) (fs : Fields) (p : Standing) (rest : List SlotBytes) (b : Bool) → underMap p ≡ b → Alone b fs → KeepsAll edition p fs → writtenInOrder b (listings fs ++ rest) ≡ runRewritings p fs ++ writtenInOrder false rest
+  order-run edition empty p rest false e a k = refl
+  order-run edition empty p rest true e a k = absurd a
+  order-run edition (field t fs) p rest false e a k =
+      order-first t fs p rest false e (order-tree edition t p (listings fs ++ rest) (k .0))
+      ∙ ap (λ (rs : List numbers.Written). rewritings p t ++ rs) (order-run edition fs p rest false e tt (k .1))
       ∙ sym (append-assoc (rewritings p t) (runRewritings p fs) (writtenInOrder false rest))
-  order-run (field t empty) p rest true e a k =
-      order-first t empty p rest true e (order-tree t p rest (k .0))
+  order-run edition (field t empty) p rest true e a k =
+      order-first t empty p rest true e (order-tree edition t p rest (k .0))
       ∙ sym (append-assoc (rewritings p t) [] (writtenInOrder false rest))
-  order-run (field t (field u fs)) p rest true e a k = absurd a
+  order-run edition (field t (field u fs)) p rest true e a k = absurd a
 
 -- of an accepted sheet it is what is rewritten of its tree
-pub order-accepted : (b : List ℕ) (n : ℕ) → judgementOf b ≡ Counted.Count n → writtenInOrder false (slots b) ≡ rewritings Root (treeOf (slots b))
+pub order-accepted : (edition : ℕ) (b : List ℕ) (n : ℕ) → judgementOf edition b ≡ Counted.Count n → writtenInOrder false (slots b) ≡ rewritings Root (treeOf (slots b))
 unfolding writtenInOrder
-order-accepted b n e =
-    ap (writtenInOrder false) (sym (append-nil (listing (treeOf (slots b))) ∙ judged-listing b n e))
-    ∙ order-tree (treeOf (slots b)) Root [] (judged-keeps b n e)
+order-accepted edition b n e =
+    ap (writtenInOrder false) (sym (append-nil (listing (treeOf (slots b))) ∙ judged-listing edition b n e))
+    ∙ order-tree edition (treeOf (slots b)) Root [] (judged-keeps edition b n e)
     ∙ append-nil (rewritings Root (treeOf (slots b)))
 
 -- the nodes written up to one of them: with the others they are all

@@ -177,18 +177,18 @@ mutual
   unfolding rewrittenTree listing Each Keeps Long
 
   -- the slots of the rewritten tree are sound where those of the tree were
-  pub sound-listing : (t : Tree) (p : Standing) → Long t → Keeps p t → Each SoundSlot (listing t) → Each SoundSlot (listing (rewrittenTree p t))
-  sound-listing (node s fs) p long h sound = (
-    sound-rewritten (underMap p) s (resolves p s fs (long .0) (h .0)) (sound .0),
-    sound-listings fs (standingBelow p s) (long .1) (h .1) (sound .1),
+  pub sound-listing : (edition : ℕ) (t : Tree) (p : Standing) → Long t → Keeps edition p t → Each SoundSlot (listing t) → Each SoundSlot (listing (rewrittenTree p t))
+  sound-listing edition (node s fs) p long h sound = (
+    sound-rewritten edition (underMap p) s (resolves edition p s fs (long .0) (h .0)) (sound .0),
+    sound-listings edition fs (standingBelow p s) (long .1) (h .1) (sound .1),
   )
 
-  sound-listings : (fs : Fields) (p : Standing) → LongAll fs → KeepsAll p fs → Each SoundSlot (listings fs) → Each SoundSlot (listings (rewrittenRun p fs))
-  sound-listings empty p long h sound = tt
-  sound-listings (field t fs) p long h sound =
+  sound-listings : (edition : ℕ) (fs : Fields) (p : Standing) → LongAll fs → KeepsAll edition p fs → Each SoundSlot (listings fs) → Each SoundSlot (listings (rewrittenRun p fs))
+  sound-listings edition empty p long h sound = tt
+  sound-listings edition (field t fs) p long h sound =
       let parts = each-split SoundSlot (listing t) (listings fs) sound in
       each-join SoundSlot (listing (rewrittenTree p t)) (listings (rewrittenRun p fs))
-      (sound-listing t p (long .0) (h .0) (parts .0)) (sound-listings fs p (long .1) (h .1) (parts .1))
+      (sound-listing edition t p (long .0) (h .0) (parts .0)) (sound-listings edition fs p (long .1) (h .1) (parts .1))
 
 -- each slot of a list has what is rewritten of it
 unfoldable pub HoldsEach : List Written → List SlotBytes → Type 0
@@ -206,17 +206,17 @@ holds-join (u ∷ us) vs (x ∷ xs) ys e g h = (g .0, holds-join us vs xs ys (om
 mutual
   unfolding rewrittenTree rewritings listing size HoldsEach Keeps Long
 
-  pub holds-listing : (t : Tree) (p : Standing) → Long t → Keeps p t → HoldsEach (rewritings p t) (listing (rewrittenTree p t))
-  holds-listing (node s fs) p long h = (
-    holds-rewritten (underMap p) s (resolves p s fs (long .0) (h .0)),
-    holds-listings fs (standingBelow p s) (long .1) (h .1),
+  pub holds-listing : (edition : ℕ) (t : Tree) (p : Standing) → Long t → Keeps edition p t → HoldsEach (rewritings p t) (listing (rewrittenTree p t))
+  holds-listing edition (node s fs) p long h = (
+    holds-rewritten edition (underMap p) s (resolves edition p s fs (long .0) (h .0)),
+    holds-listings edition fs (standingBelow p s) (long .1) (h .1),
   )
 
-  holds-listings : (fs : Fields) (p : Standing) → LongAll fs → KeepsAll p fs → HoldsEach (runRewritings p fs) (listings (rewrittenRun p fs))
-  holds-listings empty p long h = tt
-  holds-listings (field t fs) p long h =
+  holds-listings : (edition : ℕ) (fs : Fields) (p : Standing) → LongAll fs → KeepsAll edition p fs → HoldsEach (runRewritings p fs) (listings (rewrittenRun p fs))
+  holds-listings edition empty p long h = tt
+  holds-listings edition (field t fs) p long h =
       holds-join (rewritings p t) (runRewritings p fs) (listing (rewrittenTree p t)) (listings (rewrittenRun p fs)) (length-rewritings t p ∙ sym (size-rewritten t p))
-      (holds-listing t p (long .0) (h .0)) (holds-listings fs p (long .1) (h .1))
+      (holds-listing edition t p (long .0) (h .0)) (holds-listings edition fs p (long .1) (h .1))
 
 -- a sheet that has what is rewritten stays as it is
 pub withRewritings-same : (rs : List Written) (sheet : List ℕ) (k : ℕ) → HoldsEach rs (slotsFrom sheet k (length rs)) → withRewritings sheet k rs ≡ sheet

@@ -86,9 +86,9 @@ levels-rewritten : (under : Bool) (s : SlotBytes) (fs gs : Fields) (path copies 
 unfolding howMany
 levels-rewritten under s fs gs path copies g counts = rw (g counts, slot-copied under s .repetition-is)
 
-module _ (p : Standing) (q : Parent) (above copy s : SlotBytes) (fs : Fields) (long : childCountAt ≤ length s) (h : KeepsAt p s fs) (agree : underMap p ≡ isMapParent q) (e : name copy ≡ name above) where
+module _ (edition : ℕ) (p : Standing) (q : Parent) (above copy s : SlotBytes) (fs : Fields) (long : childCountAt ≤ length s) (h : KeepsAt edition p s fs) (agree : underMap p ≡ isMapParent q) (e : name copy ≡ name above) where
   kind-row : kind (isMapParent q) (rewrittenSlot (underMap p) s) ≡ kind (isMapParent q) s
-  kind-row = rw (← agree) (kind-rewritten (underMap p) s (resolves p s fs long h))
+  kind-row = rw (← agree) (kind-rewritten edition (underMap p) s (resolves edition p s fs long h))
 
   -- the same row
   row-rewritten : (at up : ℕ) (path copies : List Tree) → ((counts : ℕ → Bool) → howMany counts copies ≡ howMany counts path) → row at up q copy copies (rewrittenSlot (underMap p) s) (rewrittenRun (standingBelow p s) fs) ≡ row at up q above path s fs
@@ -106,24 +106,24 @@ module _ (p : Standing) (q : Parent) (above copy s : SlotBytes) (fs : Fields) (l
 mutual
   unfolding rewrittenTree rowsFrom Keeps Long
 
-  rowsFrom-rewritten : (t : Tree) (p : Standing) (q : Parent) (at up : ℕ) (above copy : SlotBytes) (path copies : List Tree) → Long t → Keeps p t → underMap p ≡ isMapParent q → name copy ≡ name above → ((counts : ℕ → Bool) → howMany counts copies ≡ howMany counts path) → rowsFrom at up q copy copies (rewrittenTree p t) ≡ rowsFrom at up q above path t
-  rowsFrom-rewritten (node s fs) p q at up above copy path copies long h agree e g =
+  rowsFrom-rewritten : (edition : ℕ) (t : Tree) (p : Standing) (q : Parent) (at up : ℕ) (above copy : SlotBytes) (path copies : List Tree) → Long t → Keeps edition p t → underMap p ≡ isMapParent q → name copy ≡ name above → ((counts : ℕ → Bool) → howMany counts copies ≡ howMany counts path) → rowsFrom at up q copy copies (rewrittenTree p t) ≡ rowsFrom at up q above path t
+  rowsFrom-rewritten edition (node s fs) p q at up above copy path copies long h agree e g =
       let slot = rewrittenSlot (underMap p) s in
       let run = rewrittenRun (standingBelow p s) fs in
       ap₂ _++_
-      (row-rewritten p q above copy s fs (long .0) (h .0) agree e at up path copies g)
-      (ap (λ (o : Parent). runRowsFrom (suc at) at o slot (node slot run ∷ copies) run) (parent-rewritten p q above copy s fs (long .0) (h .0) agree e)
-      ∙ runRowsFrom-rewritten fs (standingBelow p s) (parentOf q above s fs) (suc at) at s slot (node s fs ∷ path) (node slot run ∷ copies) (long .1) (h .1) (map-below p q above s fs agree) (slot-copied (underMap p) s .name-is) (levels-rewritten (underMap p) s fs run path copies g))
+      (row-rewritten edition p q above copy s fs (long .0) (h .0) agree e at up path copies g)
+      (ap (λ (o : Parent). runRowsFrom (suc at) at o slot (node slot run ∷ copies) run) (parent-rewritten edition p q above copy s fs (long .0) (h .0) agree e)
+      ∙ runRowsFrom-rewritten edition fs (standingBelow p s) (parentOf q above s fs) (suc at) at s slot (node s fs ∷ path) (node slot run ∷ copies) (long .1) (h .1) (map-below p q above s fs agree) (slot-copied (underMap p) s .name-is) (levels-rewritten (underMap p) s fs run path copies g))
 
-  runRowsFrom-rewritten : (fs : Fields) (p : Standing) (q : Parent) (at up : ℕ) (above copy : SlotBytes) (path copies : List Tree) → LongAll fs → KeepsAll p fs → underMap p ≡ isMapParent q → name copy ≡ name above → ((counts : ℕ → Bool) → howMany counts copies ≡ howMany counts path) → runRowsFrom at up q copy copies (rewrittenRun p fs) ≡ runRowsFrom at up q above path fs
-  runRowsFrom-rewritten empty p q at up above copy path copies long h agree e g = refl
-  runRowsFrom-rewritten (field t fs) p q at up above copy path copies long h agree e g =
+  runRowsFrom-rewritten : (edition : ℕ) (fs : Fields) (p : Standing) (q : Parent) (at up : ℕ) (above copy : SlotBytes) (path copies : List Tree) → LongAll fs → KeepsAll edition p fs → underMap p ≡ isMapParent q → name copy ≡ name above → ((counts : ℕ → Bool) → howMany counts copies ≡ howMany counts path) → runRowsFrom at up q copy copies (rewrittenRun p fs) ≡ runRowsFrom at up q above path fs
+  runRowsFrom-rewritten edition empty p q at up above copy path copies long h agree e g = refl
+  runRowsFrom-rewritten edition (field t fs) p q at up above copy path copies long h agree e g =
       ap₂ _++_
-      (rowsFrom-rewritten t p q at up above copy path copies (long .0) (h .0) agree e g)
+      (rowsFrom-rewritten edition t p q at up above copy path copies (long .0) (h .0) agree e g)
       (ap (λ (n : ℕ). runRowsFrom (at + n) up (afterFirst q) copy copies (rewrittenRun p fs)) (size-rewritten t p)
-      ∙ runRowsFrom-rewritten fs p (afterFirst q) (at + size t) up above copy path copies (long .1) (h .1) (agree ∙ sym (map-after q)) e g)
+      ∙ runRowsFrom-rewritten edition fs p (afterFirst q) (at + size t) up above copy path copies (long .1) (h .1) (agree ∙ sym (map-after q)) e g)
 
 -- a tree that keeps every rule has the same rows once it is rewritten
-pub rows-rewritten : (t : Tree) → Long t → Keeps Root t → rows (rewrittenTree Root t) ≡ rows t
+pub rows-rewritten : (edition : ℕ) (t : Tree) → Long t → Keeps edition Root t → rows (rewrittenTree Root t) ≡ rows t
 unfolding rows
-rows-rewritten t long h = rowsFrom-rewritten t Root parent.Other 0 0 [] [] [] [] long h refl refl (λ counts. refl)
+rows-rewritten edition t long h = rowsFrom-rewritten edition t Root parent.Other 0 0 [] [] [] [] long h refl refl (λ counts. refl)

@@ -1,5 +1,5 @@
 -- Laws of one node as it is rewritten: it resolves to what it did, and is rewritten to itself.
-use Prim.Native.Nat.{_≤_}
+use Prim.Native.Nat.{ℕ, _≤_}
 use mathlib.Core.Path.{_≡_, refl, _∙_}
 use mathlib.Core.Bool.{Bool, true, false}
 use mathlib.Core.List.{List}
@@ -104,19 +104,19 @@ written-listed Annotation.Interval = (refl, refl)
 written-listed Annotation.Unreadable = (refl, refl)
 
 -- a slot that is long enough to have annotations, and keeps rules 9, 10 and 11
-pub record Resolves (under : Bool) (s : SlotBytes) : Type 0 where
+pub record Resolves (edition : ℕ) (under : Bool) (s : SlotBytes) : Type 0 where
   pub long : childCountAt ≤ length s
   pub nine : rule9 s ≡ true
   pub ten : rule10 under s ≡ true
-  pub eleven : rule11 under s ≡ true
+  pub eleven : rule11 edition under s ≡ true
 
-module _ (under : Bool) (s : SlotBytes) (h : Resolves under s) where
-  keeps : Keeps (annotated s) under
+module _ (edition : ℕ) (under : Bool) (s : SlotBytes) (h : Resolves edition under s) where
+  keeps : Keeps edition (annotated s) under
   unfolding rule9 rule10 rule11
   keeps = record { nine = h .nine; ten = h .ten; eleven = h .eleven }
 
-  resolved : resolutionOf (annotated s) under ≡ Resolution.Resolved (kindOf (annotated s) under)
-  resolved = resolved-of-keeps (annotated s) under keeps
+  resolved : resolutionOf edition (annotated s) under ≡ Resolution.Resolved (kindOf (annotated s) under)
+  resolved = resolved-of-keeps edition (annotated s) under keeps
 
   w : Written
   w = writtenOf (annotated s) under
@@ -131,19 +131,19 @@ module _ (under : Bool) (s : SlotBytes) (h : Resolves under s) where
   annotated-rewritten =
       rw (slot-is, physical-annotated s (w .converted) (w .logical) (w .a) (w .b), typeLength-annotated s (w .converted) (w .logical) (w .a) (w .b), converted-annotated s (w .converted) (w .logical) (w .a) (w .b) (h .long), logical-annotated s (w .converted) (w .logical) (w .a) (w .b) (h .long), parameterA-annotated s (w .converted) (w .logical) (w .a) (w .b) (h .long), parameterB-annotated s (w .converted) (w .logical) (w .a) (w .b) (h .long), scale-annotated s (w .converted) (w .logical) (w .a) (w .b), precision-annotated s (w .converted) (w .logical) (w .a) (w .b))
 
-  again : resolutionOf (annotated (rewrittenSlot under s)) under ≡ Resolution.Resolved (kindOf (annotated s) under)
-  again = rw annotated-rewritten (resolved-rewritten (annotated s) under (kindOf (annotated s) under) resolved)
+  again : resolutionOf edition (annotated (rewrittenSlot under s)) under ≡ Resolution.Resolved (kindOf (annotated s) under)
+  again = rw annotated-rewritten (resolved-rewritten edition (annotated s) under (kindOf (annotated s) under) resolved)
 
   -- it resolves to the kind that it did
   pub kind-rewritten : kind under (rewrittenSlot under s) ≡ kind under s
   unfolding kind
-  kind-rewritten = kind-of-resolved (annotated (rewrittenSlot under s)) under (kindOf (annotated s) under) again
+  kind-rewritten = kind-of-resolved edition (annotated (rewrittenSlot under s)) under (kindOf (annotated s) under) again
 
   -- it keeps rules 9, 10 and 11
-  pub resolves-rewritten : Resolves under (rewrittenSlot under s)
+  pub resolves-rewritten : Resolves edition under (rewrittenSlot under s)
   unfolding rule9 rule10 rule11
   resolves-rewritten =
-      let k = keeps-of-resolved (annotated (rewrittenSlot under s)) under (kindOf (annotated s) under) again in
+      let k = keeps-of-resolved edition (annotated (rewrittenSlot under s)) under (kindOf (annotated s) under) again in
       record {
         long = rw (slot-is, length-annotated s (w .converted) (w .logical) (w .a) (w .b)) (h .long);
         nine = k .nine;

@@ -113,12 +113,12 @@ map-run (field (node s fs) (field u gs)) p = refl
 -- every rule is kept ---------------------------------------------------------------------------------------------------
 
 -- a slot that keeps rules 9 to 11 and is long enough to have annotations
-pub resolves : (p : Standing) (s : SlotBytes) (fs : Fields) → childCountAt ≤ length s → KeepsAt p s fs → Resolves (underMap p) s
-resolves p s fs long h = record { long = long; nine = h .agreement; ten = h .placement; eleven = h .decimals }
+pub resolves : (edition : ℕ) (p : Standing) (s : SlotBytes) (fs : Fields) → childCountAt ≤ length s → KeepsAt edition p s fs → Resolves edition (underMap p) s
+resolves edition p s fs long h = record { long = long; nine = h .agreement; ten = h .placement; eleven = h .decimals }
 
-module _ (p : Standing) (s : SlotBytes) (fs : Fields) (long : childCountAt ≤ length s) (h : KeepsAt p s fs) where
-  kept : Resolves (underMap p) s
-  kept = resolves p s fs long h
+module _ (edition : ℕ) (p : Standing) (s : SlotBytes) (fs : Fields) (long : childCountAt ≤ length s) (h : KeepsAt edition p s fs) where
+  kept : Resolves edition (underMap p) s
+  kept = resolves edition p s fs long h
 
   copy : SlotBytes
   copy = rewrittenSlot (underMap p) s
@@ -130,15 +130,15 @@ module _ (p : Standing) (s : SlotBytes) (fs : Fields) (long : childCountAt ≤ l
   -- the place of the fields is the same
   pub place-rewritten : standingBelow p (rewrittenSlot (underMap p) s) ≡ standingBelow p s
   unfolding standingBelow
-  place-rewritten = ap (λ (k : Kind). standingUnder (k .kind)) (kind-rewritten (underMap p) s kept)
+  place-rewritten = ap (λ (k : Kind). standingUnder (k .kind)) (kind-rewritten edition (underMap p) s kept)
 
   converted-is : convertedOf copy ≡ rewrittenNumbers (annotated s) (underMap p) .converted
   unfolding copy annotated numbersOf
-  converted-is = ap (λ (n : Annotated). n .converted) (annotated-rewritten (underMap p) s kept)
+  converted-is = ap (λ (n : Annotated). n .converted) (annotated-rewritten edition (underMap p) s kept)
 
   logical-is : logicalOf copy ≡ rewrittenNumbers (annotated s) (underMap p) .logical
   unfolding copy annotated numbersOf
-  logical-is = ap (λ (n : Annotated). n .logical) (annotated-rewritten (underMap p) s kept)
+  logical-is = ap (λ (n : Annotated). n .logical) (annotated-rewritten edition (underMap p) s kept)
 
   shape-parts : (standingShape p (numbersOf s) (count fs) ≡ true) × (lengthShape (numbersOf s .physical) (numbersOf s .«type_length») ≡ true) × (decimalShape (numbersOf s .converted) (numbersOf s .logical) (numbersOf s .scale) (numbersOf s .precision) ≡ true)
   unfolding rule8 shape
@@ -168,42 +168,42 @@ root-written s c l =
     let plain = written-plain (annotated s) false c l in
     (ap (λ (w : Written). w .converted) plain, ap (λ (w : Written). w .logical) plain)
 
-place-kept : (p : Standing) (s : SlotBytes) (fs : Fields) (long : childCountAt ≤ length s) (h : KeepsAt p s fs) → standingShape p (numbersOf (rewrittenSlot (underMap p) s)) (count fs) ≡ true
+place-kept : (edition : ℕ) (p : Standing) (s : SlotBytes) (fs : Fields) (long : childCountAt ≤ length s) (h : KeepsAt edition p s fs) → standingShape p (numbersOf (rewrittenSlot (underMap p) s)) (count fs) ≡ true
 unfolding numbersOf copy
-place-kept Root s fs long h =
+place-kept edition Root s fs long h =
     let same = slot-copied false s in
-    let parts = root-parts (physicalOf s) (repetition s) (convertedOf s) (logicalOf s) (shape-parts Root s fs long h .0) in
+    let parts = root-parts (physicalOf s) (repetition s) (convertedOf s) (logicalOf s) (shape-parts edition Root s fs long h .0) in
     let none = root-written s (parts .1) (parts .2) in
-    rw (same .physical-is, same .repetition-is, converted-is Root s fs long h ∙ none .0, logical-is Root s fs long h ∙ none .1, parts .0)
-place-kept Field s fs long h =
+    rw (same .physical-is, same .repetition-is, converted-is edition Root s fs long h ∙ none .0, logical-is edition Root s fs long h ∙ none .1, parts .0)
+place-kept edition Field s fs long h =
     let same = slot-copied false s in
-    rw (same .physical-is, same .repetition-is) (shape-parts Field s fs long h .0)
-place-kept MapField s fs long h =
+    rw (same .physical-is, same .repetition-is) (shape-parts edition Field s fs long h .0)
+place-kept edition MapField s fs long h =
     let same = slot-copied true s in
-    rw (same .physical-is, same .repetition-is) (shape-parts MapField s fs long h .0)
+    rw (same .physical-is, same .repetition-is) (shape-parts edition MapField s fs long h .0)
 
-module _ (p : Standing) (s : SlotBytes) (fs : Fields) (long : childCountAt ≤ length s) (h : KeepsAt p s fs) where
+module _ (edition : ℕ) (p : Standing) (s : SlotBytes) (fs : Fields) (long : childCountAt ≤ length s) (h : KeepsAt edition p s fs) where
   rule8-kept : rule8 p (rewrittenSlot (underMap p) s) (rewrittenRun (standingBelow p s) fs) ≡ true
   unfolding rule8 shape numbersOf copy
   rule8-kept =
       let same = slot-copied (underMap p) s in
-      rw (count-rewritten fs (standingBelow p s), place-kept p s fs long h, decimal-kept p s fs long h (eqb (convertedOf s) converted.DECIMAL || eqb (logicalOf s) logical.DECIMAL) refl, same .physical-is, same .typeLength-is, shape-parts p s fs long h .1)
+      rw (count-rewritten fs (standingBelow p s), place-kept edition p s fs long h, decimal-kept edition p s fs long h (eqb (convertedOf s) converted.DECIMAL || eqb (logicalOf s) logical.DECIMAL) refl, same .physical-is, same .typeLength-is, shape-parts edition p s fs long h .1)
 
   rule12-kept : rule12 p (rewrittenSlot (underMap p) s) (rewrittenRun (standingBelow p s) fs) ≡ true
   unfolding rule12 isList listKept
   rule12-kept =
       let same = slot-copied (underMap p) s in
-      rw (kind-rewritten (underMap p) s (resolves p s fs long h), same .repetition-is, list-run s (rewrittenSlot (underMap p) s) fs (standingBelow p s) (same .name-is)) (h .lists)
+      rw (kind-rewritten edition (underMap p) s (resolves edition p s fs long h), same .repetition-is, list-run s (rewrittenSlot (underMap p) s) fs (standingBelow p s) (same .name-is)) (h .lists)
 
   rule13-kept : rule13 p (rewrittenSlot (underMap p) s) (rewrittenRun (standingBelow p s) fs) ≡ true
   unfolding rule13 isMap mapKept
   rule13-kept =
-      rw (kind-rewritten (underMap p) s (resolves p s fs long h), slot-copied (underMap p) s .repetition-is, map-run fs (standingBelow p s)) (h .maps)
+      rw (kind-rewritten edition (underMap p) s (resolves edition p s fs long h), slot-copied (underMap p) s .repetition-is, map-run fs (standingBelow p s)) (h .maps)
 
   -- a rewritten node keeps every rule
-  keepsAt-rewritten : KeepsAt p (rewrittenSlot (underMap p) s) (rewrittenRun (standingBelow p s) fs)
+  keepsAt-rewritten : KeepsAt edition p (rewrittenSlot (underMap p) s) (rewrittenRun (standingBelow p s) fs)
   keepsAt-rewritten =
-      let again = resolves-rewritten (underMap p) s (resolves p s fs long h) in
+      let again = resolves-rewritten edition (underMap p) s (resolves edition p s fs long h) in
       record {
         shape = rule8-kept;
         agreement = again .nine;
@@ -226,26 +226,26 @@ mutual
   unfolding rewrittenTree Keeps Long
 
   -- and so does the rewritten tree
-  pub keeps-rewritten : (t : Tree) (p : Standing) → Long t → Keeps p t → Keeps p (rewrittenTree p t)
-  keeps-rewritten (node s fs) p long h = (
-    keepsAt-rewritten p s fs (long .0) (h .0),
-    subst (λ (q : Standing). KeepsAll q (rewrittenRun (standingBelow p s) fs)) (sym (place-rewritten p s fs (long .0) (h .0))) (keepsAll-rewritten fs (standingBelow p s) (long .1) (h .1)),
+  pub keeps-rewritten : (edition : ℕ) (t : Tree) (p : Standing) → Long t → Keeps edition p t → Keeps edition p (rewrittenTree p t)
+  keeps-rewritten edition (node s fs) p long h = (
+    keepsAt-rewritten edition p s fs (long .0) (h .0),
+    subst (λ (q : Standing). KeepsAll edition q (rewrittenRun (standingBelow p s) fs)) (sym (place-rewritten edition p s fs (long .0) (h .0))) (keepsAll-rewritten edition fs (standingBelow p s) (long .1) (h .1)),
   )
 
-  keepsAll-rewritten : (fs : Fields) (p : Standing) → LongAll fs → KeepsAll p fs → KeepsAll p (rewrittenRun p fs)
-  keepsAll-rewritten empty p long h = tt
-  keepsAll-rewritten (field t fs) p long h = (keeps-rewritten t p (long .0) (h .0), keepsAll-rewritten fs p (long .1) (h .1))
+  keepsAll-rewritten : (edition : ℕ) (fs : Fields) (p : Standing) → LongAll fs → KeepsAll edition p fs → KeepsAll edition p (rewrittenRun p fs)
+  keepsAll-rewritten edition empty p long h = tt
+  keepsAll-rewritten edition (field t fs) p long h = (keeps-rewritten edition t p (long .0) (h .0), keepsAll-rewritten edition fs p (long .1) (h .1))
 
 mutual
   unfolding rewrittenTree rewritings Keeps Long
 
   -- it is rewritten to itself
-  pub rewritings-rewritten : (t : Tree) (p : Standing) → Long t → Keeps p t → rewritings p (rewrittenTree p t) ≡ rewritings p t
-  rewritings-rewritten (node s fs) p long h =
+  pub rewritings-rewritten : (edition : ℕ) (t : Tree) (p : Standing) → Long t → Keeps edition p t → rewritings p (rewrittenTree p t) ≡ rewritings p t
+  rewritings-rewritten edition (node s fs) p long h =
       ap₂ (λ (r : Written) (rs : List Written). r ∷ rs)
-      (rewriting-rewritten (underMap p) s (resolves p s fs (long .0) (h .0)))
-      (ap (λ (q : Standing). runRewritings q (rewrittenRun (standingBelow p s) fs)) (place-rewritten p s fs (long .0) (h .0)) ∙ runRewritings-rewritten fs (standingBelow p s) (long .1) (h .1))
+      (rewriting-rewritten edition (underMap p) s (resolves edition p s fs (long .0) (h .0)))
+      (ap (λ (q : Standing). runRewritings q (rewrittenRun (standingBelow p s) fs)) (place-rewritten edition p s fs (long .0) (h .0)) ∙ runRewritings-rewritten edition fs (standingBelow p s) (long .1) (h .1))
 
-  runRewritings-rewritten : (fs : Fields) (p : Standing) → LongAll fs → KeepsAll p fs → runRewritings p (rewrittenRun p fs) ≡ runRewritings p fs
-  runRewritings-rewritten empty p long h = refl
-  runRewritings-rewritten (field t fs) p long h = ap₂ _++_ (rewritings-rewritten t p (long .0) (h .0)) (runRewritings-rewritten fs p (long .1) (h .1))
+  runRewritings-rewritten : (edition : ℕ) (fs : Fields) (p : Standing) → LongAll fs → KeepsAll edition p fs → runRewritings p (rewrittenRun p fs) ≡ runRewritings p fs
+  runRewritings-rewritten edition empty p long h = refl
+  runRewritings-rewritten edition (field t fs) p long h = ap₂ _++_ (rewritings-rewritten edition t p (long .0) (h .0)) (runRewritings-rewritten edition fs p (long .1) (h .1))

@@ -13,10 +13,10 @@ use Rattle.schema.proofs.RewrittenTreeLaws.{rewrittenTree}
 use Rattle.schema.proofs.AscentLaws.{Is, role-exactly}
 use Rattle.schema.proofs.NodeRowLaws.{NodeRow, node-row}
 
-module _ (t : Tree) (keeps : Keeps Root t) (k : ℕ) (below : k < size t) where
+module _ (edition : ℕ) (t : Tree) (keeps : Keeps edition Root t) (k : ℕ) (below : k < size t) where
   -- the row of node k
-  own-row : NodeRow (getD (listing t) k []) (getD (listing (rewrittenTree Root t)) k []) (ascent t k) (drop (rowWidth * k) (rows t ++ []))
-  own-row = node-row t keeps [] k below
+  own-row : NodeRow edition (getD (listing t) k []) (getD (listing (rewrittenTree Root t)) k []) (ascent t k) (drop (rowWidth * k) (rows t ++ []))
+  own-row = node-row edition t keeps [] k below
 
   role-in : numberIn (rows t) k 8 ≡ role (own-row .«parent») (own-row .above) (getD (listing t) k []) (own-row .fields)
   unfolding numberIn row

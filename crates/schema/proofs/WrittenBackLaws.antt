@@ -152,15 +152,15 @@ annotation-back Annotation.Unreadable n s h = plain-back (eqb (n .physical) GROU
 
 -- each node of a tree --------------------------------------------------------------------------------------------------------
 
-module _ (b : List ℕ) (t : Tree) (sound : Sound b) (tree : IsTreeOf b t) (k : ℕ) (below : k < size t) where
-  lawful : judgement b ≡ Verdict.Lawful
-  lawful = sound-judgement b sound ∙ tree-accepted b t tree
+module _ (edition : ℕ) (b : List ℕ) (t : Tree) (sound : Sound edition b) (tree : IsTreeOf edition b t) (k : ℕ) (below : k < size t) where
+  lawful : judgement edition b ≡ Verdict.Lawful
+  lawful = sound-judgement edition b sound ∙ tree-accepted edition b t tree
 
   read-tree : treeOf (slots b) ≡ t
   read-tree = treeOf-listing t (slots b) (tree .claims) (tree .lists)
 
   in-sheet : k < totalOf b
-  in-sheet = omega (arith, size-is b t tree, below)
+  in-sheet = omega (arith, size-is edition b t tree, below)
 
   -- the node's slot, and that of the rewritten sheet
   slot-is : getD (listing t) k [] ≡ slotAt b k
@@ -169,11 +169,11 @@ module _ (b : List ℕ) (t : Tree) (sound : Sound b) (tree : IsTreeOf b t) (k : 
   copy-is : getD (listing (rewrittenTree Root t)) k [] ≡ slotAt (rewritten b) k
   copy-is =
       ap (λ (u : Tree). getD (listing (rewrittenTree Root u)) k []) (sym read-tree)
-      ∙ ap (λ (ss : List SlotBytes). getD ss k []) (sym (slots-are b lawful))
-      ∙ slots-at (rewritten b) k [] (omega (arith, total-is b lawful, in-sheet))
+      ∙ ap (λ (ss : List SlotBytes). getD ss k []) (sym (slots-are edition b lawful))
+      ∙ slots-at (rewritten b) k [] (omega (arith, total-is edition b lawful, in-sheet))
 
-  own : NodeRow (getD (listing t) k []) (getD (listing (rewrittenTree Root t)) k []) (ascent t k) (drop (rowWidth * k) (rows t ++ []))
-  own = node-row t (tree .keeps) [] k below
+  own : NodeRow edition (getD (listing t) k []) (getD (listing (rewrittenTree Root t)) k []) (ascent t k) (drop (rowWidth * k) (rows t ++ []))
+  own = node-row edition t (tree .keeps) [] k below
 
   abbrev s : SlotBytes
   s = getD (listing t) k []
@@ -189,12 +189,12 @@ module _ (b : List ℕ) (t : Tree) (sound : Sound b) (tree : IsTreeOf b t) (k : 
   unfolding rewriting writtenOf
   holds =
       subst (Holds (writtenAs (annotationOf (annotated s) under))) (sym (own .copied) ∙ copy-is)
-      (holds-rewritten under s (resolves (own .standing) s (own .fields) long (own .keeps)))
+      (holds-rewritten edition under s (resolves edition (own .standing) s (own .fields) long (own .keeps)))
 
   -- the kind in its row is the one that the rules took it for
   kind-is : kindIn (rows t) k ≡ kind under s
   unfolding own
-  kind-is = row-kind t (tree .keeps) k below ∙ ap (λ (u : Bool). kind u s) (sym (own .alike))
+  kind-is = row-kind edition t (tree .keeps) k below ∙ ap (λ (u : Bool). kind u s) (sym (own .alike))
 
   pub written-back : WrittenBack (kindIn (rows t) k) (slotAt (rewritten b) k)
   unfolding kind kindOf
@@ -208,8 +208,8 @@ module _ (b : List ℕ) (t : Tree) (sound : Sound b) (tree : IsTreeOf b t) (k : 
       let code = kind under s .kind in
       let some-kind : groupKind code ≡ true = group-kind (annotated s) under (own .keeps .placement) (layer .1) in
       by-test (eqb code PLAIN-GROUP) (λ e. eqb-true code PLAIN-GROUP e)
-      (λ e. absurd (true≢false (sym (rw (e, no-list (own .standing) s (own .fields) (own .keeps) (layer .0)) at some-kind) ∙ no-map (own .standing) s (own .fields) (own .keeps) (layer .0))))
+      (λ e. absurd (true≢false (sym (rw (e, no-list edition (own .standing) s (own .fields) (own .keeps) (layer .0)) at some-kind) ∙ no-map edition (own .standing) s (own .fields) (own .keeps) (layer .0))))
 
   pub key-value-bare : numberIn (rows t) k 8 ≡ KEY-VALUE-LAYER → Bare (slotAt (rewritten b) k)
   key-value-bare e =
-      written-back .plain-group (ap (λ (x : Kind). x .kind) kind-is ∙ layer-kind (roles-exactly t (tree .keeps) k below KEY-VALUE-LAYER .0 e))
+      written-back .plain-group (ap (λ (x : Kind). x .kind) kind-is ∙ layer-kind (roles-exactly edition t (tree .keeps) k below KEY-VALUE-LAYER .0 e))

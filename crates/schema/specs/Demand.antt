@@ -1,11 +1,12 @@
 -- What demand 3 speaks of, and what rewriting promises beside it.
 use Prim.Native.Nat.{ℕ, _+_, _*_, _≤_}
 use mathlib.Core.Path.{_≡_}
-use mathlib.Core.Bool.{Bool}
+use mathlib.Core.Bool.{Bool, true}
 use mathlib.Core.List.{List}
 use lib.IntN.{pos}
 use lib.ListN.{length}
 use Rattle.sheet.specs.Block.{totalOf}
+use Rattle.edition.specs.Editions.{isKnown}
 use Rattle.sheet.specs.Opening.{BlocksSound, SlotsSound}
 use Rattle.parquet.specs.Physical.{GROUP}
 use Rattle.parquet.specs.Converted as converted
@@ -25,15 +26,16 @@ use Rattle.schema.specs.Rows.{rowWidth, numberIn}
 use Rattle.tree.specs.declared.standing.Standing.the-variants.{Root}
 use Rattle.refusal.specs.declared.answers.Counted.{Counted}
 
--- a tree of a sheet: at most 32 deep, it keeps every rule, claims its children rightly and lists the sheet's nodes
-pub record IsTreeOf (bytes : List ℕ) (t : Tree) : Type 0 where
+-- a tree of a sheet in an edition: at most 32 deep, it keeps every rule, claims its children rightly and lists the sheet's nodes
+pub record IsTreeOf (edition : ℕ) (bytes : List ℕ) (t : Tree) : Type 0 where
   pub deep : AtMostDeep mostDepth t
-  pub keeps : Keeps Root t
+  pub keeps : Keeps edition Root t
   pub claims : Claims t
   pub lists : listing t ≡ slots bytes
 
--- "blocks are sound where refusals 1 to 3 don't hold, node slots where 4 doesn't"
-pub record Sound (bytes : List ℕ) : Type 0 where
+-- "blocks are sound where refusals 1 to 3 don't hold, node slots where 4 doesn't"; and the edition is known where 21 doesn't (02, R-4)
+pub record Sound (edition : ℕ) (bytes : List ℕ) : Type 0 where
+  pub known : isKnown edition ≡ true
   pub blocks : BlocksSound bytes
   pub slots : SlotsSound bytes
 

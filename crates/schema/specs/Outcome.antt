@@ -1,4 +1,4 @@
--- What resolving a sheet answers: refusals 1 to 14 in their order, with their places, or T rows.
+-- What resolving a sheet answers in an edition: refusals 21 and 1 to 14 in their order, with their places, or T rows.
 use Prim.Native.Nat.{ℕ, _*_}
 use mathlib.Core.Bool.{cond}
 use mathlib.Core.List.{List, _++_}
@@ -19,8 +19,8 @@ answer (Verdict.Refused r) t lent = Counted.Refused r
 answer Verdict.Lawful t lent = cond (ltb lent (rowWidth * t)) (Counted.Refused shortOutput) (Counted.Count t)
 
 -- what resolving answers for any bytes and any number of lent places
-unfoldable pub outcome : List ℕ → ℕ → Counted
-outcome bytes lent = answer (judgement bytes) (totalOf bytes) lent
+unfoldable pub outcome : ℕ → List ℕ → ℕ → Counted
+outcome edition bytes lent = answer (judgement edition bytes) (totalOf bytes) lent
 
 -- what the lent numbers hold afterwards: the rows and what stood past them, or what they held where the sheet is refused
 unfoldable pub written : Counted → List ℕ → List ℕ → List ℕ

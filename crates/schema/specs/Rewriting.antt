@@ -56,9 +56,9 @@ unfoldable pub rewriteAnswer : Verdict → Bool → ℕ → Counted
 rewriteAnswer (Verdict.Refused r) enough n = Counted.Refused r
 rewriteAnswer Verdict.Lawful enough n = cond enough (Counted.Count n) (Counted.Refused shortOutput)
 
--- what rewriting answers for any bytes, any number of lent bytes and any start: refusals 1 to 13 as for resolving
-unfoldable pub rewriteOutcome : List ℕ → ℕ → ℕ → Counted
-rewriteOutcome bytes lent start = rewriteAnswer (judgement bytes) (fits bytes lent start) (length bytes)
+-- what rewriting answers for any bytes, any number of lent bytes and any start: refusals 21 and 1 to 13 as for resolving
+unfoldable pub rewriteOutcome : ℕ → List ℕ → ℕ → ℕ → Counted
+rewriteOutcome edition bytes lent start = rewriteAnswer (judgement edition bytes) (fits bytes lent start) (length bytes)
 
 -- what the lent bytes hold afterwards: "bytes before and after stay"
 unfoldable pub rewriteWritten : Counted → List ℕ → List ℕ → ℕ → List ℕ

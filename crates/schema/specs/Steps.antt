@@ -10,6 +10,8 @@ use Rattle.annotation.specs.Rewriting.{writtenOf}
 use Rattle.annotation.specs.declared.rewriting.Written.{Written}
 use Rattle.tree.specs.Annotated.{annotated}
 use Rattle.tree.specs.Tree.{SlotBytes, Tree, mostDepth}
+use Rattle.tree.specs.Judgement.{judgementOf}
+use Rattle.refusal.specs.declared.answers.Counted.{Counted}
 use Rattle.schema.specs.Levels.{definitionLevel, repetitionLevel}
 use Rattle.schema.specs.declared.rows.Row.{Row}
 
@@ -31,6 +33,10 @@ pub record LevelsAtMost (n definition repetition : ℕ) : Type 0 where
 -- of nodes that stand at such depths none is too deep
 unfoldable pub NoneTooDeep : List ℕ → Type 0
 NoneTooDeep depths = (k : ℕ) → getD depths k 0 ≤ mostDepth
+
+-- a sheet that some edition accepts, and how many nodes it has
+abbrev pub AcceptedOf : List ℕ → ℕ → Type 0
+AcceptedOf bytes total = (edition : ℕ) × (judgementOf edition bytes ≡ Counted.Count total)
 
 -- whether a node, its parent a resolved MAP or not, is written as a MAP
 unfoldable pub isWrittenMap : Bool → SlotBytes → Bool

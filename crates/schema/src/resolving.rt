@@ -11,13 +11,13 @@ use refusal::short_output;
 use tree::ALLOWED_DEPTHS;
 use tree::judge;
 
-// Judges a sheet and writes its rows, eleven numbers for each node in listing order, and answers the number of nodes. Where the sheet is refused or fewer numbers
+// Judges a sheet in an edition and writes its rows, eleven numbers for each node in listing order, and answers the number of nodes. Where the sheet is refused or fewer numbers
 // are lent than its rows need, nothing is written.
-pub fn resolve(sheet: &[u8], rows: &mut [u32]) -> Counted
-    ensures { λ r. ⌜ r ≡ outcome (now (sheet .entry)) (length (now (rows .entry))) ⌝ }
-    ensures { λ _. ⌜ now (rows .exit) ≡ written (outcome (now (sheet .entry)) (length (now (rows .entry)))) (now (sheet .entry)) (now (rows .entry)) ⌝ }
+pub fn resolve(edition: u32, sheet: &[u8], rows: &mut [u32]) -> Counted
+    ensures { λ r. ⌜ r ≡ outcome edition (now (sheet .entry)) (length (now (rows .entry))) ⌝ }
+    ensures { λ _. ⌜ now (rows .exit) ≡ written (outcome edition (now (sheet .entry)) (length (now (rows .entry)))) (now (sheet .entry)) (now (rows .entry)) ⌝ }
 {
-    let judgement = judge(sheet);
+    let judgement = judge(edition, sheet);
     match judgement {
         Counted::Refused(r) => Counted::Refused(r),
         Counted::Count(total) => {

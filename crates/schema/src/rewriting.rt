@@ -6,22 +6,21 @@ ghost use Rattle.sheet.specs.Block.{totalOf};
 ghost use Rattle.sheet.specs.Slot.{slots, slotAt};
 ghost use Rattle.annotation.specs.Rewriting.{writtenOf};
 ghost use Rattle.tree.specs.Annotated.{annotated};
-ghost use Rattle.tree.specs.Judgement.{judgementOf};
 ghost use Rattle.schema.specs.Rewriting.{withRewriting, withRewritings, rewritten, rewriteOutcome, rewriteWritten};
-ghost use Rattle.schema.specs.Steps.{isWrittenMap, writtenInOrder};
+ghost use Rattle.schema.specs.Steps.{AcceptedOf, isWrittenMap, writtenInOrder};
 use parquet::logical;
 use refusal::Counted;
 use refusal::short_output;
 use tree::annotated;
 use tree::judge;
 
-// Judges a sheet and writes it, with both annotations at every node, into the output from start on, and answers how many bytes.
+// Judges a sheet in an edition and writes it, with both annotations at every node, into the output from start on, and answers how many bytes.
 // Where the sheet is refused, the start lies beyond the output's end or the sheet does not fit behind it, nothing is written.
-pub fn rewrite(sheet: &[u8], out: &mut [u8], start: usize) -> Counted
-    ensures { λ r. ⌜ r ≡ rewriteOutcome (now (sheet .entry)) (length (now (out .entry))) start ⌝ }
-    ensures { λ _. ⌜ now (out .exit) ≡ rewriteWritten (rewriteOutcome (now (sheet .entry)) (length (now (out .entry))) start) (now (sheet .entry)) (now (out .entry)) start ⌝ }
+pub fn rewrite(edition: u32, sheet: &[u8], out: &mut [u8], start: usize) -> Counted
+    ensures { λ r. ⌜ r ≡ rewriteOutcome edition (now (sheet .entry)) (length (now (out .entry))) start ⌝ }
+    ensures { λ _. ⌜ now (out .exit) ≡ rewriteWritten (rewriteOutcome edition (now (sheet .entry)) (length (now (out .entry))) start) (now (sheet .entry)) (now (out .entry)) start ⌝ }
 {
-    let judgement = judge(sheet);
+    let judgement = judge(edition, sheet);
     match judgement {
         Counted::Refused(r) => Counted::Refused(r),
         Counted::Count(total) => {
@@ -38,9 +37,9 @@ pub fn rewrite(sheet: &[u8], out: &mut [u8], start: usize) -> Counted
     }
 }
 
-// Writes the rewritten sheet, which has so many nodes, into an output of its length.
+// Writes the rewritten sheet of one that some edition accepts, which has so many nodes, into an output of its length.
 fn write_sheet(sheet: &[u8], out: &mut [u8], total: usize)
-    requires { ⌜ judgementOf (now sheet) ≡ Counted.Count total ⌝ }
+    requires { ⌜ AcceptedOf (now sheet) total ⌝ }
     requires { ⌜ length (now out) ≡ length (now sheet) ⌝ }
     ensures { λ _. ⌜ now (out .exit) ≡ rewritten (now (sheet .entry)) ⌝ }
 {

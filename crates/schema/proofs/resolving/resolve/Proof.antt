@@ -17,7 +17,7 @@ use Rattle.schema.proofs.resolving.resolve.Tie as tie
 abbrev entry : tie.After-judgement2 → tie.Start
 entry c = c .before .before .before .before .before
 
-nodes : (c : tie.After-judgement2) → judgementOf (entry c .args .sheet .now) ≡ Counted.Count (c .judgement2 .given .0 .0)
+nodes : (c : tie.After-judgement2) → judgementOf (entry c .args .edition) (entry c .args .sheet .now) ≡ Counted.Count (c .judgement2 .given .0 .0)
 nodes c = sym (c .before .before .judge .ensures) ∙ c .judgement2 .given .1
 
 judge-requires : tie.Need-judge-requires
@@ -30,7 +30,7 @@ enum-known-judgement-2 : tie.Need-enum-known-judgement-2
 enum-known-judgement-2 c = search needs
 
 mul-if1 : tie.Need-mul-if1
-mul-if1 c = omega (arith, judged-total _ _ (nodes (c .before)), judged-claimed _ _ (nodes (c .before)) .most)
+mul-if1 c = omega (arith, judged-total _ _ _ (nodes (c .before)), judged-claimed _ _ _ (nodes (c .before)) .most)
 
 short-output-requires : tie.Need-short-output-requires
 short-output-requires c κs = search needs
@@ -38,21 +38,21 @@ short-output-requires c κs = search needs
 returns : tie.Need-returns
 returns c =
     let judged = c .before .before .before in
-    let short = resolve-short _ _ (nodes judged) (entry judged .args .rows .now) (c .before .if1 .taken) in
-    (ap Counted.Refused (c .short-output .ensures) ∙ sym short, written-refused _ _ _ short)
+    let short = resolve-short _ _ _ (nodes judged) (entry judged .args .rows .now) (c .before .if1 .taken) in
+    (ap Counted.Refused (c .short-output .ensures) ∙ sym short, written-refused _ _ _ _ short)
 
 write-run-requires : tie.Need-write-run-requires
 write-run-requires c κs =
     let known = nodes (c .before .before .before) in
-    let some = judged-some _ _ known in
-    (judged-claimed _ _ known, (root-claimed _ (judged-claimed _ _ known) some, (some, (omega (arith, judged-total _ _ known, c .before .if1 .left), (record { definition-most = omega arith; repetition-most = omega arith }, (omega arith, root-deep _ _ known))))))
+    let some = judged-some _ _ _ known in
+    (judged-claimed _ _ _ known, (root-claimed _ (judged-claimed _ _ _ known) some, (some, (omega (arith, judged-total _ _ _ known, c .before .if1 .left), (record { definition-most = omega arith; repetition-most = omega arith }, (omega arith, root-deep _ _ _ known))))))
 
 returns-2 : tie.Need-returns-2
 returns-2 c =
     let at-judge = c .before .before .before in
     let start = at-judge .before .before .before in
-    let refused = resolve-refused _ _ (start .args .rows .now) (sym (at-judge .judge .ensures) ∙ c .before .judgement .given .1) in
-    (sym refused, written-refused _ _ _ refused)
+    let refused = resolve-refused _ _ _ (start .args .rows .now) (sym (at-judge .judge .ensures) ∙ c .before .judgement .given .1) in
+    (sym refused, written-refused _ _ _ _ refused)
 
 same-length : tie.Need-same-length
 same-length c = search needs
@@ -62,7 +62,7 @@ unfolding howMany
 returns-3 c =
     let enough = c .before .before .before .before in
     let judged = enough .before .before in
-    (sym (resolve-rows _ _ (nodes judged) (entry judged .args .rows .now) (enough .if1 .left)), written-rows _ _ (nodes judged) _ _ (enough .if1 .left) (c .before .before .write-run .ensures .1 [] (record { definition-is = refl; repetition-is = refl })))
+    (sym (resolve-rows _ _ _ (nodes judged) (entry judged .args .rows .now) (enough .if1 .left)), written-rows _ _ _ (nodes judged) _ _ (enough .if1 .left) (c .before .before .write-run .ensures .1 [] (record { definition-is = refl; repetition-is = refl })))
 
 pub resolve-spec : {M : Type 1} → statement M
 resolve-spec =

@@ -13,7 +13,7 @@ use Rattle.schema.proofs.rewriting.rewrite.Tie as tie
 abbrev entry : tie.After-judgement2 → tie.Start
 entry c = c .before .before .before .before .before
 
-nodes : (c : tie.After-judgement2) → judgementOf (entry c .args .sheet .now) ≡ Counted.Count (c .judgement2 .given .0 .0)
+nodes : (c : tie.After-judgement2) → judgementOf (entry c .args .edition) (entry c .args .sheet .now) ≡ Counted.Count (c .judgement2 .given .0 .0)
 nodes c = sym (c .before .before .judge .ensures) ∙ c .judgement2 .given .1
 
 judge-requires : tie.Need-judge-requires
@@ -32,8 +32,8 @@ returns : tie.Need-returns
 returns c =
     let judged = c .before .before .before in
     let start = entry judged in
-    let short = rewrite-short (start .args .sheet .now) (start .args .out .now) (start .args .start) _ (nodes judged) (omega (arith, c .before .if1 .taken)) in
-    (ap Counted.Refused (c .short-output .ensures) ∙ sym short, sym (rewrite-kept _ _ _ _ short))
+    let short = rewrite-short _ (start .args .sheet .now) (start .args .out .now) (start .args .start) _ (nodes judged) (omega (arith, c .before .if1 .taken)) in
+    (ap Counted.Refused (c .short-output .ensures) ∙ sym short, sym (rewrite-kept _ _ _ _ _ short))
 
 sub-if2 : tie.Need-sub-if2
 sub-if2 c = search needs
@@ -45,8 +45,8 @@ returns-2 : tie.Need-returns-2
 returns-2 c =
     let judged = c .before .before .before .before in
     let start = entry judged in
-    let short = rewrite-short (start .args .sheet .now) (start .args .out .now) (start .args .start) _ (nodes judged) (omega (arith, c .before .if2 .taken)) in
-    (ap Counted.Refused (c .short-output2 .ensures) ∙ sym short, sym (rewrite-kept _ _ _ _ short))
+    let short = rewrite-short _ (start .args .sheet .now) (start .args .out .now) (start .args .start) _ (nodes judged) (omega (arith, c .before .if2 .taken)) in
+    (ap Counted.Refused (c .short-output2 .ensures) ∙ sym short, sym (rewrite-kept _ _ _ _ _ short))
 
 add-end : tie.Need-add-end
 add-end c = search needs
@@ -61,14 +61,14 @@ part-write-sheet-end : tie.Need-part-write-sheet-end
 part-write-sheet-end c = search needs
 
 write-sheet-requires : tie.Need-write-sheet-requires
-write-sheet-requires c κs = (nodes (c .before .before .before .before), simp (length-take, length-drop) (omega arith))
+write-sheet-requires c κs = ((_, nodes (c .before .before .before .before)), simp (length-take, length-drop) (omega arith))
 
 returns-3 : tie.Need-returns-3
 returns-3 c =
     let at-judge = c .before .before .before in
     let start = at-judge .before .before .before in
-    let refused = rewrite-refused (start .args .sheet .now) (start .args .out .now) (start .args .start) _ (sym (at-judge .judge .ensures) ∙ c .before .judgement .given .1) in
-    (sym refused, sym (rewrite-kept _ _ _ _ refused))
+    let refused = rewrite-refused _ (start .args .sheet .now) (start .args .out .now) (start .args .start) _ (sym (at-judge .judge .ensures) ∙ c .before .judgement .given .1) in
+    (sym refused, sym (rewrite-kept _ _ _ _ _ refused))
 
 same-length : tie.Need-same-length
 same-length c = search needs
@@ -77,7 +77,7 @@ returns-4 : tie.Need-returns-4
 returns-4 c =
     let judged = c .before .before .before .before .before .before .before in
     let start = entry judged in
-    (sym (rewrite-bytes (start .args .sheet .now) (start .args .out .now) (start .args .start) _ (nodes judged) (omega arith)), rewrite-written (start .args .sheet .now) (start .args .out .now) (start .args .start) _ (nodes judged) (omega arith) _ (c .before .before .write-sheet .ensures))
+    (sym (rewrite-bytes _ (start .args .sheet .now) (start .args .out .now) (start .args .start) _ (nodes judged) (omega arith)), rewrite-written _ (start .args .sheet .now) (start .args .out .now) (start .args .start) _ (nodes judged) (omega arith) _ (c .before .before .write-sheet .ensures))
 
 pub rewrite-spec : {M : Type 1} → statement M
 rewrite-spec =

@@ -18,7 +18,7 @@ copy-requires : tie.Need-copy-requires
 copy-requires c κs = search needs
 
 write-nodes-requires : tie.Need-write-nodes-requires
-write-nodes-requires c κs = judged-total _ _ (c .before .before .before .before .before .before .before .pre .0)
+write-nodes-requires c κs = judged-total _ _ _ (c .before .before .before .before .before .before .before .pre .0 .1)
 
 renew-checks-requires : tie.Need-renew-checks-requires
 renew-checks-requires c κs = search needs
@@ -40,7 +40,7 @@ returns c =
     let start = at-copy .before .before .before .before in
     let copied = whole-copy (start .args .sheet .now) (start .args .out .now) _ (start .pre .1) (at-copy .copy .ensures .1) in
     at-renew-checks .renew-checks .ensures
-    ∙ ap renewed (at-write-nodes .write-nodes .ensures ∙ ap₂ (λ (l : List ℕ) (rs : List Written). withRewritings l 0 rs) copied (order-accepted (start .args .sheet .now) _ (start .pre .0)))
+    ∙ ap renewed (at-write-nodes .write-nodes .ensures ∙ ap₂ (λ (l : List ℕ) (rs : List Written). withRewritings l 0 rs) copied (order-accepted _ (start .args .sheet .now) _ (start .pre .0 .1)))
 
 pub write-sheet-spec : {M : Type 1} → statement M
 write-sheet-spec =
