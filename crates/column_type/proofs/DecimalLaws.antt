@@ -1,10 +1,13 @@
 -- What rules 9, 10 and 11 ask of the slot of a DECIMAL column. Assumes nothing.
-use Prim.Native.Nat.{ℕ}
+use Prim.Native.Nat.{ℕ, _≤_}
 use mathlib.Core.Path.{_≡_, refl, sym, ap, _∙_}
-use mathlib.Core.Bool.{Bool, true, false, true≢false, _&&_}
+use mathlib.Core.Bool.{Bool, true, false, true≢false, cond, _&&_}
 use native.Mathlib.Omega.{arith}
 use lib.Dec.{leb, ltb, eqb, leb·zero}
+use lib.IntN.{pos}
 use borrow.Author.Tests.{leb-true, ltb-true, le-leb, lt-ltb, eqb-true}
+use Rattle.edition.specs.Editions.{scaleMayEqual}
+use Rattle.laws.proofs.BoolLaws.{and-right}
 use Rattle.decimal_bytes.specs.Precision.{isLength}
 use Rattle.decimal_bytes.proofs.PrecisionLaws.{isLength-bounds}
 use Rattle.parquet.specs.Logical as logical
@@ -12,22 +15,21 @@ use Rattle.annotation.specs.Signed.{natural}
 use Rattle.annotation.specs.Meaning.{annotationOf}
 use Rattle.annotation.specs.Rule9.{rule9}
 use Rattle.annotation.specs.Rule10.{decimalOn, rule10}
-use Rattle.annotation.specs.Rule11.{ordered, physicalHolds, decimalHolds, rule11}
+use Rattle.annotation.specs.Rule11.{scaleAllowed, ordered, physicalHolds, decimalHolds, rule11}
 use Rattle.logical_type.specs.Parameters.{validParameters}
 use Rattle.logical_type.specs.Spelling.{namedOf, statedOf}
-use Rattle.column_type.specs.Lawful.{slotOf, byteNumbers, signedNumbers, fits, isLeaf, annotationRight, isLawful}
+use Rattle.column_type.specs.Lawful.{slotOf, byteNumbers, signedNumbers, fits, isLeaf, annotationRight, slotKeeps}
 use Rattle.column_type.specs.Steps.{standsOn}
 use Rattle.column_type.specs.declared.types.ColumnType.{ColumnType}
 use Rattle.column_type.proofs.FitsLaws.{isLeaf-upto}
 
--- a scale below the precision leaves it at least 1
-below-some : (p s : ℕ) (t : Bool) → ltb s p ≡ t → ((leb 1 p && true) && ltb s p) ≡ ltb s p
-below-some p s true e = rw (le-leb 1 p (let h = ltb-true s p e in omega arith))
-below-some p s false e = rw e (go (leb 1 p))
-  where
-    go : (b : Bool) → ((b && true) && false) ≡ false
-    go true = refl
-    go false = refl
+and-true : (b : Bool) → (b && true) ≡ b
+and-true true = refl
+and-true false = refl
+
+and-assoc : (a b c : Bool) → ((a && b) && c) ≡ (a && (b && c))
+and-assoc true b c = refl
+and-assoc false b c = refl
 
 swap : (a o h : Bool) → (a && (o && h)) ≡ (o && (a && h))
 swap true true h = refl
@@ -35,18 +37,31 @@ swap true false h = refl
 swap false true h = refl
 swap false false h = refl
 
-rules : (c : ColumnType) → eqb (c .kind) logical.DECIMAL ≡ true
-    → annotationRight (slotOf c) ≡ (decimalOn (c .physical) && (((leb 1 (c .p1) && leb 0 (c .p2)) && ltb (c .p2) (c .p1)) && physicalHolds (c .physical) (c .«type_length») (c .p1)))
+rules : (edition : ℕ) (c : ColumnType) → eqb (c .kind) logical.DECIMAL ≡ true
+    → annotationRight edition (slotOf c) ≡ (decimalOn (c .physical) && (((leb 1 (c .p1) && leb 0 (c .p2)) && scaleAllowed edition (pos (c .p1)) (pos (c .p2))) && physicalHolds (c .physical) (c .«type_length») (c .p1)))
 unfolding slotOf rule9 rule10 rule11 annotationOf statedOf namedOf validParameters decimalHolds ordered natural
-rules c e = rw e
+rules edition c e = rw e
 
-pub decimal-kept : (c : ColumnType) → eqb (c .kind) logical.DECIMAL ≡ true
-    → annotationRight (slotOf c) ≡ (ltb (c .p2) (c .p1) && (decimalOn (c .physical) && physicalHolds (c .physical) (c .«type_length») (c .p1)))
-decimal-kept c e =
-    rules c e
-    ∙ ap (λ (b : Bool). decimalOn (c .physical) && (((leb 1 (c .p1) && b) && ltb (c .p2) (c .p1)) && physicalHolds (c .physical) (c .«type_length») (c .p1))) (leb·zero (c .p2))
-    ∙ ap (λ (b : Bool). decimalOn (c .physical) && (b && physicalHolds (c .physical) (c .«type_length») (c .p1))) (below-some (c .p1) (c .p2) (ltb (c .p2) (c .p1)) refl)
-    ∙ swap (decimalOn (c .physical)) (ltb (c .p2) (c .p1)) (physicalHolds (c .physical) (c .«type_length») (c .p1))
+-- its digits are in order: precision at least 1, and a scale that the edition allows
+abbrev inOrder : ℕ → ColumnType → Bool
+inOrder edition c = leb 1 (c .p1) && scaleAllowed edition (pos (c .p1)) (pos (c .p2))
+
+decimal-kept : (edition : ℕ) (c : ColumnType) → eqb (c .kind) logical.DECIMAL ≡ true
+    → annotationRight edition (slotOf c) ≡ (inOrder edition c && (decimalOn (c .physical) && physicalHolds (c .physical) (c .«type_length») (c .p1)))
+decimal-kept edition c e =
+    rules edition c e
+    ∙ ap (λ (b : Bool). decimalOn (c .physical) && (((leb 1 (c .p1) && b) && scaleAllowed edition (pos (c .p1)) (pos (c .p2))) && physicalHolds (c .physical) (c .«type_length») (c .p1))) (leb·zero (c .p2))
+    ∙ ap (λ (b : Bool). decimalOn (c .physical) && ((b && scaleAllowed edition (pos (c .p1)) (pos (c .p2))) && physicalHolds (c .physical) (c .«type_length») (c .p1))) (and-true (leb 1 (c .p1)))
+    ∙ swap (decimalOn (c .physical)) (inOrder edition c) (physicalHolds (c .physical) (c .«type_length») (c .p1))
+
+-- a scale that is allowed is at most the precision
+allowed-most : (edition p s : ℕ) → scaleAllowed edition (pos p) (pos s) ≡ true → s ≤ p
+unfolding scaleAllowed
+allowed-most edition p s e = either (scaleMayEqual edition) e
+  where
+    either : (b : Bool) → cond b (leb s p) (ltb s p) ≡ true → s ≤ p
+    either true q = leb-true s p q
+    either false q = let h = ltb-true s p q in omega arith
 
 -- ---- a DECIMAL judged without its slot
 
@@ -97,11 +112,13 @@ lawful-tests true false true true false digits true true f g = refl
 lawful-tests true false true false shape digits true true f g = refl
 lawful-tests true false true leaf shape digits true false f g = refl
 
-pub lawful-decimal : (c : ColumnType) → eqb (c .kind) logical.DECIMAL ≡ true
-    → (ltb (c .p1) signedNumbers && ltb (c .p2) (c .p1) && standsOn (c .physical) (c .«type_length») (c .p1)) ≡ isLawful c
-unfolding standsOn isLawful fits
-lawful-decimal c e =
-    rw (decimal-kept c e, e, eqb-true (c .kind) logical.DECIMAL e)
-    (lawful-tests (ltb (c .p1) signedNumbers) (ltb (c .p2) (c .p1)) (ltb (c .«type_length») signedNumbers) (isLeaf (c .physical)) _ _ (ltb (c .physical) byteNumbers) (ltb (c .p2) signedNumbers)
+pub keeps-decimal : (edition : ℕ) (c : ColumnType) → eqb (c .kind) logical.DECIMAL ≡ true
+    → (ltb (c .p1) signedNumbers && leb 1 (c .p1) && scaleAllowed edition (pos (c .p1)) (pos (c .p2)) && standsOn (c .physical) (c .«type_length») (c .p1)) ≡ slotKeeps edition c
+unfolding standsOn slotKeeps fits
+keeps-decimal edition c e =
+    ap (λ (b : Bool). b && standsOn (c .physical) (c .«type_length») (c .p1)) (and-assoc (ltb (c .p1) signedNumbers) (leb 1 (c .p1)) (scaleAllowed edition (pos (c .p1)) (pos (c .p2))))
+    ∙ rw (decimal-kept edition c e, e, eqb-true (c .kind) logical.DECIMAL e)
+    (lawful-tests (ltb (c .p1) signedNumbers) (inOrder edition c) (ltb (c .«type_length») signedNumbers) (isLeaf (c .physical)) _ _ (ltb (c .physical) byteNumbers) (ltb (c .p2) signedNumbers)
     (λ l. lt-ltb (c .physical) byteNumbers (let h = leb-true (c .physical) 7 (isLeaf-upto (c .physical) ∙ l) in omega arith))
-    (λ p q. lt-ltb (c .p2) signedNumbers (let h = ltb-true (c .p1) signedNumbers p in let k = ltb-true (c .p2) (c .p1) q in omega arith)))
+    (λ p q. lt-ltb (c .p2) signedNumbers
+    (let h = ltb-true (c .p1) signedNumbers p in let k = allowed-most edition (c .p1) (c .p2) (and-right (leb 1 (c .p1)) _ q) in omega arith)))

@@ -23,7 +23,7 @@ use Rattle.annotation.specs.declared.resolution.Kind.{Kind}
 use Rattle.logical_type.proofs.SpellingLaws.{stated-spelled}
 use Rattle.logical_type.proofs.ReadingLaws.{spelled-bytes}
 use Rattle.tree.specs.Rules.{isGroup, isNought, lengthShape}
-use Rattle.column_type.specs.Lawful.{slotOf, byteNumbers, signedNumbers, parameterNumbers, isLeaf, isLawful}
+use Rattle.column_type.specs.Lawful.{slotOf, byteNumbers, signedNumbers, parameterNumbers, isLeaf, slotKeeps}
 use Rattle.column_type.specs.declared.types.ColumnType.{ColumnType}
 use Rattle.column_type.proofs.FitsLaws.{Fits, parts-fits, isLeaf-not-group}
 use Rattle.column_type.proofs.SlotLaws.{slotOf-physical, slotOf-length, slotOf-agrees}
@@ -75,15 +75,15 @@ length-natural code (negsuc n) e = absurd (neither (eqb code physical.FIXED-LEN-
     neither false q = true≢false (sym q)
 
 -- precision and scale in order are not negative
-ordered-natural : (precision scale : ℤ) → ordered precision scale ≡ true → ordered (pos (natural precision)) (pos (natural scale)) ≡ true
+ordered-natural : (edition : ℕ) (precision scale : ℤ) → ordered edition precision scale ≡ true → ordered edition (pos (natural precision)) (pos (natural scale)) ≡ true
 unfolding ordered natural
-ordered-natural (pos p) (pos s) e = e
-ordered-natural (pos p) (negsuc s) e = absurd (middle (leb 1 p) e)
+ordered-natural edition (pos p) (pos s) e = e
+ordered-natural edition (pos p) (negsuc s) e = absurd (middle (leb 1 p) _ e)
   where
-    middle : (b : Bool) → b && false && true ≡ true → ⊥
-    middle true q = true≢false (sym q)
-    middle false q = true≢false (sym q)
-ordered-natural (negsuc p) s e = absurd (true≢false (sym e))
+    middle : (b s : Bool) → b && false && s ≡ true → ⊥
+    middle true s q = true≢false (sym q)
+    middle false s q = true≢false (sym q)
+ordered-natural edition (negsuc p) s e = absurd (true≢false (sym e))
 
 -- the kind of a DECIMAL
 kind-decimal : (says : Annotation) (n : Annotated) → isDecimal says ≡ true → kindAs says n ≡ decimalKind n
@@ -146,21 +146,21 @@ fits-kept says n r = cases (isDecimal says) refl
         }
 
 -- rule 11 holds of the slot of the column type where it held of the slot that the column type comes from
-decimal-slot : (n : Annotated) → decimalHolds n ≡ true → decimalHolds (slotOf (columnWith n (decimalKind n))) ≡ true
+decimal-slot : (edition : ℕ) (n : Annotated) → decimalHolds edition n ≡ true → decimalHolds edition (slotOf (columnWith n (decimalKind n))) ≡ true
 unfolding decimalHolds slotOf columnWith natural
-decimal-slot n e =
-    let both = and-eq-true-iff (ordered (n .precision) (n .scale)) (physicalHolds (n .physical) (natural (n .«type_length»)) (natural (n .precision))) .0 e in
-    rw (ordered-natural (n .precision) (n .scale) (both .0)) (both .1)
+decimal-slot edition n e =
+    let both = and-eq-true-iff (ordered edition (n .precision) (n .scale)) (physicalHolds (n .physical) (natural (n .«type_length»)) (natural (n .precision))) .0 e in
+    rw (ordered-natural edition (n .precision) (n .scale) (both .0)) (both .1)
 
-digits-slot : (says : Annotation) (n : Annotated) → digitsAllowed says n ≡ true → digitsAllowed says (slotOf (columnWith n (kindAs says n))) ≡ true
-digits-slot says n e = cases (isDecimal says) refl
+digits-slot : (edition : ℕ) (says : Annotation) (n : Annotated) → digitsAllowed edition says n ≡ true → digitsAllowed edition says (slotOf (columnWith n (kindAs says n))) ≡ true
+digits-slot edition says n e = cases (isDecimal says) refl
   where
-    cases : (b : Bool) → isDecimal says ≡ b → digitsAllowed says (slotOf (columnWith n (kindAs says n))) ≡ true
-    cases true q = rw (q, kind-decimal says n q) (decimal-slot n (rw q at e))
+    cases : (b : Bool) → isDecimal says ≡ b → digitsAllowed edition says (slotOf (columnWith n (kindAs says n))) ≡ true
+    cases true q = rw (q, kind-decimal says n q) (decimal-slot edition n (rw q at e))
     cases false q = rw q
 
--- a leaf that keeps rules 8, 10 and 11, its numbers within a slot's, has a lawful column type
-module _ (n : Annotated) (under : Bool) (range : InRange n) (leaf : isLeaf (n .physical) ≡ true) (shaped : lengthShape (n .physical) (n .«type_length») ≡ true) (ten : rule10 n under ≡ true) (eleven : rule11 n under ≡ true) where
+-- a leaf that keeps rules 8, 10 and 11, its numbers within a slot's, has a column type whose slot keeps them
+module _ (edition : ℕ) (n : Annotated) (under : Bool) (range : InRange n) (leaf : isLeaf (n .physical) ≡ true) (shaped : lengthShape (n .physical) (n .«type_length») ≡ true) (ten : rule10 n under ≡ true) (eleven : rule11 edition n under ≡ true) where
   column : ColumnType
   column = columnWith n (kindOf n under)
 
@@ -172,11 +172,11 @@ module _ (n : Annotated) (under : Bool) (range : InRange n) (leaf : isLeaf (n .p
   unfolding column columnWith rule10 natural
   ten-slot = rw (says-same, slotOf-physical column, slotOf-length column) ten
 
-  eleven-slot : rule11 (slotOf column) false ≡ true
+  eleven-slot : rule11 edition (slotOf column) false ≡ true
   unfolding column kindOf rule11
-  eleven-slot = rw says-same (digits-slot (annotationOf n under) n eleven)
+  eleven-slot = rw says-same (digits-slot edition (annotationOf n under) n eleven)
 
-  pub kept-lawful : isLawful (columnWith n (kindOf n under)) ≡ true
-  unfolding isLawful column columnWith kindOf
-  kept-lawful =
+  pub kept-keeps : slotKeeps edition (columnWith n (kindOf n under)) ≡ true
+  unfolding slotKeeps column columnWith kindOf
+  kept-keeps =
       rw (parts-fits column (fits-kept (annotationOf n under) n range), leaf, length-natural (n .physical) (n .«type_length») shaped, slotOf-agrees column, ten-slot, eleven-slot)

@@ -22,10 +22,11 @@ use Rattle.sheet.specs.Sound.{physicalListed}
 use Rattle.tree.specs.Annotated.{annotated, kind}
 use Rattle.tree.specs.Rules.{isGroup, lengthShape}
 use Rattle.schema.specs.Rows.{rowWidth, role, row, parentBy, parentOf, rowsFrom, rows}
+use Rattle.edition.specs.Editions.{isKnown}
 use Rattle.schema.specs.Outcome.{outcome}
 use Rattle.schema.specs.Demand.{EnoughOutput, Sound, Accepted}
 use Rattle.schema.proofs.DemandLaws.{accepted-exactly, rows-are}
-use Rattle.column_type.specs.Lawful.{slotOf, fits, isLeaf, annotationRight, isLawful}
+use Rattle.column_type.specs.Lawful.{slotOf, fits, isLeaf, annotationRight, slotKeeps, isLawful}
 use Rattle.column_type.specs.Leaf.{columnOf, columnAt, IsLeafOf, HasLeaf}
 use Rattle.column_type.specs.declared.types.ColumnType.{ColumnType}
 use Rattle.column_type.proofs.FitsLaws.{fits-parts, isLeaf-not-group}
@@ -41,12 +42,16 @@ leaf-column : (n : Annotated) (rest : List ℕ) → columnOf (drop (rowWidth * 1
 unfolding columnOf columnWith leafTree rows rowsFrom row parentOf parentBy role kind kindOf annotated annotationOf backwardOf validParameters slot.numbersOf slot.physical slot.repetition slot.converted slot.logical slot.parameterA slot.parameterB rootSlot
 leaf-column n rest = refl
 
-module _ (c : ColumnType) (lawful : isLawful c ≡ true) where
+module _ (edition : ℕ) (c : ColumnType) (lawful : isLawful edition c ≡ true) where
   -- the parts of a lawful column type
 
-  right : (((fits c && isLeaf (c .physical)) && lengthShape (c .physical) (pos (c .«type_length»))) ≡ true) × (annotationRight (slotOf c) ≡ true)
+  known : isKnown edition ≡ true
   unfolding isLawful
-  right = and-eq-true-iff _ (annotationRight (slotOf c)) .0 lawful
+  known = and-eq-true-iff (isKnown edition) (slotKeeps edition c) .0 lawful .0
+
+  right : (((fits c && isLeaf (c .physical)) && lengthShape (c .physical) (pos (c .«type_length»))) ≡ true) × (annotationRight edition (slotOf c) ≡ true)
+  unfolding isLawful slotKeeps
+  right = and-eq-true-iff _ (annotationRight edition (slotOf c)) .0 (and-eq-true-iff (isKnown edition) (slotKeeps edition c) .0 lawful .1)
 
   shaped : ((fits c && isLeaf (c .physical)) ≡ true) × (lengthShape (c .physical) (pos (c .«type_length»)) ≡ true)
   shaped = and-eq-true-iff (fits c && isLeaf (c .physical)) (lengthShape (c .physical) (pos (c .«type_length»))) .0 (right .0)
@@ -54,8 +59,8 @@ module _ (c : ColumnType) (lawful : isLawful c ≡ true) where
   fitting : (fits c ≡ true) × (isLeaf (c .physical) ≡ true)
   fitting = and-eq-true-iff (fits c) (isLeaf (c .physical)) .0 (shaped .0)
 
-  eleven : ((rule9 (slotOf c) && rule10 (slotOf c) false) ≡ true) × (rule11 (slotOf c) false ≡ true)
-  eleven = and-eq-true-iff (rule9 (slotOf c) && rule10 (slotOf c) false) (rule11 (slotOf c) false) .0 (right .1)
+  eleven : ((rule9 (slotOf c) && rule10 (slotOf c) false) ≡ true) × (rule11 edition (slotOf c) false ≡ true)
+  eleven = and-eq-true-iff (rule9 (slotOf c) && rule10 (slotOf c) false) (rule11 edition (slotOf c) false) .0 (right .1)
 
   pub ten : (rule9 (slotOf c) ≡ true) × (rule10 (slotOf c) false ≡ true)
   ten = and-eq-true-iff (rule9 (slotOf c)) (rule10 (slotOf c) false) .0 (eleven .0)
@@ -79,7 +84,7 @@ module _ (c : ColumnType) (lawful : isLawful c ≡ true) where
         holds = spelt .holds;
       }
 
-  kept : LeafKept (slotOf c)
+  kept : LeafKept edition (slotOf c)
   kept =
       record {
         slot = leaf-slot;
@@ -99,9 +104,9 @@ module _ (c : ColumnType) (lawful : isLawful c ≡ true) where
   lent : List ℕ
   lent = replicate (rowWidth * 2) 0
 
-  sound : Sound sheet
+  sound : Sound edition sheet
   unfolding sheet
-  sound = leafSheet-sound (slotOf c) leaf-slot
+  sound = leafSheet-sound (slotOf c) leaf-slot edition known
 
   total : totalOf sheet ≡ 2
   unfolding sheet
@@ -111,23 +116,23 @@ module _ (c : ColumnType) (lawful : isLawful c ≡ true) where
   unfolding EnoughOutput lent
   enough = omega (arith, total)
 
-  accepted : Accepted (outcome sheet (length lent))
+  accepted : Accepted (outcome edition sheet (length lent))
   unfolding sheet
-  accepted = accepted-exactly sheet (length lent) sound enough .1 (leafTree (slotOf c), leafTree-of (slotOf c) kept)
+  accepted = accepted-exactly edition sheet (length lent) sound enough .1 (leafTree (slotOf c), leafTree-of edition (slotOf c) kept)
 
   -- and its row has the column type
   column-slot : columnWith (annotated (leafSlot (slotOf c))) (kind false (leafSlot (slotOf c))) ≡ c
   unfolding columnWith kind natural
   column-slot = rw (leafSlot-annotated (slotOf c) (spelt .holds), spelt .kind, slotOf-physical c, slotOf-length c)
 
-  column : columnAt sheet lent 1 ≡ c
+  column : columnAt edition sheet lent 1 ≡ c
   unfolding columnAt sheet
   column =
-      ap (λ (numbers : List ℕ). columnOf (drop (rowWidth * 1) numbers)) (rows-are sheet lent (leafTree (slotOf c)) sound enough (leafTree-of (slotOf c) kept))
+      ap (λ (numbers : List ℕ). columnOf (drop (rowWidth * 1) numbers)) (rows-are edition sheet lent (leafTree (slotOf c)) sound enough (leafTree-of edition (slotOf c) kept))
       ∙ leaf-column (slotOf c) (drop (rowWidth * totalOf sheet) lent)
       ∙ column-slot
 
-  lawful-leaf : IsLeafOf c sheet lent 1
+  lawful-leaf : IsLeafOf edition c sheet lent 1
   unfolding sheet
   lawful-leaf =
       record {
@@ -138,21 +143,21 @@ module _ (c : ColumnType) (lawful : isLawful c ≡ true) where
         column = column;
       }
 
-lawful-has-leaf : (c : ColumnType) → isLawful c ≡ true → HasLeaf c
+lawful-has-leaf : (edition : ℕ) (c : ColumnType) → isLawful edition c ≡ true → HasLeaf edition c
 unfolding HasLeaf
-lawful-has-leaf c e = (sheet c e, lent c e, 1, lawful-leaf c e)
+lawful-has-leaf edition c e = (sheet edition c e, lent edition c e, 1, lawful-leaf edition c e)
 
 -- a column type is lawful exactly where an accepted sheet has a leaf of it
-pub lawful-exactly : (c : ColumnType) → (isLawful c ≡ true) ↔ HasLeaf c
-lawful-exactly c = (lawful-has-leaf c, has-leaf-lawful c)
+pub lawful-exactly : (edition : ℕ) (c : ColumnType) → (isLawful edition c ≡ true) ↔ HasLeaf edition c
+lawful-exactly edition c = (lawful-has-leaf edition c, has-leaf-lawful edition c)
 
 -- "no accepted sheet has a leaf of this column type" exactly where it is not lawful
-pub unlawful-exactly : (c : ColumnType) → (isLawful c ≡ false) ↔ (HasLeaf c → ⊥)
-unlawful-exactly c = (
-  (λ e l. true≢false (sym (has-leaf-lawful c l) ∙ e)),
-  (λ none. cases none (isLawful c) refl),
+pub unlawful-exactly : (edition : ℕ) (c : ColumnType) → (isLawful edition c ≡ false) ↔ (HasLeaf edition c → ⊥)
+unlawful-exactly edition c = (
+  (λ e l. true≢false (sym (has-leaf-lawful edition c l) ∙ e)),
+  (λ none. cases none (isLawful edition c) refl),
 )
   where
-    cases : (HasLeaf c → ⊥) → (b : Bool) → isLawful c ≡ b → isLawful c ≡ false
-    cases none true e = absurd (none (lawful-has-leaf c e))
+    cases : (HasLeaf edition c → ⊥) → (b : Bool) → isLawful edition c ≡ b → isLawful edition c ≡ false
+    cases none true e = absurd (none (lawful-has-leaf edition c e))
     cases none false e = e

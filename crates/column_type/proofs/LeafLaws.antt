@@ -30,11 +30,11 @@ use Rattle.schema.specs.Roles.{ascent}
 use Rattle.schema.proofs.RewrittenTreeLaws.{rewrittenTree}
 use Rattle.schema.proofs.NodeRowLaws.{NodeRow, node-row}
 use Rattle.schema.proofs.DemandLaws.{size-is}
-use Rattle.column_type.specs.Lawful.{isLeaf, isLawful}
+use Rattle.column_type.specs.Lawful.{isLeaf, slotKeeps, isLawful}
 use Rattle.column_type.specs.Leaf.{columnOf, columnAt, IsLeafOf, HasLeaf}
 use Rattle.column_type.specs.declared.types.ColumnType.{ColumnType}
 use Rattle.column_type.proofs.FitsLaws.{isLeaf-upto}
-use Rattle.column_type.proofs.KeptLaws.{columnWith, InRange, kept-lawful}
+use Rattle.column_type.proofs.KeptLaws.{columnWith, InRange, kept-keeps}
 
 -- the column type in a row
 column-row : (at up : ℕ) (q : Parent) (above : SlotBytes) (path : List Tree) (s : SlotBytes) (fs : Fields) (rest : List ℕ) → columnOf (row at up q above path s fs ++ rest) ≡ columnWith (annotated s) (kind (isMapParent q) s)
@@ -70,30 +70,30 @@ shape-length p s fs e =
     .1
 
 -- a leaf that keeps the rules has a lawful column type
-slot-lawful : (p : Standing) (s : SlotBytes) (fs : Fields) → Bytes s → slotSound s ≡ true → KeepsAt p s fs → isGroup (physical s) ≡ false → isLawful (columnWith (annotated s) (kind (underMap p) s)) ≡ true
+slot-keeps : (edition : ℕ) (p : Standing) (s : SlotBytes) (fs : Fields) → Bytes s → slotSound s ≡ true → KeepsAt edition p s fs → isGroup (physical s) ≡ false → slotKeeps edition (columnWith (annotated s) (kind (underMap p) s)) ≡ true
 unfolding annotated numbersOf kind rule10 rule11
-slot-lawful p s fs bytes sound keeps leaf =
-    kept-lawful (annotated s) (underMap p) (slot-range s bytes) (slot-leaf s sound leaf) (shape-length p s fs (keeps .shape)) (keeps .placement) (keeps .decimals)
+slot-keeps edition p s fs bytes sound keeps leaf =
+    kept-keeps edition (annotated s) (underMap p) (slot-range s bytes) (slot-leaf s sound leaf) (shape-length p s fs (keeps .shape)) (keeps .placement) (keeps .decimals)
 
-module _ (c : ColumnType) (sheet lent : List ℕ) (k : ℕ) (h : IsLeafOf c sheet lent k) where
-  sound : Sound sheet
-  sound = accepted-sound sheet (length lent) (h .accepted)
+module _ (edition : ℕ) (c : ColumnType) (sheet lent : List ℕ) (k : ℕ) (h : IsLeafOf edition c sheet lent k) where
+  sound : Sound edition sheet
+  sound = accepted-sound edition sheet (length lent) (h .accepted)
 
-  tree : (t : Tree) × IsTreeOf sheet t × (written (outcome sheet (length lent)) sheet lent ≡ rows t ++ drop (rowWidth * totalOf sheet) lent)
-  tree = accepted-rows sheet lent (h .accepted)
+  tree : (t : Tree) × IsTreeOf edition sheet t × (written (outcome edition sheet (length lent)) sheet lent ≡ rows t ++ drop (rowWidth * totalOf sheet) lent)
+  tree = accepted-rows edition sheet lent (h .accepted)
 
   -- node k is listed as the k-th
   slot-listed : getD (listing (tree .0)) k [] ≡ slotAt sheet k
   slot-listed = ap (λ (ss : List SlotBytes). getD ss k []) (tree .1 .lists) ∙ slots-at sheet k [] (h .below)
 
   below-size : k < size (tree .0)
-  below-size = omega (arith, size-is sheet (tree .0) (tree .1), h .below)
+  below-size = omega (arith, size-is edition sheet (tree .0) (tree .1), h .below)
 
   -- its row stands at 11k
-  begins : NodeRow (slotAt sheet k) (getD (listing (rewrittenTree Root (tree .0))) k []) (ascent (tree .0) k) (drop (rowWidth * k) (written (outcome sheet (length lent)) sheet lent))
+  begins : NodeRow edition (slotAt sheet k) (getD (listing (rewrittenTree Root (tree .0))) k []) (ascent (tree .0) k) (drop (rowWidth * k) (written (outcome edition sheet (length lent)) sheet lent))
   begins =
       rw (tree .2, ← slot-listed)
-      (node-row (tree .0) (tree .1 .keeps) (drop (rowWidth * totalOf sheet) lent) k below-size)
+      (node-row edition (tree .0) (tree .1 .keeps) (drop (rowWidth * totalOf sheet) lent) k below-size)
 
   column-is : c ≡ columnWith (annotated (slotAt sheet k)) (kind (underMap (begins .standing)) (slotAt sheet k))
   unfolding columnAt
@@ -109,13 +109,14 @@ module _ (c : ColumnType) (sheet lent : List ℕ) (k : ℕ) (h : IsLeafOf c shee
   physical-is = ap (λ (d : ColumnType). d .physical) column-is
 
   -- so it is lawful
-  leaf-lawful : isLawful c ≡ true
+  leaf-lawful : isLawful edition c ≡ true
+  unfolding isLawful
   leaf-lawful =
-      rw column-is
-      (slot-lawful (begins .standing) (slotAt sheet k) (begins .fields) (slotAt-bytes sheet k (h .bytes))
-      (openOf-sound sheet (totalOf sheet) (openOf-accepts sheet (sound .blocks) (sound .slots)) k (h .below))
+      rw (sound .known, column-is)
+      (slot-keeps edition (begins .standing) (slotAt sheet k) (begins .fields) (slotAt-bytes sheet k (h .bytes))
+      (openOf-sound edition sheet (totalOf sheet) (openOf-accepts edition sheet (sound .known) (sound .blocks) (sound .slots)) k (h .below))
       (begins .keeps) (rw physical-is at (h .leaf)))
 
-pub has-leaf-lawful : (c : ColumnType) → HasLeaf c → isLawful c ≡ true
+pub has-leaf-lawful : (edition : ℕ) (c : ColumnType) → HasLeaf edition c → isLawful edition c ≡ true
 unfolding HasLeaf
-has-leaf-lawful c l = leaf-lawful c (l .0) (l .1) (l .2) (l .3)
+has-leaf-lawful edition c l = leaf-lawful edition c (l .0) (l .1) (l .2) (l .3)

@@ -23,8 +23,9 @@ use Rattle.sheet.specs.Slot as slot
 use Rattle.sheet.specs.Sheet.{sheetOf, slotOf}
 use Rattle.sheet.specs.Sound.{listed, physicalListed, repetitionListed, convertedListed, logicalListed, nameLengthRight, allZero, reservedZero, tailZero, codesListed, nameRight, slotSound}
 use Rattle.sheet.proofs.NumberLaws.{signed32-low}
-use Rattle.sheet.proofs.OpeningLaws.{openOf-blocks, openOf-slots, openOf-total}
-use Rattle.sheet.proofs.SheetLaws.{SheetSlots, openOf-sheetOf, slots-sheetOf, bytes-sheetOf, bytes-slotOf}
+use Rattle.edition.specs.Editions.{isKnown}
+use Rattle.sheet.proofs.OpeningLaws.{openOf-blocks, openOf-slots}
+use Rattle.sheet.proofs.SheetLaws.{SheetSlots, sheetOf-total, openOf-sheetOf, slots-sheetOf, bytes-sheetOf, bytes-slotOf}
 use Rattle.tree.specs.Annotated.{annotated}
 use Rattle.schema.specs.Demand.{Sound}
 use Rattle.column_type.specs.Lawful.{byteNumbers, signedNumbers}
@@ -169,12 +170,14 @@ module _ (n : Annotated) (l : LeafSlot n) where
 
   pub leafSheet-total : totalOf (leafSheet n) ≡ 2
   unfolding leafSheet used
-  leafSheet-total = sym (openOf-total (leafSheet n) 2 (openOf-sheetOf used leaf-slots))
+  leafSheet-total = sheetOf-total used leaf-slots
 
-  pub leafSheet-sound : Sound (leafSheet n)
+  -- it opens in every edition
+  pub leafSheet-sound : (edition : ℕ) → isKnown edition ≡ true → Sound edition (leafSheet n)
   unfolding leafSheet used
-  leafSheet-sound =
-      record { blocks = openOf-blocks (leafSheet n) 2 (openOf-sheetOf used leaf-slots); slots = openOf-slots (leafSheet n) 2 (openOf-sheetOf used leaf-slots) }
+  leafSheet-sound edition known =
+      let opened = openOf-sheetOf used leaf-slots edition known in
+      record { known = known; blocks = openOf-blocks edition (leafSheet n) 2 opened; slots = openOf-slots edition (leafSheet n) 2 opened }
 
   pub leafSheet-bytes : Bytes (leafSheet n)
   unfolding leafSheet used

@@ -45,25 +45,25 @@ tree-claims : (n : Annotated) → Claims (leafTree n)
 unfolding leafTree Claims count rootSlot leafSlot slot.childCount numberAt little bytesOf
 tree-claims n = (refl, ((refl, tt), tt))
 
-root-keeps : (fs : Fields) → KeepsAt Root rootSlot fs
+root-keeps : (edition : ℕ) (fs : Fields) → KeepsAt edition Root rootSlot fs
 unfolding rule8 shape lengthShape decimalShape isNought rule9 rule10 rule11 rule12 rule13 isList isMap kind kindOf annotated annotationOf backwardOf validParameters natural nine.rule9 ten.rule10 eleven.rule11 numbersOf slot.physical slot.repetition slot.converted slot.logical slot.parameterA slot.parameterB slot.typeLength slot.scale slot.precision numberAt little bytesOf twosComplement rootSlot
-root-keeps fs = record { shape = refl; agreement = refl; placement = refl; decimals = refl; lists = refl; maps = refl }
+root-keeps edition fs = record { shape = refl; agreement = refl; placement = refl; decimals = refl; lists = refl; maps = refl }
 
 root-place : standingBelow Root rootSlot ≡ Field
 unfolding standingBelow kind kindOf annotated annotationOf backwardOf validParameters numbersOf slot.physical slot.converted slot.logical slot.parameterA slot.parameterB rootSlot
 root-place = refl
 
 -- the slot of a leaf keeps rules 8 to 11
-pub record LeafKept (n : Annotated) : Type 0 where
+pub record LeafKept (edition : ℕ) (n : Annotated) : Type 0 where
   pub slot : LeafSlot n
   pub leaf : isGroup (n .physical) ≡ false
   pub length : lengthShape (n .physical) (n .«type_length») ≡ true
   pub digits : decimalShape (n .converted) (n .logical) (n .scale) (n .precision) ≡ true
   pub nine : nine.rule9 n ≡ true
   pub ten : ten.rule10 n false ≡ true
-  pub eleven : eleven.rule11 n false ≡ true
+  pub eleven : eleven.rule11 edition n false ≡ true
 
-module _ (n : Annotated) (k : LeafKept n) where
+module _ (edition : ℕ) (n : Annotated) (k : LeafKept edition n) where
   -- a fact of the leaf's numbers is one of its slot's
   at-slot : (P : Annotated → Type 0) → P n → P (annotated (leafSlot n))
   at-slot P h = subst P (sym (leafSlot-annotated n (k .slot .holds))) h
@@ -85,25 +85,25 @@ module _ (n : Annotated) (k : LeafKept n) where
       none-of false true c e = absurd (true≢false e)
       none-of true b c e = absurd (true≢false e)
 
-  leaf-keeps : KeepsAt Field (leafSlot n) empty
+  leaf-keeps : KeepsAt edition Field (leafSlot n) empty
   unfolding rule9 rule10 rule11 rule12 rule13 isList isMap
   leaf-keeps =
       record {
         shape = leaf-shape;
         agreement = at-slot (λ m. nine.rule9 m ≡ true) (k .nine);
         placement = at-slot (λ m. ten.rule10 m false ≡ true) (k .ten);
-        decimals = at-slot (λ m. eleven.rule11 m false ≡ true) (k .eleven);
+        decimals = at-slot (λ m. eleven.rule11 edition m false ≡ true) (k .eleven);
         lists = rw (leaf-is .0);
         maps = rw (leaf-is .1);
       }
 
-  tree-keeps : Keeps Root (leafTree n)
+  tree-keeps : Keeps edition Root (leafTree n)
   unfolding Keeps leafTree
-  tree-keeps = (root-keeps (field (node (leafSlot n) empty) empty), rw root-place ((leaf-keeps, tt), tt))
+  tree-keeps = (root-keeps edition (field (node (leafSlot n) empty) empty), rw root-place ((leaf-keeps, tt), tt))
 
   tree-lists : listing (leafTree n) ≡ slot.slots (leafSheet n)
   unfolding leafTree listing
   tree-lists = sym (leafSheet-slots n (k .slot))
 
-  pub leafTree-of : IsTreeOf (leafSheet n) (leafTree n)
+  pub leafTree-of : IsTreeOf edition (leafSheet n) (leafTree n)
   leafTree-of = record { deep = tree-deep n; keeps = tree-keeps; claims = tree-claims n; lists = tree-lists }

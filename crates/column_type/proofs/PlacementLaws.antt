@@ -41,17 +41,17 @@ unit-numbers : (a : ℕ) → validUnit a ≡ true → (a ≡ 1) ⊎ ((a ≡ 2) �
 unit-numbers a e =
     by-test (eqb a 1) (λ p. inl (eqb-true a 1 p)) (λ p. by-test (eqb a 2) (λ q. inr (inl (eqb-true a 2 q))) (λ q. inr (inr (eqb-true a 3 (rw (p, q) at e)))))
 
-module _ (c : ColumnType) (lawful : isLawful c ≡ true) where
+module _ (edition : ℕ) (c : ColumnType) (lawful : isLawful edition c ≡ true) where
   pub integer-whole : c .kind ≡ logical.INTEGER → (c .physical ≡ INT32) ⊎ (c .physical ≡ INT64)
   unfolding rule10 slotOf annotationOf statedOf namedOf
   integer-whole k =
       width-physical (bitWidthOf (c .p1)) (c .physical)
-      (stands-valid (LogicalType.Integer (bitWidthOf (c .p1)) (flagOf (c .p2))) (validParameters logical.INTEGER (c .p1) (c .p2)) (c .physical) _ (rw k at (ten c lawful .1)) .1)
+      (stands-valid (LogicalType.Integer (bitWidthOf (c .p1)) (flagOf (c .p2))) (validParameters logical.INTEGER (c .p1) (c .p2)) (c .physical) _ (rw k at (ten edition c lawful .1)) .1)
 
   time-stands : c .kind ≡ logical.TIME → (validParameters logical.TIME (c .p1) (c .p2) ≡ true) × (eqb (c .physical) (timePhysical (unitOf (c .p1))) ≡ true)
   unfolding rule10 slotOf annotationOf statedOf namedOf
   time-stands k =
-      stands-valid (LogicalType.Time (unitOf (c .p1)) (flagOf (c .p2))) (validParameters logical.TIME (c .p1) (c .p2)) (c .physical) _ (rw k at (ten c lawful .1))
+      stands-valid (LogicalType.Time (unitOf (c .p1)) (flagOf (c .p2))) (validParameters logical.TIME (c .p1) (c .p2)) (c .physical) _ (rw k at (ten edition c lawful .1))
 
   pub time-whole : c .kind ≡ logical.TIME → (c .physical ≡ INT32) ⊎ (c .physical ≡ INT64)
   time-whole k = unit-physical (unitOf (c .p1)) (c .physical) (time-stands k .1)
@@ -63,14 +63,14 @@ module _ (c : ColumnType) (lawful : isLawful c ≡ true) where
   pub string-bytes : c .kind ≡ logical.STRING → c .physical ≡ BYTE-ARRAY
   unfolding rule10 slotOf annotationOf statedOf namedOf
   string-bytes k =
-      eqb-true (c .physical) BYTE-ARRAY (stands-valid LogicalType.String (validParameters logical.STRING (c .p1) (c .p2)) (c .physical) _ (rw k at (ten c lawful .1)) .1)
+      eqb-true (c .physical) BYTE-ARRAY (stands-valid LogicalType.String (validParameters logical.STRING (c .p1) (c .p2)) (c .physical) _ (rw k at (ten edition c lawful .1)) .1)
 
   pub enum-bytes : c .kind ≡ logical.ENUM → c .physical ≡ BYTE-ARRAY
   unfolding rule10 slotOf annotationOf statedOf namedOf
   enum-bytes k =
-      eqb-true (c .physical) BYTE-ARRAY (stands-valid LogicalType.Enum (validParameters logical.ENUM (c .p1) (c .p2)) (c .physical) _ (rw k at (ten c lawful .1)) .1)
+      eqb-true (c .physical) BYTE-ARRAY (stands-valid LogicalType.Enum (validParameters logical.ENUM (c .p1) (c .p2)) (c .physical) _ (rw k at (ten edition c lawful .1)) .1)
 
   pub json-bytes : c .kind ≡ logical.JSON → c .physical ≡ BYTE-ARRAY
   unfolding rule10 slotOf annotationOf statedOf namedOf
   json-bytes k =
-      eqb-true (c .physical) BYTE-ARRAY (stands-valid LogicalType.Json (validParameters logical.JSON (c .p1) (c .p2)) (c .physical) _ (rw k at (ten c lawful .1)) .1)
+      eqb-true (c .physical) BYTE-ARRAY (stands-valid LogicalType.Json (validParameters logical.JSON (c .p1) (c .p2)) (c .physical) _ (rw k at (ten edition c lawful .1)) .1)

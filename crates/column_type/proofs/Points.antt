@@ -14,13 +14,15 @@ use Rattle.logical_type.specs.Backward.{backwardOf}
 use Rattle.annotation.specs.Meaning.{annotationOf}
 use Rattle.annotation.specs.Rule9.{rule9}
 use Rattle.annotation.specs.Rule10.{rule10, INTERVAL-LENGTH, UUID-LENGTH}
-use Rattle.annotation.specs.Rule11.{ordered, physicalHolds, decimalHolds, rule11}
+use Rattle.annotation.specs.Rule11.{scaleAllowed, ordered, physicalHolds, decimalHolds, rule11}
 use Rattle.annotation.specs.Kinds.{PLAIN-LEAF, PLAIN-GROUP}
 use Rattle.logical_type.specs.declared.types.TimeUnit.{TimeUnit}
 use Rattle.logical_type.specs.declared.types.BitWidth.{BitWidth}
+use Rattle.edition.specs.Editions.{FIRST, SECOND, isKnown, scaleMayEqual}
+use Rattle.edition.proofs.EditionLaws.{OneOf, first, second, one-of-known}
 use Rattle.sheet.specs.Sound.{listed, physicalListed}
 use Rattle.tree.specs.Rules.{isNought, lengthShape}
-use Rattle.column_type.specs.Lawful.{slotOf, fits, isLeaf, isLawful}
+use Rattle.column_type.specs.Lawful.{slotOf, fits, isLeaf, slotKeeps, isLawful}
 use Rattle.column_type.specs.declared.types.ColumnType.{ColumnType}
 
 -- "INT96 3"
@@ -69,8 +71,10 @@ unlawfulPoints =
     ∷ column INT32 0 logical.INTEGER (bitWidthCode BitWidth.Bits64) (flagCode false)
     ∷ column INT32 0 logical.INTEGER (2 ^ 8 + bitWidthCode BitWidth.Bits8) (flagCode false)
     ∷ column INT32 0 logical.DECIMAL 10 2
-    -- "Scale = precision: 11", "FIXED 1 precision 3: 11"
-    ∷ column INT32 0 logical.DECIMAL 3 3
+    -- a precision of 0, even beside a scale of 0
+    ∷ column INT32 0 logical.DECIMAL 0 0
+    ∷ column INT32 0 logical.DECIMAL 3 4
+    -- "FIXED 1 precision 3: 11"
     ∷ column FIXED-LEN-BYTE-ARRAY 1 logical.DECIMAL 3 0
     -- "n to 256"
     ∷ column FIXED-LEN-BYTE-ARRAY 257 logical.DECIMAL 1 0
@@ -88,15 +92,40 @@ unlawfulPoints =
     ∷ column INT32 0 (2 ^ 8 + logical.DATE) 0 0
     ∷ []
 
+-- "Scale = precision": as document 02's R-4 has it, by edition
+abbrev equalPoints : List ColumnType
+equalPoints =
+    column INT32 0 logical.DECIMAL 3 3
+    ∷ column INT64 0 logical.DECIMAL 18 18
+    ∷ column FIXED-LEN-BYTE-ARRAY 1 logical.DECIMAL 2 2
+    ∷ column BYTE-ARRAY 0 logical.DECIMAL (2 ^ 31 - 1) (2 ^ 31 - 1)
+    ∷ []
+
 -- `isLawful`, with all that it is made of open
-opened : ColumnType → Bool
-unfolding isLawful fits isLeaf physicalListed listed lengthShape isNought slotOf rule9 rule10 rule11 decimalHolds ordered physicalHolds greatestPrecision greatest annotationOf backwardOf statedOf namedOf validParameters unitOf bitWidthOf natural
-opened = isLawful
+opened : ℕ → ColumnType → Bool
+unfolding isLawful slotKeeps isKnown scaleMayEqual fits isLeaf physicalListed listed lengthShape isNought slotOf rule9 rule10 rule11 decimalHolds ordered scaleAllowed physicalHolds greatestPrecision greatest annotationOf backwardOf statedOf namedOf validParameters unitOf bitWidthOf natural
+opened edition = isLawful edition
 
-pub points-lawful : map isLawful lawfulPoints ≡ map (λ c. true) lawfulPoints
-unfolding opened
-points-lawful = refl
+pub points-lawful : (edition : ℕ) → isKnown edition ≡ true → map (isLawful edition) lawfulPoints ≡ map (λ c. true) lawfulPoints
+points-lawful edition known = each (one-of-known edition known)
+  where
+    each : {e : ℕ} → OneOf e → map (isLawful e) lawfulPoints ≡ map (λ c. true) lawfulPoints
+    unfolding opened
+    each first = refl
+    each second = refl
 
-pub points-unlawful : map isLawful unlawfulPoints ≡ map (λ c. false) unlawfulPoints
+pub points-unlawful : (edition : ℕ) → isKnown edition ≡ true → map (isLawful edition) unlawfulPoints ≡ map (λ c. false) unlawfulPoints
+points-unlawful edition known = each (one-of-known edition known)
+  where
+    each : {e : ℕ} → OneOf e → map (isLawful e) unlawfulPoints ≡ map (λ c. false) unlawfulPoints
+    unfolding opened
+    each first = refl
+    each second = refl
+
+pub points-equal-first : map (isLawful FIRST) equalPoints ≡ map (λ c. false) equalPoints
 unfolding opened
-points-unlawful = refl
+points-equal-first = refl
+
+pub points-equal-second : map (isLawful SECOND) equalPoints ≡ map (λ c. true) equalPoints
+unfolding opened
+points-equal-second = refl

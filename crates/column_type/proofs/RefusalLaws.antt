@@ -1,4 +1,5 @@
 -- A slot keeps rules 9, 10 and 11 exactly where resolving it is not refused.
+use Prim.Native.Nat.{ℕ}
 use mathlib.Core.Path.{_≡_, refl}
 use mathlib.Core.Bool.{Bool, true, false, cond, _&&_}
 use lib.Dec.{eqb}
@@ -13,9 +14,9 @@ use Rattle.annotation.specs.declared.resolution.Kind.{Kind}
 use Rattle.annotation.specs.declared.resolution.Resolution.{Resolution}
 use Rattle.column_type.specs.Lawful.{annotationRight}
 
-pub annotationRight-unrefused : (n : Annotated) → eqb (refusalOf (resolutionOf n false)) 0 ≡ annotationRight n
+pub annotationRight-unrefused : (edition : ℕ) (n : Annotated) → eqb (refusalOf (resolutionOf edition n false)) 0 ≡ annotationRight edition n
 unfolding resolutionOf
-annotationRight-unrefused n = cases (rule9 n) (rule10 n false) (rule11 n false) (kindOf n false)
+annotationRight-unrefused edition n = cases (rule9 n) (rule10 n false) (rule11 edition n false) (kindOf n false)
   where
     cases : (nine ten eleven : Bool) (k : Kind) → eqb (refusalOf (cond nine (cond ten (cond eleven (Resolution.Resolved k) (Resolution.Refused BAD-DECIMAL)) (Resolution.Refused MISPLACED)) (Resolution.Refused DISAGREEMENT))) 0 ≡ nine && ten && eleven
     cases true true true k = refl

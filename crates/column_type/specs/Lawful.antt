@@ -1,8 +1,13 @@
--- Which column types are lawful: those whose slot keeps rules 8 to 11. `Leaf` has the sentence of refusal 20; that the two agree is proved (`LawfulLaws`).
+-- Which column types are lawful in an edition: those whose slot keeps its rules 8 to 11. `Leaf` has the sentence of refusal 20; that the two agree is proved (`LawfulLaws`).
 use Prim.Native.Nat.{ℕ, _^_}
 use mathlib.Core.Bool.{Bool, false, cond, not, _&&_}
 use lib.Dec.{eqb, ltb}
 use lib.IntN.{pos}
+use Rattle.edition.specs.Editions.{isKnown}
+use Rattle.refusal.specs.Numbers.{UNKNOWN-TYPE}
+use Rattle.refusal.specs.Outcome.{unplaced, unknownEdition}
+use Rattle.refusal.specs.declared.answers.Refusal.{Refusal}
+use Rattle.refusal.specs.declared.answers.Verdict.{Verdict}
 use Rattle.parquet.specs.Converted as converted
 use Rattle.parquet.specs.Logical as logical
 use Rattle.logical_type.specs.Parameters.{UNUSED}
@@ -61,9 +66,21 @@ unfoldable pub isLeaf : ℕ → Bool
 isLeaf code = physicalListed code && not (isGroup code)
 
 -- a slot whose parent is no MAP keeps rules 9, 10 and 11
-abbrev pub annotationRight : Annotated → Bool
-annotationRight n = rule9 n && rule10 n false && rule11 n false
+abbrev pub annotationRight : ℕ → Annotated → Bool
+annotationRight edition n = rule9 n && rule10 n false && rule11 edition n false
 
--- a column type is lawful: its slot can stand in a sheet, is a leaf's, has the type length that rule 8 asks for, and keeps rules 9, 10 and 11
-unfoldable pub isLawful : ColumnType → Bool
-isLawful c = fits c && isLeaf (c .physical) && lengthShape (c .physical) (pos (c .«type_length»)) && annotationRight (slotOf c)
+-- the slot of a column type can stand in a sheet, is a leaf's, has the type length that rule 8 asks for, and keeps rules 9, 10 and 11
+unfoldable pub slotKeeps : ℕ → ColumnType → Bool
+slotKeeps edition c = fits c && isLeaf (c .physical) && lengthShape (c .physical) (pos (c .«type_length»)) && annotationRight edition (slotOf c)
+
+-- a column type is lawful: its slot keeps the rules of a known edition
+unfoldable pub isLawful : ℕ → ColumnType → Bool
+isLawful edition c = isKnown edition && slotKeeps edition c
+
+-- what refuses one that is not: 21 "before all others", else "20: no accepted sheet has a leaf of this column type"
+unfoldable pub typeRefusal : ℕ → Refusal
+typeRefusal edition = cond (isKnown edition) (unplaced UNKNOWN-TYPE) unknownEdition
+
+-- what judging a column type answers
+unfoldable pub judgementOf : ℕ → ColumnType → Verdict
+judgementOf edition c = cond (isLawful edition c) Verdict.Lawful (Verdict.Refused (typeRefusal edition))

@@ -1,4 +1,4 @@
--- When a sheet has a leaf of a column type: what refusal 20 speaks of ("no accepted sheet has a leaf of this column type").
+-- When a sheet has a leaf of a column type in an edition: what refusal 20 speaks of ("no accepted sheet has a leaf of this column type").
 use Prim.Native.Nat.{ℕ, _*_, _^_, _<_}
 use mathlib.Core.Path.{_≡_}
 use mathlib.Core.Bool.{false}
@@ -23,17 +23,17 @@ columnOf row =
     }
 
 -- the column type in the row of node k, in the numbers that resolving a sheet leaves where `lent` were lent
-unfoldable pub columnAt : List ℕ → List ℕ → ℕ → ColumnType
-columnAt sheet lent k = columnOf (drop (rowWidth * k) (written (outcome sheet (length lent)) sheet lent))
+unfoldable pub columnAt : ℕ → List ℕ → List ℕ → ℕ → ColumnType
+columnAt edition sheet lent k = columnOf (drop (rowWidth * k) (written (outcome edition sheet (length lent)) sheet lent))
 
--- node k of a sheet is a leaf of a column type: the sheet is one of bytes, it is accepted, k is the number of one of its nodes, which is a leaf, and has this column type in its row
-pub record IsLeafOf (c : ColumnType) (sheet lent : List ℕ) (k : ℕ) : Type 0 where
+-- node k of a sheet is a leaf of a column type: the sheet is one of bytes, it is accepted in the edition, k is the number of one of its nodes, which is a leaf, and has this column type in its row
+pub record IsLeafOf (edition : ℕ) (c : ColumnType) (sheet lent : List ℕ) (k : ℕ) : Type 0 where
   pub bytes : (i : ℕ) → getD sheet i 0 < 2 ^ 8
-  pub accepted : Accepted (outcome sheet (length lent))
+  pub accepted : Accepted (outcome edition sheet (length lent))
   pub below : k < totalOf sheet
   pub leaf : isGroup (c .physical) ≡ false
-  pub column : columnAt sheet lent k ≡ c
+  pub column : columnAt edition sheet lent k ≡ c
 
 -- an accepted sheet has a leaf of this column type
-unfoldable pub HasLeaf : ColumnType → Type 0
-HasLeaf c = (sheet : List ℕ) × (lent : List ℕ) × (k : ℕ) × IsLeafOf c sheet lent k
+unfoldable pub HasLeaf : ℕ → ColumnType → Type 0
+HasLeaf edition c = (sheet : List ℕ) × (lent : List ℕ) × (k : ℕ) × IsLeafOf edition c sheet lent k

@@ -1,4 +1,4 @@
-// Whether a column type is lawful: whether the slot of such a leaf keeps the rules.
+// Whether a column type is lawful: whether the slot of such a leaf keeps the rules of an edition.
 ghost use Prim.Native.Nat.{_<_};
 ghost use mathlib.Core.Path.{_≡_};
 ghost use mathlib.Core.Bool.{true, false};
@@ -6,7 +6,8 @@ ghost use lib.Dec.{eqb};
 ghost use lib.IntN.{pos};
 ghost use Rattle.parquet.specs.Logical.{DECIMAL};
 ghost use Rattle.tree.specs.Rules.{lengthShape};
-ghost use Rattle.column_type.specs.Lawful.{slotWith, slotOf, byteNumbers, signedNumbers, fits, isLeaf, annotationRight, isLawful};
+ghost use Rattle.column_type.specs.Lawful.{slotWith, slotOf, byteNumbers, signedNumbers, fits, isLeaf, annotationRight, slotKeeps, isLawful, typeRefusal, judgementOf};
+ghost use Rattle.annotation.specs.Rule11.{scaleAllowed};
 ghost use Rattle.column_type.specs.Steps.{standsOn};
 use crate::types::ColumnType;
 use annotation::Annotated;
@@ -15,9 +16,15 @@ use annotation::INT64_DIGITS;
 use annotation::fixed_holds;
 use annotation::refusal;
 use annotation::resolve;
+use edition::is_known;
+use edition::scale_may_equal;
 use parquet::converted;
 use parquet::logical;
 use parquet::physical;
+use refusal::Refusal;
+use refusal::Verdict;
+use refusal::numbers;
+use refusal::unknown_edition;
 
 // How many numbers from 0 on a byte of a slot has, and a signed number of four bytes.
 const BYTE_NUMBERS: u32 = 256;
@@ -36,22 +43,60 @@ const FIXED_LEN_BYTE_ARRAY: u32 = physical::FIXED_LEN_BYTE_ARRAY as u32;
 // The number of no refusal.
 const NO_REFUSAL: u32 = 0;
 
-// Whether some accepted sheet has a leaf of this column type; refusal 20 is given where none has.
-pub fn is_lawful(c: ColumnType) -> bool
-    ensures { λ r. ⌜ r ≡ isLawful c ⌝ }
+// Whether a column type is lawful, or the first of refusals 21 and 20.
+pub fn judge(edition: u32, c: ColumnType) -> Verdict
+    ensures { λ r. ⌜ r ≡ judgementOf edition c ⌝ }
 {
-    if c.kind == wide(logical::DECIMAL) {
-        return decimal_lawful(c);
+    if is_lawful(edition, c) {
+        return Verdict::Lawful;
     }
-    other_lawful(c)
+    Verdict::Refused(type_refusal(edition))
+}
+
+// Whether some sheet that the edition accepts has a leaf of this column type. An edition that is none accepts no sheet.
+pub fn is_lawful(edition: u32, c: ColumnType) -> bool
+    ensures { λ r. ⌜ r ≡ isLawful edition c ⌝ }
+{
+    if !is_known(edition) {
+        return false;
+    }
+    if c.kind == wide(logical::DECIMAL) {
+        return decimal_keeps(edition, c);
+    }
+    other_keeps(edition, c)
+}
+
+// What refuses a column type that is not lawful.
+pub fn type_refusal(edition: u32) -> Refusal
+    ensures { λ r. ⌜ r ≡ typeRefusal edition ⌝ }
+{
+    if is_known(edition) {
+        return Refusal {
+            number: numbers::UNKNOWN_TYPE,
+            place: 0,
+        };
+    }
+    unknown_edition()
 }
 
 // Judges a DECIMAL without its slot.
-fn decimal_lawful(c: ColumnType) -> bool
+fn decimal_keeps(edition: u32, c: ColumnType) -> bool
     requires { ⌜ eqb (c .kind) DECIMAL ≡ true ⌝ }
-    ensures { λ r. ⌜ r ≡ isLawful c ⌝ }
+    ensures { λ r. ⌜ r ≡ slotKeeps edition c ⌝ }
 {
-    (c.p1 < SIGNED_NUMBERS) & (c.p2 < c.p1) & stands_on(c.physical, c.type_length, c.p1)
+    (c.p1 < SIGNED_NUMBERS)
+        & (1 <= c.p1)
+        & scale_allowed(edition, c.p1, c.p2)
+        & stands_on(c.physical, c.type_length, c.p1)
+}
+
+fn scale_allowed(edition: u32, precision: u32, scale: u32) -> bool
+    ensures { λ r. ⌜ r ≡ scaleAllowed edition (pos precision) (pos scale) ⌝ }
+{
+    if scale_may_equal(edition) {
+        return scale <= precision;
+    }
+    scale < precision
 }
 
 // Whether a DECIMAL of this precision may stand on a physical type and length, by rules 8, 10 and 11.
@@ -68,14 +113,14 @@ fn stands_on(physical: u32, type_length: u32, precision: u32) -> bool
 }
 
 // Judges any other kind by its slot.
-fn other_lawful(c: ColumnType) -> bool
+fn other_keeps(edition: u32, c: ColumnType) -> bool
     requires { ⌜ eqb (c .kind) DECIMAL ≡ false ⌝ }
-    ensures { λ r. ⌜ r ≡ isLawful c ⌝ }
+    ensures { λ r. ⌜ r ≡ slotKeeps edition c ⌝ }
 {
     if !fits_slot(c) {
         return false;
     }
-    is_leaf(c.physical) & length_right(c.physical, c.type_length) & annotation_right(slot(c))
+    is_leaf(c.physical) & length_right(c.physical, c.type_length) & annotation_right(edition, slot(c))
 }
 
 // Whether each number fits its field of a slot, of any kind but DECIMAL.
@@ -108,10 +153,10 @@ fn length_right(physical: u32, type_length: u32) -> bool
 }
 
 // Whether a slot keeps rules 9, 10 and 11, its parent no MAP.
-fn annotation_right(n: Annotated) -> bool
-    ensures { λ r. ⌜ r ≡ annotationRight n ⌝ }
+fn annotation_right(edition: u32, n: Annotated) -> bool
+    ensures { λ r. ⌜ r ≡ annotationRight edition n ⌝ }
 {
-    refusal(resolve(n, false)) == NO_REFUSAL
+    refusal(resolve(edition, n, false)) == NO_REFUSAL
 }
 
 // The slot of a leaf of a column type, of any kind but DECIMAL.

@@ -278,7 +278,7 @@ module _ (used : List (List ℕ)) (given : SheetSlots used) where
   unfolding blocksFor
   slots-within = omega arith
 
-  sheetOf-total : totalOf (sheetOf used) ≡ length used
+  pub sheetOf-total : totalOf (sheetOf used) ≡ length used
   unfolding totalOf
   sheetOf-total = ap total (sheetOf-block 0 (omega (arith, blocks-least))) ∙ blockOf-fields 0 (omega arith) .total-is
 

@@ -9,8 +9,8 @@ use Rattle.column_type.proofs.lawful.annotation_right.Tie as tie
 
 returns : tie.Need-returns
 returns c =
-    let resolved : c .before .resolve .result ≡ resolutionOf (c .before .before .args .n) false = cc in
-    rw (c .refusal .ensures, resolved) (annotationRight-unrefused (c .before .before .args .n))
+    let resolved : c .before .resolve .result ≡ resolutionOf (c .before .before .args .edition) (c .before .before .args .n) false = cc in
+    rw (c .refusal .ensures, resolved) (annotationRight-unrefused _ (c .before .before .args .n))
 
 pub annotation-right-spec : {M : Type 1} → statement M
 annotation-right-spec = tie.close (tie.spec (λ c κs. search needs) (λ c κs. search needs) returns)

@@ -1,13 +1,13 @@
--- `column_type::lawful::other_lawful` meets its contract.
+-- `column_type::lawful::other_keeps` meets its contract.
 use mathlib.Core.Path.{sym, ap, _∙_}
 use borrow.Author.Needs.{needs}
 use borrow.Author.Tests.{not-true, not-false}
-use Rattle.column_type.specs.Lawful.{annotationRight, isLawful}
-use Rattle.column_type.proofs.lawful.other_lawful.Statement.{statement}
-use Rattle.column_type.proofs.lawful.other_lawful.Tie as tie
+use Rattle.column_type.specs.Lawful.{annotationRight, slotKeeps}
+use Rattle.column_type.proofs.lawful.other_keeps.Statement.{statement}
+use Rattle.column_type.proofs.lawful.other_keeps.Tie as tie
 
 returns : tie.Need-returns
-unfolding isLawful
+unfolding slotKeeps
 returns c = rw (sym (c .before .fits-slot .ensures) ∙ not-true _ (c .if1 .taken))
 
 slot-requires : tie.Need-slot-requires
@@ -16,7 +16,7 @@ slot-requires c κs =
     (sym (at .before .fits-slot .ensures) ∙ not-false _ (at .if1 .left), at .before .before .pre)
 
 returns-2 : tie.Need-returns-2
-unfolding isLawful
+unfolding slotKeeps
 returns-2 c =
     let at-length-right = c .before .before in
     let at-is-leaf = at-length-right .before in
@@ -24,12 +24,12 @@ returns-2 c =
     rw (
       at-is-leaf .is-leaf .ensures,
       at-length-right .length-right .ensures,
-      c .annotation-right .ensures ∙ ap annotationRight (c .before .slot .ensures),
+      c .annotation-right .ensures ∙ ap (annotationRight _) (c .before .slot .ensures),
       sym (at .before .fits-slot .ensures) ∙ not-false _ (at .if1 .left),
     )
 
-pub other-lawful-spec : {M : Type 1} → statement M
-other-lawful-spec =
+pub other-keeps-spec : {M : Type 1} → statement M
+other-keeps-spec =
     tie.close
     (tie.spec
     (λ c κs. search needs)
