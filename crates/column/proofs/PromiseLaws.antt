@@ -14,8 +14,8 @@ use lib.Signed.{leZ, ltZ, _≤ℤ_, _<ℤ_, leZ-yes, ltZ-yes}
 use Rattle.laws.specs.Bytes.{little}
 use Rattle.timestamp.specs.Units.{unitOf}
 use Rattle.laws.proofs.BoolLaws.{by-test, and-left, and-right, both-and, T-true}
-use Rattle.refusal.specs.Numbers.{WRONG-LENGTH, BREAKS-ANNOTATION, UNKNOWN-TYPE}
-use Rattle.refusal.specs.Outcome.{given, refused, refusal, unplaced}
+use Rattle.refusal.specs.Numbers.{WRONG-LENGTH, BREAKS-ANNOTATION, UNKNOWN-TYPE, UNKNOWN-EDITION}
+use Rattle.refusal.specs.Outcome.{given, refused, refusal, unplaced, unknownEdition}
 use Rattle.refusal.specs.declared.answers.Refusal.{Refusal}
 use Rattle.parquet.specs.Physical.{BOOLEAN, INT32, INT64, INT96, FLOAT, DOUBLE, BYTE-ARRAY, FIXED-LEN-BYTE-ARRAY}
 use Rattle.parquet.specs.Logical.{DECIMAL, TIME, INTEGER, UNKNOWN}
@@ -24,7 +24,9 @@ use Rattle.decimal_bytes.specs.Number.{number}
 use Rattle.utf8.specs.Text.{Text}
 use Rattle.utf8.specs.Valid.{validUpTo}
 use Rattle.utf8.proofs.ValidLaws.{validUpTo-length}
-use Rattle.column_type.specs.Lawful.{isLawful}
+use Rattle.column_type.specs.Lawful.{isLawful, typeRefusal}
+use Rattle.column_type.proofs.RefusalLaws.{refusal-known, refusal-unknown, unknown-unlawful}
+use Rattle.edition.specs.Editions.{isKnown}
 use Rattle.column_type.specs.declared.types.ColumnType.{ColumnType}
 use Rattle.column_type.specs.Leaf.{HasLeaf}
 use Rattle.column_type.proofs.LawfulLaws.{unlawful-exactly}
@@ -92,23 +94,46 @@ module _ (c : ColumnType) (n : ℕ) (r : RightLength c n) where
       both-and (leb n mostBytes && isWidth (widthOf c) n) (not (isByteDecimal c) || isLength n)
       (both-and (leb n mostBytes) (isWidth (widthOf c) n) (le-leb n mostBytes (r .most)) width-tested) decimal-tested
 
--- "20": no accepted sheet has a leaf of this column type
-pub refused-unlawful : (c : ColumnType) (bs : List ℕ) → (outcome c bs ≡ refused (unplaced UNKNOWN-TYPE)) ↔ (HasLeaf c → ⊥)
+-- reading that is refused with a number of no value is refused for its column type
+unlawful-number : (edition : ℕ) (c : ColumnType) (bs : List ℕ) (number : ℕ) → (number ≡ WRONG-LENGTH → ⊥) → (number ≡ BREAKS-ANNOTATION → ⊥)
+    → outcome edition c bs ≡ refused (unplaced number) → (isLawful edition c ≡ false) × (typeRefusal edition ≡ unplaced number)
 unfolding outcome readOf
-refused-unlawful c bs = (
-  λ e. unlawful-exactly c .0 (by-test (isLawful c) (λ l. absurd (other (lengthRight c (length bs)) (keeps c bs) (rw l at e))) (λ l. l)),
-  λ h. rw (unlawful-exactly c .1 h),
-)
+unlawful-number edition c bs number h k e = by-test (isLawful edition c) (λ l. absurd (other (lengthRight c (length bs)) (keeps c bs) (rw l at e))) (λ l. (l, refused-is (rw l at e)))
   where
-    other : (r k : Bool) → outcomeOf (cond r (checked k (annotationPlace c bs) (valueOf c bs)) (read.Refused (unplaced WRONG-LENGTH))) ≡ refused (unplaced UNKNOWN-TYPE) → ⊥
-    other false k e = let z : WRONG-LENGTH ≡ UNKNOWN-TYPE = ap (λ (r : Refusal). r .number) (refused-is e) in omega arith
-    other true true e = let z : _≡_ {A = ℕ} 0 1 = cc in omega arith
-    other true false e = let z : BREAKS-ANNOTATION ≡ UNKNOWN-TYPE = ap (λ (r : Refusal). r .number) (refused-is e) in omega arith
+    other : (r s : Bool) → outcomeOf (cond r (checked s (annotationPlace c bs) (valueOf c bs)) (read.Refused (unplaced WRONG-LENGTH))) ≡ refused (unplaced number) → ⊥
+    other false s q = h (sym (ap (λ (r : Refusal). r .number) (refused-is q)))
+    other true true q = let z : _≡_ {A = ℕ} 0 1 = cc in omega arith
+    other true false q = k (sym (ap (λ (r : Refusal). r .number) (refused-is q)))
+
+-- a column type that is not lawful is refused so
+refused-type : (edition : ℕ) (c : ColumnType) (bs : List ℕ) → isLawful edition c ≡ false → outcome edition c bs ≡ refused (typeRefusal edition)
+unfolding outcome readOf
+refused-type edition c bs e = rw e
+
+-- "20": no accepted sheet of a known edition has a leaf of this column type
+pub refused-unlawful : (edition : ℕ) (c : ColumnType) (bs : List ℕ) → (outcome edition c bs ≡ refused (unplaced UNKNOWN-TYPE)) ↔ ((isKnown edition ≡ true) × (HasLeaf edition c → ⊥))
+refused-unlawful edition c bs = (
+  λ e. (
+    by-test (isKnown edition) (λ k. k)
+    (λ u. absurd (let z : UNKNOWN-EDITION ≡ UNKNOWN-TYPE = ap (λ (r : Refusal). r .number) (sym (refusal-unknown edition u) ∙ unlawful-number edition c bs UNKNOWN-TYPE (λ h. omega (arith, h)) (λ h. omega (arith, h)) e .1) in omega arith)),
+    unlawful-exactly edition c .0 (unlawful-number edition c bs UNKNOWN-TYPE (λ h. omega (arith, h)) (λ h. omega (arith, h)) e .0),
+  ),
+  λ h. refused-type edition c bs (unlawful-exactly edition c .1 (h .1)) ∙ ap refused (refusal-known edition (h .0)),
+)
+
+-- "21": there is no such edition
+pub refused-unknown : (edition : ℕ) (c : ColumnType) (bs : List ℕ) → (outcome edition c bs ≡ refused unknownEdition) ↔ (isKnown edition ≡ false)
+refused-unknown edition c bs = (
+  λ e. by-test (isKnown edition)
+  (λ k. absurd (let z : UNKNOWN-TYPE ≡ UNKNOWN-EDITION = ap (λ (r : Refusal). r .number) (sym (refusal-known edition k) ∙ unlawful-number edition c bs UNKNOWN-EDITION (λ h. omega (arith, h)) (λ h. omega (arith, h)) e .1) in omega arith))
+  (λ u. u),
+  λ u. refused-type edition c bs (unknown-unlawful edition c u) ∙ ap refused (refusal-unknown edition u),
+)
 
 -- "15": a value of a lawful column, exactly where its length is not right
-pub wrong-length : (c : ColumnType) (bs : List ℕ) → isLawful c ≡ true → (outcome c bs ≡ refused (unplaced WRONG-LENGTH)) ↔ (RightLength c (length bs) → ⊥)
+pub wrong-length : (edition : ℕ) (c : ColumnType) (bs : List ℕ) → isLawful edition c ≡ true → (outcome edition c bs ≡ refused (unplaced WRONG-LENGTH)) ↔ (RightLength c (length bs) → ⊥)
 unfolding outcome readOf
-wrong-length c bs lawful = (
+wrong-length edition c bs lawful = (
   λ e r. other (keeps c bs) (rw (lawful, right-tested c (length bs) r) at e),
   λ h. by-test (lengthRight c (length bs)) (λ r. absurd (h (tested-right c (length bs) r))) (λ r. rw (lawful, r)),
 )
@@ -148,28 +173,28 @@ day-exactly unit z u = (λ e. made u (ticks u .0 e), λ h. ticks u .1 (h .least,
 
 -- values of a right length in a lawful column ----------------------------------------------------------------------------------
 
-module _ (c : ColumnType) (bs : List ℕ) (lawful : isLawful c ≡ true) (right : RightLength c (length bs)) where
-  outcome-is : outcome c bs ≡ outcomeOf (checked (keeps c bs) (annotationPlace c bs) (valueOf c bs))
+module _ (edition : ℕ) (c : ColumnType) (bs : List ℕ) (lawful : isLawful edition c ≡ true) (right : RightLength c (length bs)) where
+  outcome-is : outcome edition c bs ≡ outcomeOf (checked (keeps c bs) (annotationPlace c bs) (valueOf c bs))
   unfolding outcome readOf
   outcome-is = rw (lawful, right-tested c (length bs) right)
 
   -- a test that decides whether the annotation is kept
-  held : (test : Bool) (P : Type 0) (v : Value) (place : ℕ) → keeps c bs ≡ test → valueOf c bs ≡ v → annotationPlace c bs ≡ place → (test ≡ true) ↔ P → Held c bs P v place
+  held : (test : Bool) (P : Type 0) (v : Value) (place : ℕ) → keeps c bs ≡ test → valueOf c bs ≡ v → annotationPlace c bs ≡ place → (test ≡ true) ↔ P → Held edition c bs P v place
   held true P v place k e a exactly =
-      let o : outcome c bs ≡ given v = outcome-is ∙ rw (k, e) in
+      let o : outcome edition c bs ≡ given v = outcome-is ∙ rw (k, e) in
       record {
         reads = (λ r. exactly .0 refl, λ p. o);
         breaks = (λ r. absurd (let z : _≡_ {A = ℕ} 0 1 = cc in omega arith), λ no. absurd (no (exactly .0 refl)));
       }
   held false P v place k e a exactly =
-      let o : outcome c bs ≡ refused (refusal BREAKS-ANNOTATION place) = outcome-is ∙ rw (k, a) in
+      let o : outcome edition c bs ≡ refused (refusal BREAKS-ANNOTATION place) = outcome-is ∙ rw (k, a) in
       record {
         reads = (λ r. absurd (let z : _≡_ {A = ℕ} 0 1 = cc in omega arith), λ p. absurd (false≢true (exactly .1 p)));
         breaks = (λ r p. false≢true (exactly .1 p), λ no. o);
       }
 
   -- a value that nothing is asked of
-  any : (v : Value) → keeps c bs ≡ true → valueOf c bs ≡ v → outcome c bs ≡ given v
+  any : (v : Value) → keeps c bs ≡ true → valueOf c bs ≡ v → outcome edition c bs ≡ given v
   any v k e = outcome-is ∙ rw (k, e)
 
   module _ (known : (c .kind ≡ UNKNOWN) → ⊥) (whole : Whole c) where
@@ -201,33 +226,33 @@ module _ (c : ColumnType) (bs : List ℕ) (lawful : isLawful c ≡ true) (right 
   other-kind a b d k e = eqb-false a b d (sym k ∙ e)
 
   -- "INT(n, false) reads its bytes unsigned; INT stays within its width"
-  pub unsigned-held : c .kind ≡ INTEGER → c .p2 ≡ 0 → Held c bs (little bs < 2 ^ c .p1) (Unsigned (little bs)) 0
+  pub unsigned-held : c .kind ≡ INTEGER → c .p2 ≡ 0 → Held edition c bs (little bs < 2 ^ c .p1) (Unsigned (little bs)) 0
   unfolding wholeKeeps
   unsigned-held k s =
       let known = other-kind INTEGER UNKNOWN refl k in
-      let whole = integer-whole c lawful k in
+      let whole = integer-whole edition c lawful k in
       held (inBits (c .p1) (little bs)) (little bs < 2 ^ c .p1) (Unsigned (little bs)) 0
       (whole-keeps known whole ∙ rw (k, s)) (whole-value known whole ∙ rw (k, s)) (whole-place known whole) (below-exactly (little bs) (2 ^ c .p1))
 
-  pub signed-held : c .kind ≡ INTEGER → c .p2 ≡ 1 → Held c bs (InWidth (c .p1) (signed bs)) (Signed (signed bs)) 0
+  pub signed-held : c .kind ≡ INTEGER → c .p2 ≡ 1 → Held edition c bs (InWidth (c .p1) (signed bs)) (Signed (signed bs)) 0
   unfolding wholeKeeps
   signed-held k s =
       let known = other-kind INTEGER UNKNOWN refl k in
-      let whole = integer-whole c lawful k in
+      let whole = integer-whole edition c lawful k in
       held (inSignedBits (c .p1) (signed bs)) (InWidth (c .p1) (signed bs)) (Signed (signed bs)) 0
       (whole-keeps known whole ∙ rw (k, s)) (whole-value known whole ∙ rw (k, s)) (whole-place known whole) (width-exactly (c .p1) (signed bs))
 
   -- "TIME: 0 to one day less one tick"
-  pub time-held : c .kind ≡ TIME → Held c bs (InDay (c .p1) (signed bs)) (Signed (signed bs)) 0
+  pub time-held : c .kind ≡ TIME → Held edition c bs (InDay (c .p1) (signed bs)) (Signed (signed bs)) 0
   unfolding wholeKeeps
   time-held k =
       let known = other-kind TIME UNKNOWN refl k in
-      let whole = time-whole c lawful k in
+      let whole = time-whole edition c lawful k in
       held (inDay (unitOf (c .p1)) (signed bs)) (InDay (c .p1) (signed bs)) (Signed (signed bs)) 0
-      (whole-keeps known whole ∙ rw k) (whole-value known whole ∙ rw k) (whole-place known whole) (day-exactly (c .p1) (signed bs) (time-unit c lawful k))
+      (whole-keeps known whole ∙ rw k) (whole-value known whole ∙ rw k) (whole-place known whole) (day-exactly (c .p1) (signed bs) (time-unit edition c lawful k))
 
   -- "DECIMAL: |unscaled| < 10^precision"
-  pub decimal-whole-held : c .kind ≡ DECIMAL → Whole c → Held c bs (natAbs (signed bs) < 10 ^ c .p1) (Signed (signed bs)) 0
+  pub decimal-whole-held : c .kind ≡ DECIMAL → Whole c → Held edition c bs (natAbs (signed bs) < 10 ^ c .p1) (Signed (signed bs)) 0
   unfolding wholeKeeps
   decimal-whole-held k whole =
       let known = other-kind DECIMAL UNKNOWN refl k in
@@ -252,51 +277,51 @@ module _ (c : ColumnType) (bs : List ℕ) (lawful : isLawful c ≡ true) (right 
         by-physical (inl e) = rw (ne-eqb (c .kind) UNKNOWN known, e)
         by-physical (inr e) = rw (ne-eqb (c .kind) UNKNOWN known, e)
 
-  pub decimal-bytes-held : c .kind ≡ DECIMAL → ByteForm c → Held c bs (natAbs (number bs) < 10 ^ c .p1) (Bytes 0 (length bs)) 0
+  pub decimal-bytes-held : c .kind ≡ DECIMAL → ByteForm c → Held edition c bs (natAbs (number bs) < 10 ^ c .p1) (Bytes 0 (length bs)) 0
   unfolding bytesKeep annotationPlace
   decimal-bytes-held k form =
       held (inDigits (c .p1) (number bs)) (natAbs (number bs) < 10 ^ c .p1) (Bytes 0 (length bs)) 0
       (bytes-keeps form (other-kind DECIMAL UNKNOWN refl k) ∙ rw k) (bytes-value form) (rw (form-tested c form, k)) (below-exactly (natAbs (number bs)) (10 ^ c .p1))
 
   -- "STRING, ENUM, JSON: UTF-8 (RFC 3629)"
-  pub text-held : isText (c .kind) ≡ true → Held c bs (Text bs) (Bytes 0 (length bs)) (validUpTo bs)
+  pub text-held : isText (c .kind) ≡ true → Held edition c bs (Text bs) (Bytes 0 (length bs)) (validUpTo bs)
   text-held text =
       held (eqb (validUpTo bs) (length bs)) (Text bs) (Bytes 0 (length bs)) (validUpTo bs)
-      (text-keeps c bs lawful text) (bytes-value (inl (text-form c lawful text))) (text-place c bs lawful text)
+      (text-keeps edition c bs lawful text) (bytes-value (inl (text-form edition c lawful text))) (text-place edition c bs lawful text)
       (λ e. validUpTo-length bs .0 (eqb-true (validUpTo bs) (length bs) e), λ h. eq-eqb (validUpTo bs) (length bs) (validUpTo-length bs .1 h))
 
   -- "UNKNOWN: no value, so 16"
-  pub unknown-refused : c .kind ≡ UNKNOWN → outcome c bs ≡ refused (unplaced BREAKS-ANNOTATION)
+  pub unknown-refused : c .kind ≡ UNKNOWN → outcome edition c bs ≡ refused (unplaced BREAKS-ANNOTATION)
   unfolding keeps
   unknown-refused k = outcome-is ∙ rw (unknown-place c bs k, k)
 
   -- "BOOLEAN one byte, 0 or 1 (else 16)"
-  pub truth-held : c .physical ≡ BOOLEAN → ((c .kind ≡ UNKNOWN) → ⊥) → Held c bs (little bs ≤ 1) (Truth (eqb (little bs) 1)) 0
+  pub truth-held : c .physical ≡ BOOLEAN → ((c .kind ≡ UNKNOWN) → ⊥) → Held edition c bs (little bs ≤ 1) (Truth (eqb (little bs) 1)) 0
   unfolding keeps valueOf annotationPlace
   truth-held p known =
       held (leb (little bs) 1) (little bs ≤ 1) (Truth (eqb (little bs) 1)) 0
       (rw (ne-eqb (c .kind) UNKNOWN known, p)) (rw p) (rw p) (λ e. leb-true (little bs) 1 e, λ h. le-leb (little bs) 1 h)
 
   -- "Others: any"
-  pub any-whole : Whole c → ((c .kind ≡ UNKNOWN) → ⊥) → ((c .kind ≡ INTEGER) → ⊥) → ((c .kind ≡ TIME) → ⊥) → ((c .kind ≡ DECIMAL) → ⊥) → outcome c bs ≡ given (Signed (signed bs))
+  pub any-whole : Whole c → ((c .kind ≡ UNKNOWN) → ⊥) → ((c .kind ≡ INTEGER) → ⊥) → ((c .kind ≡ TIME) → ⊥) → ((c .kind ≡ DECIMAL) → ⊥) → outcome edition c bs ≡ given (Signed (signed bs))
   unfolding wholeKeeps
   any-whole whole known i m d =
       any (Signed (signed bs)) (whole-keeps known whole ∙ rw (ne-eqb (c .kind) INTEGER i, ne-eqb (c .kind) TIME m, ne-eqb (c .kind) DECIMAL d))
       (whole-value known whole ∙ rw (ne-eqb (c .kind) INTEGER i))
 
-  pub any-float : c .physical ≡ FLOAT → ((c .kind ≡ UNKNOWN) → ⊥) → outcome c bs ≡ given (Float (ofBits binary32 (little bs)))
+  pub any-float : c .physical ≡ FLOAT → ((c .kind ≡ UNKNOWN) → ⊥) → outcome edition c bs ≡ given (Float (ofBits binary32 (little bs)))
   unfolding keeps valueOf
   any-float p known = any (Float (ofBits binary32 (little bs))) (rw (ne-eqb (c .kind) UNKNOWN known, p)) (rw p)
 
-  pub any-double : c .physical ≡ DOUBLE → ((c .kind ≡ UNKNOWN) → ⊥) → outcome c bs ≡ given (Double (ofBits binary64 (little bs)))
+  pub any-double : c .physical ≡ DOUBLE → ((c .kind ≡ UNKNOWN) → ⊥) → outcome edition c bs ≡ given (Double (ofBits binary64 (little bs)))
   unfolding keeps valueOf
   any-double p known = any (Double (ofBits binary64 (little bs))) (rw (ne-eqb (c .kind) UNKNOWN known, p)) (rw p)
 
-  pub any-int96 : c .physical ≡ INT96 → ((c .kind ≡ UNKNOWN) → ⊥) → outcome c bs ≡ given (Bytes 0 (length bs))
+  pub any-int96 : c .physical ≡ INT96 → ((c .kind ≡ UNKNOWN) → ⊥) → outcome edition c bs ≡ given (Bytes 0 (length bs))
   unfolding keeps valueOf
   any-int96 p known = any (Bytes 0 (length bs)) (rw (ne-eqb (c .kind) UNKNOWN known, p)) (rw p)
 
-  pub any-bytes : ByteForm c → ((c .kind ≡ UNKNOWN) → ⊥) → ((c .kind ≡ DECIMAL) → ⊥) → isText (c .kind) ≡ false → outcome c bs ≡ given (Bytes 0 (length bs))
+  pub any-bytes : ByteForm c → ((c .kind ≡ UNKNOWN) → ⊥) → ((c .kind ≡ DECIMAL) → ⊥) → isText (c .kind) ≡ false → outcome edition c bs ≡ given (Bytes 0 (length bs))
   unfolding bytesKeep
   any-bytes form known d text =
       any (Bytes 0 (length bs)) (bytes-keeps form known ∙ rw (ne-eqb (c .kind) DECIMAL d, text)) (bytes-value form)

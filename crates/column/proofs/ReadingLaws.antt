@@ -10,11 +10,11 @@ use borrow.Author.Tests.{eqb-true}
 use Rattle.laws.specs.Bytes.{little, twosComplement}
 use Rattle.parquet.specs.Physical.{INT32, INT64, BYTE-ARRAY, FIXED-LEN-BYTE-ARRAY}
 use Rattle.parquet.specs.Logical.{UNKNOWN}
-use Rattle.refusal.specs.Numbers.{WRONG-LENGTH, UNKNOWN-TYPE}
+use Rattle.refusal.specs.Numbers.{WRONG-LENGTH}
 use Rattle.refusal.specs.Outcome.{Outcome, refused, unplaced}
 use Rattle.refusal.specs.declared.answers.Refusal.{Refusal}
 use Rattle.column_type.specs.declared.types.ColumnType.{ColumnType}
-use Rattle.column_type.specs.Lawful.{isLawful}
+use Rattle.column_type.specs.Lawful.{isLawful, typeRefusal}
 use Rattle.column.specs.Numbers.{signWeight}
 use Rattle.column.specs.Lengths.{isByteForm, lengthRight}
 use Rattle.column.specs.Annotations.{isWhole, wholeKeeps, bytesKeep, textPlace, annotationPlace, keeps}
@@ -25,22 +25,22 @@ use Rattle.column.specs.declared.value.Read.the-variants as read
 use Rattle.column.proofs.LengthLaws.{width-right}
 
 -- the column type is lawful, the length right, the annotation kept, and the value the one of the bytes
-pub record Reads (c : ColumnType) (bs : List ℕ) (v : Value) : Type 0 where
-  pub lawful : isLawful c ≡ true
+pub record Reads (edition : ℕ) (c : ColumnType) (bs : List ℕ) (v : Value) : Type 0 where
+  pub lawful : isLawful edition c ≡ true
   pub right : lengthRight c (length bs) ≡ true
   pub kept : keeps c bs ≡ true
   pub value : v ≡ valueOf c bs
 
 -- what reading answers, by its three tests
-abbrev pub tested : ColumnType → List ℕ → Bool → Bool → Bool → Read
-tested c bs l r k = cond l (cond r (checked k (annotationPlace c bs) (valueOf c bs)) (read.Refused (unplaced WRONG-LENGTH))) (read.Refused (unplaced UNKNOWN-TYPE))
+abbrev pub tested : ℕ → ColumnType → List ℕ → Bool → Bool → Bool → Read
+tested edition c bs l r k = cond l (cond r (checked k (annotationPlace c bs) (valueOf c bs)) (read.Refused (unplaced WRONG-LENGTH))) (read.Refused (typeRefusal edition))
 
-pub reads : (c : ColumnType) (bs : List ℕ) (v : Value) → readOf c bs ≡ read.Value v → Reads c bs v
+pub reads : (edition : ℕ) (c : ColumnType) (bs : List ℕ) (v : Value) → readOf edition c bs ≡ read.Value v → Reads edition c bs v
 unfolding readOf
-reads c bs v = go (isLawful c) refl (lengthRight c (length bs)) refl (keeps c bs) refl
+reads edition c bs v = go (isLawful edition c) refl (lengthRight c (length bs)) refl (keeps c bs) refl
   where
-    go : (l : Bool) → isLawful c ≡ l → (r : Bool) → lengthRight c (length bs) ≡ r → (k : Bool) → keeps c bs ≡ k
-        → tested c bs l r k ≡ read.Value v → Reads c bs v
+    go : (l : Bool) → isLawful edition c ≡ l → (r : Bool) → lengthRight c (length bs) ≡ r → (k : Bool) → keeps c bs ≡ k
+        → tested edition c bs l r k ≡ read.Value v → Reads edition c bs v
     go true p true q true s e = record { lawful = p; right = q; kept = s; value = cc }
     go true p true q false s e = absurd (let z : _≡_ {A = ℕ} 0 1 = cc in omega arith)
     go true p false q k s e = absurd (let z : _≡_ {A = ℕ} 0 1 = cc in omega arith)
@@ -51,14 +51,14 @@ pub refused-is : {A : Type 0} {q r : Refusal} → _≡_ {A = Outcome A} (refused
 refused-is e = cc
 
 -- behind the check of the column type
-pub read-lawful : (c : ColumnType) (bs : List ℕ) → isLawful c ≡ true → readLawful c bs ≡ readOf c bs
+pub read-lawful : (edition : ℕ) (c : ColumnType) (bs : List ℕ) → isLawful edition c ≡ true → readLawful c bs ≡ readOf edition c bs
 unfolding readOf
-read-lawful c bs e = rw e
+read-lawful edition c bs e = rw e
 
 -- and where that check refuses
-pub read-unlawful : (c : ColumnType) (bs : List ℕ) → isLawful c ≡ false → read.Refused (unplaced UNKNOWN-TYPE) ≡ readOf c bs
+pub read-unlawful : (edition : ℕ) (c : ColumnType) (bs : List ℕ) → isLawful edition c ≡ false → read.Refused (typeRefusal edition) ≡ readOf edition c bs
 unfolding readOf
-read-unlawful c bs e = rw e
+read-unlawful edition c bs e = rw e
 
 -- a value under UNKNOWN is refused at no byte
 pub unknown-place : (c : ColumnType) (bs : List ℕ) → c .kind ≡ UNKNOWN → annotationPlace c bs ≡ 0

@@ -14,5 +14,5 @@ outcomeOf (read.Value v) = given v
 outcomeOf (read.Refused r) = refused r
 
 -- the outcome of reading any bytes in any column
-unfoldable pub outcome : ColumnType → List ℕ → Outcome Value
-outcome c bs = outcomeOf (readOf c bs)
+unfoldable pub outcome : ℕ → ColumnType → List ℕ → Outcome Value
+outcome edition c bs = outcomeOf (readOf edition c bs)

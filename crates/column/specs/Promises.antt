@@ -34,9 +34,9 @@ pub record RightLength (c : ColumnType) (n : ℕ) : Type 0 where
   pub decimal : c .kind ≡ DECIMAL → ByteForm c → (1 ≤ n) × (n ≤ 256)
 
 -- bytes are read as a value exactly where something holds, and refused with 16 at a place exactly where it does not
-pub record Held (c : ColumnType) (bs : List ℕ) (P : Type 0) (v : Value) (place : ℕ) : Type 0 where
-  pub reads : (outcome c bs ≡ given v) ↔ P
-  pub breaks : (outcome c bs ≡ refused (refusal BREAKS-ANNOTATION place)) ↔ (P → ⊥)
+pub record Held (edition : ℕ) (c : ColumnType) (bs : List ℕ) (P : Type 0) (v : Value) (place : ℕ) : Type 0 where
+  pub reads : (outcome edition c bs ≡ given v) ↔ P
+  pub breaks : (outcome edition c bs ≡ refused (refusal BREAKS-ANNOTATION place)) ↔ (P → ⊥)
 
 -- "INT stays within its width": from -2^(n-1) to 2^(n-1) - 1
 pub record InWidth (n : ℕ) (z : ℤ) : Type 0 where

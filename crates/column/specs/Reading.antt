@@ -7,10 +7,10 @@ use lib.Ieee.{binary32, binary64, ofBits}
 use lib.IntN.{ℤ}
 use lib.ListN.{length}
 use Rattle.laws.specs.Bytes.{little}
-use Rattle.refusal.specs.Numbers.{WRONG-LENGTH, BREAKS-ANNOTATION, UNKNOWN-TYPE}
+use Rattle.refusal.specs.Numbers.{WRONG-LENGTH, BREAKS-ANNOTATION}
 use Rattle.refusal.specs.Outcome.{refusal, unplaced}
 use Rattle.column_type.specs.declared.types.ColumnType.{ColumnType}
-use Rattle.column_type.specs.Lawful.{isLawful}
+use Rattle.column_type.specs.Lawful.{isLawful, typeRefusal}
 use Rattle.parquet.specs.Physical.{BOOLEAN, FLOAT, DOUBLE}
 use Rattle.column.specs.Numbers.{signed}
 use Rattle.column.specs.Lengths.{lengthRight}
@@ -42,10 +42,10 @@ checked kept place v = cond kept (read.Value v) (read.Refused (refusal BREAKS-AN
 abbrev pub readLawful : ColumnType → List ℕ → Read
 readLawful c bs = cond (lengthRight c (length bs)) (checked (keeps c bs) (annotationPlace c bs) (valueOf c bs)) (read.Refused (unplaced WRONG-LENGTH))
 
--- "One value is checked for 20, then 15, then 16"
-unfoldable pub readOf : ColumnType → List ℕ → Read
-readOf c bs = cond (isLawful c) (readLawful c bs) (read.Refused (unplaced UNKNOWN-TYPE))
+-- "One value is checked for 20, then 15, then 16", and for 21 "before all others"
+unfoldable pub readOf : ℕ → ColumnType → List ℕ → Read
+readOf edition c bs = cond (isLawful edition c) (readLawful c bs) (read.Refused (typeRefusal edition))
 
 -- two values of one column, each checked so
-abbrev pub bothOf : ColumnType → List ℕ → List ℕ → Both
-bothOf c a b = record { first = readOf c a; second = readOf c b }
+abbrev pub bothOf : ℕ → ColumnType → List ℕ → List ℕ → Both
+bothOf edition c a b = record { first = readOf edition c a; second = readOf edition c b }

@@ -33,28 +33,30 @@ use crate::value::Both;
 use crate::value::Read;
 use crate::value::Value;
 use column_type::ColumnType;
+use column_type::type_refusal;
 
-// The value that the bytes are in a column of this type, or the first refusal that holds.
-pub fn read(c: ColumnType, value: &[u8]) -> Read
-    ensures { λ r. ⌜ r ≡ readOf c (now (value .entry)) ⌝ }
-    ensures { λ r. ⌜ outcomeOf r ≡ outcome c (now (value .entry)) ⌝ }
+// The value that the bytes are in a column of this type, or the first refusal that holds in the edition.
+pub fn read(edition: u32, c: ColumnType, value: &[u8]) -> Read
+    ensures { λ r. ⌜ r ≡ readOf edition c (now (value .entry)) ⌝ }
+    ensures { λ r. ⌜ outcomeOf r ≡ outcome edition c (now (value .entry)) ⌝ }
 {
-    if !column_type::is_lawful(c) {
-        return Read::Refused(refusals::UNKNOWN_TYPE);
+    if !column_type::is_lawful(edition, c) {
+        return Read::Refused(type_refusal(edition));
     }
     read_lawful(c, value)
 }
 
 // Two values of one column type, each as `read` answers it, behind one check of the column type.
-pub fn read_both(c: ColumnType, a: &[u8], b: &[u8]) -> Both
-    ensures { λ r. ⌜ r ≡ bothOf c (now (a .entry)) (now (b .entry)) ⌝ }
-    ensures { λ r. ⌜ outcomeOf (r .first) ≡ outcome c (now (a .entry)) ⌝ }
-    ensures { λ r. ⌜ outcomeOf (r .second) ≡ outcome c (now (b .entry)) ⌝ }
+pub fn read_both(edition: u32, c: ColumnType, a: &[u8], b: &[u8]) -> Both
+    ensures { λ r. ⌜ r ≡ bothOf edition c (now (a .entry)) (now (b .entry)) ⌝ }
+    ensures { λ r. ⌜ outcomeOf (r .first) ≡ outcome edition c (now (a .entry)) ⌝ }
+    ensures { λ r. ⌜ outcomeOf (r .second) ≡ outcome edition c (now (b .entry)) ⌝ }
 {
-    if !column_type::is_lawful(c) {
+    if !column_type::is_lawful(edition, c) {
+        let refusal = type_refusal(edition);
         return Both {
-            first: Read::Refused(refusals::UNKNOWN_TYPE),
-            second: Read::Refused(refusals::UNKNOWN_TYPE),
+            first: Read::Refused(refusal),
+            second: Read::Refused(refusal),
         };
     }
     let first = read_lawful(c, a);

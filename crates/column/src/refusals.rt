@@ -1,15 +1,9 @@
-// The refusals of a value. Text alone is refused at a byte, and anything else at 0.
+// The refusals of a value behind those of its column type. Text alone is refused at a byte, and anything else at 0.
 ghost use mathlib.Core.Path.{_≡_};
 ghost use Rattle.refusal.specs.Numbers.{BREAKS-ANNOTATION};
 ghost use Rattle.refusal.specs.Outcome.{refusal};
 use refusal::Refusal;
 use refusal::numbers;
-
-// No accepted sheet has a leaf of this column type.
-pub(crate) const UNKNOWN_TYPE: Refusal = Refusal {
-    number: numbers::UNKNOWN_TYPE,
-    place: 0,
-};
 
 // The value has the wrong length, or more than 65,536 bytes.
 pub(crate) const WRONG_LENGTH: Refusal = Refusal {

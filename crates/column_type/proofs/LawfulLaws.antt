@@ -23,6 +23,7 @@ use Rattle.tree.specs.Annotated.{annotated, kind}
 use Rattle.tree.specs.Rules.{isGroup, lengthShape}
 use Rattle.schema.specs.Rows.{rowWidth, role, row, parentBy, parentOf, rowsFrom, rows}
 use Rattle.edition.specs.Editions.{isKnown}
+use Rattle.column_type.proofs.RefusalLaws.{lawful-known}
 use Rattle.schema.specs.Outcome.{outcome}
 use Rattle.schema.specs.Demand.{EnoughOutput, Sound, Accepted}
 use Rattle.schema.proofs.DemandLaws.{accepted-exactly, rows-are}
@@ -44,10 +45,6 @@ leaf-column n rest = refl
 
 module _ (edition : ℕ) (c : ColumnType) (lawful : isLawful edition c ≡ true) where
   -- the parts of a lawful column type
-
-  known : isKnown edition ≡ true
-  unfolding isLawful
-  known = and-eq-true-iff (isKnown edition) (slotKeeps edition c) .0 lawful .0
 
   right : (((fits c && isLeaf (c .physical)) && lengthShape (c .physical) (pos (c .«type_length»))) ≡ true) × (annotationRight edition (slotOf c) ≡ true)
   unfolding isLawful slotKeeps
@@ -106,7 +103,7 @@ module _ (edition : ℕ) (c : ColumnType) (lawful : isLawful edition c ≡ true)
 
   sound : Sound edition sheet
   unfolding sheet
-  sound = leafSheet-sound (slotOf c) leaf-slot edition known
+  sound = leafSheet-sound (slotOf c) leaf-slot edition (lawful-known edition c lawful)
 
   total : totalOf sheet ≡ 2
   unfolding sheet

@@ -107,18 +107,18 @@ unfolding isLawful slotKeeps isKnown scaleMayEqual fits isLeaf physicalListed li
 opened edition = isLawful edition
 
 pub points-lawful : (edition : ℕ) → isKnown edition ≡ true → map (isLawful edition) lawfulPoints ≡ map (λ c. true) lawfulPoints
+unfolding opened
 points-lawful edition known = each (one-of-known edition known)
   where
     each : {e : ℕ} → OneOf e → map (isLawful e) lawfulPoints ≡ map (λ c. true) lawfulPoints
-    unfolding opened
     each first = refl
     each second = refl
 
 pub points-unlawful : (edition : ℕ) → isKnown edition ≡ true → map (isLawful edition) unlawfulPoints ≡ map (λ c. false) unlawfulPoints
+unfolding opened
 points-unlawful edition known = each (one-of-known edition known)
   where
     each : {e : ℕ} → OneOf e → map (isLawful e) unlawfulPoints ≡ map (λ c. false) unlawfulPoints
-    unfolding opened
     each first = refl
     each second = refl
 

@@ -84,3 +84,7 @@ UNKNOWN-TYPE = 20
 -- "edition unknown, before all others" (document 02, R-4)
 abbrev pub UNKNOWN-EDITION : ℕ
 UNKNOWN-EDITION = 21
+
+-- the greatest of them
+abbrev pub GREATEST : ℕ
+GREATEST = UNKNOWN-EDITION
