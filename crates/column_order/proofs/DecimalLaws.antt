@@ -99,8 +99,8 @@ both-false true = refl
 both-false false = refl
 
 -- the refusal of the first value, or else that of the second
-abbrev pub refusal : ColumnType → List ℕ → List ℕ → Order
-refusal c a b = unlessRefused FIRST (readOf c a) (unlessRefused SECOND (readOf c b) (Related Unordered))
+abbrev pub refusal : (edition : ℕ) → ColumnType → List ℕ → List ℕ → Order
+refusal edition c a b = unlessRefused FIRST (readOf edition c a) (unlessRefused SECOND (readOf edition c b) (Related Unordered))
 
 -- a byte form that is not FIXED has no width
 pub array-width : (c : ColumnType) → isByteDecimal c ≡ true → (c .physical ≡ FIXED-LEN-BYTE-ARRAY → ⊥) → widthOf c ≡ none
@@ -110,7 +110,7 @@ array-width c is other = rw (go (eqb (c .physical) BYTE-ARRAY) refl (and-left (i
     go true e f = eqb-true (c .physical) BYTE-ARRAY e
     go false e f = absurd (other (eqb-true (c .physical) FIXED-LEN-BYTE-ARRAY f))
 
-module _ (c : ColumnType) (lawful : isLawful c ≡ true) (is : isByteDecimal c ≡ true) where
+module _ (edition : ℕ) (c : ColumnType) (lawful : isLawful edition c ≡ true) (is : isByteDecimal c ≡ true) where
   form : isByteForm c ≡ true
   form = and-left (isByteForm c) (eqb (c .kind) DECIMAL) is
 
@@ -120,7 +120,7 @@ module _ (c : ColumnType) (lawful : isLawful c ≡ true) (is : isByteDecimal c �
   key : (bs : List ℕ) → keyOf c bs ≡ whole (number bs)
   key bs =
       let k = eqb-true (c .kind) DECIMAL kind in
-      decimal-key c bs k (takes-decimal c lawful k) ∙ ap whole (byte-number c bs is)
+      decimal-key c bs k (takes-decimal edition c lawful k) ∙ ap whole (byte-number c bs is)
 
   keeps-digits : (bs : List ℕ) → bytesKeep c bs ≡ inDigits (c .p1) (number bs)
   unfolding bytesKeep
@@ -130,10 +130,10 @@ module _ (c : ColumnType) (lawful : isLawful c ≡ true) (is : isByteDecimal c �
   no-place bs = rw (eqb-true (c .kind) DECIMAL kind)
 
   -- a value by its length and its number
-  read : (bs : List ℕ) → readOf c bs ≡ cond (lengthRight c (length bs)) (checked (inDigits (c .p1) (number bs)) 0 (Value.Bytes 0 (length bs))) (Read.Refused (unplaced WRONG-LENGTH))
+  read : (bs : List ℕ) → readOf edition c bs ≡ cond (lengthRight c (length bs)) (checked (inDigits (c .p1) (number bs)) 0 (Value.Bytes 0 (length bs))) (Read.Refused (unplaced WRONG-LENGTH))
   read bs =
       let known : eqb (c .kind) UNKNOWN ≡ false = ap (λ (n : ℕ). eqb n UNKNOWN) (eqb-true (c .kind) DECIMAL kind) in
-      sym (read-lawful c bs lawful)
+      sym (read-lawful edition c bs lawful)
       ∙ ap (λ (r : Read). cond (lengthRight c (length bs)) r (Read.Refused (unplaced WRONG-LENGTH)))
       (sym (bytes-read c bs known form) ∙ ap₂ (λ (t : Bool) (place : ℕ). checked t place (Value.Bytes 0 (length bs))) (keeps-digits bs) (no-place bs))
 
@@ -150,10 +150,10 @@ module _ (c : ColumnType) (lawful : isLawful c ≡ true) (is : isByteDecimal c �
   not-wide n w = rw (w, both-false (leb n mostBytes))
 
   -- a value of any other width, and one of its column's, by how its number fits the precision
-  other-width : (bs : List ℕ) → isWidth (widthOf c) (length bs) ≡ false → readOf c bs ≡ Read.Refused (unplaced WRONG-LENGTH)
+  other-width : (bs : List ℕ) → isWidth (widthOf c) (length bs) ≡ false → readOf edition c bs ≡ Read.Refused (unplaced WRONG-LENGTH)
   other-width bs w = read bs ∙ rw (not-wide (length bs) w)
 
-  own-width : (bs : List ℕ) → isWidth (widthOf c) (length bs) ≡ true → readOf c bs ≡ asRead (length bs) (fitOf bs (c .p1))
+  own-width : (bs : List ℕ) → isWidth (widthOf c) (length bs) ≡ true → readOf edition c bs ≡ asRead (length bs) (fitOf bs (c .p1))
   unfolding fitOf
   own-width bs w = read bs ∙ rw (wide (length bs) w) (go (isLength (length bs)) (inDigits (c .p1) (number bs)))
     where
@@ -163,16 +163,16 @@ module _ (c : ColumnType) (lawful : isLawful c ≡ true) (is : isByteDecimal c �
       go false t = refl
 
   module _ (a b : List ℕ) where
-    judged : valuesOrder c a b ≡ orderOf c a b
+    judged : valuesOrder edition c a b ≡ orderOf edition c a b
     judged =
         let k = eqb-true (c .kind) DECIMAL kind in
-        ap (λ (t : Bool). cond t (valuesOrder c a b) (Refused (ofNeither NO-ORDER))) (sym (decimal-ordered c k (takes-decimal c lawful k))) ∙ order-lawful c a b lawful
+        ap (λ (t : Bool). cond t (valuesOrder edition c a b) (Refused (ofNeither NO-ORDER))) (sym (decimal-ordered c k (takes-decimal edition c lawful k))) ∙ order-lawful edition c a b lawful
 
-    pub wrong-first : isWidth (widthOf c) (length a) ≡ false → refusal c a b ≡ orderOf c a b
-    wrong-first w = let e : refusal c a b ≡ valuesOrder c a b = rw (other-width a w) in e ∙ judged
+    pub wrong-first : isWidth (widthOf c) (length a) ≡ false → refusal edition c a b ≡ orderOf edition c a b
+    wrong-first w = let e : refusal edition c a b ≡ valuesOrder edition c a b = rw (other-width a w) in e ∙ judged
 
-    pub wrong-second : isWidth (widthOf c) (length b) ≡ false → refusal c a b ≡ orderOf c a b
-    wrong-second w = let e : refusal c a b ≡ valuesOrder c a b = rw (other-width b w) in e ∙ judged
+    pub wrong-second : isWidth (widthOf c) (length b) ≡ false → refusal edition c a b ≡ orderOf edition c a b
+    wrong-second w = let e : refusal edition c a b ≡ valuesOrder edition c a b = rw (other-width b w) in e ∙ judged
 
     keys : fitOf a (c .p1) ≡ fit.Within → fitOf b (c .p1) ≡ fit.Within → (refused : Order) → asOrder refused (asCompared (decimalOrder a b)) ≡ Related (keyOrder (keyOf c a) (keyOf c b))
     unfolding keyOrder
@@ -181,10 +181,10 @@ module _ (c : ColumnType) (lawful : isLawful c ≡ true) (is : isByteDecimal c �
         ∙ whole-as refused (number a) (number b)
         ∙ sym (ap₂ (λ (k l : Key). Related (keyOrder k l)) (key a) (key b))
 
-    pub own-widths : isWidth (widthOf c) (length a) ≡ true → isWidth (widthOf c) (length b) ≡ true → asOrder (refusal c a b) (orderWithin a b (c .p1)) ≡ orderOf c a b
+    pub own-widths : isWidth (widthOf c) (length a) ≡ true → isWidth (widthOf c) (length b) ≡ true → asOrder (refusal edition c a b) (orderWithin a b (c .p1)) ≡ orderOf edition c a b
     unfolding orderWithin
     own-widths v w =
-        let e : asOrder (refusal c a b) (orderWithin a b (c .p1)) ≡ valuesOrder c a b = rw (own-width a v, own-width b w) (go (fitOf a (c .p1)) (fitOf b (c .p1)) refl refl) in
+        let e : asOrder (refusal edition c a b) (orderWithin a b (c .p1)) ≡ valuesOrder edition c a b = rw (own-width a v, own-width b w) (go (fitOf a (c .p1)) (fitOf b (c .p1)) refl refl) in
         e ∙ judged
       where
         go : (f g : Fit) → fitOf a (c .p1) ≡ f → fitOf b (c .p1) ≡ g

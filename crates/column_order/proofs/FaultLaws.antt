@@ -7,13 +7,16 @@ use Prim.Native.Nat.{ℕ, _<_, _≤_}
 use native.Mathlib.Omega.{arith}
 use Rattle.refusal.specs.Faults.{FIRST, SECOND, NEITHER, fault, ofNeither, Sided, given, refused}
 use Rattle.refusal.specs.Bounds.{Bounded}
-use Rattle.refusal.specs.Numbers.{NO-ORDER, UNKNOWN-TYPE}
+use Rattle.refusal.specs.Numbers.{NO-ORDER, UNKNOWN-TYPE, UNKNOWN-EDITION, GREATEST}
 use Rattle.refusal.specs.Outcome.{refusal}
 use Rattle.refusal.specs.Outcome as reading
 use Rattle.refusal.specs.declared.answers.Refusal.{Refusal}
 use Rattle.refusal.specs.declared.answers.Fault.{Fault}
 use Rattle.float_order.specs.declared.relation.Relation.{Relation}
-use Rattle.column_type.specs.Lawful.{isLawful}
+use Rattle.column_type.specs.Lawful.{isLawful, typeRefusal}
+use Rattle.column_type.proofs.RefusalLaws.{unknown-unlawful, refusal-known, refusal-unknown, refusal-either}
+use Rattle.edition.specs.Editions.{isKnown}
+use Rattle.laws.proofs.BoolLaws.{by-test}
 use Rattle.column_type.specs.declared.types.ColumnType.{ColumnType}
 use Rattle.column.specs.Lengths.{mostBytes}
 use Rattle.column.specs.Reading.{readOf}
@@ -41,9 +44,9 @@ refusal-is : {f g : Fault} → _≡_ {A = Sided Relation} (refused f) (refused g
 refusal-is e = ap (λ (x : Fault). x .refusal) (fault-is e)
 
 -- a value that is given was read
-given-read : (c : ColumnType) (bs : List ℕ) (v : Value) → column.outcome c bs ≡ reading.given v → readOf c bs ≡ read.Value v
+given-read : (edition : ℕ) (c : ColumnType) (bs : List ℕ) (v : Value) → column.outcome edition c bs ≡ reading.given v → readOf edition c bs ≡ read.Value v
 unfolding column.outcome
-given-read c bs v = go (readOf c bs)
+given-read edition c bs v = go (readOf edition c bs)
   where
     go : (r : Read) → column.outcomeOf r ≡ reading.given v → r ≡ read.Value v
     go (read.Value w) e = cc
@@ -53,24 +56,26 @@ given-read c bs v = go (readOf c bs)
 
 pub record FaultBounded (f : Fault) : Type 0 where
   pub side : f .side ≤ SECOND
-  pub refusal : Bounded UNKNOWN-TYPE mostBytes (f .refusal)
+  pub refusal : Bounded GREATEST mostBytes (f .refusal)
 
-pub order-bounded : (c : ColumnType) (a b : List ℕ) (f : Fault) → orderOf c a b ≡ Refused f → FaultBounded f
+pub order-bounded : (edition : ℕ) (c : ColumnType) (a b : List ℕ) (f : Fault) → orderOf edition c a b ≡ Refused f → FaultBounded f
 unfolding orderOf
-order-bounded c a b f = go (isLawful c) (hasOrder c) (readOf c a) refl (readOf c b) refl
+order-bounded edition c a b f = go (isLawful edition c) (hasOrder c) (readOf edition c a) refl (readOf edition c b) refl
   where
     same : (g : Fault) → FaultBounded g → Refused g ≡ Refused f → FaultBounded f
     same g h e = let i : g ≡ f = cc in subst FaultBounded i h
 
-    neither : (number : ℕ) → 0 < number → number ≤ UNKNOWN-TYPE → FaultBounded (ofNeither number)
+    neither : (number : ℕ) → 0 < number → number ≤ GREATEST → FaultBounded (ofNeither number)
     neither number some h = record { side = omega arith; refusal = record { some-number = some; most-number = h; most-place = omega arith } }
 
-    go : (l h : Bool) (x : Read) → readOf c a ≡ x → (y : Read) → readOf c b ≡ y
-        → cond l (cond h (unlessRefused FIRST x (unlessRefused SECOND y (Related (keyOrder (keyOf c a) (keyOf c b))))) (Refused (ofNeither NO-ORDER))) (Refused (ofNeither UNKNOWN-TYPE)) ≡ Refused f → FaultBounded f
-    go false h x p y q e = same (ofNeither UNKNOWN-TYPE) (neither UNKNOWN-TYPE (omega arith) (omega arith)) e
+    go : (l h : Bool) (x : Read) → readOf edition c a ≡ x → (y : Read) → readOf edition c b ≡ y
+        → cond l (cond h (unlessRefused FIRST x (unlessRefused SECOND y (Related (keyOrder (keyOf c a) (keyOf c b))))) (Refused (ofNeither NO-ORDER))) (Refused (fault NEITHER (typeRefusal edition))) ≡ Refused f → FaultBounded f
+    go false h x p y q e =
+        same (fault NEITHER (typeRefusal edition))
+        (refusal-either edition (λ r. FaultBounded (fault NEITHER r)) (neither UNKNOWN-TYPE (omega arith) (omega arith)) (neither UNKNOWN-EDITION (omega arith) (omega arith))) e
     go true false x p y q e = same (ofNeither NO-ORDER) (neither NO-ORDER (omega arith) (omega arith)) e
-    go true true (read.Refused r) p y q e = same (fault FIRST r) (record { side = omega arith; refusal = refusal-bounded c a r p }) e
-    go true true (read.Value v) p (read.Refused r) q e = same (fault SECOND r) (record { side = omega arith; refusal = refusal-bounded c b r q }) e
+    go true true (read.Refused r) p y q e = same (fault FIRST r) (record { side = omega arith; refusal = refusal-bounded edition c a r p }) e
+    go true true (read.Value v) p (read.Refused r) q e = same (fault SECOND r) (record { side = omega arith; refusal = refusal-bounded edition c b r q }) e
     go true true (read.Value v) p (read.Value w) q e = absurd (let z : _≡_ {A = ℕ} 0 1 = cc in omega arith)
 
 -- ---- what ordering comes to, by what reading its values comes to
@@ -80,17 +85,17 @@ abbrev after : ℕ → reading.Outcome Value → Sided Relation → Sided Relati
 after side (reading.refused r) next = refused (fault side r)
 after side (reading.given v) next = next
 
-module _ (c : ColumnType) (a b : List ℕ) where
-  -- 20, 17, the first value, the second value
+module _ (edition : ℕ) (c : ColumnType) (a b : List ℕ) where
+  -- 21 and 20, 17, the first value, the second value
   abbrev steps : Bool → Bool → reading.Outcome Value → reading.Outcome Value → Sided Relation
-  steps l h x y = cond l (cond h (after FIRST x (after SECOND y (given (keyOrder (keyOf c a) (keyOf c b))))) (refused (ofNeither NO-ORDER))) (refused (ofNeither UNKNOWN-TYPE))
+  steps l h x y = cond l (cond h (after FIRST x (after SECOND y (given (keyOrder (keyOf c a) (keyOf c b))))) (refused (ofNeither NO-ORDER))) (refused (fault NEITHER (typeRefusal edition)))
 
-  outcome-is : outcome c a b ≡ steps (isLawful c) (hasOrder c) (column.outcome c a) (column.outcome c b)
+  outcome-is : outcome edition c a b ≡ steps (isLawful edition c) (hasOrder c) (column.outcome edition c a) (column.outcome edition c b)
   unfolding outcome orderOf column.outcome
-  outcome-is = go (isLawful c) (hasOrder c) (readOf c a) (readOf c b)
+  outcome-is = go (isLawful edition c) (hasOrder c) (readOf edition c a) (readOf edition c b)
     where
       go : (l h : Bool) (x y : Read)
-          → outcomeOf (cond l (cond h (unlessRefused FIRST x (unlessRefused SECOND y (Related (keyOrder (keyOf c a) (keyOf c b))))) (Refused (ofNeither NO-ORDER))) (Refused (ofNeither UNKNOWN-TYPE)))
+          → outcomeOf (cond l (cond h (unlessRefused FIRST x (unlessRefused SECOND y (Related (keyOrder (keyOf c a) (keyOf c b))))) (Refused (ofNeither NO-ORDER))) (Refused (fault NEITHER (typeRefusal edition))))
           ≡ steps l h (column.outcomeOf x) (column.outcomeOf y)
       go false h x y = refl
       go true false x y = refl
@@ -102,54 +107,56 @@ module _ (c : ColumnType) (a b : List ℕ) where
 
   module _ (number place : ℕ) where
     -- the side is 1 or 2, or 0
-    pub fault-most : (side : ℕ) → outcome c a b ≡ refused (fault side (refusal number place)) → side ≤ 2
+    pub fault-most : (side : ℕ) → outcome edition c a b ≡ refused (fault side (refusal number place)) → side ≤ 2
     unfolding outcome
-    fault-most side e = order-bounded c a b (fault side (refusal number place)) (go (orderOf c a b) e) .side
+    fault-most side e = order-bounded edition c a b (fault side (refusal number place)) (go (orderOf edition c a b) e) .side
       where
         go : (o : Order) → outcomeOf o ≡ refused (fault side (refusal number place)) → o ≡ Refused (fault side (refusal number place))
         go (Related r) f = absurd (let z : _≡_ {A = ℕ} 0 1 = cc in omega arith)
         go (Refused g) f = ap Refused (fault-is f)
 
     -- the first value's: what reading answers for it
-    to-first : outcome c a b ≡ refused (fault FIRST (refusal number place)) → (isLawful c ≡ true) × (hasOrder c ≡ true) × (column.outcome c a ≡ reading.refused (refusal number place))
-    to-first e = go (isLawful c) refl (hasOrder c) refl (column.outcome c a) refl (column.outcome c b) (sym outcome-is ∙ e)
+    to-first : outcome edition c a b ≡ refused (fault FIRST (refusal number place)) → (isLawful edition c ≡ true) × (hasOrder c ≡ true) × (column.outcome edition c a ≡ reading.refused (refusal number place))
+    to-first e = go (isLawful edition c) refl (hasOrder c) refl (column.outcome edition c a) refl (column.outcome edition c b) (sym outcome-is ∙ e)
       where
-        go : (l : Bool) → isLawful c ≡ l → (h : Bool) → hasOrder c ≡ h → (x : reading.Outcome Value) → column.outcome c a ≡ x → (y : reading.Outcome Value) → steps l h x y ≡ refused (fault FIRST (refusal number place))
-            → (isLawful c ≡ true) × (hasOrder c ≡ true) × (column.outcome c a ≡ reading.refused (refusal number place))
+        go : (l : Bool) → isLawful edition c ≡ l → (h : Bool) → hasOrder c ≡ h → (x : reading.Outcome Value) → column.outcome edition c a ≡ x → (y : reading.Outcome Value) → steps l h x y ≡ refused (fault FIRST (refusal number place))
+            → (isLawful edition c ≡ true) × (hasOrder c ≡ true) × (column.outcome edition c a ≡ reading.refused (refusal number place))
         go false p h q x r y f = absurd (omega (arith, side-is f))
         go true p false q x r y f = absurd (omega (arith, side-is f))
         go true p true q (reading.refused t) r y f = (p, q, r ∙ ap reading.refused (refusal-is f))
         go true p true q (reading.given v) r (reading.refused t) f = absurd (omega (arith, side-is f))
         go true p true q (reading.given v) r (reading.given w) f = absurd (let z : _≡_ {A = ℕ} 0 1 = cc in omega arith)
 
-    pub first-exactly : (outcome c a b ≡ refused (fault FIRST (refusal number place))) ↔ ((isLawful c ≡ true) × (hasOrder c ≡ true) × (column.outcome c a ≡ reading.refused (refusal number place)))
+    pub first-exactly : (outcome edition c a b ≡ refused (fault FIRST (refusal number place))) ↔ ((isLawful edition c ≡ true) × (hasOrder c ≡ true) × (column.outcome edition c a ≡ reading.refused (refusal number place)))
     first-exactly = (to-first, λ h. outcome-is ∙ rw (h .0, h .1, h .2))
 
     -- the second's: the first is read, and reading answers it for the second
-    to-second : outcome c a b ≡ refused (fault SECOND (refusal number place)) → (isLawful c ≡ true) × (hasOrder c ≡ true) × Valid c a × (column.outcome c b ≡ reading.refused (refusal number place))
-    to-second e = go (isLawful c) refl (hasOrder c) refl (column.outcome c a) refl (column.outcome c b) refl (sym outcome-is ∙ e)
+    to-second : outcome edition c a b ≡ refused (fault SECOND (refusal number place)) → (isLawful edition c ≡ true) × (hasOrder c ≡ true) × Valid edition c a × (column.outcome edition c b ≡ reading.refused (refusal number place))
+    to-second e = go (isLawful edition c) refl (hasOrder c) refl (column.outcome edition c a) refl (column.outcome edition c b) refl (sym outcome-is ∙ e)
       where
-        go : (l : Bool) → isLawful c ≡ l → (h : Bool) → hasOrder c ≡ h → (x : reading.Outcome Value) → column.outcome c a ≡ x → (y : reading.Outcome Value) → column.outcome c b ≡ y → steps l h x y ≡ refused (fault SECOND (refusal number place))
-            → (isLawful c ≡ true) × (hasOrder c ≡ true) × Valid c a × (column.outcome c b ≡ reading.refused (refusal number place))
+        go : (l : Bool) → isLawful edition c ≡ l → (h : Bool) → hasOrder c ≡ h → (x : reading.Outcome Value) → column.outcome edition c a ≡ x → (y : reading.Outcome Value) → column.outcome edition c b ≡ y → steps l h x y ≡ refused (fault SECOND (refusal number place))
+            → (isLawful edition c ≡ true) × (hasOrder c ≡ true) × Valid edition c a × (column.outcome edition c b ≡ reading.refused (refusal number place))
         go false p h q x r y s f = absurd (omega (arith, side-is f))
         go true p false q x r y s f = absurd (omega (arith, side-is f))
         go true p true q (reading.refused t) r y s f = absurd (omega (arith, side-is f))
-        go true p true q (reading.given v) r (reading.refused t) s f = (p, q, (v, given-read c a v r), s ∙ ap reading.refused (refusal-is f))
+        go true p true q (reading.given v) r (reading.refused t) s f = (p, q, (v, given-read edition c a v r), s ∙ ap reading.refused (refusal-is f))
         go true p true q (reading.given v) r (reading.given w) s f = absurd (let z : _≡_ {A = ℕ} 0 1 = cc in omega arith)
 
-    from-second : isLawful c ≡ true → hasOrder c ≡ true → Valid c a → column.outcome c b ≡ reading.refused (refusal number place) → outcome c a b ≡ refused (fault SECOND (refusal number place))
+    from-second : isLawful edition c ≡ true → hasOrder c ≡ true → Valid edition c a → column.outcome edition c b ≡ reading.refused (refusal number place) → outcome edition c a b ≡ refused (fault SECOND (refusal number place))
     unfolding column.outcome
     from-second l h v e = outcome-is ∙ rw (l, h, v .1, e)
 
-    pub second-exactly : (outcome c a b ≡ refused (fault SECOND (refusal number place))) ↔ ((isLawful c ≡ true) × (hasOrder c ≡ true) × Valid c a × (column.outcome c b ≡ reading.refused (refusal number place)))
+    pub second-exactly : (outcome edition c a b ≡ refused (fault SECOND (refusal number place))) ↔ ((isLawful edition c ≡ true) × (hasOrder c ≡ true) × Valid edition c a × (column.outcome edition c b ≡ reading.refused (refusal number place)))
     second-exactly = (to-second, λ h. from-second (h .0) (h .1) (h .2) (h .3))
 
-    -- neither's: 20 of an unlawful column type, or 17 of a column without order
+    -- neither's: 21 of an unknown edition, 20 of an unlawful column type, or 17 of a column without order
     abbrev pub OfNeither : Type 0
-    OfNeither = ((isLawful c ≡ false) × (number ≡ UNKNOWN-TYPE) × (place ≡ 0)) ⊎ ((isLawful c ≡ true) × (hasOrder c ≡ false) × (number ≡ NO-ORDER) × (place ≡ 0))
+    OfNeither = ((isKnown edition ≡ false) × (number ≡ UNKNOWN-EDITION) × (place ≡ 0))
+        ⊎ ((isKnown edition ≡ true) × (isLawful edition c ≡ false) × (number ≡ UNKNOWN-TYPE) × (place ≡ 0))
+        ⊎ ((isLawful edition c ≡ true) × (hasOrder c ≡ false) × (number ≡ NO-ORDER) × (place ≡ 0))
 
-    to-neither : outcome c a b ≡ refused (fault NEITHER (refusal number place)) → OfNeither
-    to-neither e = go (isLawful c) refl (hasOrder c) refl (column.outcome c a) (column.outcome c b) (sym outcome-is ∙ e)
+    to-neither : outcome edition c a b ≡ refused (fault NEITHER (refusal number place)) → OfNeither
+    to-neither e = go (isLawful edition c) refl (hasOrder c) refl (column.outcome edition c a) (column.outcome edition c b) (sym outcome-is ∙ e)
       where
         number-is : {r : Refusal} → r ≡ refusal number place → number ≡ r .number
         number-is f = sym (ap (λ (x : Refusal). x .number) f)
@@ -157,16 +164,20 @@ module _ (c : ColumnType) (a b : List ℕ) where
         place-is : {r : Refusal} → r ≡ refusal number place → place ≡ r .place
         place-is f = sym (ap (λ (x : Refusal). x .place) f)
 
-        go : (l : Bool) → isLawful c ≡ l → (h : Bool) → hasOrder c ≡ h → (x y : reading.Outcome Value) → steps l h x y ≡ refused (fault NEITHER (refusal number place)) → OfNeither
-        go false p h q x y f = inl (p, number-is (refusal-is f), place-is (refusal-is f))
-        go true p false q x y f = inr (p, q, number-is (refusal-is f), place-is (refusal-is f))
+        go : (l : Bool) → isLawful edition c ≡ l → (h : Bool) → hasOrder c ≡ h → (x y : reading.Outcome Value) → steps l h x y ≡ refused (fault NEITHER (refusal number place)) → OfNeither
+        go false p h q x y f =
+            by-test (isKnown edition)
+            (λ k. let r = sym (refusal-known edition k) ∙ refusal-is f in inr (inl (k, p, number-is r, place-is r)))
+            (λ u. let r = sym (refusal-unknown edition u) ∙ refusal-is f in inl (u, number-is r, place-is r))
+        go true p false q x y f = inr (inr (p, q, number-is (refusal-is f), place-is (refusal-is f)))
         go true p true q (reading.refused t) y f = absurd (omega (arith, side-is f))
         go true p true q (reading.given v) (reading.refused t) f = absurd (omega (arith, side-is f))
         go true p true q (reading.given v) (reading.given w) f = absurd (let z : _≡_ {A = ℕ} 0 1 = cc in omega arith)
 
-    from-neither : OfNeither → outcome c a b ≡ refused (fault NEITHER (refusal number place))
-    from-neither (inl (l, n, p)) = outcome-is ∙ rw (l, n, p)
-    from-neither (inr (l, h, n, p)) = outcome-is ∙ rw (l, h, n, p)
+    from-neither : OfNeither → outcome edition c a b ≡ refused (fault NEITHER (refusal number place))
+    from-neither (inl (u, n, p)) = outcome-is ∙ rw (unknown-unlawful edition c u, refusal-unknown edition u, n, p)
+    from-neither (inr (inl (k, l, n, p))) = outcome-is ∙ rw (l, refusal-known edition k, n, p)
+    from-neither (inr (inr (l, h, n, p))) = outcome-is ∙ rw (l, h, n, p)
 
-    pub neither-exactly : (outcome c a b ≡ refused (fault NEITHER (refusal number place))) ↔ OfNeither
+    pub neither-exactly : (outcome edition c a b ≡ refused (fault NEITHER (refusal number place))) ↔ OfNeither
     neither-exactly = (to-neither, from-neither)

@@ -124,10 +124,10 @@ module _ (c : ColumnType) (a b : List ℕ) where
       go false e false i false false = stretches d
 
 -- the stretch of a read value lies within the bytes that were read
-pub read-within : (c : ColumnType) (bs : List ℕ) (v : Value) → readOf c bs ≡ Read.Value v → stretchEnd v ≤ length bs
+pub read-within : (edition : ℕ) (c : ColumnType) (bs : List ℕ) (v : Value) → readOf edition c bs ≡ Read.Value v → stretchEnd v ≤ length bs
 unfolding valueOf
-read-within c bs v e =
-    rw (reads c bs v e .value) (go (eqb (c .physical) BOOLEAN) (isWhole c) (isUnsigned c) (eqb (c .physical) FLOAT) (eqb (c .physical) DOUBLE))
+read-within edition c bs v e =
+    rw (reads edition c bs v e .value) (go (eqb (c .physical) BOOLEAN) (isWhole c) (isUnsigned c) (eqb (c .physical) FLOAT) (eqb (c .physical) DOUBLE))
   where
     go : (t w u f d : Bool) → stretchEnd
         (cond t (Truth (eqb (little bs) 1))
@@ -140,9 +140,9 @@ read-within c bs v e =
     go false false u false true = omega arith
     go false false u false false = omega arith
 
-pub read-order : (c : ColumnType) (a b : List ℕ) (x y : Value) → isByteDecimal c ≡ false → readOf c a ≡ Read.Value x → readOf c b ≡ Read.Value y
+pub read-order : (edition : ℕ) (c : ColumnType) (a b : List ℕ) (x y : Value) → isByteDecimal c ≡ false → readOf edition c a ≡ Read.Value x → readOf edition c b ≡ Read.Value y
     → valueOrder a b x y ≡ keyOrder (keyOf c a) (keyOf c b)
-read-order c a b x y d p q =
-    let r = reads c a x p in
-    let s = reads c b y q in
+read-order edition c a b x y d p q =
+    let r = reads edition c a x p in
+    let s = reads edition c b y q in
     ap₂ (valueOrder a b) (r .value) (s .value) ∙ value-order c a b d (r .kept) (s .kept)

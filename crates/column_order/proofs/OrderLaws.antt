@@ -117,42 +117,42 @@ keys-comparable c a b = go (eqb (c .physical) BOOLEAN) (isWhole c) (eqb (c .phys
 
 -- ---- the values of a column that has an order
 
-module _ (c : ColumnType) (ordered : hasOrder c ≡ true) where
+module _ (edition : ℕ) (c : ColumnType) (ordered : hasOrder c ≡ true) where
   -- valid values are ordered by their keys
-  pub order-keys : (a b : List ℕ) → Valid c a → Valid c b → orderOf c a b ≡ Related (keyOrder (keyOf c a) (keyOf c b))
+  pub order-keys : (a b : List ℕ) → Valid edition c a → Valid edition c b → orderOf edition c a b ≡ Related (keyOrder (keyOf c a) (keyOf c b))
   unfolding orderOf
-  order-keys a b p q = rw (reads c a (p .0) (p .1) .lawful, ordered, p .1, q .1)
+  order-keys a b p q = rw (reads edition c a (p .0) (p .1) .lawful, ordered, p .1, q .1)
 
   -- exchanged values are answered the other way round
-  pub order-turned : (a b : List ℕ) → Valid c a → Valid c b → orderOf c b a ≡ turned (orderOf c a b)
+  pub order-turned : (a b : List ℕ) → Valid edition c a → Valid edition c b → orderOf edition c b a ≡ turned (orderOf edition c a b)
   order-turned a b p q = rw (order-keys b a q p, order-keys a b p q) (ap Related (key-turned (keyOf c a) (keyOf c b)))
 
   -- a value that is no NaN equals itself
-  pub order-refl : (a : List ℕ) → Valid c a → (NotANumber c a → ⊥) → orderOf c a a ≡ Related Equal
+  pub order-refl : (a : List ℕ) → Valid edition c a → (NotANumber c a → ⊥) → orderOf edition c a a ≡ Related Equal
   order-refl a p h = order-keys a a p p ∙ ap Related (key-refl (keyOf c a) h)
 
   -- transitive
-  pub order-trans : (a b d : List ℕ) → Valid c a → Valid c b → Valid c d
-      → atMost (orderOf c a b) ≡ true → atMost (orderOf c b d) ≡ true → atMost (orderOf c a d) ≡ true
+  pub order-trans : (a b d : List ℕ) → Valid edition c a → Valid edition c b → Valid edition c d
+      → atMost (orderOf edition c a b) ≡ true → atMost (orderOf edition c b d) ≡ true → atMost (orderOf edition c a d) ≡ true
   order-trans a b d p q r e f =
       ap atMost (order-keys a d p r)
       ∙ key-trans (keyOf c a) (keyOf c b) (keyOf c d) (ap atMost (sym (order-keys a b p q)) ∙ e) (ap atMost (sym (order-keys b d q r)) ∙ f)
 
   -- antisymmetric, up to equal
-  pub order-antisym : (a b : List ℕ) → Valid c a → Valid c b → atMost (orderOf c a b) ≡ true → atMost (orderOf c b a) ≡ true → orderOf c a b ≡ Related Equal
-  order-antisym a b p q e f = at-most-both (orderOf c a b) e (ap atMost (sym (order-turned a b p q)) ∙ f)
+  pub order-antisym : (a b : List ℕ) → Valid edition c a → Valid edition c b → atMost (orderOf edition c a b) ≡ true → atMost (orderOf edition c b a) ≡ true → orderOf edition c a b ≡ Related Equal
+  order-antisym a b p q e f = at-most-both (orderOf edition c a b) e (ap atMost (sym (order-turned a b p q)) ∙ f)
 
   -- total, where neither is a NaN
-  pub order-total : (a b : List ℕ) → Valid c a → Valid c b → (NotANumber c a → ⊥) → (NotANumber c b → ⊥)
-      → (atMost (orderOf c a b) || atMost (orderOf c b a)) ≡ true
+  pub order-total : (a b : List ℕ) → Valid edition c a → Valid edition c b → (NotANumber c a → ⊥) → (NotANumber c b → ⊥)
+      → (atMost (orderOf edition c a b) || atMost (orderOf edition c b a)) ≡ true
   order-total a b p q h k =
       rw (order-turned a b p q, order-keys a b p q) (key-total (keyOf c a) (keyOf c b) (keys-comparable c a b) h k)
 
   -- a NaN is unordered, to itself too
-  pub order-nan : (a b : List ℕ) → Valid c a → Valid c b → NotANumber c a → (orderOf c a b ≡ Related Unordered) × (orderOf c b a ≡ Related Unordered)
+  pub order-nan : (a b : List ℕ) → Valid edition c a → Valid edition c b → NotANumber c a → (orderOf edition c a b ≡ Related Unordered) × (orderOf edition c b a ≡ Related Unordered)
   unfolding keyOrder
   order-nan a b p q e =
-      let u : orderOf c a b ≡ Related Unordered = order-keys a b p q ∙ ap (λ (k : Key). Related (keyOrder k (keyOf c b))) e in
+      let u : orderOf edition c a b ≡ Related Unordered = order-keys a b p q ∙ ap (λ (k : Key). Related (keyOrder k (keyOf c b))) e in
       (u, order-turned a b p q ∙ ap turned u)
 
 -- ---- decimals
@@ -166,19 +166,19 @@ or-cases true b e = inl refl
 or-cases false b e = inr e
 
 -- rule 10 of a lawful DECIMAL
-lawful-on : (c : ColumnType) → isLawful c ≡ true → c .kind ≡ DECIMAL → decimalOn (c .physical) ≡ true
+lawful-on : (edition : ℕ) (c : ColumnType) → isLawful edition c ≡ true → c .kind ≡ DECIMAL → decimalOn (c .physical) ≡ true
 unfolding slotOf rule10 annotationOf statedOf namedOf validParameters
-lawful-on c l k = rw k at (ten c l .1)
+lawful-on edition c l k = rw k at (ten edition c l .1)
 
-pub takes-decimal : (c : ColumnType) → isLawful c ≡ true → c .kind ≡ DECIMAL → TakesDecimal c
-takes-decimal c l k =
+pub takes-decimal : (edition : ℕ) (c : ColumnType) → isLawful edition c ≡ true → c .kind ≡ DECIMAL → TakesDecimal c
+takes-decimal edition c l k =
     ⊎-elim
     (λ three. ⊎-elim
     (λ two. ⊎-elim (λ e. inl (eqb-true p INT32 e)) (λ e. inr (inl (eqb-true p INT64 e))) (or-cases (eqb p INT32) (eqb p INT64) two))
     (λ e. inr (inr (inl (eqb-true p FIXED-LEN-BYTE-ARRAY e))))
     (or-cases (eqb p INT32 || eqb p INT64) (eqb p FIXED-LEN-BYTE-ARRAY) three))
     (λ e. inr (inr (inr (eqb-true p BYTE-ARRAY e))))
-    (or-cases (eqb p INT32 || eqb p INT64 || eqb p FIXED-LEN-BYTE-ARRAY) (eqb p BYTE-ARRAY) (lawful-on c l k))
+    (or-cases (eqb p INT32 || eqb p INT64 || eqb p FIXED-LEN-BYTE-ARRAY) (eqb p BYTE-ARRAY) (lawful-on edition c l k))
   where
     p : ℕ
     p = c .physical
@@ -197,20 +197,20 @@ decimal-key c bs k (inr (inr (inl e))) = rw (k, e)
 decimal-key c bs k (inr (inr (inr e))) = rw (k, e)
 
 -- decimals of one column compare as the signed numbers that their bytes stand for, whatever their lengths and physical type
-module _ (c : ColumnType) (a b : List ℕ) (p : Valid c a) (q : Valid c b) (kind : c .kind ≡ DECIMAL) where
+module _ (edition : ℕ) (c : ColumnType) (a b : List ℕ) (p : Valid edition c a) (q : Valid edition c b) (kind : c .kind ≡ DECIMAL) where
   physical : TakesDecimal c
-  physical = takes-decimal c (reads c a (p .0) (p .1) .lawful) kind
+  physical = takes-decimal edition c (reads edition c a (p .0) (p .1) .lawful) kind
 
-  pub decimal-order : orderOf c a b ≡ Related (wholeOrder (numberOf c a) (numberOf c b))
+  pub decimal-order : orderOf edition c a b ≡ Related (wholeOrder (numberOf c a) (numberOf c b))
   unfolding keyOrder
-  decimal-order = order-keys c (decimal-ordered c kind physical) a b p q ∙ ap₂ (λ (k l : Key). Related (keyOrder k l)) (decimal-key c a kind physical) (decimal-key c b kind physical)
+  decimal-order = order-keys edition c (decimal-ordered c kind physical) a b p q ∙ ap₂ (λ (k l : Key). Related (keyOrder k l)) (decimal-key c a kind physical) (decimal-key c b kind physical)
 
-  pub decimal-less : (orderOf c a b ≡ Related Less) ↔ (numberOf c a <ℤ numberOf c b)
+  pub decimal-less : (orderOf edition c a b ≡ Related Less) ↔ (numberOf c a <ℤ numberOf c b)
   decimal-less = rw decimal-order (related-as (whole-less (numberOf c a) (numberOf c b)))
 
   -- equal exactly when the numbers are
-  pub decimal-equal : (orderOf c a b ≡ Related Equal) ↔ (numberOf c a ≡ numberOf c b)
+  pub decimal-equal : (orderOf edition c a b ≡ Related Equal) ↔ (numberOf c a ≡ numberOf c b)
   decimal-equal = rw decimal-order (related-as (whole-equal (numberOf c a) (numberOf c b)))
 
-  pub decimal-greater : (orderOf c a b ≡ Related Greater) ↔ (numberOf c b <ℤ numberOf c a)
+  pub decimal-greater : (orderOf edition c a b ≡ Related Greater) ↔ (numberOf c b <ℤ numberOf c a)
   decimal-greater = rw decimal-order (related-as (whole-greater (numberOf c a) (numberOf c b)))

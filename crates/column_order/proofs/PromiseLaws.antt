@@ -85,15 +85,15 @@ reversed-less Unordered e = absurd (let z : _≡_ {A = ℕ} 0 1 = cc in omega ar
 
 -- valid values of a column that has an order ---------------------------------------------------------------------------------------
 
-module _ (c : ColumnType) (ordered : hasOrder c ≡ true) (a b : List ℕ) (p : Valid c a) (q : Valid c b) where
-  as-numbers : (x y : ℤ) → keyOf c a ≡ whole x → keyOf c b ≡ whole y → AsNumbers c a b x y
+module _ (edition : ℕ) (c : ColumnType) (ordered : hasOrder c ≡ true) (a b : List ℕ) (p : Valid edition c a) (q : Valid edition c b) where
+  as-numbers : (x y : ℤ) → keyOf c a ≡ whole x → keyOf c b ≡ whole y → AsNumbers edition c a b x y
   unfolding keyOrder
   as-numbers x y e f =
-      let o : orderOf c a b ≡ Related (wholeOrder x y) = order-keys c ordered a b p q ∙ ap₂ (λ (k l : Key). Related (keyOrder k l)) e f in
+      let o : orderOf edition c a b ≡ Related (wholeOrder x y) = order-keys edition c ordered a b p q ∙ ap₂ (λ (k l : Key). Related (keyOrder k l)) e f in
       record { less = rw o (related-as (whole-less x y)); equal = rw o (related-as (whole-equal x y)); greater = rw o (related-as (whole-greater x y)) }
 
   -- "signed for numbers, dates, times, decimals"
-  pub signed-order : Whole c → ((c .kind ≡ INTEGER) × (c .p2 ≡ 0) → ⊥) → AsNumbers c a b (signed a) (signed b)
+  pub signed-order : Whole c → ((c .kind ≡ INTEGER) × (c .p2 ≡ 0) → ⊥) → AsNumbers edition c a b (signed a) (signed b)
   unfolding keyOf numberOf
   signed-order w s = by-physical w
     where
@@ -103,31 +103,31 @@ module _ (c : ColumnType) (ordered : hasOrder c ≡ true) (a b : List ℕ) (p : 
           (λ k. by-test (eqb (c .p2) 0) (λ z. absurd (s (eqb-true (c .kind) INTEGER k, eqb-true (c .p2) 0 z))) (λ z. rw (k, z)))
           (λ k. rw k)
 
-      by-physical : Whole c → AsNumbers c a b (signed a) (signed b)
+      by-physical : Whole c → AsNumbers edition c a b (signed a) (signed b)
       by-physical (inl e) = as-numbers (signed a) (signed b) (rw (e, not-unsigned)) (rw (e, not-unsigned))
       by-physical (inr e) = as-numbers (signed a) (signed b) (rw (e, not-unsigned)) (rw (e, not-unsigned))
 
   -- "unsigned for INT(n, false) and BOOLEAN"
-  pub unsigned-order : Whole c → c .kind ≡ INTEGER → c .p2 ≡ 0 → AsNumbers c a b (pos (little a)) (pos (little b))
+  pub unsigned-order : Whole c → c .kind ≡ INTEGER → c .p2 ≡ 0 → AsNumbers edition c a b (pos (little a)) (pos (little b))
   unfolding keyOf
   unsigned-order (inl e) k s = as-numbers (pos (little a)) (pos (little b)) (rw (e, k, s)) (rw (e, k, s))
   unsigned-order (inr e) k s = as-numbers (pos (little a)) (pos (little b)) (rw (e, k, s)) (rw (e, k, s))
 
-  pub truth-order : c .physical ≡ BOOLEAN → AsNumbers c a b (pos (little a)) (pos (little b))
+  pub truth-order : c .physical ≡ BOOLEAN → AsNumbers edition c a b (pos (little a)) (pos (little b))
   unfolding keyOf
   truth-order e = as-numbers (pos (little a)) (pos (little b)) (rw e) (rw e)
 
   -- decimals in byte forms
-  pub decimal-bytes-order : ByteForm c → c .kind ≡ DECIMAL → AsNumbers c a b (number a) (number b)
+  pub decimal-bytes-order : ByteForm c → c .kind ≡ DECIMAL → AsNumbers edition c a b (number a) (number b)
   unfolding keyOf numberOf
   decimal-bytes-order (inl e) k = as-numbers (number a) (number b) (rw (e, k)) (rw (e, k))
   decimal-bytes-order (inr e) k = as-numbers (number a) (number b) (rw (e, k)) (rw (e, k))
 
   -- "unsigned byte-wise for other bytes"
-  pub bytes-order : ByteForm c → ((c .kind ≡ DECIMAL) → ⊥) → AsBytes c a b
+  pub bytes-order : ByteForm c → ((c .kind ≡ DECIMAL) → ⊥) → AsBytes edition c a b
   unfolding keyOf keyOrder
   bytes-order form d =
-      let o : orderOf c a b ≡ Related (byteOrder a b) = order-keys c ordered a b p q ∙ ap₂ (λ (k l : Key). Related (keyOrder k l)) (key form a) (key form b) in
+      let o : orderOf edition c a b ≡ Related (byteOrder a b) = order-keys edition c ordered a b p q ∙ ap₂ (λ (k l : Key). Related (keyOrder k l)) (key form a) (key form b) in
       record {
         less = rw o (related-as (less-before a b, before-less a b));
         equal = rw o (related-as (equal-same a b, λ e. rw (← e) (byte-refl a)));
@@ -149,7 +149,7 @@ module _ (c : ColumnType) (ordered : hasOrder c ≡ true) (a b : List ℕ) (p : 
     number-key : (bs : List ℕ) → (Nan bs → ⊥) → keyOf c bs ≡ whole (bitsBelow (top f) (little bs))
     number-key bs h = key bs ∙ ap numberKey (float.number-key f (little bs) (omega (arith, h)))
 
-    format-numbers : (Nan a → ⊥) → (Nan b → ⊥) → AsNumbers c a b (bitsBelow (top f) (little a)) (bitsBelow (top f) (little b))
+    format-numbers : (Nan a → ⊥) → (Nan b → ⊥) → AsNumbers edition c a b (bitsBelow (top f) (little a)) (bitsBelow (top f) (little b))
     format-numbers h k = as-numbers (bitsBelow (top f) (little a)) (bitsBelow (top f) (little b)) (number-key a h) (number-key b k)
 
     -- two numbers are never unordered
@@ -169,7 +169,7 @@ module _ (c : ColumnType) (ordered : hasOrder c ≡ true) (a b : List ℕ) (p : 
     nan-second (bytes x) = refl
     nan-second none = refl
 
-    format-unordered : (orderOf c a b ≡ Related Unordered) ↔ (Nan a ⊎ Nan b)
+    format-unordered : (orderOf edition c a b ≡ Related Unordered) ↔ (Nan a ⊎ Nan b)
     unfolding keyOrder
     format-unordered = (
       λ e. by-test (ltb (ones f * hid f) (little a % top f)) (λ t. inl (ltb-true (ones f * hid f) (little a % top f) t))
@@ -177,7 +177,7 @@ module _ (c : ColumnType) (ordered : hasOrder c ≡ true) (a b : List ℕ) (p : 
           (λ u. absurd
           (ordered-numbers (bitsBelow (top f) (little a)) (bitsBelow (top f) (little b))
           (related-is (sym (ap₂ (λ (k l : Key). Related (keyOrder k l)) (number-key a (λ h. ltb-no (ones f * hid f) (little a % top f) t h)) (number-key b (λ h. ltb-no (ones f * hid f) (little b % top f) u h)))
-          ∙ sym (order-keys c ordered a b p q)
+          ∙ sym (order-keys edition c ordered a b p q)
           ∙ e))))),
       nan-either,
     )
@@ -185,19 +185,19 @@ module _ (c : ColumnType) (ordered : hasOrder c ≡ true) (a b : List ℕ) (p : 
         ltb-no : (m n : ℕ) → ltb m n ≡ false → m < n → ⊥
         ltb-no m n t h = omega (arith, ltb-false m n t, h)
 
-        nan-either : Nan a ⊎ Nan b → orderOf c a b ≡ Related Unordered
-        nan-either (inl h) = order-keys c ordered a b p q ∙ ap (λ (k : Key). Related (keyOrder k (keyOf c b))) (nan-key a h)
-        nan-either (inr h) = order-keys c ordered a b p q ∙ ap Related (ap (keyOrder (keyOf c a)) (nan-key b h) ∙ nan-second (keyOf c a))
+        nan-either : Nan a ⊎ Nan b → orderOf edition c a b ≡ Related Unordered
+        nan-either (inl h) = order-keys edition c ordered a b p q ∙ ap (λ (k : Key). Related (keyOrder k (keyOf c b))) (nan-key a h)
+        nan-either (inr h) = order-keys edition c ordered a b p q ∙ ap Related (ap (keyOrder (keyOf c a)) (nan-key b h) ∙ nan-second (keyOf c a))
 
   module _ (e : c .physical ≡ FLOAT) where
     float-key : (bs : List ℕ) → keyOf c bs ≡ numberKey (floatKey binary32 (little bs))
     unfolding keyOf
     float-key bs = rw e
 
-    pub float-order : (IsNan FLOAT-SIGN FLOAT-INFINITY (little a) → ⊥) → (IsNan FLOAT-SIGN FLOAT-INFINITY (little b) → ⊥) → AsNumbers c a b (bitsBelow FLOAT-SIGN (little a)) (bitsBelow FLOAT-SIGN (little b))
+    pub float-order : (IsNan FLOAT-SIGN FLOAT-INFINITY (little a) → ⊥) → (IsNan FLOAT-SIGN FLOAT-INFINITY (little b) → ⊥) → AsNumbers edition c a b (bitsBelow FLOAT-SIGN (little a)) (bitsBelow FLOAT-SIGN (little b))
     float-order = format-numbers binary32 float-key
 
-    pub float-unordered : (orderOf c a b ≡ Related Unordered) ↔ (IsNan FLOAT-SIGN FLOAT-INFINITY (little a) ⊎ IsNan FLOAT-SIGN FLOAT-INFINITY (little b))
+    pub float-unordered : (orderOf edition c a b ≡ Related Unordered) ↔ (IsNan FLOAT-SIGN FLOAT-INFINITY (little a) ⊎ IsNan FLOAT-SIGN FLOAT-INFINITY (little b))
     float-unordered = format-unordered binary32 float-key
 
   module _ (e : c .physical ≡ DOUBLE) where
@@ -205,10 +205,10 @@ module _ (c : ColumnType) (ordered : hasOrder c ≡ true) (a b : List ℕ) (p : 
     unfolding keyOf
     double-key bs = rw e
 
-    pub double-order : (IsNan DOUBLE-SIGN DOUBLE-INFINITY (little a) → ⊥) → (IsNan DOUBLE-SIGN DOUBLE-INFINITY (little b) → ⊥) → AsNumbers c a b (bitsBelow DOUBLE-SIGN (little a)) (bitsBelow DOUBLE-SIGN (little b))
+    pub double-order : (IsNan DOUBLE-SIGN DOUBLE-INFINITY (little a) → ⊥) → (IsNan DOUBLE-SIGN DOUBLE-INFINITY (little b) → ⊥) → AsNumbers edition c a b (bitsBelow DOUBLE-SIGN (little a)) (bitsBelow DOUBLE-SIGN (little b))
     double-order = format-numbers binary64 double-key
 
-    pub double-unordered : (orderOf c a b ≡ Related Unordered) ↔ (IsNan DOUBLE-SIGN DOUBLE-INFINITY (little a) ⊎ IsNan DOUBLE-SIGN DOUBLE-INFINITY (little b))
+    pub double-unordered : (orderOf edition c a b ≡ Related Unordered) ↔ (IsNan DOUBLE-SIGN DOUBLE-INFINITY (little a) ⊎ IsNan DOUBLE-SIGN DOUBLE-INFINITY (little b))
     double-unordered = format-unordered binary64 double-key
 
 -- "INTERVAL and INT96 have none" ---------------------------------------------------------------------------------------------------
@@ -222,37 +222,38 @@ pub tested-no-order : (c : ColumnType) → (c .physical ≡ INT96) ⊎ (c .kind 
 tested-no-order c (inl e) = rw e
 tested-no-order c (inr e) = by-test (eqb (c .physical) INT96) (λ i. rw i) (λ i. rw (i, e))
 
-pub no-order-exactly : (c : ColumnType) (a b : List ℕ) → (outcome c a b ≡ refused (ofNeither NO-ORDER)) ↔ ((isLawful c ≡ true) × ((c .physical ≡ INT96) ⊎ (c .kind ≡ INTERVAL)))
-no-order-exactly c a b = (
-  λ e. by-cases (neither-exactly c a b NO-ORDER 0 .0 e),
-  λ h. neither-exactly c a b NO-ORDER 0 .1 (inr (h .0, tested-no-order c (h .1), refl, refl)),
+pub no-order-exactly : (edition : ℕ) (c : ColumnType) (a b : List ℕ) → (outcome edition c a b ≡ refused (ofNeither NO-ORDER)) ↔ ((isLawful edition c ≡ true) × ((c .physical ≡ INT96) ⊎ (c .kind ≡ INTERVAL)))
+no-order-exactly edition c a b = (
+  λ e. by-cases (neither-exactly edition c a b NO-ORDER 0 .0 e),
+  λ h. neither-exactly edition c a b NO-ORDER 0 .1 (inr (inr (h .0, tested-no-order c (h .1), refl, refl))),
 )
   where
-    by-cases : OfNeither c a b NO-ORDER 0 → (isLawful c ≡ true) × ((c .physical ≡ INT96) ⊎ (c .kind ≡ INTERVAL))
+    by-cases : OfNeither edition c a b NO-ORDER 0 → (isLawful edition c ≡ true) × ((c .physical ≡ INT96) ⊎ (c .kind ≡ INTERVAL))
     by-cases (inl h) = absurd (omega (arith, h .1))
-    by-cases (inr h) = (h .0, no-order-tested c (h .1))
+    by-cases (inr (inl h)) = absurd (omega (arith, h .2))
+    by-cases (inr (inr h)) = (h .0, no-order-tested c (h .1))
 
 -- decimals over all four physical types ----------------------------------------------------------------------------------------------
 
-pub decimals-order : (c : ColumnType) (a b : List ℕ) → Valid c a → Valid c b → c .kind ≡ DECIMAL → AsNumbers c a b (numberOf c a) (numberOf c b)
-decimals-order c a b p q k = record { less = decimal-less c a b p q k; equal = decimal-equal c a b p q k; greater = decimal-greater c a b p q k }
+pub decimals-order : (edition : ℕ) (c : ColumnType) (a b : List ℕ) → Valid edition c a → Valid edition c b → c .kind ≡ DECIMAL → AsNumbers edition c a b (numberOf c a) (numberOf c b)
+decimals-order edition c a b p q k = record { less = decimal-less edition c a b p q k; equal = decimal-equal edition c a b p q k; greater = decimal-greater edition c a b p q k }
 
 -- outcomes and answers ------------------------------------------------------------------------------------------------------------------
 
-module _ (c : ColumnType) (a b : List ℕ) where
+module _ (edition : ℕ) (c : ColumnType) (a b : List ℕ) where
   -- a relation is given exactly where it is answered
-  pub given-exactly : (r : Relation) → (outcome c a b ≡ given r) ↔ (orderOf c a b ≡ Related r)
+  pub given-exactly : (r : Relation) → (outcome edition c a b ≡ given r) ↔ (orderOf edition c a b ≡ Related r)
   unfolding outcome
-  given-exactly r = (go (orderOf c a b), λ e. ap outcomeOf e)
+  given-exactly r = (go (orderOf edition c a b), λ e. ap outcomeOf e)
     where
       go : (o : Order) → outcomeOf o ≡ given r → o ≡ Related r
       go (Related s) e = cc
       go (Refused f) e = absurd (let z : _≡_ {A = ℕ} 0 1 = cc in omega arith)
 
   -- and so is a refusal
-  pub refused-exactly : (f : Fault) → (outcome c a b ≡ refused f) ↔ (orderOf c a b ≡ Refused f)
+  pub refused-exactly : (f : Fault) → (outcome edition c a b ≡ refused f) ↔ (orderOf edition c a b ≡ Refused f)
   unfolding outcome
-  refused-exactly f = (go (orderOf c a b), λ e. ap outcomeOf e)
+  refused-exactly f = (go (orderOf edition c a b), λ e. ap outcomeOf e)
     where
       go : (o : Order) → outcomeOf o ≡ refused f → o ≡ Refused f
       go (Related s) e = absurd (let z : _≡_ {A = ℕ} 0 1 = cc in omega arith)

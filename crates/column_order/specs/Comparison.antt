@@ -14,8 +14,8 @@ use Rattle.column_order.specs.declared.answer.Order.{Order}
 use Rattle.column_order.specs.declared.answer.Order.the-variants.{Related, Refused}
 
 -- bytes that a value is read of
-abbrev pub Valid : ColumnType → List ℕ → Type 0
-Valid c bs = (x : Value) × (readOf c bs ≡ Read.Value x)
+abbrev pub Valid : ℕ → ColumnType → List ℕ → Type 0
+Valid edition c bs = (x : Value) × (readOf edition c bs ≡ Read.Value x)
 
 -- a FLOAT or a DOUBLE that is a NaN
 abbrev pub NotANumber : ColumnType → List ℕ → Type 0

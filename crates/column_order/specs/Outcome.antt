@@ -14,5 +14,5 @@ outcomeOf (order.Related r) = given r
 outcomeOf (order.Refused f) = refused f
 
 -- the outcome of ordering any two values in any column
-unfoldable pub outcome : ColumnType → List ℕ → List ℕ → Sided Relation
-outcome c a b = outcomeOf (orderOf c a b)
+unfoldable pub outcome : ℕ → ColumnType → List ℕ → List ℕ → Sided Relation
+outcome edition c a b = outcomeOf (orderOf edition c a b)

@@ -13,10 +13,10 @@ use Rattle.float_order.specs.declared.relation.Relation.the-variants.{Less, Equ
 use Rattle.column_order.specs.declared.answer.Order.the-variants.{Related}
 
 -- two values stand to each other as two numbers do
-pub record AsNumbers (c : ColumnType) (a b : List ℕ) (x y : ℤ) : Type 0 where
-  pub less : (orderOf c a b ≡ Related Less) ↔ (x <ℤ y)
-  pub equal : (orderOf c a b ≡ Related Equal) ↔ (x ≡ y)
-  pub greater : (orderOf c a b ≡ Related Greater) ↔ (y <ℤ x)
+pub record AsNumbers (edition : ℕ) (c : ColumnType) (a b : List ℕ) (x y : ℤ) : Type 0 where
+  pub less : (orderOf edition c a b ≡ Related Less) ↔ (x <ℤ y)
+  pub equal : (orderOf edition c a b ≡ Related Equal) ↔ (x ≡ y)
+  pub greater : (orderOf edition c a b ≡ Related Greater) ↔ (y <ℤ x)
 
 -- "unsigned byte-wise .., a proper prefix being less"
 pub data Before : List ℕ → List ℕ → Type 0 where
@@ -25,10 +25,10 @@ pub data Before : List ℕ → List ℕ → Type 0 where
   further : (x : ℕ) (xs ys : List ℕ) → Before xs ys → Before (x ∷ xs) (x ∷ ys)
 
 -- two values stand to each other as their bytes do
-pub record AsBytes (c : ColumnType) (a b : List ℕ) : Type 0 where
-  pub less : (orderOf c a b ≡ Related Less) ↔ Before a b
-  pub equal : (orderOf c a b ≡ Related Equal) ↔ (a ≡ b)
-  pub greater : (orderOf c a b ≡ Related Greater) ↔ Before b a
+pub record AsBytes (edition : ℕ) (c : ColumnType) (a b : List ℕ) : Type 0 where
+  pub less : (orderOf edition c a b ≡ Related Less) ↔ Before a b
+  pub equal : (orderOf edition c a b ≡ Related Equal) ↔ (a ≡ b)
+  pub greater : (orderOf edition c a b ≡ Related Greater) ↔ Before b a
 
 -- a FLOAT or a DOUBLE over its bits, of which the sign has a weight: "those below the sign as a whole number, negated where the sign is set"
 abbrev pub bitsBelow : ℕ → ℕ → ℤ

@@ -6,6 +6,10 @@ use mathlib.Core.List.{List}
 use lib.Ieee as Ieee
 use lib.IntN.{ℤ, pos}
 use lib.ListN.{take, drop}
+use mathlib.Core.Path.{_≡_}
+use Rattle.column_type.specs.declared.types.ColumnType.{ColumnType}
+use Rattle.column.specs.Reading.{readOf}
+use Rattle.column.specs.declared.value.Read.{Read}
 use Rattle.column.specs.declared.value.Value.{Value}
 use Rattle.column.specs.declared.value.Value.the-variants.{Truth, Signed, Unsigned, Float, Double, Bytes}
 use Rattle.float_order.specs.Floats.{floatOrder}
@@ -95,3 +99,9 @@ relationOf Compared.Equal = Equal
 relationOf Compared.Greater = Greater
 relationOf Compared.Beyond = Unordered
 relationOf Compared.WrongLength = Unordered
+
+-- what reading answers for two values in some edition
+pub record BothRead (c : ColumnType) (first second : Read) (a b : List ℕ) : Type 0 where
+  pub edition : ℕ
+  pub first-is : first ≡ readOf edition c a
+  pub second-is : second ≡ readOf edition c b

@@ -1,4 +1,8 @@
 // What ordering two values answers, and the refusals that are laid on neither of them.
+ghost use mathlib.Core.Path.{_≡_};
+ghost use Rattle.refusal.specs.Faults.{NEITHER, fault};
+ghost use Rattle.column_type.specs.Lawful.{typeRefusal};
+use column_type::type_refusal;
 use float_order::Relation;
 use refusal::Fault;
 use refusal::NEITHER;
@@ -11,15 +15,6 @@ pub enum Order {
     Refused(Fault),
 }
 
-// No accepted sheet has a leaf of this column type.
-pub(crate) const UNKNOWN_TYPE: Fault = Fault {
-    side: NEITHER,
-    refusal: Refusal {
-        number: numbers::UNKNOWN_TYPE,
-        place: 0,
-    },
-};
-
 // This column has no order.
 pub(crate) const NO_ORDER: Fault = Fault {
     side: NEITHER,
@@ -28,3 +23,14 @@ pub(crate) const NO_ORDER: Fault = Fault {
         place: 0,
     },
 };
+
+// The column type is not lawful in the edition.
+pub(crate) fn unlawful_type(edition: u32) -> Fault
+    ensures { λ r. ⌜ r ≡ fault NEITHER (typeRefusal edition) ⌝ }
+{
+    let refusal = type_refusal(edition);
+    Fault {
+        side: NEITHER,
+        refusal,
+    }
+}

@@ -28,19 +28,19 @@ pub(crate) fn is_byte_decimal(c: ColumnType) -> bool
 }
 
 // The order of two values in a lawful column of decimals in bytes, which has one. Where the two are not ordered, one is refused.
-pub(crate) fn order_decimals(c: ColumnType, a: &[u8], b: &[u8]) -> Order
-    requires { ⌜ (isLawful c ≡ true) × (isByteDecimal c ≡ true) ⌝ }
-    ensures { λ r. ⌜ r ≡ orderOf c (now (a .entry)) (now (b .entry)) ⌝ }
+pub(crate) fn order_decimals(edition: u32, c: ColumnType, a: &[u8], b: &[u8]) -> Order
+    requires { ⌜ (isLawful edition c ≡ true) × (isByteDecimal c ≡ true) ⌝ }
+    ensures { λ r. ⌜ r ≡ orderOf edition c (now (a .entry)) (now (b .entry)) ⌝ }
 {
     if !is_width(c, a.len()) {
-        return refused(c, a, b);
+        return refused(edition, c, a, b);
     }
     if !is_width(c, b.len()) {
-        return refused(c, a, b);
+        return refused(edition, c, a, b);
     }
     let compared = decimal::compare_within(a, b, c.p1);
     if is_refused(compared) {
-        return refused(c, a, b);
+        return refused(edition, c, a, b);
     }
     Order::Related(relation_of(compared))
 }
@@ -84,10 +84,10 @@ fn is_width(c: ColumnType, n: usize) -> bool
 }
 
 // The refusal of the first of two values, or else that of the second.
-fn refused(c: ColumnType, a: &[u8], b: &[u8]) -> Order
-    ensures { λ r. ⌜ r ≡ unlessRefused FIRST (readOf c (now (a .entry))) (unlessRefused SECOND (readOf c (now (b .entry))) (declared.Order.Related relation.Relation.Unordered)) ⌝ }
+fn refused(edition: u32, c: ColumnType, a: &[u8], b: &[u8]) -> Order
+    ensures { λ r. ⌜ r ≡ unlessRefused FIRST (readOf edition c (now (a .entry))) (unlessRefused SECOND (readOf edition c (now (b .entry))) (declared.Order.Related relation.Relation.Unordered)) ⌝ }
 {
-    let both = column::read_both(c, a, b);
+    let both = column::read_both(edition, c, a, b);
     let first = both.first;
     let second = both.second;
     if let Read::Refused(refusal) = first {

@@ -1,17 +1,17 @@
 // Ordering two values of a column.
 ghost use mathlib.Core.Path.{_≡_};
 ghost use mathlib.Core.Bool.{false};
-ghost use Rattle.refusal.specs.Faults.{SECOND};
+ghost use Rattle.refusal.specs.Faults.{FIRST, SECOND};
 ghost use Rattle.column.specs.Lengths.{isByteDecimal};
-ghost use Rattle.column.specs.Reading.{readOf};
 ghost use Rattle.column.specs.declared.value.Read as declared;
 ghost use Rattle.column_order.specs.Keys.{keyOf, keyOrder};
-ghost use Rattle.column_order.specs.Order.{hasOrder, isOfUnknownType, unlessRefused, valuesOrder, orderOf};
+ghost use Rattle.column_order.specs.Order.{hasOrder, isOfUnknownType, unlessRefused, orderOf};
+ghost use Rattle.column_order.specs.Values.{BothRead};
 ghost use Rattle.column_order.specs.Outcome.{outcomeOf, outcome};
 ghost use Rattle.column_order.specs.declared.answer.Order as order;
 use crate::answer::NO_ORDER;
 use crate::answer::Order;
-use crate::answer::UNKNOWN_TYPE;
+use crate::answer::unlawful_type;
 use crate::decimals::is_byte_decimal;
 use crate::decimals::order_decimals;
 use crate::values::compare_bytes;
@@ -30,30 +30,30 @@ use refusal::Fault;
 use refusal::SECOND;
 use refusal::numbers;
 
-// The order of two values in a column of this type.
-pub fn order(c: ColumnType, a: &[u8], b: &[u8]) -> Order
-    ensures { λ r. ⌜ r ≡ orderOf c (now (a .entry)) (now (b .entry)) ⌝ }
-    ensures { λ r. ⌜ outcomeOf r ≡ outcome c (now (a .entry)) (now (b .entry)) ⌝ }
+// The order of two values in a column of this type, by the rules of an edition.
+pub fn order(edition: u32, c: ColumnType, a: &[u8], b: &[u8]) -> Order
+    ensures { λ r. ⌜ r ≡ orderOf edition c (now (a .entry)) (now (b .entry)) ⌝ }
+    ensures { λ r. ⌜ outcomeOf r ≡ outcome edition c (now (a .entry)) (now (b .entry)) ⌝ }
 {
     if is_byte_decimal(c) {
-        if !column_type::is_lawful(c) {
-            return Order::Refused(UNKNOWN_TYPE);
+        if !column_type::is_lawful(edition, c) {
+            return Order::Refused(unlawful_type(edition));
         }
-        return order_decimals(c, a, b);
+        return order_decimals(edition, c, a, b);
     }
-    order_others(c, a, b)
+    order_others(edition, c, a, b)
 }
 
-// The order of two values in a column of anything but decimals in bytes: 20, then 17, then what the values decide.
-fn order_others(c: ColumnType, a: &[u8], b: &[u8]) -> Order
+// The order of two values in a column of anything but decimals in bytes: 21 and 20, then 17, then what the values decide.
+fn order_others(edition: u32, c: ColumnType, a: &[u8], b: &[u8]) -> Order
     requires { ⌜ isByteDecimal c ≡ false ⌝ }
-    ensures { λ r. ⌜ r ≡ orderOf c (now (a .entry)) (now (b .entry)) ⌝ }
+    ensures { λ r. ⌜ r ≡ orderOf edition c (now (a .entry)) (now (b .entry)) ⌝ }
 {
-    let both = column::read_both(c, a, b);
+    let both = column::read_both(edition, c, a, b);
     let first = both.first;
     let second = both.second;
     if is_of_unknown_type(first) {
-        return Order::Refused(UNKNOWN_TYPE);
+        return Order::Refused(unlawful_type(edition));
     }
     if !has_order(c) {
         return Order::Refused(NO_ORDER);
@@ -61,13 +61,15 @@ fn order_others(c: ColumnType, a: &[u8], b: &[u8]) -> Order
     order_first(c, first, a, second, b)
 }
 
-// Whether a value is refused since no accepted sheet has a leaf of its column type.
+// Whether a value is refused for its column type.
 fn is_of_unknown_type(read: Read) -> bool
     ensures { λ r. ⌜ r ≡ isOfUnknownType read ⌝ }
 {
     match read {
         Read::Value(_) => false,
-        Read::Refused(refusal) => refusal.number == numbers::UNKNOWN_TYPE,
+        Read::Refused(refusal) => {
+            (refusal.number == numbers::UNKNOWN_TYPE) | (refusal.number == numbers::UNKNOWN_EDITION)
+        }
     }
 }
 
@@ -83,8 +85,8 @@ fn has_order(c: ColumnType) -> bool
 
 // The refusal of the first of two values, or what the second makes of it.
 fn order_first(c: ColumnType, first: Read, a: &[u8], second: Read, b: &[u8]) -> Order
-    requires { ⌜ (first ≡ readOf c (now a)) × (second ≡ readOf c (now b)) × (isByteDecimal c ≡ false) ⌝ }
-    ensures { λ r. ⌜ r ≡ valuesOrder c (now (a .entry)) (now (b .entry)) ⌝ }
+    requires { ⌜ BothRead c first second (now a) (now b) × (isByteDecimal c ≡ false) ⌝ }
+    ensures { λ r. ⌜ r ≡ unlessRefused FIRST first (unlessRefused SECOND second (order.Order.Related (keyOrder (keyOf c (now (a .entry))) (keyOf c (now (b .entry)))))) ⌝ }
 {
     match first {
         Read::Value(x) => order_second(c, x, a, second, b),
@@ -97,8 +99,8 @@ fn order_first(c: ColumnType, first: Read, a: &[u8], second: Read, b: &[u8]) -> 
 
 // The refusal of the second value, or its order against a first that was read.
 fn order_second(c: ColumnType, x: Value, a: &[u8], second: Read, b: &[u8]) -> Order
-    requires { ⌜ (readOf c (now a) ≡ declared.Read.Value x) × (second ≡ readOf c (now b)) × (isByteDecimal c ≡ false) ⌝ }
-    ensures { λ r. ⌜ r ≡ unlessRefused SECOND (readOf c (now (b .entry))) (order.Order.Related (keyOrder (keyOf c (now (a .entry))) (keyOf c (now (b .entry))))) ⌝ }
+    requires { ⌜ BothRead c (declared.Read.Value x) second (now a) (now b) × (isByteDecimal c ≡ false) ⌝ }
+    ensures { λ r. ⌜ r ≡ unlessRefused SECOND second (order.Order.Related (keyOrder (keyOf c (now (a .entry))) (keyOf c (now (b .entry))))) ⌝ }
 {
     match second {
         Read::Value(y) => Order::Related(order_read(c, x, a, y, b)),
@@ -111,7 +113,7 @@ fn order_second(c: ColumnType, x: Value, a: &[u8], second: Read, b: &[u8]) -> Or
 
 // The order of two values that were read, by their cases.
 fn order_read(c: ColumnType, x: Value, a: &[u8], y: Value, b: &[u8]) -> Relation
-    requires { ⌜ (readOf c (now a) ≡ declared.Read.Value x) × (readOf c (now b) ≡ declared.Read.Value y) × (isByteDecimal c ≡ false) ⌝ }
+    requires { ⌜ BothRead c (declared.Read.Value x) (declared.Read.Value y) (now a) (now b) × (isByteDecimal c ≡ false) ⌝ }
     ensures { λ r. ⌜ r ≡ keyOrder (keyOf c (now (a .entry))) (keyOf c (now (b .entry))) ⌝ }
 {
     match x {

@@ -13,13 +13,13 @@ use Rattle.column_order.proofs.decimals.order_decimals.Tie as tie
 -- the order of two values of their column's width
 answer : (c : tie.After-compare-within) (o : Compared) → c .compare-within .result ≡ o
     → let s = c .before .before .before .before .before .before .before .args in
-    asOrder (refusal (s .c) (s .a .now) (s .b .now)) o ≡ orderOf (s .c) (s .a .now) (s .b .now)
+    asOrder (refusal (s .edition) (s .c) (s .a .now) (s .b .now)) o ≡ orderOf (s .edition) (s .c) (s .a .now) (s .b .now)
 answer c o e =
     let second = c .before in
     let first = second .before .before in
     let s = first .before .before .before .before in
-    ap (asOrder (refusal (s .args .c) (s .args .a .now) (s .args .b .now))) (sym e ∙ c .compare-within .ensures .0)
-    ∙ own-widths (s .args .c) (s .pre .0) (s .pre .1) (s .args .a .now) (s .args .b .now)
+    ap (asOrder (refusal (s .args .edition) (s .args .c) (s .args .a .now) (s .args .b .now))) (sym e ∙ c .compare-within .ensures .0)
+    ∙ own-widths (s .args .edition) (s .args .c) (s .pre .0) (s .pre .1) (s .args .a .now) (s .args .b .now)
     (sym (first .before .is-width .ensures) ∙ not-false _ (first .if1 .left)) (sym (second .before .is-width2 .ensures) ∙ not-false _ (second .if2 .left))
 
 is-width-requires : tie.Need-is-width-requires
@@ -33,7 +33,7 @@ returns c =
     let first = c .before in
     let s = first .before .before .before .before in
     c .refused .ensures
-    ∙ wrong-first (s .args .c) (s .pre .0) (s .pre .1) (s .args .a .now) (s .args .b .now) (sym (first .before .is-width .ensures) ∙ not-true _ (first .if1 .taken))
+    ∙ wrong-first (s .args .edition) (s .args .c) (s .pre .0) (s .pre .1) (s .args .a .now) (s .args .b .now) (sym (first .before .is-width .ensures) ∙ not-true _ (first .if1 .taken))
 
 is-width-requires-2 : tie.Need-is-width-requires-2
 is-width-requires-2 c κs = search needs
@@ -46,7 +46,7 @@ returns-2 c =
     let second = c .before in
     let s = second .before .before .before .before .before .before in
     c .refused2 .ensures
-    ∙ wrong-second (s .args .c) (s .pre .0) (s .pre .1) (s .args .a .now) (s .args .b .now) (sym (second .before .is-width2 .ensures) ∙ not-true _ (second .if2 .taken))
+    ∙ wrong-second (s .args .edition) (s .args .c) (s .pre .0) (s .pre .1) (s .args .a .now) (s .args .b .now) (sym (second .before .is-width2 .ensures) ∙ not-true _ (second .if2 .taken))
 
 compare-within-requires : tie.Need-compare-within-requires
 compare-within-requires c κs = search needs

@@ -8,10 +8,10 @@ use Rattle.column_order.proofs.decimals.refused.Statement.{statement}
 use Rattle.column_order.proofs.decimals.refused.Tie as tie
 
 -- the two values, as they were read
-first : (c : tie.After-read-both) → let s = c .before .before .before .args in readOf (s .c) (s .a .now) ≡ c .read-both .result .first
+first : (c : tie.After-read-both) → let s = c .before .before .before .args in readOf (s .edition) (s .c) (s .a .now) ≡ c .read-both .result .first
 first c = sym (ap (λ (r : Both). r .first) (c .read-both .ensures .0))
 
-second : (c : tie.After-read-both) → let s = c .before .before .before .args in readOf (s .c) (s .b .now) ≡ c .read-both .result .second
+second : (c : tie.After-read-both) → let s = c .before .before .before .args in readOf (s .edition) (s .c) (s .b .now) ≡ c .read-both .result .second
 second c = sym (ap (λ (r : Both). r .second) (c .read-both .ensures .0))
 
 read-both-requires : tie.Need-read-both-requires

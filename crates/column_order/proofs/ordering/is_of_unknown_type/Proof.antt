@@ -14,7 +14,7 @@ returns : tie.Need-returns
 returns c = search needs
 
 returns-2 : tie.Need-returns-2
-returns-2 c = rw (c .before .before .read .given .1)
+returns-2 c = rw (c .before .before .before .read .given .1)
 
 pub is-of-unknown-type-spec : {M : Type 1} → statement M
 is-of-unknown-type-spec = tie.close (tie.spec enum-told enum-known-read returns returns-2)

@@ -14,9 +14,9 @@ use Rattle.column_order.proofs.ordering.order.Statement.{statement}
 use Rattle.column_order.proofs.ordering.order.Tie as tie
 
 -- an answer, and what it stands for
-answered : (c : ColumnType) (a b : List ℕ) {o : Order} → o ≡ orderOf c a b → (o ≡ orderOf c a b) × (outcomeOf o ≡ outcome c a b)
+answered : (edition : ℕ) (c : ColumnType) (a b : List ℕ) {o : Order} → o ≡ orderOf edition c a b → (o ≡ orderOf edition c a b) × (outcomeOf o ≡ outcome edition c a b)
 unfolding outcome
-answered c a b e = (e, ap outcomeOf e)
+answered edition c a b e = (e, ap outcomeOf e)
 
 is-byte-decimal-requires : tie.Need-is-byte-decimal-requires
 is-byte-decimal-requires c κs = search needs
@@ -26,8 +26,10 @@ is-lawful-requires c κs = search needs
 
 returns : tie.Need-returns
 returns c =
-    let s = c .before .before .before .before .before .before .args in
-    answered (s .c) (s .a .now) (s .b .now) (order-unlawful (s .c) (s .a .now) (s .b .now) (sym (c .before .is-lawful .ensures) ∙ not-true _ (c .if2 .taken)))
+    let told = c .before in
+    let s = told .before .before .before .before .before .before .args in
+    answered (s .edition) (s .c) (s .a .now) (s .b .now)
+    (ap Order.Refused (c .unlawful-type .ensures) ∙ order-unlawful (s .edition) (s .c) (s .a .now) (s .b .now) (sym (told .before .is-lawful .ensures) ∙ not-true _ (told .if2 .taken)))
 
 order-decimals-requires : tie.Need-order-decimals-requires
 order-decimals-requires c κs =
@@ -37,7 +39,7 @@ order-decimals-requires c κs =
 returns-2 : tie.Need-returns-2
 returns-2 c =
     let s = c .before .before .before .before .before .before .before .args in
-    answered (s .c) (s .a .now) (s .b .now) (c .order-decimals .ensures)
+    answered (s .edition) (s .c) (s .a .now) (s .b .now) (c .order-decimals .ensures)
 
 order-others-requires : tie.Need-order-others-requires
 order-others-requires c κs = sym (c .before .is-byte-decimal .ensures) ∙ c .if1 .left
@@ -45,7 +47,7 @@ order-others-requires c κs = sym (c .before .is-byte-decimal .ensures) ∙ c .i
 returns-3 : tie.Need-returns-3
 returns-3 c =
     let s = c .before .before .before .before .before .args in
-    answered (s .c) (s .a .now) (s .b .now) (c .order-others .ensures)
+    answered (s .edition) (s .c) (s .a .now) (s .b .now) (c .order-others .ensures)
 
 pub order-spec : {M : Type 1} → statement M
 order-spec =
@@ -53,6 +55,7 @@ order-spec =
     (tie.spec
     is-byte-decimal-requires
     is-lawful-requires
+    (λ c κs. search needs)
     returns
     order-decimals-requires
     returns-2

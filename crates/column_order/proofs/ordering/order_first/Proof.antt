@@ -11,20 +11,19 @@ enum-known-first c = search needs
 order-second-requires : tie.Need-order-second-requires
 order-second-requires c κs =
     let s = c .before .before .before .before .before in
-    (sym (s .pre .0) ∙ c .before .first .given .1, s .pre .1, s .pre .2)
+    let read = s .pre .0 in
+    (record { edition = read .edition; first-is = sym (c .before .first .given .1) ∙ read .first-is; second-is = read .second-is }, s .pre .1)
 
 enum-known-first-2 : tie.Need-enum-known-first-2
 enum-known-first-2 c = search needs
 
 returns : tie.Need-returns
 returns c =
-    let s = c .before .before .before .before .before .before in
-    rw (sym (s .pre .0) ∙ c .before .before .first .given .1) (c .order-second .ensures)
+    rw (c .before .before .first .given .1) (c .order-second .ensures)
 
 returns-2 : tie.Need-returns-2
 returns-2 c =
-    let s = c .before .before .before .before .before in
-    rw (sym (s .pre .0) ∙ c .before .first2 .given .1)
+    rw (c .before .first2 .given .1)
 
 pub order-first-spec : {M : Type 1} → statement M
 order-first-spec =

@@ -21,7 +21,7 @@ keyed : (c : tie.After-shared-slice-known2) (v : Value) → c .before .before .a
 keyed c v e =
     let s = c .before .before in
     ap (λ (w : Value). valueOrder (s .args .a .now) (s .args .b .now) w (s .args .y)) (sym e)
-    ∙ read-order (s .args .c) _ _ (s .args .x) (s .args .y) (s .pre .2) (s .pre .0) (s .pre .1)
+    ∙ read-order (s .pre .0 .edition) (s .args .c) _ _ (s .args .x) (s .args .y) (s .pre .1) (sym (s .pre .0 .first-is)) (sym (s .pre .0 .second-is))
 
 enum-known-x : tie.Need-enum-known-x
 enum-known-x c = search needs
@@ -59,8 +59,8 @@ enum-known-x-6 c = search needs
 compare-bytes-requires : tie.Need-compare-bytes-requires
 compare-bytes-requires c κs =
     let s = c .before .before .before .before .before in (
-      subst (λ (v : Value). stretchEnd v ≤ length (s .args .a .now)) (c .before .x6 .given .1) (read-within (s .args .c) (s .args .a .now) (s .args .x) (s .pre .0)),
-      read-within (s .args .c) (s .args .b .now) (s .args .y) (s .pre .1),
+      subst (λ (v : Value). stretchEnd v ≤ length (s .args .a .now)) (c .before .x6 .given .1) (read-within (s .pre .0 .edition) (s .args .c) (s .args .a .now) (s .args .x) (sym (s .pre .0 .first-is))),
+      read-within (s .pre .0 .edition) (s .args .c) (s .args .b .now) (s .args .y) (sym (s .pre .0 .second-is)),
     )
 
 returns : tie.Need-returns

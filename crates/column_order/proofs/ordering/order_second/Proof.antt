@@ -12,20 +12,19 @@ enum-known-second c = search needs
 order-read-requires : tie.Need-order-read-requires
 order-read-requires c κs =
     let s = c .before .before .before .before .before in
-    (s .pre .0, sym (s .pre .1) ∙ c .before .second .given .1, s .pre .2)
+    let read = s .pre .0 in
+    (record { edition = read .edition; first-is = read .first-is; second-is = sym (c .before .second .given .1) ∙ read .second-is }, s .pre .1)
 
 enum-known-second-2 : tie.Need-enum-known-second-2
 enum-known-second-2 c = search needs
 
 returns : tie.Need-returns
 returns c =
-    let s = c .before .before .before .before .before .before in
-    rw (sym (s .pre .1) ∙ c .before .before .second .given .1) (ap Related (c .order-read .ensures))
+    rw (c .before .before .second .given .1) (ap Related (c .order-read .ensures))
 
 returns-2 : tie.Need-returns-2
 returns-2 c =
-    let s = c .before .before .before .before .before in
-    rw (sym (s .pre .1) ∙ c .before .second2 .given .1)
+    rw (c .before .second2 .given .1)
 
 pub order-second-spec : {M : Type 1} → statement M
 order-second-spec =
