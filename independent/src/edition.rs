@@ -16,7 +16,7 @@ impl Edition {
     pub fn known(number: u32) -> Result<Self, Refusal> {
         match number {
             FIRST | SECOND => Ok(Edition(number)),
-            _ => Err(Refusal::whole(refusal::EDITION)),
+            _ => Err(Refusal::whole(refusal::UNKNOWN_EDITION)),
         }
     }
 

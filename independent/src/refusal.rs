@@ -110,4 +110,4 @@ pub const NO_COUNT: u32 = 19;
 /// No accepted sheet has a leaf of this column type, or a time unit is not 1 to 3.
 pub const COLUMN_TYPE: u32 = 20;
 /// The edition is unknown.
-pub const EDITION: u32 = 21;
+pub const UNKNOWN_EDITION: u32 = 21;
