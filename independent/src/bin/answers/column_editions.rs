@@ -8,13 +8,13 @@ use independent::edition::{FIRST, SECOND};
 use independent::ColumnType;
 
 use crate::column::{self, edges, pairs, plain, Bytes, Vector, Vectors};
-use crate::editions::{Editions, KNOWN, UNKNOWN};
+use crate::editions::{in_each, title_in, Editions, KNOWN, KNOWN_AND_OTHERS};
 
 /// Every question in its edition.
 pub fn input() -> Vec<u8> {
-    let mut vectors = asked_in(&KNOWN, &otherwise().0);
-    vectors.extend(asked_in(&KNOWN, &decimals().0));
-    vectors.extend(asked_in(&[&KNOWN[..], &UNKNOWN].concat(), &of_any_edition().0));
+    let mut vectors = asked_in(&KNOWN, otherwise());
+    vectors.extend(asked_in(&KNOWN, decimals()));
+    vectors.extend(asked_in(&KNOWN_AND_OTHERS, of_any_edition()));
     column::packed(Editions::BeforeEach, &vectors)
 }
 
@@ -22,14 +22,12 @@ pub fn answers(input: &[u8]) -> Vec<u8> {
     column::answers_in(Editions::BeforeEach, input)
 }
 
-/// The vectors again in each of some editions.
-fn asked_in(editions: &[u32], vectors: &[Vector]) -> Vec<Vector> {
-    let in_edition = |vector: &Vector, edition| Vector {
+fn asked_in(editions: &[u32], vectors: Vectors) -> Vec<Vector> {
+    in_each(editions, &vectors.0, |vector, edition| Vector {
         edition,
-        title: format!("edition {edition}, {}", vector.title),
+        title: title_in(edition, &vector.title),
         ..vector.clone()
-    };
-    vectors.iter().flat_map(|vector| editions.iter().map(move |&edition| in_edition(vector, edition))).collect()
+    })
 }
 
 /// Those of `column` that the second edition answers otherwise than the first.

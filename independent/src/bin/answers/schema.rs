@@ -68,6 +68,7 @@ const LOGICAL: [&str; 15] = [
 const MOST_LENT: usize = 9984;
 
 /// A sheet to resolve into so many lent numbers, by an edition.
+#[derive(Clone)]
 pub struct Vector {
     pub edition: u32,
     pub title: String,

@@ -9,15 +9,15 @@ use independent::codes::{converted, logical};
 use independent::decimal::greatest_precision;
 use independent::edition::{FIRST, SECOND};
 
-use crate::editions::{Editions, KNOWN, UNKNOWN};
+use crate::editions::{in_each, title_in, Editions, KNOWN, KNOWN_AND_OTHERS};
 use crate::nodes::{changed, example, group, int32, leaf, list, map, root, sheet_of, Node};
 use crate::schema::{self, Rewrite, Vector, Vectors};
 
 /// Every question in its edition, and the sheets rewritten too.
 pub fn input() -> Vec<u8> {
-    let mut vectors = asked_in(&KNOWN, &otherwise().0);
-    vectors.extend(asked_in(&KNOWN, &decimals().0));
-    vectors.extend(asked_in(&[&KNOWN[..], &UNKNOWN].concat(), &of_any_edition().0));
+    let mut vectors = asked_in(&KNOWN, otherwise());
+    vectors.extend(asked_in(&KNOWN, decimals()));
+    vectors.extend(asked_in(&KNOWN_AND_OTHERS, of_any_edition()));
     let rewrites: Vec<Rewrite> = vectors.iter().enumerate().map(rewrite).collect();
     schema::packed(Editions::BeforeEach, &vectors, &rewrites)
 }
@@ -26,15 +26,12 @@ pub fn answers(input: &[u8]) -> Vec<u8> {
     schema::answers_in(Editions::BeforeEach, input)
 }
 
-/// The vectors again in each of some editions.
-fn asked_in(editions: &[u32], vectors: &[Vector]) -> Vec<Vector> {
-    let in_edition = |vector: &Vector, edition| Vector {
+fn asked_in(editions: &[u32], vectors: Vectors) -> Vec<Vector> {
+    in_each(editions, &vectors.0, |vector, edition| Vector {
         edition,
-        title: format!("edition {edition}, {}", vector.title),
-        sheet: vector.sheet.clone(),
-        lent: vector.lent,
-    };
-    vectors.iter().flat_map(|vector| editions.iter().map(move |&edition| in_edition(vector, edition))).collect()
+        title: title_in(edition, &vector.title),
+        ..vector.clone()
+    })
 }
 
 /// The sheet of a vector to rewrite, with marked bytes before and behind, or with a byte too few.
