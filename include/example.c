@@ -19,7 +19,7 @@ static int accepted(uint64_t answer)
 static void resolve(const uint8_t *sheet, size_t length)
 {
     static uint32_t rows[GRIFFELJOL_MAX_ROWS];
-    uint64_t answer = griffeljol_resolve(sheet, length, rows, GRIFFELJOL_MAX_ROWS);
+    uint64_t answer = griffeljol_resolve(GRIFFELJOL_EDITION_1, sheet, length, rows, GRIFFELJOL_MAX_ROWS);
     if (!accepted(answer))
         return;
     printf("nodes %" PRIu32 "\n", griffeljol_value(answer));
@@ -35,7 +35,7 @@ static void resolve(const uint8_t *sheet, size_t length)
 static void rewrite(const uint8_t *sheet, size_t length)
 {
     static uint8_t out[GRIFFELJOL_MAX_SHEET];
-    uint64_t answer = griffeljol_rewrite(sheet, length, out, sizeof out, 0);
+    uint64_t answer = griffeljol_rewrite(GRIFFELJOL_EDITION_1, sheet, length, out, sizeof out, 0);
     if (accepted(answer))
         printf("rewritten: %" PRIu32 " bytes\n", griffeljol_value(answer));
 }
@@ -45,18 +45,19 @@ static void read_value(void)
 {
     const uint8_t value[4] = {255, 0, 0, 0};
     uint64_t out[GRIFFELJOL_READ_WIDTH];
-    uint64_t answer = griffeljol_read(GRIFFELJOL_PHYSICAL_INT32, 0, GRIFFELJOL_KIND_INTEGER, 8, 0,
+    uint64_t answer = griffeljol_read(GRIFFELJOL_EDITION_1, GRIFFELJOL_PHYSICAL_INT32, 0, GRIFFELJOL_KIND_INTEGER, 8, 0,
                                       value, sizeof value, out, GRIFFELJOL_READ_WIDTH);
     if (accepted(answer) && griffeljol_value(answer) == GRIFFELJOL_CASE_UNSIGNED)
         printf("unsigned %" PRIu64 "\n", out[0]);
 }
 
-/* Two decimals of precision 3 on BYTE_ARRAY, big-endian two's complement: -128 is below 127. */
+/* Two decimals of precision and scale 3 on BYTE_ARRAY, big-endian two's complement: -0.128 is below 0.127. Edition 1 has no such
+ * column. */
 static void order_values(void)
 {
     const uint8_t a[1] = {0x80};
     const uint8_t b[1] = {0x7F};
-    uint64_t answer = griffeljol_order(GRIFFELJOL_PHYSICAL_BYTE_ARRAY, 0, GRIFFELJOL_KIND_DECIMAL, 3, 0,
+    uint64_t answer = griffeljol_order(GRIFFELJOL_EDITION_2, GRIFFELJOL_PHYSICAL_BYTE_ARRAY, 0, GRIFFELJOL_KIND_DECIMAL, 3, 3,
                                        a, sizeof a, b, sizeof b);
     if (accepted(answer) && griffeljol_value(answer) == GRIFFELJOL_ORDER_LESS)
         printf("less\n");

@@ -1,13 +1,19 @@
 /* griffeljol.h: the proved reader of Parquet schema sheets, for C99 and C++.
  *
  * Link the archive libgriffeljol.a, which `rt staticlib griffeljol` proves and writes to target/staticlib; it links into x86-64 Linux
- * programs. "Document 01" is the paper that defines the sheet, the rows and the refusals.
+ * programs. "Document 01" is the paper that defines the sheet, the rows and the refusals, "document 02" the one that adds
+ * editions.
  *
  * Answers
- *   Each function answers one uint64_t. Bits 32 to 39 are the number of a refusal, 1 to 20, or 0 for a result. Bits 0 to 31
+ *   Each function answers one uint64_t. Bits 32 to 39 are the number of a refusal, 1 to 21, or 0 for a result. Bits 0 to 31
  *   are the place of the refusal, or for a result the value that the function names. Bits 40 to 47 are the value at fault in a
  *   refusal of griffeljol_order, and 0 in every other answer. Bits 48 to 63 are 0 and kept for later: take an answer apart by
  *   griffeljol_refusal, griffeljol_place, griffeljol_value and griffeljol_fault, and never compare it whole.
+ *
+ * Editions
+ *   What reads or judges a sheet or a column type takes the number of an edition first. In edition 1 the scale of a DECIMAL is
+ *   below its precision, as document 01 has it; in edition 2 it may also equal it. All else is the same in both: what edition 1
+ *   accepts, edition 2 accepts with the same answer. Any other number is refused with 21, before every other refusal.
  *
  * Memory
  *   An array is a pointer and a length, which counts elements and not bytes. The pointer is aligned for its type; that many
@@ -32,6 +38,10 @@
 #ifdef __cplusplus
 extern "C" {
 #endif
+
+/* Editions. */
+#define GRIFFELJOL_EDITION_1 1 /* a DECIMAL's scale is below its precision */
+#define GRIFFELJOL_EDITION_2 2 /* it is at most its precision */
 
 /* The most bytes of a sheet, its most nodes, and the most bytes of a value. */
 #define GRIFFELJOL_MAX_SHEET 65536
@@ -134,30 +144,31 @@ extern "C" {
 #define GRIFFELJOL_ORDER_UNORDERED 3 /* one of them is a NaN */
 
 /* Refusals, each with what it is given for and its place. */
-#define GRIFFELJOL_REFUSAL_NONE 0            /* a result */
-#define GRIFFELJOL_REFUSAL_SHEET_LENGTH 1    /* sheet length 0, not a multiple of 512, or over 65,536: 0 */
-#define GRIFFELJOL_REFUSAL_BLOCK_CHECK 2     /* block check differs: the first such block */
-#define GRIFFELJOL_REFUSAL_BLOCK_HEADER 3    /* block header wrong: the first such block */
-#define GRIFFELJOL_REFUSAL_SLOT 4            /* slot code outside the lists, name length or zero bytes wrong, unused slot not
-                                                zero: the first such node */
-#define GRIFFELJOL_REFUSAL_NODES_MISSING 5   /* more children are claimed than nodes exist: T, the number of nodes */
-#define GRIFFELJOL_REFUSAL_NODES_LEFT 6      /* nodes remain after the root's tree: the first node left over */
-#define GRIFFELJOL_REFUSAL_DEPTH 7           /* a node deeper than 32: the first such node */
-#define GRIFFELJOL_REFUSAL_SHAPE 8           /* shape: the node */
-#define GRIFFELJOL_REFUSAL_DISAGREEMENT 9    /* converted and logical disagree: the node */
-#define GRIFFELJOL_REFUSAL_ANNOTATION 10     /* annotation on the wrong physical type, length or parameters: the node */
-#define GRIFFELJOL_REFUSAL_DECIMAL 11        /* DECIMAL scale or precision: the node */
-#define GRIFFELJOL_REFUSAL_LIST 12           /* LIST structure: the LIST */
-#define GRIFFELJOL_REFUSAL_MAP 13            /* MAP structure: the MAP */
-#define GRIFFELJOL_REFUSAL_OUTPUT 14         /* output too short, or its start lies beyond its end: 0 */
-#define GRIFFELJOL_REFUSAL_VALUE_LENGTH 15   /* value of wrong length, or over 65,536 bytes: 0 */
-#define GRIFFELJOL_REFUSAL_VALUE 16          /* value breaks its annotation: the byte where UTF-8 stops in a STRING, ENUM or
-                                                JSON, else 0 */
-#define GRIFFELJOL_REFUSAL_NO_ORDER 17       /* this column has no order: 0 */
-#define GRIFFELJOL_REFUSAL_NO_DATE 18        /* fields form no date or time: 0 */
-#define GRIFFELJOL_REFUSAL_NO_COUNT 19       /* fields not representable in a signed 64-bit count: 0 */
-#define GRIFFELJOL_REFUSAL_COLUMN_TYPE 20    /* no accepted sheet has a leaf of this column type, or a time unit is not
-                                                1 to 3: 0 */
+#define GRIFFELJOL_REFUSAL_NONE 0             /* a result */
+#define GRIFFELJOL_REFUSAL_SHEET_LENGTH 1     /* sheet length 0, not a multiple of 512, or over 65,536: 0 */
+#define GRIFFELJOL_REFUSAL_BLOCK_CHECK 2      /* block check differs: the first such block */
+#define GRIFFELJOL_REFUSAL_BLOCK_HEADER 3     /* block header wrong: the first such block */
+#define GRIFFELJOL_REFUSAL_SLOT 4             /* slot code outside the lists, name length or zero bytes wrong, unused slot not
+                                                 zero: the first such node */
+#define GRIFFELJOL_REFUSAL_NODES_MISSING 5    /* more children are claimed than nodes exist: T, the number of nodes */
+#define GRIFFELJOL_REFUSAL_NODES_LEFT 6       /* nodes remain after the root's tree: the first node left over */
+#define GRIFFELJOL_REFUSAL_DEPTH 7            /* a node deeper than 32: the first such node */
+#define GRIFFELJOL_REFUSAL_SHAPE 8            /* shape: the node */
+#define GRIFFELJOL_REFUSAL_DISAGREEMENT 9     /* converted and logical disagree: the node */
+#define GRIFFELJOL_REFUSAL_ANNOTATION 10      /* annotation on the wrong physical type, length or parameters: the node */
+#define GRIFFELJOL_REFUSAL_DECIMAL 11         /* DECIMAL scale or precision: the node */
+#define GRIFFELJOL_REFUSAL_LIST 12            /* LIST structure: the LIST */
+#define GRIFFELJOL_REFUSAL_MAP 13             /* MAP structure: the MAP */
+#define GRIFFELJOL_REFUSAL_OUTPUT 14          /* output too short, or its start lies beyond its end: 0 */
+#define GRIFFELJOL_REFUSAL_VALUE_LENGTH 15    /* value of wrong length, or over 65,536 bytes: 0 */
+#define GRIFFELJOL_REFUSAL_VALUE 16           /* value breaks its annotation: the byte where UTF-8 stops in a STRING, ENUM or
+                                                 JSON, else 0 */
+#define GRIFFELJOL_REFUSAL_NO_ORDER 17        /* this column has no order: 0 */
+#define GRIFFELJOL_REFUSAL_NO_DATE 18         /* fields form no date or time: 0 */
+#define GRIFFELJOL_REFUSAL_NO_COUNT 19        /* fields not representable in a signed 64-bit count: 0 */
+#define GRIFFELJOL_REFUSAL_COLUMN_TYPE 20     /* no accepted sheet has a leaf of this column type, or a time unit is not
+                                                 1 to 3: 0 */
+#define GRIFFELJOL_REFUSAL_UNKNOWN_EDITION 21 /* edition unknown: 0 */
 
 /* The number of an answer's refusal, or GRIFFELJOL_REFUSAL_NONE for a result. */
 static inline uint32_t griffeljol_refusal(uint64_t answer)
@@ -184,27 +195,31 @@ static inline uint32_t griffeljol_fault(uint64_t answer)
 }
 
 /* Judges a sheet and resolves it into rows.
- *   sheet   the sheet's bytes
- *   rows    where the rows go, GRIFFELJOL_ROW_WIDTH numbers for each node
+ *   edition   GRIFFELJOL_EDITION_1 or _2
+ *   sheet     the sheet's bytes
+ *   rows      where the rows go, GRIFFELJOL_ROW_WIDTH numbers for each node
  * Result: T, the number of nodes, 1 to GRIFFELJOL_MAX_NODES. The rows stand in the first GRIFFELJOL_ROW_WIDTH * T numbers of
  * rows, in listing order; the numbers behind them stay.
- * Refusals: 1 to 7, each judged over the whole sheet before the next; then 8 to 13 node by node, at one node in number order;
- * then 14, where rows_len is below GRIFFELJOL_ROW_WIDTH * T. rows stays as it was. */
-uint64_t griffeljol_resolve(const uint8_t *sheet, size_t sheet_len, uint32_t *rows, size_t rows_len);
+ * Refusals: 21; then 1 to 7, each judged over the whole sheet before the next; then 8 to 13 node by node, at one node in number
+ * order; then 14, where rows_len is below GRIFFELJOL_ROW_WIDTH * T. rows stays as it was. */
+uint64_t griffeljol_resolve(uint32_t edition, const uint8_t *sheet, size_t sheet_len, uint32_t *rows, size_t rows_len);
 
 /* Judges a sheet and writes it anew with both annotations at every node.
- *   sheet   the sheet's bytes
- *   out     where the rewritten sheet goes
- *   start   the index in out of its first byte
+ *   edition   GRIFFELJOL_EDITION_1 or _2
+ *   sheet     the sheet's bytes
+ *   out       where the rewritten sheet goes
+ *   start     the index in out of its first byte
  * Result: the number of bytes written, which is sheet_len. They stand in out from start on; the bytes before and behind stay.
- * Refusals: 1 to 13 as griffeljol_resolve judges them; then 14, where start is above out_len or fewer than sheet_len bytes stand
- * from start on. out stays as it was. */
-uint64_t griffeljol_rewrite(const uint8_t *sheet, size_t sheet_len, uint8_t *out, size_t out_len, size_t start);
+ * Refusals: 21, then 1 to 13 as griffeljol_resolve judges them; then 14, where start is above out_len or fewer than sheet_len bytes
+ * stand from start on. out stays as it was. */
+uint64_t griffeljol_rewrite(uint32_t edition, const uint8_t *sheet, size_t sheet_len,
+                            uint8_t *out, size_t out_len, size_t start);
 
 /* Reads one value of a column.
+ *   edition   GRIFFELJOL_EDITION_1 or _2
  *   physical, type_length, kind, p1, p2   the column type, five numbers as a row has them
- *   value   the value's bytes, as a page stores them, without a length in front
- *   out     where GRIFFELJOL_READ_WIDTH numbers go
+ *   value     the value's bytes, as a page stores them, without a length in front
+ *   out       where GRIFFELJOL_READ_WIDTH numbers go
  * Result: the case of the value. out[0] and out[1] are
  *   GRIFFELJOL_CASE_TRUTH      0 or 1, and 0
  *   GRIFFELJOL_CASE_SIGNED     the whole number as 64-bit two's complement, and 0
@@ -213,19 +228,20 @@ uint64_t griffeljol_rewrite(const uint8_t *sheet, size_t sheet_len, uint8_t *out
  *   GRIFFELJOL_CASE_DOUBLE     the bits of the DOUBLE, a NaN as 7FF8000000000000 hexadecimal, and 0
  *   GRIFFELJOL_CASE_BYTES      where the stretch of bytes starts in value, and its length
  * and the numbers behind them stay.
- * Refusals: 20, then 15, then 16, then 14 where out_len is below GRIFFELJOL_READ_WIDTH. out stays as it was. The place of 16 is, for
- * a STRING, ENUM or JSON, the index in value where whole sequences of UTF-8, read from the start, stop: what stands before it is
- * valid, and a sequence that is cut off or wrong begins there. It is 0 for every other value. */
-uint64_t griffeljol_read(uint32_t physical, uint32_t type_length, uint32_t kind, uint32_t p1, uint32_t p2,
+ * Refusals: 21, then 20, then 15, then 16, then 14 where out_len is below GRIFFELJOL_READ_WIDTH. out stays as it was. The place of
+ * 16 is, for a STRING, ENUM or JSON, the index in value where whole sequences of UTF-8, read from the start, stop: what stands before
+ * it is valid, and a sequence that is cut off or wrong begins there. It is 0 for every other value. */
+uint64_t griffeljol_read(uint32_t edition, uint32_t physical, uint32_t type_length, uint32_t kind, uint32_t p1, uint32_t p2,
                          const uint8_t *value, size_t value_len, uint64_t *out, size_t out_len);
 
 /* Orders two values of a column.
+ *   edition   GRIFFELJOL_EDITION_1 or _2
  *   physical, type_length, kind, p1, p2   the column type, five numbers as a row has them
- *   a, b    the bytes of the two values; they may be the same
+ *   a, b      the bytes of the two values; they may be the same
  * Result: how a stands to b, one of GRIFFELJOL_ORDER_LESS, _EQUAL, _GREATER and _UNORDERED. Nothing is written.
- * Refusals: 20, then 17, then 15 or 16 for a, then 15 or 16 for b. griffeljol_fault tells whose it is: 0 for 20 and 17, 1 for a, 2 for
- * b. That of a or b is the one that griffeljol_read gives for the value, with its place. */
-uint64_t griffeljol_order(uint32_t physical, uint32_t type_length, uint32_t kind, uint32_t p1, uint32_t p2,
+ * Refusals: 21, then 20, then 17, then 15 or 16 for a, then 15 or 16 for b. griffeljol_fault tells whose it is: 0 for 21, 20 and
+ * 17, 1 for a, 2 for b. That of a or b is the one that griffeljol_read gives for the value, with its place. */
+uint64_t griffeljol_order(uint32_t edition, uint32_t physical, uint32_t type_length, uint32_t kind, uint32_t p1, uint32_t p2,
                           const uint8_t *a, size_t a_len, const uint8_t *b, size_t b_len);
 
 /* Turns a timestamp's count into its date and time, by the Gregorian calendar carried both ways.

@@ -6,7 +6,7 @@ use std::hint::black_box;
 use independent::sheet::{renew_checks, BLOCK, MAX_BLOCKS};
 
 use crate::case::{Case, Contender, Goal, INDEPENDENT, LIBRARY};
-use crate::linked::{self, answer, answer_of};
+use crate::linked::{self, answer, answer_of, EDITION};
 use crate::native;
 use crate::random::Random;
 
@@ -32,8 +32,8 @@ fn checks_alone() -> Case<'static> {
     }
     let items = sheet.len();
     let contenders = vec![
-        contender(LIBRARY, &sheet, |sheet| linked::resolve(sheet, &mut [])),
-        contender(INDEPENDENT, &sheet, |sheet| answer_of(independent::resolve(sheet, &mut []))),
+        contender(LIBRARY, &sheet, |sheet| linked::resolve(EDITION, sheet, &mut [])),
+        contender(INDEPENDENT, &sheet, |sheet| answer_of(independent::resolve(black_box(EDITION), sheet, &mut []))),
         contender(BY_CC, &sheet, native::first_bad_check_by_cc),
         #[cfg(clang)]
         contender(BY_CLANG, &sheet, native::first_bad_check_by_clang),
@@ -61,8 +61,8 @@ fn refused_by_header() -> Vec<u8> {
 /// Every contender finds the same first bad check, or none.
 fn agree(sheet: &[u8], bad: usize) {
     let expected = if bad < MAX_BLOCKS { answer(BLOCK_CHECK, bad as u32) } else { answer(BLOCK_HEADER, 0) };
-    assert_eq!(linked::resolve(sheet, &mut []), expected);
-    assert_eq!(answer_of(independent::resolve(sheet, &mut [])), expected);
+    assert_eq!(linked::resolve(EDITION, sheet, &mut []), expected);
+    assert_eq!(answer_of(independent::resolve(EDITION, sheet, &mut [])), expected);
     assert_eq!(native::first_bad_check_by_cc(sheet), bad);
     #[cfg(clang)]
     assert_eq!(native::first_bad_check_by_clang(sheet), bad);

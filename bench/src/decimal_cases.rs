@@ -8,7 +8,7 @@ use independent::decimal::greatest_precision;
 
 use crate::case::{contender, Case, Contender, Goal, INDEPENDENT, LIBRARY};
 use crate::integers;
-use crate::linked::{self, answer, answer_of, ColumnType};
+use crate::linked::{self, answer, answer_of, ColumnType, EDITION};
 use crate::random::Random;
 
 /// How many values a run goes through.
@@ -73,7 +73,7 @@ fn whole_length(length: usize, precision: u32) -> Vec<Value> {
             value
         };
         let needed = length == 1 || !matches!(value[..2], [0x00, 0x00..=0x7F] | [0xFF, 0x80..=0xFF]);
-        if needed && independent::read(column, &value).is_ok() {
+        if needed && independent::read(EDITION, column, &value).is_ok() {
             values.push(value);
         }
     }
@@ -187,13 +187,15 @@ fn ordering(physical: u8, length: usize, precision: u32, words: &str, pairs: Vec
         let expected = integers::order_bytes(a, b);
         assert!(length > 16 || integers::order_big(a, b) == expected);
         let number = (expected as i8 + 1) as u32;
-        assert_eq!(linked::order(given, a, b), answer(0, number));
-        let found = independent::order(column(given), a, b).map_err(|refused| refused.refusal);
+        assert_eq!(linked::order(EDITION, given, a, b), answer(0, number));
+        let found = independent::order(EDITION, column(given), a, b).map_err(|refused| refused.refusal);
         assert_eq!(answer_of(found.map(|order| order as u32)), answer(0, number));
     }
     let mut contenders = vec![
-        contender(LIBRARY, &pairs, move |(a, b)| linked::order(given, a, b)),
-        contender(INDEPENDENT, &pairs, move |(a, b)| independent::order(black_box(column(given)), a, b)),
+        contender(LIBRARY, &pairs, move |(a, b)| linked::order(EDITION, given, a, b)),
+        contender(INDEPENDENT, &pairs, move |(a, b)| {
+            independent::order(black_box(EDITION), black_box(column(given)), a, b)
+        }),
     ];
     contenders.push(match length {
         0..=16 => contender(INTEGER, &pairs, |(a, b)| integers::order_big(a, b)),
@@ -208,19 +210,21 @@ fn readers(given: ColumnType, values: &[Value]) -> Vec<Contender<'static>> {
     vec![
         contender(LIBRARY, values, move |value| {
             let mut out = [0; 2];
-            let said = linked::read(given, value, &mut out);
+            let said = linked::read(EDITION, given, value, &mut out);
             // The words one by one, as a caller takes them: one load of both would wait for the two stores before it.
             said ^ black_box(out[0]) ^ black_box(out[1])
         }),
-        contender(INDEPENDENT, values, move |value| independent::read(black_box(column(given)), value)),
+        contender(INDEPENDENT, values, move |value| {
+            independent::read(black_box(EDITION), black_box(column(given)), value)
+        }),
     ]
 }
 
 /// Whether a value is read, by the library and by the independent reader alike.
 fn read_alike(given: ColumnType, value: &[u8]) -> bool {
     let mut out = [0; 2];
-    let said = linked::read(given, value, &mut out);
-    match independent::read(column(given), value) {
+    let said = linked::read(EDITION, given, value, &mut out);
+    match independent::read(EDITION, column(given), value) {
         Ok(independent::Value::Signed(number)) => assert_eq!((said, out), (answer(0, 1), [number as u64, 0])),
         Ok(independent::Value::Bytes { start, length }) => {
             assert_eq!((said, out), (answer(0, BYTES), [start as u64, length as u64]))

@@ -5,6 +5,9 @@ mod boundary;
 
 pub use boundary::{decode, encode, order, read, resolve, rewrite};
 
+/// The edition that is measured.
+pub const EDITION: u32 = independent::edition::FIRST;
+
 /// A column type: physical, type length, kind, p1, p2.
 pub type ColumnType = [u32; 5];
 

@@ -5,7 +5,7 @@ use std::hint::black_box;
 use independent::ROW_WIDTH;
 
 use crate::case::{Case, Contender, Goal, INDEPENDENT, LIBRARY};
-use crate::linked::{self, answer, answer_of};
+use crate::linked::{self, answer, answer_of, EDITION};
 use crate::shapes::SHAPES;
 
 /// The numbers of nodes. Each fills its blocks.
@@ -34,15 +34,16 @@ fn case(entry: &'static str, shape: &'static str, nodes: usize, contenders: Vec<
 fn resolving(shape: &'static str, nodes: usize, sheet: Vec<u8>) -> Case<'static> {
     let mut rows = vec![0; ROW_WIDTH * nodes];
     let mut other_rows = vec![0; ROW_WIDTH * nodes];
-    assert_eq!(linked::resolve(&sheet, &mut rows), answer(0, nodes as u32));
-    assert_eq!(answer_of(independent::resolve(&sheet, &mut other_rows)), answer(0, nodes as u32));
+    assert_eq!(linked::resolve(EDITION, &sheet, &mut rows), answer(0, nodes as u32));
+    assert_eq!(answer_of(independent::resolve(EDITION, &sheet, &mut other_rows)), answer(0, nodes as u32));
     assert_eq!(rows, other_rows);
     let same = sheet.clone();
     let library = Contender::new(LIBRARY, move || {
-        black_box(linked::resolve(black_box(&sheet), black_box(&mut rows)));
+        black_box(linked::resolve(black_box(EDITION), black_box(&sheet), black_box(&mut rows)));
     });
     let independent = Contender::new(INDEPENDENT, move || {
-        black_box(independent::resolve(black_box(&same), black_box(&mut other_rows))).expect("a lawful sheet");
+        black_box(independent::resolve(black_box(EDITION), black_box(&same), black_box(&mut other_rows)))
+            .expect("a lawful sheet");
     });
     case(RESOLVE, shape, nodes, vec![library, independent])
 }
@@ -50,15 +51,16 @@ fn resolving(shape: &'static str, nodes: usize, sheet: Vec<u8>) -> Case<'static>
 fn rewriting(shape: &'static str, nodes: usize, sheet: Vec<u8>) -> Case<'static> {
     let mut out = vec![0; sheet.len()];
     let mut other_out = vec![0; sheet.len()];
-    assert_eq!(linked::rewrite(&sheet, &mut out, 0), answer(0, sheet.len() as u32));
-    assert_eq!(answer_of(independent::rewrite(&sheet, &mut other_out, 0)), answer(0, sheet.len() as u32));
+    assert_eq!(linked::rewrite(EDITION, &sheet, &mut out, 0), answer(0, sheet.len() as u32));
+    assert_eq!(answer_of(independent::rewrite(EDITION, &sheet, &mut other_out, 0)), answer(0, sheet.len() as u32));
     assert_eq!(out, other_out);
     let same = sheet.clone();
     let library = Contender::new(LIBRARY, move || {
-        black_box(linked::rewrite(black_box(&sheet), black_box(&mut out), black_box(0)));
+        black_box(linked::rewrite(black_box(EDITION), black_box(&sheet), black_box(&mut out), black_box(0)));
     });
     let independent = Contender::new(INDEPENDENT, move || {
-        black_box(independent::rewrite(black_box(&same), black_box(&mut other_out), black_box(0))).expect("lawful");
+        black_box(independent::rewrite(black_box(EDITION), black_box(&same), black_box(&mut other_out), black_box(0)))
+            .expect("lawful");
     });
     case(REWRITE, shape, nodes, vec![library, independent])
 }

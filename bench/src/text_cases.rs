@@ -6,7 +6,7 @@ use independent::codes::{logical, physical};
 
 use crate::byte_loop::{is_utf8_by_match, is_utf8_by_sequence, is_utf8_by_table};
 use crate::case::{Case, Contender, Goal, INDEPENDENT, LIBRARY};
-use crate::linked::{self, answer, answer_of, ColumnType};
+use crate::linked::{self, answer, answer_of, ColumnType, EDITION};
 use crate::pair_loop;
 use crate::random::Random;
 
@@ -72,8 +72,8 @@ fn case(words: &str, goal: Goal, text: Vec<u8>) -> Case<'static> {
     cut[LENGTH - 2..].copy_from_slice(&[0xE2, 0x82]);
     agree(&cut, false);
     let contenders = vec![
-        contender(LIBRARY, &text, |text| linked::read(STRING, text, &mut [0; 2])),
-        contender(INDEPENDENT, &text, |text| independent::read(black_box(column(STRING)), text)),
+        contender(LIBRARY, &text, |text| linked::read(EDITION, STRING, text, &mut [0; 2])),
+        contender(INDEPENDENT, &text, |text| independent::read(black_box(EDITION), black_box(column(STRING)), text)),
         contender(FROM_UTF8, &text, |text| std::str::from_utf8(text).is_ok()),
         contender(BY_SEQUENCE, &text, is_utf8_by_sequence),
         contender(BY_MATCH, &text, is_utf8_by_match),
@@ -100,8 +100,8 @@ fn agree(text: &[u8], valid: bool) {
     let stop = std::str::from_utf8(text).map_err(|fault| fault.valid_up_to() as u32);
     assert_eq!(stop.is_ok(), valid);
     let expected = stop.map_or_else(|stop| answer(BREAKS_ANNOTATION, stop), |_| answer(0, BYTES));
-    assert_eq!(linked::read(STRING, text, &mut [0; 2]), expected);
-    assert_eq!(answer_of(independent::read(column(STRING), text).map(|_| BYTES)), expected);
+    assert_eq!(linked::read(EDITION, STRING, text, &mut [0; 2]), expected);
+    assert_eq!(answer_of(independent::read(EDITION, column(STRING), text).map(|_| BYTES)), expected);
     assert_eq!(is_utf8_by_sequence(text), valid);
     assert_eq!(is_utf8_by_match(text), valid);
     assert_eq!(is_utf8_by_table(text), valid);

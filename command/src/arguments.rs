@@ -4,6 +4,8 @@ use std::ffi::{OsStr, OsString};
 use std::str::FromStr;
 use std::vec;
 
+use griffeljol::Edition;
+
 use crate::failure::Failure;
 
 /// Answers as JSON.
@@ -12,6 +14,8 @@ pub const JSON: &str = "--json";
 pub const OUTPUT: &str = "-o";
 /// A value in hexadecimal; takes a word.
 pub const HEX: &str = "--hex";
+/// The edition that judges a sheet or a column type; takes a word.
+pub const EDITION: &str = "--edition";
 
 /// Words in order, and options with the word that they take.
 pub struct Arguments {
@@ -59,6 +63,15 @@ impl Arguments {
         self.options.iter().find(|(name, _)| *name == option).map(|(_, operand)| operand.as_os_str())
     }
 
+    /// The edition that is asked for, the first where none is. Which numbers are editions is the library's to say.
+    pub fn edition(&self) -> Result<Edition, Failure> {
+        self.option(EDITION).map_or(Ok(Edition::FIRST), |word| {
+            spelled(word).map(Edition::from).ok_or_else(|| {
+                Failure::arguments(format!("{EDITION} cannot be {word:?}: it is a whole number without needless zeros"))
+            })
+        })
+    }
+
     /// The next word, which must be there.
     pub fn word(&mut self, name: &str) -> Result<OsString, Failure> {
         self.words.next().ok_or_else(|| Failure::arguments(format!("{name} is missing")))
@@ -82,6 +95,12 @@ impl Arguments {
             Some(word) => Err(Failure::arguments(format!("{word:?} is one word too many"))),
         }
     }
+}
+
+/// The number that a word spells in decimal, without a sign or needless zeros.
+fn spelled(word: &OsStr) -> Option<u32> {
+    let number: u32 = word.to_str()?.parse().ok()?;
+    (word == number.to_string().as_str()).then_some(number)
 }
 
 /// Whether a word asks for help.

@@ -13,6 +13,8 @@ griffeljol reads Parquet schema sheets. Every answer is the proved library's.
                                            a count as a date and time, and back
   griffeljol COMMAND --help                more on one of them
 
+All but timestamp take --edition N, the edition that judges the sheet or the column type, which is 1 without it.
+
 FILE and OUT may be - for standard input and standard output. Behind -- every word is taken as it stands.
 
 Exit status
@@ -22,8 +24,14 @@ Exit status
   141  whoever read standard output stopped reading; nothing is said
 ";
 
+/// Stands behind the help of each part that takes it.
+pub const EDITION: &str = "
+  --edition N   judges by edition N, and by 1 without it. In edition 1 the scale of a DECIMAL is below its precision,
+                in 2 it may also equal it. A number that is no known edition is refused with 21
+";
+
 pub const ROWS: &str = "\
-griffeljol rows FILE [--json]
+griffeljol rows FILE [--edition N] [--json]
 
 Judges the sheet in FILE, or on standard input for -, and prints 'nodes T' and then a line for each of its T nodes:
 physical, type length, repetition, kind, p1, p2, parent, end, role, definition level and repetition level: how many
@@ -34,7 +42,7 @@ nodes on the path from the root to this one are optional or repeated, and how ma
 ";
 
 pub const REWRITE: &str = "\
-griffeljol rewrite FILE -o OUT
+griffeljol rewrite FILE -o OUT [--edition N]
 
 Judges the sheet in FILE, or on standard input for -, and writes it to OUT with both annotations at every node.
 OUT may be FILE itself, or - for standard output.
@@ -44,7 +52,7 @@ OUT stays as it was.
 ";
 
 pub const TREE: &str = "\
-griffeljol tree FILE [--json]
+griffeljol tree FILE [--edition N] [--json]
 
 Judges the sheet in FILE, or on standard input for -, and draws its schema, a line for each node: its number, its level
 below the root, its name under its parent's, its type, annotation, repetition and role. A TIME or TIMESTAMP is
@@ -58,7 +66,7 @@ with escapes. Names are read from the accepted sheet's bytes; all else is the li
 ";
 
 pub const VALUE: &str = "\
-griffeljol value PHYSICAL LENGTH KIND P1 P2 (FILE | --hex HEX) [--json]
+griffeljol value PHYSICAL LENGTH KIND P1 P2 (FILE | --hex HEX) [--edition N] [--json]
 
 Reads one value of the column type of these five numbers, which a leaf's row has. The value's bytes are those of FILE,
 of standard input for -, or of HEX, pairs of hexadecimal digits. Prints true or false, a whole number, 'float' or

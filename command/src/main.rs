@@ -20,7 +20,7 @@ use std::env;
 use std::ffi::OsString;
 use std::process::ExitCode;
 
-use arguments::{Arguments, HEX, JSON, OUTPUT};
+use arguments::{Arguments, EDITION, HEX, JSON, OUTPUT};
 use failure::Failure;
 
 /// What a command is called, which options it takes, its help, and what it prints.
@@ -32,10 +32,10 @@ struct Command {
 }
 
 const COMMANDS: [Command; 5] = [
-    Command { name: "rows", options: &[JSON], help: help::ROWS, run: rows::run },
-    Command { name: "rewrite", options: &[OUTPUT], help: help::REWRITE, run: rewrite::run },
-    Command { name: "tree", options: &[JSON], help: help::TREE, run: tree::run },
-    Command { name: "value", options: &[HEX, JSON], help: help::VALUE, run: value::run },
+    Command { name: "rows", options: &[EDITION, JSON], help: help::ROWS, run: rows::run },
+    Command { name: "rewrite", options: &[EDITION, OUTPUT], help: help::REWRITE, run: rewrite::run },
+    Command { name: "tree", options: &[EDITION, JSON], help: help::TREE, run: tree::run },
+    Command { name: "value", options: &[EDITION, HEX, JSON], help: help::VALUE, run: value::run },
     Command { name: "timestamp", options: &[JSON], help: help::TIMESTAMP, run: timestamp::run },
 ];
 
@@ -56,7 +56,8 @@ fn run(mut words: impl Iterator<Item = OsString>) -> Result<(), Failure> {
         .find(|command| name == command.name)
         .ok_or_else(|| Failure::arguments(format!("there is no command {name:?}")))?;
     let Some(arguments) = Arguments::parse(words, command.options)? else {
-        return files::print(command.help.as_bytes());
+        let of_edition = if command.options.contains(&EDITION) { help::EDITION } else { "" };
+        return files::print([command.help, of_edition].concat().as_bytes());
     };
     let wants_json = arguments.has(JSON);
     match (command.run)(arguments) {

@@ -10,10 +10,11 @@ use crate::files::{self, STANDARD};
 pub fn run(mut arguments: Arguments) -> Result<Vec<u8>, Failure> {
     let file = arguments.word("FILE")?;
     let output = arguments.option(OUTPUT).ok_or_else(|| Failure::arguments("-o OUT is missing"))?.to_owned();
+    let edition = arguments.edition()?;
     arguments.end()?;
     let sheet = files::read(&file, MAX_SHEET)?;
     let mut rewritten = vec![0; sheet.len()];
-    griffeljol::rewrite(&sheet, &mut rewritten, 0)?;
+    griffeljol::rewrite(edition, &sheet, &mut rewritten, 0)?;
     if output == STANDARD {
         return Ok(rewritten);
     }

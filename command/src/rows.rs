@@ -9,9 +9,10 @@ use crate::json::Json;
 
 pub fn run(mut arguments: Arguments) -> Result<Vec<u8>, Failure> {
     let file = arguments.word("FILE")?;
+    let edition = arguments.edition()?;
     let wants_json = arguments.has(JSON);
     arguments.end()?;
-    let rows = griffeljol::rows(&files::read(&file, MAX_SHEET)?)?;
+    let rows = griffeljol::rows(edition, &files::read(&file, MAX_SHEET)?)?;
     let text = if wants_json {
         let nodes = ("nodes", Json::number(rows.len()));
         let rows = ("rows", Json::List(rows.iter().map(object).collect()));

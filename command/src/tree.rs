@@ -11,10 +11,11 @@ const TITLES: [&str; 7] = ["node", "level", "name", "type", "annotation", "repet
 
 pub fn run(mut arguments: Arguments) -> Result<Vec<u8>, Failure> {
     let file = arguments.word("FILE")?;
+    let edition = arguments.edition()?;
     let wants_json = arguments.has(JSON);
     arguments.end()?;
     let sheet = files::read(&file, MAX_SHEET)?;
-    let rows = griffeljol::rows(&sheet)?;
+    let rows = griffeljol::rows(edition, &sheet)?;
     let names: Vec<&[u8]> = (0..rows.len()).map(|node| names::name(&sheet, node)).collect();
     let text = if wants_json {
         let levels = levels(&rows);

@@ -19,13 +19,14 @@ pub fn run(mut arguments: Arguments) -> Result<Vec<u8>, Failure> {
     };
     let hex = arguments.option(HEX).map(bytes_of_hex).transpose()?;
     let file = if hex.is_none() { Some(arguments.word("FILE or --hex HEX")?) } else { None };
+    let edition = arguments.edition()?;
     let wants_json = arguments.has(JSON);
     arguments.end()?;
     let bytes = match file {
         Some(file) => files::read(&file, MAX_VALUE)?,
         None => hex.unwrap_or_default(),
     };
-    let value = griffeljol::read(column, &bytes)?;
+    let value = griffeljol::read(edition, column, &bytes)?;
     let text = if wants_json { object(value).line() } else { line(value) };
     Ok(text.into_bytes())
 }

@@ -2,6 +2,7 @@
 
 use crate::codes::{converted, kind, logical, physical};
 use crate::decimal;
+use crate::edition::Edition;
 use crate::refusal;
 use crate::sheet::Slot;
 use crate::timestamp::Unit;
@@ -216,15 +217,15 @@ impl Annotation {
     }
 }
 
-/// Resolves the annotations of a slot, or answers the number of the first of rules 9, 10 and 11 that it breaks.
+/// Resolves the annotations of a slot, or answers the number of the first of an edition's rules 9, 10 and 11 that it breaks.
 /// A slot is under a map where its parent is a resolved MAP.
-pub fn resolve(slot: &Slot, under_map: bool) -> Result<Annotation, u32> {
+pub fn resolve(edition: Edition, slot: &Slot, under_map: bool) -> Result<Annotation, u32> {
     let annotation = meaning(slot, under_map)?;
     if !annotation.may_stand_on(slot.physical, slot.type_length) {
         return Err(refusal::ANNOTATION);
     }
     if annotation == Annotation::Logical(Logical::Decimal)
-        && !is_decimal(slot.physical, slot.type_length, slot.precision, slot.scale)
+        && !is_decimal(edition, slot.physical, slot.type_length, slot.precision, slot.scale)
     {
         return Err(refusal::DECIMAL);
     }
@@ -252,7 +253,7 @@ fn meaning(slot: &Slot, under_map: bool) -> Result<Annotation, u32> {
 }
 
 /// Rule 11: precision and scale of a DECIMAL on a physical type that may have one.
-pub fn is_decimal(physical: u8, type_length: i32, precision: i32, scale: i32) -> bool {
+pub fn is_decimal(edition: Edition, physical: u8, type_length: i32, precision: i32, scale: i32) -> bool {
     let most = match physical {
         physical::INT32 => 9,
         physical::INT64 => 18,
@@ -262,12 +263,12 @@ pub fn is_decimal(physical: u8, type_length: i32, precision: i32, scale: i32) ->
         },
         _ => i32::MAX,
     };
-    (1..=most).contains(&precision) && is_scale(scale, precision)
+    (1..=most).contains(&precision) && is_scale(edition, scale, precision)
 }
 
 /// Whether a scale goes with a precision.
-fn is_scale(scale: i32, precision: i32) -> bool {
-    0 <= scale && scale < precision
+fn is_scale(edition: Edition, scale: i32, precision: i32) -> bool {
+    0 <= scale && (scale < precision || scale == precision && edition.scale_may_equal_precision())
 }
 
 /// The converted type, logical type and parameters that a rewritten slot has.

@@ -1,7 +1,8 @@
-//! Column types: refusal 20.
+//! Column types: refusals 21 and 20.
 
 use crate::annotation::{self, Annotation, Logical};
 use crate::codes::{kind, logical, physical};
+use crate::edition::Edition;
 use crate::refusal::{self, Refusal};
 use crate::rules;
 
@@ -20,7 +21,7 @@ pub struct ColumnType {
     pub p2: u32,
 }
 
-/// A column type that a leaf of some accepted sheet has.
+/// A column type that a leaf of some sheet has that an edition accepts.
 #[derive(Clone, Copy, Debug)]
 pub struct Column {
     /// Physical type.
@@ -34,18 +35,19 @@ pub struct Column {
 }
 
 impl Column {
-    /// Holds five numbers to the rules that a leaf's slot with them would be held to.
-    pub fn of(given: ColumnType) -> Result<Self, Refusal> {
-        Self::lawful(given).ok_or(Refusal::whole(refusal::COLUMN_TYPE))
+    /// Holds five numbers to the rules that a leaf's slot with them would be held to in an edition: refusal 21, then 20.
+    pub fn of(edition: u32, given: ColumnType) -> Result<Self, Refusal> {
+        let edition = Edition::known(edition)?;
+        Self::lawful(edition, given).ok_or(Refusal::whole(refusal::COLUMN_TYPE))
     }
 
-    fn lawful(given: ColumnType) -> Option<Self> {
+    fn lawful(edition: Edition, given: ColumnType) -> Option<Self> {
         let physical = u8::try_from(given.physical).ok().filter(|&code| code <= physical::FIXED)?;
         let type_length = i32::try_from(given.type_length).ok()?;
         let annotation = annotation_of(given)?;
         let precision = if annotation == Annotation::Logical(Logical::Decimal) {
             let (precision, scale) = (i32::try_from(given.p1).ok()?, i32::try_from(given.p2).ok()?);
-            annotation::is_decimal(physical, type_length, precision, scale).then_some(given.p1)?
+            annotation::is_decimal(edition, physical, type_length, precision, scale).then_some(given.p1)?
         } else {
             0
         };

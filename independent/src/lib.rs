@@ -15,6 +15,7 @@ pub mod annotation;
 pub mod codes;
 pub mod column;
 pub mod decimal;
+pub mod edition;
 pub mod order;
 pub mod refusal;
 pub mod rewrite;

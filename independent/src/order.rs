@@ -32,9 +32,9 @@ impl From<Ordering> for Order {
     }
 }
 
-/// Orders two values of a column: refusal 20, then 17, then those of the first value, then those of the second.
-pub fn order(column: ColumnType, a: &[u8], b: &[u8]) -> Result<Order, OrderRefusal> {
-    let column = Column::of(column).map_err(OrderRefusal::of_neither)?;
+/// Orders two values of a column by an edition: refusal 21, then 20, then 17, then those of the first value, then those of the second.
+pub fn order(edition: u32, column: ColumnType, a: &[u8], b: &[u8]) -> Result<Order, OrderRefusal> {
+    let column = Column::of(edition, column).map_err(OrderRefusal::of_neither)?;
     if column.physical == physical::INT96 || column.annotation == Annotation::Interval {
         return Err(OrderRefusal::of_neither(Refusal::whole(refusal::NO_ORDER)));
     }

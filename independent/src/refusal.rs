@@ -1,11 +1,11 @@
-//! The numbered refusals of document 01, with the places and values that document 02's R-6 adds.
+//! The numbered refusals of document 01, with what document 02's add.
 
 use std::fmt;
 
-/// A refusal's number, 1 to 20, and its place.
+/// A refusal's number, 1 to 21, and its place.
 #[derive(Clone, Copy, Debug, PartialEq, Eq)]
 pub struct Refusal {
-    /// The number in document 01's table.
+    /// The number in document 01's table, or 21.
     pub number: u32,
     /// The block, the node, the byte of a text, or 0, as the table says.
     pub place: u32,
@@ -109,3 +109,5 @@ pub const NO_DATE: u32 = 18;
 pub const NO_COUNT: u32 = 19;
 /// No accepted sheet has a leaf of this column type, or a time unit is not 1 to 3.
 pub const COLUMN_TYPE: u32 = 20;
+/// The edition is unknown.
+pub const UNKNOWN_EDITION: u32 = 21;

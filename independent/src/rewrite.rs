@@ -5,10 +5,10 @@ use crate::refusal::{self, Refusal};
 use crate::rules::Schema;
 use crate::sheet;
 
-/// Judges a sheet and writes the rewritten one into the output from the start on; answers how many bytes it has.
+/// Judges a sheet by an edition and writes the rewritten one into the output from the start on; answers how many bytes it has.
 /// Bytes before and after stay.
-pub fn rewrite(sheet: &[u8], out: &mut [u8], start: usize) -> Result<u32, Refusal> {
-    let schema = Schema::read(sheet)?;
+pub fn rewrite(edition: u32, sheet: &[u8], out: &mut [u8], start: usize) -> Result<u32, Refusal> {
+    let schema = Schema::read(edition, sheet)?;
     let stretch =
         out.get_mut(start..).and_then(|rest| rest.get_mut(..sheet.len())).ok_or(Refusal::whole(refusal::OUTPUT))?;
     stretch.copy_from_slice(sheet);

@@ -8,9 +8,9 @@ use crate::tree::Tree;
 /// Numbers of a row: physical, type length, repetition, kind, p1, p2, parent, end, role, definition level, repetition level.
 pub const ROW_WIDTH: usize = 11;
 
-/// Judges a sheet and writes a row for each of its nodes; answers how many nodes it has. Numbers beyond the rows stay.
-pub fn resolve(sheet: &[u8], rows: &mut [u32]) -> Result<u32, Refusal> {
-    let schema = Schema::read(sheet)?;
+/// Judges a sheet by an edition and writes a row for each of its nodes; answers how many nodes it has. Numbers beyond the rows stay.
+pub fn resolve(edition: u32, sheet: &[u8], rows: &mut [u32]) -> Result<u32, Refusal> {
+    let schema = Schema::read(edition, sheet)?;
     let count = schema.nodes().len();
     let rows = rows.get_mut(..ROW_WIDTH * count).ok_or(Refusal::whole(refusal::OUTPUT))?;
     let levels = levels(schema.tree());

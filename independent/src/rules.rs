@@ -44,9 +44,9 @@ pub struct Schema<'a> {
 }
 
 impl<'a> Schema<'a> {
-    /// Reads and judges a sheet: refusals 1 to 13.
-    pub fn read(sheet: &'a [u8]) -> Result<Self, Refusal> {
-        let tree = Tree::read(Sheet::open(sheet)?)?;
+    /// Reads and judges a sheet by an edition: refusal 21, then 1 to 13.
+    pub fn read(edition: u32, sheet: &'a [u8]) -> Result<Self, Refusal> {
+        let tree = Tree::read(Sheet::open(edition, sheet)?)?;
         let nodes = judge(&tree)?;
         Ok(Schema { tree, nodes })
     }
@@ -64,6 +64,7 @@ impl<'a> Schema<'a> {
 
 /// The annotation and role of each node, or the first rule broken at the first node that breaks one.
 fn judge(tree: &Tree) -> Result<Vec<Node>, Refusal> {
+    let edition = tree.sheet().edition();
     let mut nodes = vec![Node { annotation: Annotation::None, role: Role::Field }; tree.node_count()];
     for node in 0..tree.node_count() {
         let slot = tree.slot(node);
@@ -72,7 +73,7 @@ fn judge(tree: &Tree) -> Result<Vec<Node>, Refusal> {
             return Err(Refusal::at(refusal::SHAPE, node));
         }
         let under_map = !is_root && nodes[tree.parent(node)].annotation == Annotation::Logical(Logical::Map);
-        let annotation = annotation::resolve(&slot, under_map).map_err(|number| Refusal::at(number, node))?;
+        let annotation = annotation::resolve(edition, &slot, under_map).map_err(|number| Refusal::at(number, node))?;
         match annotation {
             Annotation::Logical(Logical::List) => {
                 let layer = list_layer(tree, node).ok_or(Refusal::at(refusal::LIST, node))?;

@@ -1,6 +1,7 @@
-//! Blocks, checks, headers and slots of a sheet: refusals 1 to 4.
+//! Blocks, checks, headers and slots of a sheet: refusal 21, and 1 to 4.
 
 use crate::codes::{converted, logical, physical, repetition};
+use crate::edition::Edition;
 use crate::refusal::{self, Refusal};
 
 /// Bytes of a block.
@@ -26,16 +27,18 @@ pub const ANNOTATION: std::ops::Range<usize> = 2..6;
 const NAME_LENGTH: usize = 20;
 const NAME: usize = 24;
 
-/// A sheet of sound blocks and slots.
+/// A sheet of sound blocks and slots, and the edition that it is read by.
 #[derive(Clone, Copy, Debug)]
 pub struct Sheet<'a> {
+    edition: Edition,
     bytes: &'a [u8],
     nodes: usize,
 }
 
 impl<'a> Sheet<'a> {
-    /// Opens a sheet under refusals 1 to 4, each judged over the whole sheet before the next.
-    pub fn open(bytes: &'a [u8]) -> Result<Self, Refusal> {
+    /// Opens a sheet in an edition under refusal 21, then 1 to 4, each judged over the whole sheet before the next.
+    pub fn open(edition: u32, bytes: &'a [u8]) -> Result<Self, Refusal> {
+        let edition = Edition::known(edition)?;
         if bytes.is_empty() || !bytes.len().is_multiple_of(BLOCK) || bytes.len() > MAX_BLOCKS * BLOCK {
             return Err(Refusal::whole(refusal::SHEET_LENGTH));
         }
@@ -54,7 +57,12 @@ impl<'a> Sheet<'a> {
         if let Some(at) = slots.enumerate().position(|numbered| !right(numbered)) {
             return Err(Refusal::at(refusal::SLOT, at));
         }
-        Ok(Sheet { bytes, nodes })
+        Ok(Sheet { edition, bytes, nodes })
+    }
+
+    /// The edition that it is read by.
+    pub fn edition(&self) -> Edition {
+        self.edition
     }
 
     /// The bytes of the sheet.

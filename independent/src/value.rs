@@ -32,9 +32,9 @@ pub enum Value {
     },
 }
 
-/// Reads one value of a column: refusal 20, then 15, then 16.
-pub fn read(column: ColumnType, value: &[u8]) -> Result<Value, Refusal> {
-    read_in(&Column::of(column)?, value)
+/// Reads one value of a column by an edition: refusal 21, then 20, then 15, then 16.
+pub fn read(edition: u32, column: ColumnType, value: &[u8]) -> Result<Value, Refusal> {
+    read_in(&Column::of(edition, column)?, value)
 }
 
 /// Reads one value of a lawful column.

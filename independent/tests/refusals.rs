@@ -1,5 +1,6 @@
 //! The order of refusals, their places, and that a refused call leaves what it was lent.
 
+use independent::edition::{FIRST, SECOND};
 use independent::sheet::{assemble, renew_checks, slot_start, Slot, BLOCK};
 use independent::{encode, order, read, resolve, rewrite, ColumnType, Fields, OrderRefusal, Refusal, ROW_WIDTH};
 
@@ -30,11 +31,23 @@ fn flat(leaves: u16) -> Vec<u8> {
     assemble(&slots)
 }
 
-/// Resolving and rewriting a sheet, which both refuse it alike and leave their outputs.
+/// Resolving and rewriting a sheet, which both refuse it alike in each edition and leave their outputs; an unknown edition comes first.
 fn refusal_of(sheet: &[u8]) -> Refusal {
+    let refusal = refusal_in(FIRST, sheet);
+    assert_eq!(refusal_in(SECOND, sheet), refusal);
+    for unknown in UNKNOWN {
+        assert_eq!(refusal_in(unknown, sheet), refused(21, 0));
+    }
+    refusal
+}
+
+/// Numbers of no edition.
+const UNKNOWN: [u32; 5] = [0, 3, 4, 257, u32::MAX];
+
+fn refusal_in(edition: u32, sheet: &[u8]) -> Refusal {
     let (mut rows, mut out) = ([7; 20_000], vec![9; 140_000]);
-    let refusal = resolve(sheet, &mut rows).unwrap_err();
-    assert_eq!(rewrite(sheet, &mut out, 3), Err(refusal));
+    let refusal = resolve(edition, sheet, &mut rows).unwrap_err();
+    assert_eq!(rewrite(edition, sheet, &mut out, 3), Err(refusal));
     assert!(rows.iter().all(|&number| number == 7) && out.iter().all(|&byte| byte == 9));
     refusal
 }
@@ -84,20 +97,20 @@ fn output_too_short_comes_last() {
     let sheet = flat(3);
     let needed = ROW_WIDTH * 4;
     let mut rows = vec![7; needed - 1];
-    assert_eq!(resolve(&sheet, &mut rows), Err(refused(14, 0)));
+    assert_eq!(resolve(FIRST, &sheet, &mut rows), Err(refused(14, 0)));
     assert!(rows.iter().all(|&number| number == 7));
     let mut rows = vec![7; needed + 1];
-    assert_eq!(resolve(&sheet, &mut rows), Ok(4));
+    assert_eq!(resolve(FIRST, &sheet, &mut rows), Ok(4));
     assert_eq!(rows[needed], 7);
     for (lent, start) in [(511, 0), (512, 1), (512, 513), (0, 0), (1_000, usize::MAX)] {
         let mut out = vec![9; lent];
-        assert_eq!(rewrite(&sheet, &mut out, start), Err(refused(14, 0)));
+        assert_eq!(rewrite(FIRST, &sheet, &mut out, start), Err(refused(14, 0)));
         assert!(out.iter().all(|&byte| byte == 9));
     }
     let mut out = vec![9; 520];
-    assert_eq!(rewrite(&sheet, &mut out, 5), Ok(512));
+    assert_eq!(rewrite(FIRST, &sheet, &mut out, 5), Ok(512));
     assert_eq!((&out[..5], &out[517..]), (&[9; 5][..], &[9; 3][..]));
-    assert_eq!(resolve(&changed(&sheet, &[(slot_start(3) + 8, 1)]), &mut []), Err(refused(8, 3)));
+    assert_eq!(resolve(FIRST, &changed(&sheet, &[(slot_start(3) + 8, 1)]), &mut []), Err(refused(8, 3)));
 }
 
 #[test]
@@ -131,19 +144,19 @@ fn fields_are_taken_as_they_come() {
 fn a_value_by_20_15_16_and_an_order_by_20_17_and_its_values() {
     let column = |physical, type_length, kind, p1, p2| ColumnType { physical, type_length, kind, p1, p2 };
     let unknown = column(1, 0, 11, 0, 0);
-    assert_eq!(read(unknown, b""), Err(refused(15, 0)));
-    assert_eq!(read(unknown, b"\0\0\0\0"), Err(refused(16, 0)));
-    assert_eq!(read(column(1, 0, 11, 1, 0), b""), Err(refused(20, 0)));
-    assert_eq!(read(column(6, 0, 0, 0, 0), &[0; 65_537]), Err(refused(15, 0)));
-    assert!(read(column(6, 0, 0, 0, 0), &[0; 65_536]).is_ok());
-    assert_eq!(read(column(7, 65_537, 0, 0, 0), &[0; 65_537]), Err(refused(15, 0)));
+    assert_eq!(read(FIRST, unknown, b""), Err(refused(15, 0)));
+    assert_eq!(read(FIRST, unknown, b"\0\0\0\0"), Err(refused(16, 0)));
+    assert_eq!(read(FIRST, column(1, 0, 11, 1, 0), b""), Err(refused(20, 0)));
+    assert_eq!(read(FIRST, column(6, 0, 0, 0, 0), &[0; 65_537]), Err(refused(15, 0)));
+    assert!(read(FIRST, column(6, 0, 0, 0, 0), &[0; 65_536]).is_ok());
+    assert_eq!(read(FIRST, column(7, 65_537, 0, 0, 0), &[0; 65_537]), Err(refused(15, 0)));
     let order_refused = |number, place, value| Err(OrderRefusal { refusal: refused(number, place), value });
-    assert_eq!(order(column(3, 1, 0, 0, 0), b"", b""), order_refused(20, 0, 0));
-    assert_eq!(order(column(3, 0, 0, 0, 0), b"", b""), order_refused(17, 0, 0));
+    assert_eq!(order(FIRST, column(3, 1, 0, 0, 0), b"", b""), order_refused(20, 0, 0));
+    assert_eq!(order(FIRST, column(3, 0, 0, 0, 0), b"", b""), order_refused(17, 0, 0));
     let text = column(6, 0, 1, 0, 0);
-    assert_eq!(order(text, b"\xFF", &[0; 65_537]), order_refused(16, 0, 1));
-    assert_eq!(order(text, &[0; 65_537], b"\xFF"), order_refused(15, 0, 1));
-    assert_eq!(order(text, b"", &[0; 65_537]), order_refused(15, 0, 2));
+    assert_eq!(order(FIRST, text, b"\xFF", &[0; 65_537]), order_refused(16, 0, 1));
+    assert_eq!(order(FIRST, text, &[0; 65_537], b"\xFF"), order_refused(15, 0, 1));
+    assert_eq!(order(FIRST, text, b"", &[0; 65_537]), order_refused(15, 0, 2));
 }
 
 #[test]
@@ -155,17 +168,56 @@ fn text_is_refused_at_its_byte_and_all_else_at_none() {
         for (bytes, place) in
             [(&b"\x80"[..], 0), (b"ab\xFF", 2), (b"ab\xFFcd", 2), (b"a\xE2\x82", 1), (b"\xC3\xA9\xC3", 2)]
         {
-            assert_eq!(read(text, bytes), Err(refused(16, place)), "{bytes:02X?}");
+            assert_eq!(read(FIRST, text, bytes), Err(refused(16, place)), "{bytes:02X?}");
             let of_value = |value| Err(OrderRefusal { refusal: refused(16, place), value });
-            assert_eq!(order(text, bytes, b"a"), of_value(1));
-            assert_eq!(order(text, b"a", bytes), of_value(2));
+            assert_eq!(order(FIRST, text, bytes, b"a"), of_value(1));
+            assert_eq!(order(FIRST, text, b"a", bytes), of_value(2));
             // Both: the first is at fault, at its own byte.
-            assert_eq!(order(text, bytes, b"abc\xFF"), of_value(1));
+            assert_eq!(order(FIRST, text, bytes, b"abc\xFF"), of_value(1));
         }
     }
-    assert_eq!(read(column(6, 5, 2), b"\x64"), Err(refused(16, 0)));
-    assert_eq!(read(column(6, 11, 0), b"ab\xFF"), Err(refused(16, 0)));
-    assert_eq!(read(column(0, 0, 0), b"\xFF"), Err(refused(16, 0)));
+    assert_eq!(read(FIRST, column(6, 5, 2), b"\x64"), Err(refused(16, 0)));
+    assert_eq!(read(FIRST, column(6, 11, 0), b"ab\xFF"), Err(refused(16, 0)));
+    assert_eq!(read(FIRST, column(0, 0, 0), b"\xFF"), Err(refused(16, 0)));
     let second = Err(OrderRefusal { refusal: refused(16, 0), value: 2 });
-    assert_eq!(order(column(6, 5, 2), b"\x63", b"\x00\x64"), second);
+    assert_eq!(order(FIRST, column(6, 5, 2), b"\x63", b"\x00\x64"), second);
+}
+
+#[test]
+fn an_unknown_edition_comes_first() {
+    let (lawful, unlawful) = (flat(3), vec![0; 511]);
+    let none = ColumnType { physical: 8, type_length: 0, kind: 0, p1: 0, p2: 0 };
+    let int32 = ColumnType { physical: 1, ..none };
+    for unknown in UNKNOWN {
+        for sheet in [&lawful, &unlawful] {
+            assert_eq!(refusal_in(unknown, sheet), refused(21, 0));
+            // Nothing lent, and nowhere to start.
+            assert_eq!(resolve(unknown, sheet, &mut []), Err(refused(21, 0)));
+            assert_eq!(rewrite(unknown, sheet, &mut [], 1), Err(refused(21, 0)));
+        }
+        for (column, value) in [(int32, &[0; 4][..]), (int32, b""), (none, b"")] {
+            assert_eq!(read(unknown, column, value), Err(refused(21, 0)));
+            assert_eq!(order(unknown, column, value, value), Err(OrderRefusal::of_neither(refused(21, 0))));
+        }
+    }
+}
+
+#[test]
+fn the_second_edition_lets_the_scale_equal_the_precision_and_nothing_else() {
+    let decimal = |physical, type_length, precision, scale| {
+        let leaf = Slot { physical, logical: 5, type_length, precision, scale, ..LEAF };
+        let sheet = assemble(&[Slot { children: 1, ..ROOT }, leaf]);
+        [FIRST, SECOND].map(|edition| resolve(edition, &sheet, &mut [0; 2 * ROW_WIDTH]))
+    };
+    for (physical, type_length, most) in [(1, 0, 9), (2, 0, 18), (6, 0, i32::MAX), (7, 1, 2), (7, 256, 616)] {
+        for precision in [1, 2, most] {
+            assert_eq!(decimal(physical, type_length, precision, precision - 1), [Ok(2), Ok(2)]);
+            assert_eq!(decimal(physical, type_length, precision, precision), [Err(refused(11, 1)), Ok(2)]);
+        }
+        for (precision, scale) in [(0, 0), (-1, -1), (1, 2), (2, -1), (i32::MIN, i32::MIN)] {
+            assert_eq!(decimal(physical, type_length, precision, scale), [Err(refused(11, 1)); 2]);
+        }
+    }
+    assert_eq!(decimal(1, 0, 10, 10), [Err(refused(11, 1)); 2]);
+    assert_eq!(decimal(7, 257, 1, 1), [Err(refused(11, 1)); 2]);
 }

@@ -40,7 +40,7 @@ static void check_helpers(void)
     CHECK(griffeljol_refusal(0xFFFFFFFF) == GRIFFELJOL_REFUSAL_NONE);
 }
 
-static void check_resolve(const uint8_t *sheet)
+static void check_resolve(uint32_t edition, const uint8_t *sheet)
 {
     const uint32_t expected[ROWS] = {255, 0, 255, 30, 0, 0, 0, 4, 0, 0, 0, 255, 0, 0, 3, 0, 0, 0, 4, 0, 0, 0,
                                      255, 0, 2,   30, 0, 0, 1, 4, 1, 1, 1, 6,   0, 1, 1, 0, 0, 2, 4, 2, 2, 1};
@@ -48,61 +48,61 @@ static void check_resolve(const uint8_t *sheet)
     uint8_t wrong[SHEET];
     memset(rows, 0xA5, sizeof rows);
     memcpy(before, rows, sizeof rows);
-    CHECK(griffeljol_resolve(NULL, 0, NULL, 0) == refused(1));
-    CHECK(griffeljol_resolve(NULL, 0, rows, ROWS) == refused(1));
-    CHECK(griffeljol_resolve(sheet, SHEET - 1, rows, ROWS) == refused(1));
-    CHECK(griffeljol_resolve(sheet, SHEET, NULL, 0) == refused(14));
-    CHECK(griffeljol_resolve(sheet, SHEET, rows, ROWS - 1) == refused(14));
+    CHECK(griffeljol_resolve(edition, NULL, 0, NULL, 0) == refused(1));
+    CHECK(griffeljol_resolve(edition, NULL, 0, rows, ROWS) == refused(1));
+    CHECK(griffeljol_resolve(edition, sheet, SHEET - 1, rows, ROWS) == refused(1));
+    CHECK(griffeljol_resolve(edition, sheet, SHEET, NULL, 0) == refused(14));
+    CHECK(griffeljol_resolve(edition, sheet, SHEET, rows, ROWS - 1) == refused(14));
     memcpy(wrong, sheet, SHEET);
     wrong[30] ^= 1;
-    CHECK(griffeljol_resolve(wrong, SHEET, NULL, 0) == refused(2));
-    CHECK(griffeljol_resolve(wrong, SHEET, rows, ROWS) == refused(2));
+    CHECK(griffeljol_resolve(edition, wrong, SHEET, NULL, 0) == refused(2));
+    CHECK(griffeljol_resolve(edition, wrong, SHEET, rows, ROWS) == refused(2));
     CHECK(memcmp(rows, before, sizeof rows) == 0);
-    CHECK(griffeljol_resolve(sheet, SHEET, rows, ROWS) == NODES);
+    CHECK(griffeljol_resolve(edition, sheet, SHEET, rows, ROWS) == NODES);
     CHECK(memcmp(rows, expected, sizeof expected) == 0);
-    CHECK(griffeljol_resolve(sheet, SHEET, rows, ROWS + 1) == NODES);
+    CHECK(griffeljol_resolve(edition, sheet, SHEET, rows, ROWS + 1) == NODES);
     CHECK(memcmp(rows, expected, sizeof expected) == 0);
     CHECK(rows[ROWS] == before[ROWS]);
 }
 
-static void check_rewrite(const uint8_t *sheet)
+static void check_rewrite(uint32_t edition, const uint8_t *sheet)
 {
     enum { START = 45, BEHIND = 3, OUT = START + SHEET + BEHIND };
     uint8_t out[OUT], before[OUT], again[SHEET];
     uint32_t rows[ROWS], rewritten[ROWS];
     memset(out, 0xA5, sizeof out);
     memcpy(before, out, sizeof out);
-    CHECK(griffeljol_rewrite(NULL, 0, NULL, 0, 0) == refused(1));
-    CHECK(griffeljol_rewrite(sheet, SHEET, NULL, 0, 0) == refused(14));
-    CHECK(griffeljol_rewrite(sheet, SHEET, NULL, 0, 1) == refused(14));
-    CHECK(griffeljol_rewrite(sheet, SHEET, out, OUT, SIZE_MAX) == refused(14));
-    CHECK(griffeljol_rewrite(sheet, SHEET, out, OUT, OUT) == refused(14));
-    CHECK(griffeljol_rewrite(sheet, SHEET, out, OUT, OUT + 1) == refused(14));
-    CHECK(griffeljol_rewrite(sheet, SHEET, out, OUT, START + BEHIND + 1) == refused(14));
-    CHECK(griffeljol_rewrite(sheet, SHEET - 1, out, OUT, OUT + 1) == refused(1));
+    CHECK(griffeljol_rewrite(edition, NULL, 0, NULL, 0, 0) == refused(1));
+    CHECK(griffeljol_rewrite(edition, sheet, SHEET, NULL, 0, 0) == refused(14));
+    CHECK(griffeljol_rewrite(edition, sheet, SHEET, NULL, 0, 1) == refused(14));
+    CHECK(griffeljol_rewrite(edition, sheet, SHEET, out, OUT, SIZE_MAX) == refused(14));
+    CHECK(griffeljol_rewrite(edition, sheet, SHEET, out, OUT, OUT) == refused(14));
+    CHECK(griffeljol_rewrite(edition, sheet, SHEET, out, OUT, OUT + 1) == refused(14));
+    CHECK(griffeljol_rewrite(edition, sheet, SHEET, out, OUT, START + BEHIND + 1) == refused(14));
+    CHECK(griffeljol_rewrite(edition, sheet, SHEET - 1, out, OUT, OUT + 1) == refused(1));
     CHECK(memcmp(out, before, sizeof out) == 0);
-    CHECK(griffeljol_rewrite(sheet, SHEET, out, OUT, START) == SHEET);
+    CHECK(griffeljol_rewrite(edition, sheet, SHEET, out, OUT, START) == SHEET);
     CHECK(memcmp(out, before, START) == 0);
     CHECK(memcmp(out + START + SHEET, before + START + SHEET, BEHIND) == 0);
-    CHECK(griffeljol_resolve(sheet, SHEET, rows, ROWS) == NODES);
-    CHECK(griffeljol_resolve(out + START, SHEET, rewritten, ROWS) == NODES);
+    CHECK(griffeljol_resolve(edition, sheet, SHEET, rows, ROWS) == NODES);
+    CHECK(griffeljol_resolve(edition, out + START, SHEET, rewritten, ROWS) == NODES);
     CHECK(memcmp(rows, rewritten, sizeof rows) == 0);
-    CHECK(griffeljol_rewrite(out + START, SHEET, again, SHEET, 0) == SHEET);
+    CHECK(griffeljol_rewrite(edition, out + START, SHEET, again, SHEET, 0) == SHEET);
     CHECK(memcmp(out + START, again, SHEET) == 0);
-    CHECK(griffeljol_rewrite(sheet, SHEET, out, OUT, START + BEHIND) == SHEET);
+    CHECK(griffeljol_rewrite(edition, sheet, SHEET, out, OUT, START + BEHIND) == SHEET);
     CHECK(memcmp(out + START + BEHIND, again, SHEET) == 0);
 }
 
 /* Reads a value into out, of three numbers, and says whether the answer is as it should be and the third stayed. */
-static int reads(uint32_t physical, uint32_t kind, uint32_t p1, uint32_t p2, const uint8_t *value, size_t length,
-                 uint32_t value_case, uint64_t first, uint64_t second)
+static int reads(uint32_t edition, uint32_t physical, uint32_t kind, uint32_t p1, uint32_t p2, const uint8_t *value,
+                 size_t length, uint32_t value_case, uint64_t first, uint64_t second)
 {
     uint64_t out[3] = {7, 7, 7};
-    uint64_t answer = griffeljol_read(physical, 0, kind, p1, p2, value, length, out, 3);
+    uint64_t answer = griffeljol_read(edition, physical, 0, kind, p1, p2, value, length, out, 3);
     return answer == value_case && out[0] == first && out[1] == second && out[2] == 7;
 }
 
-static void check_read(void)
+static void check_read(uint32_t edition)
 {
     static uint8_t longest[GRIFFELJOL_MAX_VALUE + 1] = {0};
     const uint8_t one[1] = {1}, two[1] = {2};
@@ -110,52 +110,91 @@ static void check_read(void)
     const uint8_t float_nan[4] = {1, 0, 0x80, 0xFF}, minus_zero[4] = {0, 0, 0, 0x80};
     const uint8_t double_nan[8] = {1, 0, 0, 0, 0, 0, 0xF0, 0x7F};
     uint64_t out[2] = {7, 7};
-    CHECK(reads(GRIFFELJOL_PHYSICAL_BOOLEAN, 0, 0, 0, one, 1, GRIFFELJOL_CASE_TRUTH, 1, 0));
-    CHECK(reads(GRIFFELJOL_PHYSICAL_INT32, 0, 0, 0, ones, 4, GRIFFELJOL_CASE_SIGNED, UINT64_MAX, 0));
-    CHECK(reads(GRIFFELJOL_PHYSICAL_INT64, 0, 0, 0, ones, 8, GRIFFELJOL_CASE_SIGNED, UINT64_MAX, 0));
-    CHECK(reads(GRIFFELJOL_PHYSICAL_INT32, 10, 32, 0, ones, 4, GRIFFELJOL_CASE_UNSIGNED, 0xFFFFFFFF, 0));
-    CHECK(reads(GRIFFELJOL_PHYSICAL_INT64, 10, 64, 0, ones, 8, GRIFFELJOL_CASE_UNSIGNED, UINT64_MAX, 0));
-    CHECK(reads(GRIFFELJOL_PHYSICAL_FLOAT, 0, 0, 0, minus_zero, 4, GRIFFELJOL_CASE_FLOAT, 0x80000000, 0));
-    CHECK(reads(GRIFFELJOL_PHYSICAL_FLOAT, 0, 0, 0, float_nan, 4, GRIFFELJOL_CASE_FLOAT, 0x7FC00000, 0));
-    CHECK(reads(GRIFFELJOL_PHYSICAL_DOUBLE, 0, 0, 0, double_nan, 8, GRIFFELJOL_CASE_DOUBLE,
+    CHECK(reads(edition, GRIFFELJOL_PHYSICAL_BOOLEAN, 0, 0, 0, one, 1, GRIFFELJOL_CASE_TRUTH, 1, 0));
+    CHECK(reads(edition, GRIFFELJOL_PHYSICAL_INT32, 0, 0, 0, ones, 4, GRIFFELJOL_CASE_SIGNED, UINT64_MAX, 0));
+    CHECK(reads(edition, GRIFFELJOL_PHYSICAL_INT64, 0, 0, 0, ones, 8, GRIFFELJOL_CASE_SIGNED, UINT64_MAX, 0));
+    CHECK(reads(edition, GRIFFELJOL_PHYSICAL_INT32, 10, 32, 0, ones, 4, GRIFFELJOL_CASE_UNSIGNED, 0xFFFFFFFF, 0));
+    CHECK(reads(edition, GRIFFELJOL_PHYSICAL_INT64, 10, 64, 0, ones, 8, GRIFFELJOL_CASE_UNSIGNED, UINT64_MAX, 0));
+    CHECK(reads(edition, GRIFFELJOL_PHYSICAL_FLOAT, 0, 0, 0, minus_zero, 4, GRIFFELJOL_CASE_FLOAT, 0x80000000, 0));
+    CHECK(reads(edition, GRIFFELJOL_PHYSICAL_FLOAT, 0, 0, 0, float_nan, 4, GRIFFELJOL_CASE_FLOAT, 0x7FC00000, 0));
+    CHECK(reads(edition, GRIFFELJOL_PHYSICAL_DOUBLE, 0, 0, 0, double_nan, 8, GRIFFELJOL_CASE_DOUBLE,
                 UINT64_C(0x7FF8000000000000), 0));
-    CHECK(reads(GRIFFELJOL_PHYSICAL_BYTE_ARRAY, 0, 0, 0, ones, 8, GRIFFELJOL_CASE_BYTES, 0, 8));
-    CHECK(reads(GRIFFELJOL_PHYSICAL_BYTE_ARRAY, 0, 0, 0, NULL, 0, GRIFFELJOL_CASE_BYTES, 0, 0));
-    CHECK(reads(GRIFFELJOL_PHYSICAL_BYTE_ARRAY, 1, 0, 0, NULL, 0, GRIFFELJOL_CASE_BYTES, 0, 0));
-    CHECK(reads(GRIFFELJOL_PHYSICAL_BYTE_ARRAY, 0, 0, 0, longest, GRIFFELJOL_MAX_VALUE, GRIFFELJOL_CASE_BYTES, 0,
+    CHECK(reads(edition, GRIFFELJOL_PHYSICAL_BYTE_ARRAY, 0, 0, 0, ones, 8, GRIFFELJOL_CASE_BYTES, 0, 8));
+    CHECK(reads(edition, GRIFFELJOL_PHYSICAL_BYTE_ARRAY, 0, 0, 0, NULL, 0, GRIFFELJOL_CASE_BYTES, 0, 0));
+    CHECK(reads(edition, GRIFFELJOL_PHYSICAL_BYTE_ARRAY, 1, 0, 0, NULL, 0, GRIFFELJOL_CASE_BYTES, 0, 0));
+    CHECK(reads(edition, GRIFFELJOL_PHYSICAL_BYTE_ARRAY, 0, 0, 0, longest, GRIFFELJOL_MAX_VALUE, GRIFFELJOL_CASE_BYTES, 0,
                 GRIFFELJOL_MAX_VALUE));
-    CHECK(griffeljol_read(GRIFFELJOL_PHYSICAL_GROUP, 0, 30, 0, 0, NULL, 0, NULL, 0) == refused(20));
-    CHECK(griffeljol_read(GRIFFELJOL_PHYSICAL_BOOLEAN, 0, 0, 0, 0, NULL, 0, NULL, 0) == refused(15));
-    CHECK(griffeljol_read(GRIFFELJOL_PHYSICAL_BYTE_ARRAY, 0, 0, 0, 0, longest, sizeof longest, out, 2) == refused(15));
-    CHECK(griffeljol_read(GRIFFELJOL_PHYSICAL_BOOLEAN, 0, 0, 0, 0, two, 1, NULL, 0) == refused(16));
-    CHECK(griffeljol_read(GRIFFELJOL_PHYSICAL_BOOLEAN, 0, 0, 0, 0, one, 1, NULL, 0) == refused(14));
-    CHECK(griffeljol_read(GRIFFELJOL_PHYSICAL_BOOLEAN, 0, 0, 0, 0, one, 1, out, 1) == refused(14));
-    CHECK(griffeljol_read(GRIFFELJOL_PHYSICAL_BOOLEAN, 0, 0, 0, 0, two, 1, out, 2) == refused(16));
+    CHECK(griffeljol_read(edition, GRIFFELJOL_PHYSICAL_GROUP, 0, 30, 0, 0, NULL, 0, NULL, 0) == refused(20));
+    CHECK(griffeljol_read(edition, GRIFFELJOL_PHYSICAL_BOOLEAN, 0, 0, 0, 0, NULL, 0, NULL, 0) == refused(15));
+    CHECK(griffeljol_read(edition, GRIFFELJOL_PHYSICAL_BYTE_ARRAY, 0, 0, 0, 0, longest, sizeof longest, out, 2) == refused(15));
+    CHECK(griffeljol_read(edition, GRIFFELJOL_PHYSICAL_BOOLEAN, 0, 0, 0, 0, two, 1, NULL, 0) == refused(16));
+    CHECK(griffeljol_read(edition, GRIFFELJOL_PHYSICAL_BOOLEAN, 0, 0, 0, 0, one, 1, NULL, 0) == refused(14));
+    CHECK(griffeljol_read(edition, GRIFFELJOL_PHYSICAL_BOOLEAN, 0, 0, 0, 0, one, 1, out, 1) == refused(14));
+    CHECK(griffeljol_read(edition, GRIFFELJOL_PHYSICAL_BOOLEAN, 0, 0, 0, 0, two, 1, out, 2) == refused(16));
     longest[GRIFFELJOL_MAX_VALUE - 1] = 0x80;
-    CHECK(griffeljol_read(GRIFFELJOL_PHYSICAL_BYTE_ARRAY, 0, GRIFFELJOL_KIND_STRING, 0, 0, longest, GRIFFELJOL_MAX_VALUE,
+    CHECK(griffeljol_read(edition, GRIFFELJOL_PHYSICAL_BYTE_ARRAY, 0, GRIFFELJOL_KIND_STRING, 0, 0, longest, GRIFFELJOL_MAX_VALUE,
                           out, 2) == refused_in(0, 16, GRIFFELJOL_MAX_VALUE - 1));
     CHECK(out[0] == 7 && out[1] == 7);
 }
 
-static void check_order(void)
+static void check_order(uint32_t edition)
 {
     const uint8_t text[3] = {'a', 'b', 0xFF};
     const uint8_t zero[4] = {0, 0, 0, 0}, minus_zero[4] = {0, 0, 0, 0x80}, nan[4] = {0, 0, 0xC0, 0x7F};
     const uint32_t bytes = GRIFFELJOL_PHYSICAL_BYTE_ARRAY;
-    CHECK(griffeljol_order(bytes, 0, 0, 0, 0, NULL, 0, NULL, 0) == GRIFFELJOL_ORDER_EQUAL);
-    CHECK(griffeljol_order(bytes, 0, 0, 0, 0, NULL, 0, text, 1) == GRIFFELJOL_ORDER_LESS);
-    CHECK(griffeljol_order(bytes, 0, 0, 0, 0, text, 2, text, 1) == GRIFFELJOL_ORDER_GREATER);
-    CHECK(griffeljol_order(bytes, 0, 0, 0, 0, text, 3, text, 3) == GRIFFELJOL_ORDER_EQUAL);
-    CHECK(griffeljol_order(GRIFFELJOL_PHYSICAL_FLOAT, 0, 0, 0, 0, zero, 4, minus_zero, 4) == GRIFFELJOL_ORDER_EQUAL);
-    CHECK(griffeljol_order(GRIFFELJOL_PHYSICAL_FLOAT, 0, 0, 0, 0, nan, 4, nan, 4) == GRIFFELJOL_ORDER_UNORDERED);
-    CHECK(griffeljol_order(bytes, 1, 0, 0, 0, NULL, 0, NULL, 0) == refused(20));
-    CHECK(griffeljol_order(GRIFFELJOL_PHYSICAL_INT96, 0, 0, 0, 0, NULL, 0, NULL, 0) == refused(17));
-    CHECK(griffeljol_order(GRIFFELJOL_PHYSICAL_INT32, 0, 0, 0, 0, NULL, 0, zero, 4) == refused_in(1, 15, 0));
-    CHECK(griffeljol_order(bytes, 0, GRIFFELJOL_KIND_STRING, 0, 0, text, 3, text, 2) == refused_in(1, 16, 2));
-    CHECK(griffeljol_order(bytes, 0, GRIFFELJOL_KIND_STRING, 0, 0, text, 2, text, 3) == refused_in(2, 16, 2));
-    CHECK(griffeljol_order(bytes, 0, GRIFFELJOL_KIND_STRING, 0, 0, text + 1, 2, text, 3) == refused_in(1, 16, 1));
+    CHECK(griffeljol_order(edition, bytes, 0, 0, 0, 0, NULL, 0, NULL, 0) == GRIFFELJOL_ORDER_EQUAL);
+    CHECK(griffeljol_order(edition, bytes, 0, 0, 0, 0, NULL, 0, text, 1) == GRIFFELJOL_ORDER_LESS);
+    CHECK(griffeljol_order(edition, bytes, 0, 0, 0, 0, text, 2, text, 1) == GRIFFELJOL_ORDER_GREATER);
+    CHECK(griffeljol_order(edition, bytes, 0, 0, 0, 0, text, 3, text, 3) == GRIFFELJOL_ORDER_EQUAL);
+    CHECK(griffeljol_order(edition, GRIFFELJOL_PHYSICAL_FLOAT, 0, 0, 0, 0, zero, 4, minus_zero, 4) == GRIFFELJOL_ORDER_EQUAL);
+    CHECK(griffeljol_order(edition, GRIFFELJOL_PHYSICAL_FLOAT, 0, 0, 0, 0, nan, 4, nan, 4) == GRIFFELJOL_ORDER_UNORDERED);
+    CHECK(griffeljol_order(edition, bytes, 1, 0, 0, 0, NULL, 0, NULL, 0) == refused(20));
+    CHECK(griffeljol_order(edition, GRIFFELJOL_PHYSICAL_INT96, 0, 0, 0, 0, NULL, 0, NULL, 0) == refused(17));
+    CHECK(griffeljol_order(edition, GRIFFELJOL_PHYSICAL_INT32, 0, 0, 0, 0, NULL, 0, zero, 4) == refused_in(1, 15, 0));
+    CHECK(griffeljol_order(edition, bytes, 0, GRIFFELJOL_KIND_STRING, 0, 0, text, 3, text, 2) == refused_in(1, 16, 2));
+    CHECK(griffeljol_order(edition, bytes, 0, GRIFFELJOL_KIND_STRING, 0, 0, text, 2, text, 3) == refused_in(2, 16, 2));
+    CHECK(griffeljol_order(edition, bytes, 0, GRIFFELJOL_KIND_STRING, 0, 0, text + 1, 2, text, 3) == refused_in(1, 16, 1));
     /* The first value's 16 comes before the second's 15. */
-    CHECK(griffeljol_order(bytes, 0, GRIFFELJOL_KIND_DECIMAL, 1, 0, text, 1, NULL, 0) == refused_in(1, 16, 0));
+    CHECK(griffeljol_order(edition, bytes, 0, GRIFFELJOL_KIND_DECIMAL, 1, 0, text, 1, NULL, 0) == refused_in(1, 16, 0));
+}
+
+/* What the second edition alone has: decimals whose scale equals their precision. */
+static void check_second_edition(void)
+{
+    const uint32_t bytes = GRIFFELJOL_PHYSICAL_BYTE_ARRAY, decimal = GRIFFELJOL_KIND_DECIMAL;
+    const uint8_t a[1] = {0x63}, b[1] = {0x9D};
+    CHECK(reads(GRIFFELJOL_EDITION_2, bytes, decimal, 2, 2, a, 1, GRIFFELJOL_CASE_BYTES, 0, 1));
+    CHECK(griffeljol_read(GRIFFELJOL_EDITION_1, bytes, 0, decimal, 2, 2, a, 1, NULL, 0) == refused(20));
+    CHECK(griffeljol_read(GRIFFELJOL_EDITION_2, bytes, 0, decimal, 0, 0, a, 1, NULL, 0) == refused(20));
+    CHECK(griffeljol_read(GRIFFELJOL_EDITION_2, bytes, 0, decimal, 2, 3, a, 1, NULL, 0) == refused(20));
+    CHECK(griffeljol_order(GRIFFELJOL_EDITION_2, bytes, 0, decimal, 2, 2, a, 1, b, 1) == GRIFFELJOL_ORDER_GREATER);
+    CHECK(griffeljol_order(GRIFFELJOL_EDITION_1, bytes, 0, decimal, 2, 2, a, 1, b, 1) == refused(20));
+}
+
+/* An edition that is unknown: 21 before every other refusal, and nothing written. */
+static void check_unknown_edition(uint32_t edition, const uint8_t *sheet)
+{
+    const uint8_t one[1] = {1};
+    uint32_t rows[ROWS], rows_before[ROWS];
+    uint8_t out[SHEET], out_before[SHEET];
+    uint64_t words[2] = {7, 7};
+    memset(rows, 0xA5, sizeof rows);
+    memcpy(rows_before, rows, sizeof rows);
+    memset(out, 0xA5, sizeof out);
+    memcpy(out_before, out, sizeof out);
+    CHECK(griffeljol_resolve(edition, NULL, 0, NULL, 0) == refused(GRIFFELJOL_REFUSAL_UNKNOWN_EDITION));
+    CHECK(griffeljol_resolve(edition, sheet, SHEET - 1, rows, ROWS) == refused(21));
+    CHECK(griffeljol_resolve(edition, sheet, SHEET, rows, ROWS) == refused(21));
+    CHECK(griffeljol_rewrite(edition, NULL, 0, NULL, 0, 1) == refused(21));
+    CHECK(griffeljol_rewrite(edition, sheet, SHEET, out, SHEET, SIZE_MAX) == refused(21));
+    CHECK(griffeljol_rewrite(edition, sheet, SHEET, out, SHEET, 0) == refused(21));
+    CHECK(griffeljol_read(edition, GRIFFELJOL_PHYSICAL_GROUP, 0, 30, 0, 0, NULL, 0, NULL, 0) == refused(21));
+    CHECK(griffeljol_read(edition, GRIFFELJOL_PHYSICAL_BOOLEAN, 0, 0, 0, 0, one, 1, words, 2) == refused(21));
+    CHECK(griffeljol_order(edition, GRIFFELJOL_PHYSICAL_INT96, 0, 0, 0, 0, NULL, 0, NULL, 0) == refused(21));
+    CHECK(griffeljol_order(edition, GRIFFELJOL_PHYSICAL_BOOLEAN, 0, 0, 0, 0, NULL, 0, one, 1) == refused_in(0, 21, 0));
+    CHECK(memcmp(rows, rows_before, sizeof rows) == 0);
+    CHECK(memcmp(out, out_before, sizeof out) == 0);
+    CHECK(words[0] == 7 && words[1] == 7);
 }
 
 static void check_timestamps(void)
@@ -199,10 +238,18 @@ int main(int argc, char **argv)
     }
     fclose(file);
     check_helpers();
-    check_resolve(sheet);
-    check_rewrite(sheet);
-    check_read();
-    check_order();
+    for (uint32_t edition = GRIFFELJOL_EDITION_1; edition <= GRIFFELJOL_EDITION_2; edition++) {
+        check_resolve(edition, sheet);
+        check_rewrite(edition, sheet);
+        check_read(edition);
+        check_order(edition);
+    }
+    check_second_edition();
+    check_unknown_edition(0, sheet);
+    check_unknown_edition(3, sheet);
+    check_unknown_edition(4, sheet);
+    check_unknown_edition(257, sheet);
+    check_unknown_edition(UINT32_MAX, sheet);
     check_timestamps();
     return failures == 0 ? 0 : 1;
 }

@@ -44,6 +44,9 @@ assert (decoded["year"], decoded["fraction"], decoded["count"]) == (1677, 145224
 
 refusal = parsed("rows", "/dev/null", status=1)
 assert (refusal["refused"], refusal["at"], refusal["place"]) == (1, 0, None)
+refusal = parsed("rows", sample, "--edition", "3", status=1)
+assert (refusal["refused"], refusal["at"], refusal["meaning"], refusal["place"]) == (21, 0, "edition unknown", None)
+assert parsed("rows", sample, "--edition", "2") == rows
 refusal = parsed("value", "6", "0", "4", "0", "0", "--hex", "6162ff", status=1)
 assert (refusal["refused"], refusal["at"]) == (16, 2)
 refusal = parsed("timestamp", "decode", "9", "0", status=1)

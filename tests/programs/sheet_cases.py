@@ -1,4 +1,5 @@
-"""Sheets that are refused, each with the line that document 01's table gives, and sheets that are accepted.
+"""Sheets that are refused in every edition, each with the line that document 01's table gives, sheets that are accepted in every edition,
+and sheets that edition 2 accepts and edition 1 does not.
 
 Refusals 1 to 4 are those of opening, which every program makes; 5 to 13 are of the tree, which `sheet_slots` does not judge. 14 cannot
 occur: the programs hold output for the greatest sheet.
@@ -148,7 +149,8 @@ DIGITS = [  # 11
     ("precision 3 on FIXED 1", behind(leaf(FIXED, type_length=1, logical=DECIMAL, precision=3)), "refused 11 at 10"),
     ("FIXED 257", behind(leaf(FIXED, type_length=257, logical=DECIMAL, precision=1)), "refused 11 at 10"),
     ("precision 0", behind(leaf(), leaf(logical=DECIMAL)), "refused 11 at 11"),
-    ("scale equal to precision", behind(leaf(), leaf(logical=DECIMAL, precision=5, scale=5)), "refused 11 at 11"),
+    ("scale above precision", behind(leaf(), leaf(logical=DECIMAL, precision=5, scale=6)), "refused 11 at 11"),
+    ("precision 10 and scale 10 on INT32", behind(leaf(converted=C_DECIMAL, precision=10, scale=10)), "refused 11 at 10"),
     ("scale -1", behind(leaf(), leaf(BYTE_ARRAY, logical=DECIMAL, precision=5, scale=-1)), "refused 11 at 11"),
 ]
 
@@ -196,6 +198,18 @@ WHICH_COMES_FIRST = [
 
 REFUSED = (LENGTH + BLOCK_CHECK + BLOCK_HEADER + SLOT_CODES + MISSING_NODES + NODES_LEFT_OVER + TOO_DEEP
            + SHAPE + DISAGREEMENT + MISPLACED + DIGITS + LIST_STRUCTURE + MAP_STRUCTURE + WHICH_COMES_FIRST)
+
+# Document 02, R-4: scale equal to precision, in each form of a DECIMAL. The line is that of edition 1; edition 2 accepts the sheet.
+FRACTION = dict(logical=DECIMAL, precision=5, scale=5)
+OF_SECOND_EDITION = [
+    ("scale equal to precision", behind(leaf(), leaf(**FRACTION)), "refused 11 at 11"),
+    ("scale equal to precision on INT64", behind(leaf(INT64, converted=C_DECIMAL, precision=18, scale=18)), "refused 11 at 10"),
+    ("scale equal to precision on FIXED", behind(leaf(FIXED, type_length=1, logical=DECIMAL, precision=2, scale=2)), "refused 11 at 10"),
+    ("scale equal to precision on BYTE_ARRAY",
+     behind(leaf(BYTE_ARRAY, converted=C_DECIMAL, logical=DECIMAL, precision=2**31 - 1, scale=2**31 - 1)), "refused 11 at 10"),
+    ("scale equal to precision twice", behind(group(leaf(**FRACTION)), leaf(**FRACTION)), "refused 11 at 11"),
+    ("one fraction", sheet(root(leaf(**FRACTION))), "refused 11 at 1"),
+]
 
 # A column, its annotation, and its annotation once rewritten.
 FIXED_12, FIXED_16 = dict(physical=FIXED, type_length=12), dict(physical=FIXED, type_length=16)
@@ -280,4 +294,8 @@ BY_HAND = [
     ("schema_rewrite", "lists and maps, annotations alone", lists_and_maps(alone=False)),
     ("schema_rewrite", "lists and maps, both annotations", lists_and_maps(alone=False)),
     ("schema_rewrite", "896 nodes in one run", GREATEST),
+]
+BY_HAND_IN_SECOND_EDITION = [
+    ("schema_rows", "one fraction", b"nodes 2\n255 0 255 30 0 0 0 2 0 0 0\n1 0 0 5 5 5 0 2 0 0 0\n"),
+    ("schema_rewrite", "one fraction", sheet(root(leaf(converted=C_DECIMAL, **FRACTION)))),
 ]

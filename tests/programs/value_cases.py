@@ -1,4 +1,6 @@
-"""Values of columns: a column type's five numbers, the value, and the line that comes. Every line is written by hand from document 01."""
+"""Values of columns: a column type's five numbers, the value, and the line that comes. Every line is written by hand from document 01, and
+from document 02's R-4 where a line depends on the edition."""
+import editions
 from sheets import *
 
 PLAIN_BOOLEAN, PLAIN_INT32, PLAIN_INT64, PLAIN_INT96 = [(physical, 0, 0, 0, 0) for physical in (BOOLEAN, INT32, INT64, INT96)]
@@ -66,7 +68,8 @@ NO_COLUMN = [  # 20
     ("STRING on INT32", (INT32, 0, STRING, 0, 0), bytes(4), "refused 20 at 0"),
     ("STRING with a parameter", (BYTE_ARRAY, 0, STRING, 0, 1), b"a", "refused 20 at 0"),
     ("precision 10 on INT32", (INT32, 0, DECIMAL, 10, 0), bytes(4), "refused 20 at 0"),
-    ("scale equal to precision", (INT32, 0, DECIMAL, 5, 5), bytes(4), "refused 20 at 0"),
+    ("precision 0", (BYTE_ARRAY, 0, DECIMAL, 0, 0), b"\0", "refused 20 at 0"),
+    ("scale above precision", (INT32, 0, DECIMAL, 5, 6), bytes(4), "refused 20 at 0"),
     ("precision 3 on FIXED 1", (FIXED, 1, DECIMAL, 3, 0), b"\0", "refused 20 at 0"),
 ]
 
@@ -111,11 +114,34 @@ WHICH_COMES_FIRST = [
 
 VALUES = READ + NO_COLUMN + WRONG_LENGTH + BREAKS_ANNOTATION + WHICH_COMES_FIRST
 
-USAGE = b"usage: column_values PHYSICAL TYPE_LENGTH KIND P1 P2 < VALUE\n"
+# Scale equal to precision: a column type, a value, and the line of edition 2. That of edition 1 is below.
+OF_SECOND_EDITION = [
+    ("DECIMAL(5, 5) on INT32", (INT32, 0, DECIMAL, 5, 5), little(-99999), "-99999"),
+    ("DECIMAL(18, 18) on INT64", (INT64, 0, DECIMAL, 18, 18), little(1, 8), "1"),
+    ("DECIMAL(2, 2) on FIXED 1", (FIXED, 1, DECIMAL, 2, 2), b"\x63", "bytes 0 1"),
+    ("DECIMAL(2, 2) on BYTE_ARRAY", (BYTE_ARRAY, 0, DECIMAL, 2, 2), b"\0\x63", "bytes 0 2"),
+    ("DECIMAL(2, 2) of 64 hex", (BYTE_ARRAY, 0, DECIMAL, 2, 2), b"\x64", "refused 16 at 0"),
+    ("DECIMAL(2, 2) of no bytes", (BYTE_ARRAY, 0, DECIMAL, 2, 2), b"", "refused 15 at 0"),
+]
+IN_FIRST_EDITION = "refused 20 at 0"
+
+# An edition that is unknown comes before every other refusal, whatever the column type and the value are.
+UNKNOWN_EDITION = [
+    (f"edition {edition!r}, {name}", (edition, *column), value, editions.REFUSAL)
+    for edition in editions.UNKNOWN
+    for name, column, value in [
+        ("a value that is read", PLAIN_BOOLEAN, b"\1"),
+        ("no column type", (8, 0, 0, 0, 0), b""),
+        ("a wrong length", PLAIN_INT32, b""),
+    ]
+]
+
+USAGE = b"usage: column_values [EDITION] PHYSICAL TYPE_LENGTH KIND P1 P2 < VALUE\n"
 ODD_ARGUMENTS = [
     ("none", []),
+    ("an edition alone", ["1"]),
     ("four", ["1", "0", "0", "0"]),
-    ("six", ["1", "0", "0", "0", "0", "0"]),
+    ("seven", ["1", "1", "0", "0", "0", "0", "0"]),
     ("an empty one", ["1", "0", "0", "0", ""]),
     ("a word", ["INT32", "0", "0", "0", "0"]),
     ("a sign before a number", ["+1", "0", "0", "0", "0"]),
@@ -125,4 +151,7 @@ ODD_ARGUMENTS = [
     ("one past 32 bits", ["1", "0", "0", "0", "4294967296"]),
     ("one past 64 bits", ["18446744073709551617", "0", "0", "0", "0"]),
     ("seventeen digits", ["1", "0", "0", "0", "0" * 17]),
+    ("an edition and an empty one", ["2", "1", "0", "0", "0", ""]),
+    ("an edition and a word", ["1", "INT32", "0", "0", "0", "0"]),
+    ("an edition and one past 32 bits", ["2", "1", "0", "0", "0", "4294967296"]),
 ]

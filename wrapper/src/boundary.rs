@@ -7,11 +7,19 @@
 //! `tests/compare` and `bench` compile this file too: what they compare and measure is called from here.
 
 extern "C" {
-    fn griffeljol_resolve(sheet: *const u8, sheet_len: usize, rows: *mut u32, rows_len: usize) -> u64;
+    fn griffeljol_resolve(edition: u32, sheet: *const u8, sheet_len: usize, rows: *mut u32, rows_len: usize) -> u64;
 
-    fn griffeljol_rewrite(sheet: *const u8, sheet_len: usize, out: *mut u8, out_len: usize, start: usize) -> u64;
+    fn griffeljol_rewrite(
+        edition: u32,
+        sheet: *const u8,
+        sheet_len: usize,
+        out: *mut u8,
+        out_len: usize,
+        start: usize,
+    ) -> u64;
 
     fn griffeljol_read(
+        edition: u32,
         physical: u32,
         type_length: u32,
         kind: u32,
@@ -24,6 +32,7 @@ extern "C" {
     ) -> u64;
 
     fn griffeljol_order(
+        edition: u32,
         physical: u32,
         type_length: u32,
         kind: u32,
@@ -43,23 +52,23 @@ extern "C" {
 // SAFETY of each call: the pointers and lengths are those of slices that live through it, those written to are borrowed alone, and
 // the header asks no more.
 
-pub fn resolve(sheet: &[u8], rows: &mut [u32]) -> u64 {
-    unsafe { griffeljol_resolve(sheet.as_ptr(), sheet.len(), rows.as_mut_ptr(), rows.len()) }
+pub fn resolve(edition: u32, sheet: &[u8], rows: &mut [u32]) -> u64 {
+    unsafe { griffeljol_resolve(edition, sheet.as_ptr(), sheet.len(), rows.as_mut_ptr(), rows.len()) }
 }
 
-pub fn rewrite(sheet: &[u8], out: &mut [u8], start: usize) -> u64 {
-    unsafe { griffeljol_rewrite(sheet.as_ptr(), sheet.len(), out.as_mut_ptr(), out.len(), start) }
+pub fn rewrite(edition: u32, sheet: &[u8], out: &mut [u8], start: usize) -> u64 {
+    unsafe { griffeljol_rewrite(edition, sheet.as_ptr(), sheet.len(), out.as_mut_ptr(), out.len(), start) }
 }
 
 /// The column is its physical type, type length, kind, p1 and p2.
-pub fn read([physical, length, kind, p1, p2]: [u32; 5], value: &[u8], out: &mut [u64]) -> u64 {
+pub fn read(edition: u32, [physical, length, kind, p1, p2]: [u32; 5], value: &[u8], out: &mut [u64]) -> u64 {
     let (value, value_len) = (value.as_ptr(), value.len());
-    unsafe { griffeljol_read(physical, length, kind, p1, p2, value, value_len, out.as_mut_ptr(), out.len()) }
+    unsafe { griffeljol_read(edition, physical, length, kind, p1, p2, value, value_len, out.as_mut_ptr(), out.len()) }
 }
 
 /// The column is its physical type, type length, kind, p1 and p2.
-pub fn order([physical, length, kind, p1, p2]: [u32; 5], a: &[u8], b: &[u8]) -> u64 {
-    unsafe { griffeljol_order(physical, length, kind, p1, p2, a.as_ptr(), a.len(), b.as_ptr(), b.len()) }
+pub fn order(edition: u32, [physical, length, kind, p1, p2]: [u32; 5], a: &[u8], b: &[u8]) -> u64 {
+    unsafe { griffeljol_order(edition, physical, length, kind, p1, p2, a.as_ptr(), a.len(), b.as_ptr(), b.len()) }
 }
 
 pub fn decode(unit: u32, count: i64, fields: &mut [i64]) -> u64 {

@@ -3,12 +3,15 @@
 //! Every answer is the proved library's; nothing is judged here. What no prover sees is the boundary: the declarations of the
 //! six C functions, and that each slice is handed over as its pointer and its length. All of it stands in one module.
 //!
-//! "Document 01" is the paper that defines the sheet, the rows and the refusals. Any bytes and any numbers may be offered; a
-//! refused call leaves what it was lent as it was.
+//! "Document 01" is the paper that defines the sheet, the rows and the refusals. What reads or judges a sheet or a column type takes
+//! an [`Edition`] first, which document 02 adds. Any bytes and any numbers may be offered; a refused call leaves what it was lent as
+//! it was.
 //!
 //! ```
+//! use griffeljol::Edition;
+//!
 //! let sheet = std::fs::read("../crates/schema_rows/stdin")?;
-//! let rows = griffeljol::rows(&sheet)?;
+//! let rows = griffeljol::rows(Edition::FIRST, &sheet)?;
 //! assert_eq!(rows.len(), 4);
 //! assert_eq!(rows[3].kind, griffeljol::codes::kind::STRING);
 //! # Ok::<(), Box<dyn std::error::Error>>(())
@@ -19,11 +22,13 @@
 #[allow(unsafe_code)]
 mod boundary;
 pub mod codes;
+mod edition;
 mod refusal;
 mod sheet;
 mod timestamp;
 mod value;
 
+pub use edition::Edition;
 pub use refusal::{OrderRefusal, Refusal};
 pub use sheet::{resolve, rewrite, rows, Row, MAX_NODES, MAX_SHEET, ROW_WIDTH};
 pub use timestamp::{decode, encode, Fields};

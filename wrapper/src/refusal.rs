@@ -1,25 +1,27 @@
-//! The numbered refusals of document 01.
+//! The numbered refusals of document 01, and 21 of document 02.
 
 use std::error::Error;
 use std::fmt;
 
-/// A refusal: its number in document 01's table, and its place.
+/// A refusal: its number in document 01's table, or 21, and its place.
 ///
 /// ```
-/// let refusal = griffeljol::rows(&[0; 100]).unwrap_err();
+/// use griffeljol::{rows, Edition};
+///
+/// let refusal = rows(Edition::FIRST, &[0; 100]).unwrap_err();
 /// assert_eq!(refusal.to_string(), "refused 1 at 0");
 /// assert_eq!(refusal.meaning(), "sheet length 0, not a multiple of 512, or over 65,536");
 /// ```
 #[derive(Clone, Copy, Debug, PartialEq, Eq, Hash)]
 pub struct Refusal {
-    /// The number in the table, 1 to 20.
+    /// The number, 1 to 21.
     pub number: u8,
     /// What [`Refusal::place_meaning`] says, else 0.
     pub place: u32,
 }
 
 impl Refusal {
-    /// What it is given for, in document 01's words.
+    /// What it is given for, in the documents' words.
     pub fn meaning(&self) -> &'static str {
         self.row().0
     }
@@ -27,7 +29,9 @@ impl Refusal {
     /// What its place is; none where it is always 0.
     ///
     /// ```
-    /// let refusal = griffeljol::rows(&[255; 512]).unwrap_err();
+    /// use griffeljol::{rows, Edition};
+    ///
+    /// let refusal = rows(Edition::FIRST, &[255; 512]).unwrap_err();
     /// assert_eq!((refusal.number, refusal.place), (2, 0));
     /// assert_eq!(refusal.place_meaning(), Some("the first such block"));
     /// ```
@@ -61,7 +65,8 @@ impl Refusal {
             18 => ("fields form no date or time", None),
             19 => ("fields not representable in a signed 64-bit count", None),
             20 => ("no accepted sheet has a leaf of this column type, or a time unit is not 1 to 3", None),
-            _ => ("a refusal that document 01 does not list", None),
+            21 => ("edition unknown", None),
+            _ => ("a refusal that no document lists", None),
         }
     }
 }
@@ -70,13 +75,13 @@ impl Refusal {
 ///
 /// ```
 /// use griffeljol::codes::{kind, physical};
-/// use griffeljol::{order, read, ColumnType};
+/// use griffeljol::{order, read, ColumnType, Edition};
 ///
 /// // STRING: the second value goes bad at its byte 2.
 /// let column = ColumnType { physical: physical::BYTE_ARRAY, type_length: 0, kind: kind::STRING, p1: 0, p2: 0 };
-/// let refused = order(column, b"key", b"ke\xFF").unwrap_err();
+/// let refused = order(Edition::FIRST, column, b"key", b"ke\xFF").unwrap_err();
 /// assert_eq!(refused.to_string(), "refused 16 at 2 in value 2");
-/// assert_eq!(Err(refused.refusal), read(column, b"ke\xFF"));
+/// assert_eq!(Err(refused.refusal), read(Edition::FIRST, column, b"ke\xFF"));
 /// ```
 #[derive(Clone, Copy, Debug, PartialEq, Eq, Hash)]
 pub struct OrderRefusal {

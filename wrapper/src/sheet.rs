@@ -1,7 +1,7 @@
 //! Sheets: their rows, and rewriting.
 
 use crate::refusal::result;
-use crate::{boundary, ColumnType, Refusal};
+use crate::{boundary, ColumnType, Edition, Refusal};
 
 /// The most bytes of a sheet.
 pub const MAX_SHEET: usize = 65_536;
@@ -15,20 +15,20 @@ pub const ROW_WIDTH: usize = 11;
 /// Judges a sheet and writes [`ROW_WIDTH`] numbers for each of its nodes, in listing order; answers T, how many nodes it has.
 /// Numbers beyond the rows stay.
 ///
-/// Refusals 1 to 13, then 14 where fewer than `ROW_WIDTH * T` numbers are lent.
+/// Refusal 21, then 1 to 13, then 14 where fewer than `ROW_WIDTH * T` numbers are lent.
 ///
 /// ```
-/// use griffeljol::{resolve, MAX_NODES, ROW_WIDTH};
+/// use griffeljol::{resolve, Edition, MAX_NODES, ROW_WIDTH};
 ///
 /// let sheet = std::fs::read("../crates/schema_rows/stdin")?;
 /// let mut rows = [0; ROW_WIDTH * MAX_NODES];
-/// let nodes = resolve(&sheet, &mut rows)? as usize;
+/// let nodes = resolve(Edition::FIRST, &sheet, &mut rows)? as usize;
 /// assert_eq!(nodes, 4);
 /// assert_eq!(rows[ROW_WIDTH..2 * ROW_WIDTH], [255, 0, 0, 3, 0, 0, 0, 4, 0, 0, 0]);
 /// # Ok::<(), Box<dyn std::error::Error>>(())
 /// ```
-pub fn resolve(sheet: &[u8], rows: &mut [u32]) -> Result<u32, Refusal> {
-    result(boundary::resolve(sheet, rows))
+pub fn resolve(edition: Edition, sheet: &[u8], rows: &mut [u32]) -> Result<u32, Refusal> {
+    result(boundary::resolve(edition.number(), sheet, rows))
 }
 
 /// A node's row.
@@ -91,22 +91,22 @@ impl From<[u32; ROW_WIDTH]> for Row {
     }
 }
 
-/// The rows of a sheet, in listing order; refusals 1 to 13.
+/// The rows of a sheet, in listing order; refusal 21, then 1 to 13.
 ///
 /// ```
-/// use griffeljol::{codes, rows};
+/// use griffeljol::{codes, rows, Edition};
 ///
 /// let sheet = std::fs::read("../crates/schema_rows/stdin")?;
-/// let rows = rows(&sheet)?;
+/// let rows = rows(Edition::FIRST, &sheet)?;
 /// let element = rows[3];
 /// assert_eq!(element.role, codes::role::ELEMENT);
 /// assert_eq!((element.definition_level, element.repetition_level), (2, 1));
 /// assert_eq!(element.column_type().kind, codes::kind::STRING);
 /// # Ok::<(), Box<dyn std::error::Error>>(())
 /// ```
-pub fn rows(sheet: &[u8]) -> Result<Vec<Row>, Refusal> {
+pub fn rows(edition: Edition, sheet: &[u8]) -> Result<Vec<Row>, Refusal> {
     let mut numbers = vec![[0; ROW_WIDTH]; MAX_NODES];
-    let nodes = resolve(sheet, numbers.as_flattened_mut())?;
+    let nodes = resolve(edition, sheet, numbers.as_flattened_mut())?;
     numbers.truncate(nodes as usize);
     Ok(numbers.into_iter().map(Row::from).collect())
 }
@@ -114,15 +114,17 @@ pub fn rows(sheet: &[u8]) -> Result<Vec<Row>, Refusal> {
 /// Judges a sheet and writes it, with both annotations at every node, into the output from the start on; answers how many bytes
 /// were written, the sheet's own length. Bytes before and after stay.
 ///
-/// Refusals 1 to 13, then 14 where the start is beyond the output's end or the sheet does not fit behind it.
+/// Refusal 21, then 1 to 13, then 14 where the start is beyond the output's end or the sheet does not fit behind it.
 ///
 /// ```
+/// use griffeljol::{rewrite, rows, Edition};
+///
 /// let sheet = std::fs::read("../crates/schema_rows/stdin")?;
 /// let mut out = vec![0; sheet.len()];
-/// assert_eq!(griffeljol::rewrite(&sheet, &mut out, 0)? as usize, sheet.len());
-/// assert_eq!(griffeljol::rows(&out)?, griffeljol::rows(&sheet)?);
+/// assert_eq!(rewrite(Edition::FIRST, &sheet, &mut out, 0)? as usize, sheet.len());
+/// assert_eq!(rows(Edition::FIRST, &out)?, rows(Edition::FIRST, &sheet)?);
 /// # Ok::<(), Box<dyn std::error::Error>>(())
 /// ```
-pub fn rewrite(sheet: &[u8], out: &mut [u8], start: usize) -> Result<u32, Refusal> {
-    result(boundary::rewrite(sheet, out, start))
+pub fn rewrite(edition: Edition, sheet: &[u8], out: &mut [u8], start: usize) -> Result<u32, Refusal> {
+    result(boundary::rewrite(edition.number(), sheet, out, start))
 }

@@ -1,7 +1,7 @@
 //! Single values of columns, and their order.
 
 use crate::refusal::{order_result, result};
-use crate::{boundary, codes, OrderRefusal, Refusal};
+use crate::{boundary, codes, Edition, OrderRefusal, Refusal};
 
 /// The most bytes of a value.
 pub const MAX_VALUE: usize = 65_536;
@@ -51,21 +51,21 @@ pub enum Value {
     },
 }
 
-/// Reads one value of a column: refusal 20, then 15, then 16. The place of 16 is, for a STRING, ENUM or JSON, the index where whole
-/// sequences of UTF-8, read from the start, stop, and 0 for every other value.
+/// Reads one value of a column: refusal 21, then 20, then 15, then 16. The place of 16 is, for a STRING, ENUM or JSON, the index where
+/// whole sequences of UTF-8, read from the start, stop, and 0 for every other value.
 ///
 /// ```
 /// use griffeljol::codes::{kind, physical};
-/// use griffeljol::{read, ColumnType, Value};
+/// use griffeljol::{read, ColumnType, Edition, Value};
 ///
 /// // INT(8, false) on INT32, little-endian.
 /// let column = ColumnType { physical: physical::INT32, type_length: 0, kind: kind::INTEGER, p1: 8, p2: 0 };
-/// assert_eq!(read(column, &[255, 0, 0, 0]), Ok(Value::Unsigned(255)));
-/// assert_eq!(read(column, &[0, 1, 0, 0]).unwrap_err().number, 16);
+/// assert_eq!(read(Edition::FIRST, column, &[255, 0, 0, 0]), Ok(Value::Unsigned(255)));
+/// assert_eq!(read(Edition::FIRST, column, &[0, 1, 0, 0]).unwrap_err().number, 16);
 /// ```
-pub fn read(column: ColumnType, value: &[u8]) -> Result<Value, Refusal> {
+pub fn read(edition: Edition, column: ColumnType, value: &[u8]) -> Result<Value, Refusal> {
     let mut out = [0; 2];
-    let case = result(boundary::read(column.numbers(), value, &mut out))?;
+    let case = result(boundary::read(edition.number(), column.numbers(), value, &mut out))?;
     let [bits, length] = out;
     Ok(match case {
         codes::case::TRUTH => Value::Truth(bits != 0),
@@ -91,20 +91,20 @@ pub enum Order {
     Unordered,
 }
 
-/// Orders two values of a column: refusal 20, then 17, then those of the first value, then those of the second. The refusal says which
-/// value is at fault, and is what [`read`] gives for it.
+/// Orders two values of a column: refusal 21, then 20, then 17, then those of the first value, then those of the second. The refusal says
+/// which value is at fault, and is what [`read`] gives for it.
 ///
 /// ```
 /// use griffeljol::codes::{kind, physical};
-/// use griffeljol::{order, ColumnType, Order};
+/// use griffeljol::{order, ColumnType, Edition, Order};
 ///
 /// // DECIMAL of precision 3 on BYTE_ARRAY, big-endian two's complement: -128 and 127, -1 and -1.
 /// let column = ColumnType { physical: physical::BYTE_ARRAY, type_length: 0, kind: kind::DECIMAL, p1: 3, p2: 0 };
-/// assert_eq!(order(column, &[0x80], &[0x7F]), Ok(Order::Less));
-/// assert_eq!(order(column, &[0xFF], &[0xFF, 0xFF]), Ok(Order::Equal));
+/// assert_eq!(order(Edition::FIRST, column, &[0x80], &[0x7F]), Ok(Order::Less));
+/// assert_eq!(order(Edition::FIRST, column, &[0xFF], &[0xFF, 0xFF]), Ok(Order::Equal));
 /// ```
-pub fn order(column: ColumnType, a: &[u8], b: &[u8]) -> Result<Order, OrderRefusal> {
-    let order = order_result(boundary::order(column.numbers(), a, b))?;
+pub fn order(edition: Edition, column: ColumnType, a: &[u8], b: &[u8]) -> Result<Order, OrderRefusal> {
+    let order = order_result(boundary::order(edition.number(), column.numbers(), a, b))?;
     Ok(match order {
         codes::order::LESS => Order::Less,
         codes::order::EQUAL => Order::Equal,

@@ -4,7 +4,7 @@ use std::fs;
 
 use griffeljol::codes::{kind, physical, unit};
 use griffeljol::{decode, encode, order, read, resolve, rewrite, rows};
-use griffeljol::{ColumnType, Fields, Order, OrderRefusal, Refusal, Row, Value, ROW_WIDTH};
+use griffeljol::{ColumnType, Edition, Fields, Order, OrderRefusal, Refusal, Row, Value, ROW_WIDTH};
 
 fn sample() -> Vec<u8> {
     fs::read("../crates/schema_rows/stdin").expect("the sample sheet")
@@ -24,10 +24,10 @@ fn refused<T>(number: u8) -> Result<T, Refusal> {
 fn rows_are_those_of_resolving() {
     let sheet = sample();
     let mut numbers = [7; 4 * ROW_WIDTH + 1];
-    assert_eq!(resolve(&sheet, &mut numbers), Ok(4));
+    assert_eq!(resolve(Edition::FIRST, &sheet, &mut numbers), Ok(4));
     let (written, behind) = numbers.split_at(4 * ROW_WIDTH);
     assert_eq!(behind, [7]);
-    let rows = rows(&sheet).expect("the sample is accepted");
+    let rows = rows(Edition::FIRST, &sheet).expect("the sample is accepted");
     assert_eq!(rows.iter().flat_map(Row::numbers).collect::<Vec<_>>(), written);
     let last = Row {
         physical: 6,
@@ -50,80 +50,88 @@ fn rows_are_those_of_resolving() {
 fn refused_sheets_write_nothing() {
     let sheet = sample();
     let mut numbers = [7; 4 * ROW_WIDTH - 1];
-    assert_eq!(resolve(&sheet, &mut numbers), refused(14));
+    assert_eq!(resolve(Edition::FIRST, &sheet, &mut numbers), refused(14));
     assert_eq!(numbers, [7; 4 * ROW_WIDTH - 1]);
     let mut out = [7; 600];
-    assert_eq!(rewrite(&sheet, &mut out, 89), refused(14));
-    assert_eq!(rewrite(&sheet, &mut out, usize::MAX), refused(14));
-    assert_eq!(rewrite(&[], &mut out, 0), refused(1));
+    assert_eq!(rewrite(Edition::FIRST, &sheet, &mut out, 89), refused(14));
+    assert_eq!(rewrite(Edition::FIRST, &sheet, &mut out, usize::MAX), refused(14));
+    assert_eq!(rewrite(Edition::FIRST, &[], &mut out, 0), refused(1));
     assert_eq!(out, [7; 600]);
-    assert_eq!(rewrite(&sheet, &mut out, 88), Ok(512));
+    assert_eq!(rewrite(Edition::FIRST, &sheet, &mut out, 88), Ok(512));
     assert_eq!(out[..88], [7; 88]);
     let mut wrong = sheet;
     wrong[1] = 1;
-    assert_eq!(rows(&wrong), refused(2));
+    assert_eq!(rows(Edition::FIRST, &wrong), refused(2));
 }
 
 #[test]
 fn a_refusal_has_its_place() {
     // The check of the first block is right, that of the second is not.
     let sheet = [sample(), vec![1; 512]].concat();
-    assert_eq!(rows(&sheet), Err(Refusal { number: 2, place: 1 }));
+    assert_eq!(rows(Edition::FIRST, &sheet), Err(Refusal { number: 2, place: 1 }));
 }
 
 #[test]
 fn each_case_of_a_value() {
-    assert_eq!(read(column(physical::BOOLEAN, 0), &[1]), Ok(Value::Truth(true)));
-    assert_eq!(read(column(physical::BOOLEAN, 0), &[0]), Ok(Value::Truth(false)));
-    assert_eq!(read(column(physical::INT32, kind::DATE), &[0xFE, 0xFF, 0xFF, 0xFF]), Ok(Value::Signed(-2)));
-    assert_eq!(read(column(physical::INT64, 0), &i64::MIN.to_le_bytes()), Ok(Value::Signed(i64::MIN)));
+    assert_eq!(read(Edition::FIRST, column(physical::BOOLEAN, 0), &[1]), Ok(Value::Truth(true)));
+    assert_eq!(read(Edition::FIRST, column(physical::BOOLEAN, 0), &[0]), Ok(Value::Truth(false)));
+    assert_eq!(
+        read(Edition::FIRST, column(physical::INT32, kind::DATE), &[0xFE, 0xFF, 0xFF, 0xFF]),
+        Ok(Value::Signed(-2))
+    );
+    assert_eq!(read(Edition::FIRST, column(physical::INT64, 0), &i64::MIN.to_le_bytes()), Ok(Value::Signed(i64::MIN)));
     let uint64 = ColumnType { p1: 64, ..column(physical::INT64, kind::INTEGER) };
-    assert_eq!(read(uint64, &[0xFF; 8]), Ok(Value::Unsigned(u64::MAX)));
-    assert_eq!(read(column(physical::FLOAT, 0), &(-1.5f32).to_le_bytes()), Ok(Value::Float(-1.5)));
-    assert_eq!(read(column(physical::DOUBLE, 0), &1e300f64.to_le_bytes()), Ok(Value::Double(1e300)));
-    let Ok(Value::Double(nan)) = read(column(physical::DOUBLE, 0), &[0xFF; 8]) else { panic!("a DOUBLE") };
+    assert_eq!(read(Edition::FIRST, uint64, &[0xFF; 8]), Ok(Value::Unsigned(u64::MAX)));
+    assert_eq!(read(Edition::FIRST, column(physical::FLOAT, 0), &(-1.5f32).to_le_bytes()), Ok(Value::Float(-1.5)));
+    assert_eq!(read(Edition::FIRST, column(physical::DOUBLE, 0), &1e300f64.to_le_bytes()), Ok(Value::Double(1e300)));
+    let Ok(Value::Double(nan)) = read(Edition::FIRST, column(physical::DOUBLE, 0), &[0xFF; 8]) else {
+        panic!("a DOUBLE")
+    };
     assert_eq!(nan.to_bits(), 0x7FF8_0000_0000_0000);
-    assert_eq!(read(column(physical::INT96, 0), &[0; 12]), Ok(Value::Bytes { start: 0, length: 12 }));
-    assert_eq!(read(column(physical::BYTE_ARRAY, kind::STRING), b""), Ok(Value::Bytes { start: 0, length: 0 }));
-    assert_eq!(read(column(physical::INT32, 0), &[0; 3]), refused(15));
-    assert_eq!(read(column(physical::BYTE_ARRAY, kind::STRING), &[0xFF]), refused(16));
-    assert_eq!(read(column(physical::GROUP, kind::PLAIN_GROUP), &[]), refused(20));
+    assert_eq!(read(Edition::FIRST, column(physical::INT96, 0), &[0; 12]), Ok(Value::Bytes { start: 0, length: 12 }));
+    assert_eq!(
+        read(Edition::FIRST, column(physical::BYTE_ARRAY, kind::STRING), b""),
+        Ok(Value::Bytes { start: 0, length: 0 })
+    );
+    assert_eq!(read(Edition::FIRST, column(physical::INT32, 0), &[0; 3]), refused(15));
+    assert_eq!(read(Edition::FIRST, column(physical::BYTE_ARRAY, kind::STRING), &[0xFF]), refused(16));
+    assert_eq!(read(Edition::FIRST, column(physical::GROUP, kind::PLAIN_GROUP), &[]), refused(20));
 }
 
 #[test]
 fn text_is_refused_at_its_byte() {
     for kind in [kind::STRING, kind::ENUM, kind::JSON] {
         let text = column(physical::BYTE_ARRAY, kind);
-        assert_eq!(read(text, b"key \xE2\x82"), Err(Refusal { number: 16, place: 4 }));
+        assert_eq!(read(Edition::FIRST, text, b"key \xE2\x82"), Err(Refusal { number: 16, place: 4 }));
         let mut long = [b'a'; 65_536];
         long[65_535] = 0x80;
-        assert_eq!(read(text, &long), Err(Refusal { number: 16, place: 65_535 }));
+        assert_eq!(read(Edition::FIRST, text, &long), Err(Refusal { number: 16, place: 65_535 }));
     }
     let decimal = ColumnType { p1: 2, ..column(physical::BYTE_ARRAY, kind::DECIMAL) };
-    assert_eq!(read(decimal, &[0, 0x64]), refused(16));
+    assert_eq!(read(Edition::FIRST, decimal, &[0, 0x64]), refused(16));
 }
 
 #[test]
 fn each_answer_of_an_order() {
     let double = column(physical::DOUBLE, 0);
-    let ordered = |a: f64, b: f64| order(double, &a.to_le_bytes(), &b.to_le_bytes());
+    let ordered = |a: f64, b: f64| order(Edition::FIRST, double, &a.to_le_bytes(), &b.to_le_bytes());
     assert_eq!(ordered(-1.0, 1.0), Ok(Order::Less));
     assert_eq!(ordered(-0.0, 0.0), Ok(Order::Equal));
     assert_eq!(ordered(f64::INFINITY, 1.0), Ok(Order::Greater));
     assert_eq!(ordered(f64::NAN, 1.0), Ok(Order::Unordered));
     let refused = |number, place, value| Err(OrderRefusal { refusal: Refusal { number, place }, value });
-    assert_eq!(order(column(physical::GROUP, 0), &[], &[]), refused(20, 0, 0));
-    assert_eq!(order(column(physical::INT96, 0), &[], &[]), refused(17, 0, 0));
-    assert_eq!(order(double, &[], &[0; 8]), refused(15, 0, 1));
-    assert_eq!(order(double, &[0; 8], &[]), refused(15, 0, 2));
+    assert_eq!(order(Edition::FIRST, column(physical::GROUP, 0), &[], &[]), refused(20, 0, 0));
+    assert_eq!(order(Edition::FIRST, column(physical::INT96, 0), &[], &[]), refused(17, 0, 0));
+    assert_eq!(order(Edition::FIRST, double, &[], &[0; 8]), refused(15, 0, 1));
+    assert_eq!(order(Edition::FIRST, double, &[0; 8], &[]), refused(15, 0, 2));
     let text = column(physical::BYTE_ARRAY, kind::STRING);
-    assert_eq!(order(text, b"a\xFF", b"ab"), refused(16, 1, 1));
-    assert_eq!(order(text, b"ab", b"a\xFF"), refused(16, 1, 2));
-    assert_eq!(order(text, b"ab\xFF", b"a\xFF"), refused(16, 2, 1));
+    assert_eq!(order(Edition::FIRST, text, b"a\xFF", b"ab"), refused(16, 1, 1));
+    assert_eq!(order(Edition::FIRST, text, b"ab", b"a\xFF"), refused(16, 1, 2));
+    assert_eq!(order(Edition::FIRST, text, b"ab\xFF", b"a\xFF"), refused(16, 2, 1));
     let decimal = ColumnType { p1: 2, ..column(physical::BYTE_ARRAY, kind::DECIMAL) };
-    assert_eq!(order(decimal, &[0x63], &[0x64]), refused(16, 0, 2));
-    assert_eq!(order(decimal, &[0x64], &[]), refused(16, 0, 1));
-    assert_eq!(order(decimal, &[0x63], &[]), refused(15, 0, 2));
+    assert_eq!(order(Edition::FIRST, decimal, &[0x63], &[0x64]), refused(16, 0, 2));
+    assert_eq!(order(Edition::FIRST, decimal, &[0x64], &[]), refused(16, 0, 1));
+    assert_eq!(order(Edition::FIRST, decimal, &[0x63], &[]), refused(15, 0, 2));
 }
 
 #[test]
@@ -139,4 +147,68 @@ fn timestamps_there_and_back() {
     assert_eq!(encode(unit::NANOS, &Fields { month: 13, ..fields }), refused(18));
     assert_eq!(encode(4, &Fields { month: 13, ..fields }), refused(20));
     assert_eq!(decode(0, 0), refused(20));
+}
+
+/// A root with one required leaf, a DECIMAL of precision 3 and this scale on INT32.
+fn decimal_sheet(scale: u8) -> Vec<u8> {
+    const SLOTS: usize = 6;
+    let mut sheet = vec![0; 512];
+    sheet[2..5].copy_from_slice(&[2, 1, 2]);
+    sheet[SLOTS..][..7].copy_from_slice(&[255, 255, 255, 0, 0, 0, 1]);
+    sheet[SLOTS + 72..][..4].copy_from_slice(&[1, 0, 255, 5]);
+    sheet[SLOTS + 72 + 12] = scale;
+    sheet[SLOTS + 72 + 16] = 3;
+    for slot in [SLOTS, SLOTS + 72] {
+        (sheet[slot + 20], sheet[slot + 24]) = (1, b'n');
+    }
+    let sum: u32 = sheet[..510].iter().zip(1..).map(|(&byte, weight)| u32::from(byte) * weight).sum();
+    sheet[510..].copy_from_slice(&((sum % 65_521) as u16).to_le_bytes());
+    sheet
+}
+
+#[test]
+fn the_second_edition_lets_the_scale_equal_the_precision() {
+    let sheet = decimal_sheet(3);
+    assert_eq!(rows(Edition::FIRST, &sheet), Err(Refusal { number: 11, place: 1 }));
+    let accepted = rows(Edition::SECOND, &sheet).expect("the second edition accepts it");
+    assert_eq!((accepted[1].p1, accepted[1].p2), (3, 3));
+    let mut out = [7; 512];
+    assert_eq!(rewrite(Edition::FIRST, &sheet, &mut out, 0), Err(Refusal { number: 11, place: 1 }));
+    assert_eq!(out, [7; 512]);
+    assert_eq!(rewrite(Edition::SECOND, &sheet, &mut out, 0), Ok(512));
+    assert_eq!(rows(Edition::SECOND, &out), Ok(accepted));
+    let lower = decimal_sheet(2);
+    assert_eq!(rows(Edition::SECOND, &lower), rows(Edition::FIRST, &lower));
+    for edition in [Edition::FIRST, Edition::SECOND] {
+        assert_eq!(rows(edition, &decimal_sheet(4)), Err(Refusal { number: 11, place: 1 }));
+    }
+    let fraction = ColumnType { p1: 2, p2: 2, ..column(physical::INT32, kind::DECIMAL) };
+    assert_eq!(read(Edition::FIRST, fraction, &[99, 0, 0, 0]), refused(20));
+    assert_eq!(read(Edition::SECOND, fraction, &[99, 0, 0, 0]), Ok(Value::Signed(99)));
+    assert_eq!(read(Edition::SECOND, fraction, &[100, 0, 0, 0]), refused(16));
+    assert_eq!(order(Edition::SECOND, fraction, &[99, 0, 0, 0], &[0; 4]), Ok(Order::Greater));
+}
+
+#[test]
+fn an_unknown_edition_comes_first_and_writes_nothing() {
+    let sheet = sample();
+    for edition in [0, 3, 4, 257, u32::MAX].map(Edition::from) {
+        let mut numbers = [7; 4 * ROW_WIDTH];
+        let mut out = [7; 512];
+        for bytes in [&sheet[..], &[]] {
+            assert_eq!(resolve(edition, bytes, &mut numbers), refused(21));
+            assert_eq!(resolve(edition, bytes, &mut []), refused(21));
+            assert_eq!(rewrite(edition, bytes, &mut out, 0), refused(21));
+            assert_eq!(rewrite(edition, bytes, &mut out, 513), refused(21));
+            assert_eq!(rows(edition, bytes), refused(21));
+        }
+        assert_eq!((numbers, out), ([7; 4 * ROW_WIDTH], [7; 512]));
+        for given in [column(physical::BOOLEAN, 0), column(physical::GROUP, 0), column(physical::INT96, 0)] {
+            assert_eq!(read(edition, given, &[1]), refused(21));
+            let unknown = OrderRefusal { refusal: Refusal { number: 21, place: 0 }, value: 0 };
+            assert_eq!(order(edition, given, &[1], &[2]), Err(unknown));
+            assert_eq!(unknown.to_string(), "refused 21 at 0");
+        }
+    }
+    assert_eq!(Edition::from(2), Edition::SECOND);
 }

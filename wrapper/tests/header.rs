@@ -4,6 +4,8 @@
 use std::collections::BTreeMap;
 use std::fs;
 
+use griffeljol::Edition;
+
 /// The named numbers of the header, without the prefix: `KIND_LIST` and so on.
 fn header() -> BTreeMap<String, u64> {
     let text = fs::read_to_string("../include/griffeljol.h").expect("the header");
@@ -55,11 +57,19 @@ fn widths_are_those_of_the_header() {
 }
 
 #[test]
+fn editions_are_those_of_the_header() {
+    let mut header = header();
+    header.retain(|name, _| name.starts_with("EDITION_"));
+    let editions = [("EDITION_1", Edition::FIRST), ("EDITION_2", Edition::SECOND)];
+    assert_eq!(header, editions.map(|(name, edition)| (name.to_owned(), u64::from(edition.number()))).into());
+}
+
+#[test]
 fn meanings_are_those_of_the_header() {
     // Comments are joined into one line, so that a meaning that runs over two is found.
     let text = fs::read_to_string("../include/griffeljol.h").expect("the header");
     let text = text.split_whitespace().collect::<Vec<_>>().join(" ");
-    for number in 1..=20 {
+    for number in 1..=21 {
         let refusal = griffeljol::Refusal { number, place: 0 };
         let place = refusal.place_meaning().unwrap_or("0");
         let words = format!(" {number} /* {}: {place} */", refusal.meaning());

@@ -131,6 +131,23 @@ fn values() {
 }
 
 #[test]
+fn editions() {
+    for edition in ["1", "2"] {
+        prints(&format!("rows - --edition {edition}"), &sample(), SAMPLE_ROWS);
+        prints(&format!("value --edition {edition} 1 0 5 2 1 --hex 63000000"), b"", "99\n");
+    }
+    let fraction = sheet(&[Node::root(1), Node::leaf("fee", INT32, REQUIRED).decimal(3, 3)]);
+    prints("rows --edition 2 -", &fraction, "nodes 2\n255 0 255 30 0 0 0 2 0 0 0\n1 0 0 5 3 3 0 2 0 0 0\n");
+    let tree = run_on(&["tree", "-", "--edition", "2"], &fraction);
+    assert!(text(&tree.stdout).ends_with("└─ fee  INT32  DECIMAL(precision 3, scale 3)  required    field\n"));
+    let rewritten = run_on(&["rewrite", "-", "-o", "-", "--edition", "2"], &fraction);
+    assert_eq!((rewritten.stdout.len(), rewritten.status.code()), (512, Some(0)));
+    prints("rows - --edition 2", &rewritten.stdout, "nodes 2\n255 0 255 30 0 0 0 2 0 0 0\n1 0 0 5 3 3 0 2 0 0 0\n");
+    prints("value 6 0 5 2 2 --hex 63 --edition 2", b"", "bytes 0 1\n");
+    prints("value 1 0 5 2 2 --hex 63000000 --edition 2 --json", b"", "{\"case\": \"signed\", \"value\": 99}\n");
+}
+
+#[test]
 fn timestamps() {
     prints("timestamp decode millis 172800000", b"", "1970-01-03 00:00:00.000\n");
     prints("timestamp decode millis -1", b"", "1969-12-31 23:59:59.999\n");
@@ -160,6 +177,7 @@ fn help_of_each_part() {
         assert_eq!(output.status.code(), Some(0));
         assert_eq!(run([part, "wrong", "-h", "words"]).stdout, output.stdout);
         assert!(text(&all.stdout).contains(&format!("  griffeljol {part} ")), "{part}");
+        assert_eq!(text(&output.stdout).contains("\n  --edition N "), part != "timestamp", "{part}");
     }
     assert_eq!(run(["-h"]).stdout, all.stdout);
 }

@@ -18,6 +18,17 @@ fn wrong_arguments_are_one_line_and_status_2() {
         (&["rows", SAMPLE, "--jsn"], "no option \"--jsn\""),
         (&["rows", SAMPLE, "-o", "out"], "no option \"-o\""),
         (&["rows", "--json", "--json", SAMPLE], "--json is given twice"),
+        (&["rows", SAMPLE, "--edition"], "--edition needs a word"),
+        (&["rows", SAMPLE, "--edition", ""], "--edition cannot be \"\""),
+        (&["rows", SAMPLE, "--edition", "01"], "--edition cannot be \"01\""),
+        (&["rows", SAMPLE, "--edition", "00"], "--edition cannot be \"00\""),
+        (&["rows", SAMPLE, "--edition", "+1"], "--edition cannot be \"+1\""),
+        (&["rows", SAMPLE, "--edition", "-1"], "--edition cannot be \"-1\""),
+        (&["rows", SAMPLE, "--edition", "1 "], "--edition cannot be \"1 \""),
+        (&["rows", SAMPLE, "--edition", "4294967297"], "--edition cannot be \"4294967297\""),
+        (&["rows", SAMPLE, "--edition", "1", "--edition", "2"], "--edition is given twice"),
+        (&["rows", "--edition", "1"], "FILE is missing"),
+        (&["tree", SAMPLE, "--edition", "x"], "--edition cannot be \"x\""),
         (&["tree"], "FILE is missing"),
         (&["tree", SAMPLE, "two\nlines"], "\"two\\nlines\" is one word too many"),
         (&["rewrite", SAMPLE], "-o OUT is missing"),
@@ -25,6 +36,7 @@ fn wrong_arguments_are_one_line_and_status_2() {
         (&["rewrite", SAMPLE, "-o"], "-o needs a word"),
         (&["rewrite", SAMPLE, "-o", "a", "-o", "b"], "-o is given twice"),
         (&["rewrite", SAMPLE, "--json", "-o", "-"], "no option \"--json\""),
+        (&["rewrite", SAMPLE, "-o", "-", "--edition", "0x1"], "--edition cannot be \"0x1\""),
         (&["value"], "PHYSICAL is missing"),
         (&["value", "1", "0", "0", "0"], "P2 is missing"),
         (&["value", "1", "0", "0", "0", "0"], "FILE or --hex HEX is missing"),
@@ -36,6 +48,7 @@ fn wrong_arguments_are_one_line_and_status_2() {
         (&["value", "1", "0", "0", "0", "0", "--hex", "0G"], "HEX cannot be"),
         (&["value", "1", "0", "0", "0", "0", "--hex", "\u{ff}"], "HEX cannot be"),
         (&["value", "1", "0", "0", "0", "0", "--hex", "00", SAMPLE], "one word too many"),
+        (&["value", "1", "0", "0", "0", "0", "--hex", "00", "--edition", "1.0"], "--edition cannot be \"1.0\""),
         (&["timestamp"], "decode or encode is missing"),
         (&["timestamp", "parse"], "not \"parse\""),
         (&["timestamp", "decode"], "UNIT is missing"),
@@ -45,6 +58,7 @@ fn wrong_arguments_are_one_line_and_status_2() {
         (&["timestamp", "decode", "millis", "1.5"], "COUNT cannot be"),
         (&["timestamp", "decode", "millis", "9223372036854775808"], "COUNT cannot be"),
         (&["timestamp", "decode", "4", "0", "0"], "one word too many"),
+        (&["timestamp", "decode", "millis", "0", "--edition", "1"], "no option \"--edition\""),
         (&["timestamp", "encode", "millis", "1970-01-01"], "TIME is missing"),
         (&["timestamp", "encode", "millis", "1970-01", "00:00:00"], "DATE cannot be"),
         (&["timestamp", "encode", "millis", "1970-01--1", "00:00:00"], "DATE cannot be"),
@@ -63,5 +77,6 @@ fn words_that_are_no_text() {
     let word = OsString::from_vec(vec![b'x', 0xFF]);
     failed(&run([word.clone()]), "no command");
     failed(&run(["rows".into(), word.clone()]), "cannot read");
+    failed(&run(["rows".into(), SAMPLE.into(), "--edition".into(), word.clone()]), "--edition cannot be");
     failed(&run(["timestamp".into(), word]), "cannot be");
 }

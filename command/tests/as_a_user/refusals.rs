@@ -122,3 +122,35 @@ fn each_refusal_of_a_value_or_a_timestamp_has_its_words() {
         refused(&run(line.split(' ')), refusal, meaning);
     }
 }
+
+#[test]
+fn an_unknown_edition_is_refused_before_all_else() {
+    let meaning = "edition unknown";
+    for edition in ["0", "3", "4", "4294967295"] {
+        for sheet in [sample(), Vec::new()] {
+            refused(&run_on(&["rows", "-", "--edition", edition], &sheet), "refused 21 at 0", meaning);
+            refused(&run_on(&["tree", "--edition", edition, "-"], &sheet), "refused 21 at 0", meaning);
+            let words = ["rewrite", "-", "--edition", edition, "-o", "-"];
+            refused(&run_on(&words, &sheet), "refused 21 at 0", meaning);
+        }
+        for line in ["value 1 0 0 0 0 --hex 00000000", "value 1 0 1 0 0 --hex 00", "value 8 0 0 0 0 --hex 00"] {
+            let words = line.split(' ').chain(["--edition", edition]);
+            refused(&run(words), "refused 21 at 0", meaning);
+        }
+    }
+    let output = run_on(&["rows", "-", "--json", "--edition", "3"], &sample());
+    let object = "{\"refused\": 21, \"at\": 0, \"meaning\": \"edition unknown\", \"place\": null}\n";
+    assert_eq!(text(&output.stdout), object);
+    assert_eq!(output.status.code(), Some(1));
+}
+
+#[test]
+fn what_no_edition_accepts() {
+    for edition in ["1", "2"] {
+        for (precision, scale) in [(0, 0), (3, 4), (10, 10)] {
+            let sheet = sheet(&[Node::root(1), Node::leaf("x", INT32, REQUIRED).decimal(precision, scale)]);
+            let output = run_on(&["rows", "-", "--edition", edition], &sheet);
+            refused(&output, "refused 11 at 1", "DECIMAL scale or precision; place 1 is the node");
+        }
+    }
+}

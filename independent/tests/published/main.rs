@@ -2,6 +2,7 @@
 
 mod tables;
 
+use independent::edition::FIRST;
 use independent::sheet::{assemble, Sheet, Slot, BLOCK};
 use independent::{
     decimal, decode, encode, order, read, resolve, rewrite, utf8, ColumnType, Fields, OrderRefusal, Refusal, Value,
@@ -56,25 +57,29 @@ fn texts() {
 
 #[test]
 fn values() {
-    for (given, value, expected) in READS {
-        let found = read(column(given), value).map(|value| match value {
-            Value::Truth(truth) => (0, [truth.into(), 0]),
-            Value::Signed(number) => (1, [number as u64, 0]),
-            Value::Unsigned(number) => (2, [number, 0]),
-            Value::Float(float) => (3, [float.to_bits().into(), 0]),
-            Value::Double(double) => (4, [double.to_bits(), 0]),
-            Value::Bytes { start, length } => (5, [start as u64, length as u64]),
-        });
-        assert_eq!(found, expected.map_err(refused), "{given:?} {value:02X?}");
+    for edition in editions() {
+        for (given, value, expected) in reads(edition) {
+            let found = read(edition, column(given), value).map(|value| match value {
+                Value::Truth(truth) => (0, [truth.into(), 0]),
+                Value::Signed(number) => (1, [number as u64, 0]),
+                Value::Unsigned(number) => (2, [number, 0]),
+                Value::Float(float) => (3, [float.to_bits().into(), 0]),
+                Value::Double(double) => (4, [double.to_bits(), 0]),
+                Value::Bytes { start, length } => (5, [start as u64, length as u64]),
+            });
+            assert_eq!(found, expected.map_err(refused), "edition {edition}: {given:?} {value:02X?}");
+        }
     }
 }
 
 #[test]
-fn orders() {
-    for (given, a, b, expected) in ORDERS {
-        let found = order(column(given), a, b).map(|order| order as u32);
-        let expected = expected.map_err(|number| OrderRefusal::of_neither(refused(number)));
-        assert_eq!(found, expected, "{given:?} {a:02X?} {b:02X?}");
+fn ordered_values() {
+    for edition in editions() {
+        for (given, a, b, expected) in orders(edition) {
+            let found = order(edition, column(given), a, b).map(|order| order as u32);
+            let expected = expected.map_err(|number| OrderRefusal::of_neither(refused(number)));
+            assert_eq!(found, expected, "edition {edition}: {given:?} {a:02X?} {b:02X?}");
+        }
     }
 }
 
@@ -104,12 +109,21 @@ fn slot(
     }
 }
 
+/// Every sheet, with what an edition answers.
+fn every_sheet() -> impl Iterator<Item = (u32, String, Vec<u8>, Rows)> {
+    editions().flat_map(|edition| {
+        sheets(edition).map(move |(title, slots, expected)| {
+            let sheet = assemble(&slots.iter().map(|&given| slot(given)).collect::<Vec<_>>());
+            (edition, format!("edition {edition}: {title}"), sheet, expected)
+        })
+    })
+}
+
 #[test]
-fn sheets() {
-    for (title, slots, expected) in SHEETS {
-        let sheet = assemble(&slots.iter().map(|&given| slot(given)).collect::<Vec<_>>());
+fn resolved_sheets() {
+    for (edition, title, sheet, expected) in every_sheet() {
         let mut rows = [0; ROW_WIDTH * 10];
-        match (resolve(&sheet, &mut rows), expected) {
+        match (resolve(edition, &sheet, &mut rows), expected) {
             (Ok(count), Ok(expected)) => {
                 assert_eq!(count as usize, expected.len(), "{title}");
                 assert_eq!(rows[..ROW_WIDTH * expected.len()], expected.concat(), "{title}");
@@ -123,19 +137,18 @@ fn sheets() {
 /// The rewritten sheet has the same rows, and rewriting it again changes no byte.
 #[test]
 fn rewritten_sheets() {
-    for (title, slots, expected) in SHEETS {
-        let sheet = assemble(&slots.iter().map(|&given| slot(given)).collect::<Vec<_>>());
+    for (edition, title, sheet, expected) in every_sheet() {
         let mut made = vec![0; sheet.len()];
         let Ok(rows) = expected else {
-            assert!(rewrite(&sheet, &mut made, 0).is_err(), "{title}");
+            assert!(rewrite(edition, &sheet, &mut made, 0).is_err(), "{title}");
             continue;
         };
-        assert_eq!(rewrite(&sheet, &mut made, 0), Ok(sheet.len() as u32), "{title}");
+        assert_eq!(rewrite(edition, &sheet, &mut made, 0), Ok(sheet.len() as u32), "{title}");
         let mut again = vec![0; made.len()];
-        rewrite(&made, &mut again, 0).unwrap();
+        rewrite(edition, &made, &mut again, 0).unwrap();
         assert_eq!(again, made, "{title}");
         let mut resolved = [0; ROW_WIDTH * 10];
-        resolve(&made, &mut resolved).unwrap();
+        resolve(edition, &made, &mut resolved).unwrap();
         assert_eq!(resolved[..ROW_WIDTH * rows.len()], rows.concat(), "{title}");
     }
 }
@@ -146,7 +159,7 @@ fn check_of_one_byte() {
     let mut block = [0; BLOCK];
     block[509] = 255;
     block[510..].copy_from_slice(&64_529u16.to_le_bytes());
-    assert_eq!(Sheet::open(&block).unwrap_err(), Refusal { number: 3, place: 0 });
+    assert_eq!(Sheet::open(FIRST, &block).unwrap_err(), Refusal { number: 3, place: 0 });
     block[510] += 1;
-    assert_eq!(Sheet::open(&block).unwrap_err(), Refusal { number: 2, place: 0 });
+    assert_eq!(Sheet::open(FIRST, &block).unwrap_err(), Refusal { number: 2, place: 0 });
 }

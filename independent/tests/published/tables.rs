@@ -1,4 +1,21 @@
-//! Published vectors, each under its source. Data alone: whoever runs them brings the reader.
+//! Published vectors, each under its source, and those of each edition. Data alone: whoever runs them brings the reader.
+
+/// Document 02, R-4: the known editions, and numbers of none.
+pub const KNOWN_EDITIONS: [u32; 2] = [1, 2];
+pub const UNKNOWN_EDITIONS: [u32; 4] = [0, 3, 4, u32::MAX];
+
+/// Every edition that the vectors are asked in.
+pub fn editions() -> impl Iterator<Item = u32> {
+    KNOWN_EDITIONS.into_iter().chain(UNKNOWN_EDITIONS)
+}
+
+/// What the known editions answer, in their order.
+pub type ByEdition<T> = [T; KNOWN_EDITIONS.len()];
+
+/// What an edition answers; an unknown one refuses all.
+fn answer_in<T: Copy>(edition: u32, answers: ByEdition<T>, unknown: T) -> T {
+    KNOWN_EDITIONS.iter().position(|&known| known == edition).map_or(unknown, |at| answers[at])
+}
 
 /// Days from 1 January 1970 to a date: a year, a month, a day, the day number.
 pub type Day = (i64, i64, i64, i64);
@@ -133,7 +150,7 @@ const UINT_64: Column = [2, 0, 10, 64, 0];
 
 /// Document 01, fixed points of single values and "errors to shut out"; document 000, UUID. What the slip of 000 would
 /// have on INT64 is read as 002 and 003 have it.
-pub const READS: [(Column, &[u8], Read); 17] = [
+const READS: [(Column, &[u8], Read); 16] = [
     (BYTE_DECIMAL_2, b"\x63", Ok((5, [0, 1]))),
     (BYTE_DECIMAL_2, b"\x64", Err(16)),
     (BYTE_DECIMAL_2, b"\x00\x63", Ok((5, [0, 2]))),
@@ -147,17 +164,36 @@ pub const READS: [(Column, &[u8], Read); 17] = [
     ([1, 0, 5, 10, 0], b"\0\0\0\0", Err(20)),
     ([7, 1, 5, 2, 0], b"\x63", Ok((5, [0, 1]))),
     ([7, 1, 5, 3, 0], b"\x63", Err(20)),
-    ([6, 0, 5, 3, 3], b"\x01", Err(20)),
     ([7, 16, 14, 0, 0], b"\x00\x11\x22\x33\x44\x55\x66\x77\x88\x99\xaa\xbb\xcc\xdd\xee\xff", Ok((5, [0, 16]))),
     ([7, 15, 14, 0, 0], b"\x00\x11\x22\x33\x44\x55\x66\x77\x88\x99\xaa\xbb\xcc\xdd\xee", Err(20)),
     ([6, 0, 11, 0, 0], b"", Err(16)),
 ];
 
-/// Two values and how the first stands to the second: 0 less, 1 equal, 2 greater, 3 unordered; or a refusal's number.
-pub type Ordered = (Column, &'static [u8], &'static [u8], Result<u32, u32>);
+/// Document 02, R-4: scale equal to precision on each physical type, at its greatest precision; and no precision.
+const READS_BY_EDITION: [(Column, &[u8], ByEdition<Read>); 6] = [
+    ([6, 0, 5, 3, 3], b"\x01", [Err(20), Ok((5, [0, 1]))]),
+    ([1, 0, 5, 9, 9], b"\xFF\xFF\xFF\xFF", [Err(20), Ok((1, [u64::MAX, 0]))]),
+    ([2, 0, 5, 18, 18], b"\x01\0\0\0\0\0\0\0", [Err(20), Ok((1, [1, 0]))]),
+    ([7, 1, 5, 2, 2], b"\x63", [Err(20), Ok((5, [0, 1]))]),
+    ([7, 1, 5, 2, 2], b"\x64", [Err(20), Err(16)]),
+    ([6, 0, 5, 0, 0], b"\0", [Err(20), Err(20)]),
+];
+
+/// Every value that is read, with what an edition answers.
+pub fn reads(edition: u32) -> impl Iterator<Item = (Column, &'static [u8], Read)> {
+    let in_both = READS.into_iter().map(|(column, value, read)| (column, value, [read, read]));
+    let all = in_both.chain(READS_BY_EDITION);
+    all.map(move |(column, value, read)| (column, value, answer_in(edition, read, Err(21))))
+}
+
+/// How one value stands to another: 0 less, 1 equal, 2 greater, 3 unordered; or a refusal's number.
+pub type Order = Result<u32, u32>;
+
+/// Two values and how the first stands to the second.
+pub type Ordered<T> = (Column, &'static [u8], &'static [u8], T);
 
 /// Document 01, fixed points of decimals; zeros and NaN of its order; what has no order.
-pub const ORDERS: [Ordered; 11] = [
+const ORDERS: [Ordered<Order>; 11] = [
     (BYTE_DECIMAL_3, b"\xFF", b"\xFF\xFF", Ok(1)),
     (BYTE_DECIMAL_3, b"\x80", b"\x7F", Ok(0)),
     (BYTE_DECIMAL_3, b"\x00\xFF", b"\x7F", Ok(2)),
@@ -171,6 +207,19 @@ pub const ORDERS: [Ordered; 11] = [
     ([3, 0, 11, 0, 0], b"", b"", Err(17)),
 ];
 
+/// Document 02, R-4: decimals whose scale equals their precision.
+const ORDERS_BY_EDITION: [Ordered<ByEdition<Order>>; 2] = [
+    ([6, 0, 5, 3, 3], b"\x80", b"\x7F", [Err(20), Ok(0)]),
+    ([1, 0, 5, 1, 1], b"\x09\0\0\0", b"\xF7\xFF\xFF\xFF", [Err(20), Ok(2)]),
+];
+
+/// Every two values that are ordered, with what an edition answers.
+pub fn orders(edition: u32) -> impl Iterator<Item = Ordered<Order>> {
+    let in_both = ORDERS.into_iter().map(|(column, a, b, order)| (column, a, b, [order, order]));
+    let all = in_both.chain(ORDERS_BY_EDITION);
+    all.map(move |(column, a, b, order)| (column, a, b, answer_in(edition, order, Err(21))))
+}
+
 /// Document 01, rule 11: the greatest precision of so many bytes.
 pub const PRECISIONS: [(u32, u32); 5] = [(1, 2), (2, 4), (4, 9), (8, 18), (16, 38)];
 
@@ -180,12 +229,15 @@ pub type Slot = ([i64; 10], &'static str);
 /// The rows of an accepted sheet, or the number and place of its refusal.
 pub type Rows = Result<&'static [[u32; 11]], (u32, u32)>;
 
+/// A title, the slots of a sheet, and its rows.
+pub type Sheet = (&'static str, &'static [Slot], Rows);
+
 const ROOT_OF_ONE: Slot = ([255, 255, 255, 0, 0, 0, 1, 0, 0, 0], "r");
 const ROW_OF_ONE: [u32; 11] = [255, 0, 255, 30, 0, 0, 0, 2, 0, 0, 0];
 
 /// Document 01: its example, its fixed points of sheets and "errors to shut out"; document 000, the examples of LIST and MAP; document 02,
 /// the layer of R-2; the schema whose levels the paper on Dremel gives, for R-8.
-pub const SHEETS: [(&str, &[Slot], Rows); 20] = [
+const SHEETS: [Sheet; 19] = [
     ("one root alone", &[([255, 255, 255, 0, 0, 0, 0, 0, 0, 0], "r")], Ok(&[[255, 0, 255, 30, 0, 0, 0, 1, 0, 0, 0]])),
     (
         "the example of document 01",
@@ -208,7 +260,6 @@ pub const SHEETS: [(&str, &[Slot], Rows); 20] = [
         &[ROOT_OF_ONE, ([7, 0, 5, 0, 0, 0, 0, 1, 0, 2], "d")],
         Ok(&[ROW_OF_ONE, [7, 1, 0, 5, 2, 0, 0, 2, 0, 0, 0]]),
     ),
-    ("scale = precision", &[ROOT_OF_ONE, ([1, 0, 255, 5, 0, 0, 0, 0, 3, 3], "d")], Err((11, 1))),
     ("precision 10 on INT32", &[ROOT_OF_ONE, ([1, 0, 255, 5, 0, 0, 0, 0, 0, 10], "d")], Err((11, 1))),
     ("TIME_MILLIS with TIME(NANOS)", &[ROOT_OF_ONE, ([2, 0, 7, 7, 3, 1, 0, 0, 0, 0], "t")], Err((9, 1))),
     (
@@ -380,3 +431,42 @@ pub const SHEETS: [(&str, &[Slot], Rows); 20] = [
         ]),
     ),
 ];
+
+/// Document 01's point "scale = precision", and document 02, R-4: the same on each physical type, at its greatest precision, by one annotation
+/// and by both; no precision; a scale above the precision.
+const SHEETS_BY_EDITION: [(&str, &[Slot], ByEdition<Rows>); 7] = [
+    (
+        "scale = precision",
+        &[ROOT_OF_ONE, ([1, 0, 255, 5, 0, 0, 0, 0, 3, 3], "d")],
+        [Err((11, 1)), Ok(&[ROW_OF_ONE, [1, 0, 0, 5, 3, 3, 0, 2, 0, 0, 0]])],
+    ),
+    (
+        "scale = precision on INT64, by converted",
+        &[ROOT_OF_ONE, ([2, 1, 5, 0, 0, 0, 0, 0, 18, 18], "d")],
+        [Err((11, 1)), Ok(&[ROW_OF_ONE, [2, 0, 1, 5, 18, 18, 0, 2, 0, 1, 0]])],
+    ),
+    (
+        "scale = precision on BYTE_ARRAY, by both",
+        &[ROOT_OF_ONE, ([6, 0, 5, 5, 0, 0, 0, 0, 2_147_483_647, 2_147_483_647], "d")],
+        [Err((11, 1)), Ok(&[ROW_OF_ONE, [6, 0, 0, 5, 2_147_483_647, 2_147_483_647, 0, 2, 0, 0, 0]])],
+    ),
+    (
+        "scale = precision on FIXED, by both",
+        &[ROOT_OF_ONE, ([7, 0, 5, 5, 0, 0, 0, 16, 38, 38], "d")],
+        [Err((11, 1)), Ok(&[ROW_OF_ONE, [7, 16, 0, 5, 38, 38, 0, 2, 0, 0, 0]])],
+    ),
+    ("no precision", &[ROOT_OF_ONE, ([1, 0, 255, 5, 0, 0, 0, 0, 0, 0], "d")], [Err((11, 1)), Err((11, 1))]),
+    ("scale above precision", &[ROOT_OF_ONE, ([1, 0, 255, 5, 0, 0, 0, 0, 4, 3], "d")], [Err((11, 1)), Err((11, 1))]),
+    (
+        "precision 10 and scale 10 on INT32",
+        &[ROOT_OF_ONE, ([1, 0, 255, 5, 0, 0, 0, 0, 10, 10], "d")],
+        [Err((11, 1)), Err((11, 1))],
+    ),
+];
+
+/// Every sheet, with what an edition answers.
+pub fn sheets(edition: u32) -> impl Iterator<Item = Sheet> {
+    let in_both = SHEETS.into_iter().map(|(title, slots, rows)| (title, slots, [rows, rows]));
+    let all = in_both.chain(SHEETS_BY_EDITION);
+    all.map(move |(title, slots, rows)| (title, slots, answer_in(edition, rows, Err((21, 0)))))
+}

@@ -14,7 +14,7 @@ use crate::trees::{random_logical, random_physical};
 /// Physical type, type length, kind, p1, p2.
 pub type Column = [u32; 5];
 
-/// A column type: lawful most of the time, else with a number or two of it changed.
+/// A column type: lawful in some edition most of the time, else with a number or two of it changed.
 pub fn column(random: &mut Random) -> Column {
     let mut column = lawful_column(random);
     if random.percent(25) {
@@ -88,7 +88,9 @@ fn decimal_column(random: &mut Random, physical: u8) -> Column {
     };
     let any = random.between(1, most);
     let precision = random.pick(&[1, most, any]);
-    let scale = random.below(precision);
+    // In the second edition the scale may equal the precision.
+    let any = random.below(precision);
+    let scale = random.pick(&[0, any, any, precision]);
     [physical.into(), type_length as u32, logical::DECIMAL.into(), precision as u32, scale as u32]
 }
 

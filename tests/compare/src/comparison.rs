@@ -21,13 +21,16 @@ pub struct Comparison<'a> {
     pub tally: Tally,
 }
 
+/// How many refusals there are.
+const REFUSALS: usize = 21;
+
 /// How often each thing was met.
 #[derive(Default)]
 pub struct Tally {
     /// Comparisons made.
     pub comparisons: u64,
     /// Refusals, by number.
-    pub refusals: [u64; 21],
+    pub refusals: [u64; REFUSALS + 1],
     /// Rows of accepted sheets, by kind.
     pub kinds: [u64; 31],
     /// Rows of accepted sheets, by role.
@@ -106,18 +109,19 @@ impl<'a> Comparison<'a> {
 
     fn count(&mut self, answer: u64) {
         self.tally.comparisons += 1;
-        self.tally.refusals[refusal_of(answer) as usize % 21] += 1;
+        self.tally.refusals[refusal_of(answer) as usize % (REFUSALS + 1)] += 1;
     }
 
-    /// Resolves a sheet into so many lent numbers.
-    pub fn resolve(&mut self, sheet: &[u8], lent: usize) -> Result<u64, Difference> {
+    /// Resolves a sheet into so many lent numbers, by an edition.
+    pub fn resolve(&mut self, edition: u32, sheet: &[u8], lent: usize) -> Result<u64, Difference> {
         let salt = sheet.len() as u32;
         self.rows.prepare(lent, |at| (at as u32).wrapping_mul(0x9E37_79B9) ^ salt);
-        let left = on_copies([sheet], |[sheet]| self.left.resolve(sheet, self.rows.left()))?;
-        let right = self.right.resolve(sheet, self.rows.right());
+        let left = on_copies([sheet], |[sheet]| self.left.resolve(edition, sheet, self.rows.left()))?;
+        let right = self.right.resolve(edition, sheet, self.rows.right());
         let written = if refusal_of(left) == 0 { ROW_WIDTH * value_of(left) as usize } else { 0 };
         let answers = Answers { entry: "resolve", left, right };
-        answers.check(Some((&self.rows, 0, written)), || format!("{lent} lent, sheet {}", hex(sheet)))?;
+        let input = || format!("edition {edition}, {lent} lent, sheet {}", hex(sheet));
+        answers.check(Some((&self.rows, 0, written)), input)?;
         self.count(left);
         for row in self.rows.held()[..written].chunks_exact(ROW_WIDTH) {
             self.tally.kinds[row[3] as usize % 31] += 1;
@@ -126,37 +130,48 @@ impl<'a> Comparison<'a> {
         Ok(left)
     }
 
-    /// Rewrites a sheet into so many lent bytes, from a start on.
-    pub fn rewrite(&mut self, sheet: &[u8], lent: usize, start: usize) -> Result<u64, Difference> {
+    /// Rewrites a sheet into so many lent bytes, from a start on, by an edition.
+    pub fn rewrite(&mut self, edition: u32, sheet: &[u8], lent: usize, start: usize) -> Result<u64, Difference> {
         let salt = sheet.len() as u8;
         self.bytes.prepare(lent, |at| ((at as u32).wrapping_mul(0x9E37_79B9) >> 24) as u8 ^ salt);
-        let left = on_copies([sheet], |[sheet]| self.left.rewrite(sheet, self.bytes.left(), start))?;
-        let right = self.right.rewrite(sheet, self.bytes.right(), start);
+        let left = on_copies([sheet], |[sheet]| self.left.rewrite(edition, sheet, self.bytes.left(), start))?;
+        let right = self.right.rewrite(edition, sheet, self.bytes.right(), start);
         let answers = Answers { entry: "rewrite", left, right };
-        let input = || format!("{lent} lent from {start}, sheet {}", hex(sheet));
+        let input = || format!("edition {edition}, {lent} lent from {start}, sheet {}", hex(sheet));
         answers.check(Some((&self.bytes, start, value_of(left) as usize)), input)?;
         self.count(left);
         Ok(left)
     }
 
-    /// What the last rewriting wrote, which answered this.
+    /// What the last rewriting wrote, which answered this; a refusal writes nothing.
     pub fn rewritten(&self, start: usize, answer: u64) -> Vec<u8> {
-        self.bytes.held()[start..][..value_of(answer) as usize].to_vec()
+        match refusal_of(answer) {
+            0 => self.bytes.held()[start..][..value_of(answer) as usize].to_vec(),
+            _ => Vec::new(),
+        }
     }
 
-    /// The rows that the last resolving wrote, which answered this.
+    /// The rows that the last resolving wrote, which answered this; a refusal writes none.
     pub fn resolved(&self, answer: u64) -> Vec<u32> {
-        self.rows.held()[..ROW_WIDTH * value_of(answer) as usize].to_vec()
+        match refusal_of(answer) {
+            0 => self.rows.held()[..ROW_WIDTH * value_of(answer) as usize].to_vec(),
+            _ => Vec::new(),
+        }
     }
 
-    /// Reads a value, with so many numbers lent.
-    pub fn read(&mut self, column: Column, value: &[u8], lent: usize) -> Result<u64, Difference> {
+    /// What the numbers hold that were lent to the last reading.
+    pub fn read_words(&self) -> &[u64] {
+        self.words.held()
+    }
+
+    /// Reads a value, with so many numbers lent, by an edition.
+    pub fn read(&mut self, edition: u32, column: Column, value: &[u8], lent: usize) -> Result<u64, Difference> {
         let salt = value.len() as u64;
         self.words.prepare(lent, |at| (at as u64).wrapping_mul(0x9E37_79B9_7F4A_7C15) ^ salt);
-        let left = on_copies([value], |[value]| self.left.read(column, value, self.words.left()))?;
-        let right = self.right.read(column, value, self.words.right());
+        let left = on_copies([value], |[value]| self.left.read(edition, column, value, self.words.left()))?;
+        let right = self.right.read(edition, column, value, self.words.right());
         let answers = Answers { entry: "read", left, right };
-        let input = || format!("column {column:?}, value {}, {lent} lent", hex(value));
+        let input = || format!("edition {edition}, column {column:?}, value {}, {lent} lent", hex(value));
         answers.check(Some((&self.words, 0, 2)), input)?;
         self.count(left);
         if refusal_of(left) == 0 {
@@ -165,10 +180,10 @@ impl<'a> Comparison<'a> {
         Ok(left)
     }
 
-    /// Orders two values, both ways, and holds each refusal to what reading answers.
-    pub fn order(&mut self, column: Column, a: &[u8], b: &[u8]) -> Result<u64, Difference> {
-        let answer = self.order_once(column, a, b)?;
-        let turned = self.order_once(column, b, a)?;
+    /// Orders two values, both ways, by an edition, and holds each refusal to what reading answers.
+    pub fn order(&mut self, edition: u32, column: Column, a: &[u8], b: &[u8]) -> Result<u64, Difference> {
+        let answer = self.order_once(edition, column, a, b)?;
+        let turned = self.order_once(edition, column, b, a)?;
         let expected = match (refusal_of(answer), value_of(answer)) {
             (0, value @ (0 | 2)) => u64::from(2 - value),
             (0, value) => u64::from(value),
@@ -177,16 +192,17 @@ impl<'a> Comparison<'a> {
         };
         if turned != expected {
             let what = format!("{} one way, {} the other", shown(answer), shown(turned));
-            return Err(Difference { entry: "order", input: format!("{column:?} {} {}", hex(a), hex(b)), what });
+            let input = format!("edition {edition}, {column:?} {} {}", hex(a), hex(b));
+            return Err(Difference { entry: "order", input, what });
         }
         Ok(answer)
     }
 
-    fn order_once(&mut self, column: Column, a: &[u8], b: &[u8]) -> Result<u64, Difference> {
-        let left = on_copies([a, b], |[a, b]| self.left.order(column, a, b))?;
-        let right = self.right.order(column, a, b);
+    fn order_once(&mut self, edition: u32, column: Column, a: &[u8], b: &[u8]) -> Result<u64, Difference> {
+        let left = on_copies([a, b], |[a, b]| self.left.order(edition, column, a, b))?;
+        let right = self.right.order(edition, column, a, b);
         let answers = Answers { entry: "order", left, right };
-        let input = || format!("column {column:?}, values {} and {}", hex(a), hex(b));
+        let input = || format!("edition {edition}, column {column:?}, values {} and {}", hex(a), hex(b));
         answers.check::<u8>(None, input)?;
         self.count(left);
         if refusal_of(left) == 0 {
@@ -194,7 +210,7 @@ impl<'a> Comparison<'a> {
         } else {
             self.tally.faults[fault_of(left) as usize % 3] += 1;
         }
-        let read = |value: &[u8]| self.left.read(column, value, &mut [0; 2]);
+        let read = |value: &[u8]| self.left.read(edition, column, value, &mut [0; 2]);
         if !agrees(left, [a, b].map(read)) {
             let what = format!("{}, but the values are read as {:?}", shown(left), [a, b].map(read).map(shown));
             return Err(Difference { entry: "order", input: input(), what });
@@ -242,14 +258,14 @@ impl<'a> Comparison<'a> {
 }
 
 /// Whether an order is answered by what reading answers for its two values: the refusal of the first that is refused, with its number and
-/// place. A refusal of neither value is 17, or 20, which reading gives too.
+/// place. A refusal of neither value is 17, or 20 or 21, which reading gives too.
 fn agrees(order: u64, [first, second]: [u64; 2]) -> bool {
     let is_read = |answer| refusal_of(answer) == 0;
     let is_refusal_of = |answer| !is_read(answer) && refused(refusal_of(order), value_of(order)) == answer;
     match (refusal_of(order), fault_of(order)) {
         (0, 0) => is_read(first) && is_read(second),
         (17, 0) => true,
-        (20, 0) => is_refusal_of(first) && is_refusal_of(second),
+        (20 | 21, 0) => is_refusal_of(first) && is_refusal_of(second),
         (15 | 16, 1) => is_refusal_of(first),
         (15 | 16, 2) => is_read(first) && is_refusal_of(second),
         _ => false,
@@ -282,7 +298,7 @@ impl Tally {
         /// The kinds that rows have: plain leaf, logical types, INTERVAL, plain group.
         const KINDS: [usize; 16] = [0, 1, 2, 3, 4, 5, 6, 7, 8, 10, 11, 12, 13, 14, 21, 30];
         let all = [
-            ("refusal", (1..=20).map(|n| (n, self.refusals[n])).collect::<Vec<_>>()),
+            ("refusal", (1..=REFUSALS).map(|n| (n, self.refusals[n])).collect::<Vec<_>>()),
             ("kind", KINDS.iter().map(|&n| (n, self.kinds[n])).collect()),
             ("role", self.roles.iter().copied().enumerate().collect()),
             ("case of a value", self.cases.iter().copied().enumerate().collect()),
@@ -301,7 +317,7 @@ impl Tally {
 impl fmt::Display for Tally {
     fn fmt(&self, f: &mut fmt::Formatter<'_>) -> fmt::Result {
         write!(f, "refusals")?;
-        (1..=20).try_for_each(|n| write!(f, " {n}:{}", self.refusals[n]))?;
+        (1..=REFUSALS).try_for_each(|n| write!(f, " {n}:{}", self.refusals[n]))?;
         write!(f, "\nresults {}; roles", self.refusals[0])?;
         self.roles.iter().enumerate().try_for_each(|(n, count)| write!(f, " {n}:{count}"))?;
         write!(f, "\nkinds")?;

@@ -109,9 +109,8 @@ impl Node {
 /// Resolves and rewrites the sheet of these nodes.
 fn judged(comparison: &mut Comparison, nodes: &[Node]) -> Result<(), Difference> {
     let sheet = assemble(&nodes.iter().map(Node::slot).collect::<Vec<_>>());
-    comparison.resolve(&sheet, ROW_WIDTH * nodes.len())?;
-    comparison.rewrite(&sheet, sheet.len(), 0)?;
-    Ok(())
+    comparison.resolve_in_all(&sheet, ROW_WIDTH * nodes.len())?;
+    comparison.rewrite_in_all(&sheet, sheet.len(), 0)
 }
 
 /// Every converted code and one outside the list, beside every logical code and two outside it, with every parameter and on every physical
@@ -178,7 +177,7 @@ fn precisions(comparison: &mut Comparison) -> Result<(), Difference> {
         for precision in 0..=617 {
             let node = Node { physical: FIXED, type_length, logical: logical::DECIMAL, precision, ..PLAIN };
             let sheet = assemble(&[ROOT.slot(), node.slot()]);
-            comparison.resolve(&sheet, 2 * ROW_WIDTH)?;
+            comparison.resolve_in_all(&sheet, 2 * ROW_WIDTH)?;
         }
     }
     Ok(())
@@ -195,15 +194,15 @@ fn decimals(comparison: &mut Comparison) -> Result<(), Difference> {
             for before in [0, 1, 255, MAX_LENGTH - length] {
                 let bytes = length + before;
                 for precision in [most - 1, most, most + 1] {
-                    comparison.read([6, 0, 5, precision, 0], cut(at, bytes), 2)?;
-                    comparison.read([7, bytes as u32, 5, precision, 0], cut(at, bytes), 2)?;
+                    comparison.read_in_all([6, 0, 5, precision, 0], cut(at, bytes), 2)?;
+                    comparison.read_in_all([7, bytes as u32, 5, precision, 0], cut(at, bytes), 2)?;
                 }
                 let widest = [6, 0, 5, i32::MAX as u32, 0];
-                comparison.order(widest, cut(at, bytes), cut(at, length))?;
-                comparison.order(widest, cut(at, bytes), cut(at + 1, length))?;
+                comparison.order_in_all(widest, cut(at, bytes), cut(at, length))?;
+                comparison.order_in_all(widest, cut(at, bytes), cut(at + 1, length))?;
             }
             for other in [1, 2, 4, 8, 16, 32, 64, 128, 256] {
-                comparison.order([6, 0, 5, i32::MAX as u32, 0], cut(at, length), cut(at + 3, other))?;
+                comparison.order_in_all([6, 0, 5, i32::MAX as u32, 0], cut(at, length), cut(at + 3, other))?;
             }
         }
     }
@@ -278,7 +277,7 @@ fn plain_texts(comparison: &mut Comparison) -> Result<(), Difference> {
 /// Reads a STRING; it is refused where Rust's own check of UTF-8 stops, and taken where that takes it.
 fn text(comparison: &mut Comparison, bytes: &[u8]) -> Result<(), Difference> {
     const STRING: Column = [6, 0, 1, 0, 0];
-    let answer = comparison.read(STRING, bytes, 2)?;
+    let answer = comparison.read_in_all(STRING, bytes, 2)?;
     let stop = match refusal_of(answer) {
         0 => bytes.len(),
         refusal::VALUE => value_of(answer) as usize,

@@ -4,6 +4,7 @@
 pub mod changes;
 pub mod columns;
 pub mod comparison;
+pub mod editions;
 pub mod every;
 pub mod instants;
 pub mod lent;

@@ -10,20 +10,20 @@ mod boundary;
 pub struct Linked;
 
 impl Side for Linked {
-    fn resolve(&self, sheet: &[u8], rows: &mut [u32]) -> u64 {
-        boundary::resolve(sheet, rows)
+    fn resolve(&self, edition: u32, sheet: &[u8], rows: &mut [u32]) -> u64 {
+        boundary::resolve(edition, sheet, rows)
     }
 
-    fn rewrite(&self, sheet: &[u8], out: &mut [u8], start: usize) -> u64 {
-        boundary::rewrite(sheet, out, start)
+    fn rewrite(&self, edition: u32, sheet: &[u8], out: &mut [u8], start: usize) -> u64 {
+        boundary::rewrite(edition, sheet, out, start)
     }
 
-    fn read(&self, column: [u32; 5], value: &[u8], out: &mut [u64]) -> u64 {
-        boundary::read(column, value, out)
+    fn read(&self, edition: u32, column: [u32; 5], value: &[u8], out: &mut [u64]) -> u64 {
+        boundary::read(edition, column, value, out)
     }
 
-    fn order(&self, column: [u32; 5], a: &[u8], b: &[u8]) -> u64 {
-        boundary::order(column, a, b)
+    fn order(&self, edition: u32, column: [u32; 5], a: &[u8], b: &[u8]) -> u64 {
+        boundary::order(edition, column, a, b)
     }
 
     fn decode(&self, unit: u32, count: i64, fields: &mut [i64]) -> u64 {

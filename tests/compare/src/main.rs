@@ -6,7 +6,7 @@
 use std::process::ExitCode;
 use std::time::{Duration, Instant};
 
-use compare::{every, published, reference, rounds, Comparison, Independent, IS_LINKED, NOT_LINKED};
+use compare::{every, published, reference, rounds, stored, Comparison, Independent, IS_LINKED, NOT_LINKED};
 
 const LEAST_COMPARISONS: u64 = 1_000_000;
 const LEAST_OF_EACH: u64 = 1_000;
@@ -20,7 +20,7 @@ struct Options {
 }
 
 fn options() -> Result<Options, String> {
-    let mut options = Options { seed: 1, rounds: 60_000, seconds: 90, round: None, itself: false };
+    let mut options = Options { seed: 1, rounds: 24_000, seconds: 90, round: None, itself: false };
     let mut arguments = std::env::args().skip(1);
     while let Some(argument) = arguments.next() {
         let mut number = || {
@@ -59,6 +59,9 @@ fn run(options: &Options) -> Result<(), String> {
         let count = published::run(side).map_err(|vector| format!("{name} answers otherwise: {vector}"))?;
         println!("{count} published vectors: as published, by {name}");
     }
+    let mut comparison = Comparison::new(left, &Independent);
+    stored::compare(&mut comparison, &stored::folder())?;
+    println!("every stored question in every edition: {} comparisons, no difference", comparison.tally.comparisons);
     let mut comparison = Comparison::new(left, &Independent);
     every::run(&mut comparison).map_err(|difference| difference.to_string())?;
     println!("every case of codes, precisions and octets: {} comparisons, no difference", comparison.tally.comparisons);

@@ -34,47 +34,65 @@ pub fn run(side: &dyn Side) -> Result<usize, String> {
         let found = side.encode(unit, &fields, &mut [0]);
         hold(format!("unit {unit}, fields {fields:?}: {number}"), found == refused(number, 0))?;
     }
+    for edition in editions() {
+        by_edition(side, edition, &mut hold)?;
+    }
+    Ok(count)
+}
+
+/// Holds a side to what an edition answers: an unknown one refuses everything with 21.
+fn by_edition(
+    side: &dyn Side,
+    edition: u32,
+    hold: &mut impl FnMut(String, bool) -> Result<(), String>,
+) -> Result<(), String> {
+    let is_known = KNOWN_EDITIONS.contains(&edition);
+    let unless_unknown = |answer| if is_known { answer } else { refused(21, 0) };
+    let mut hold = |what: String, found: bool| hold(format!("edition {edition}, {what}"), found);
     for (text, stop) in RFC_3629.into_iter().chain(UNICODE) {
         let mut found = [9; 2];
-        let answer = side.read([6, 0, 1, 0, 0], text, &mut found);
-        let right = if stop == text.len() {
+        let answer = side.read(edition, [6, 0, 1, 0, 0], text, &mut found);
+        let right = if is_known && stop == text.len() {
             answer == 5 && found == [0, text.len() as u64]
         } else {
-            let in_order = |a, b| side.order([6, 0, 1, 0, 0], a, b);
-            let refused_as = |value| order_refused(value, 16, stop as u32);
-            answer == refused(16, stop as u32)
+            let in_order = |a, b| side.order(edition, [6, 0, 1, 0, 0], a, b);
+            let refused_as = |value| unless_unknown(order_refused(value, 16, stop as u32));
+            answer == unless_unknown(refused(16, stop as u32))
+                && found == [9; 2]
                 && [in_order(text, b"a"), in_order(b"a", text), in_order(text, text)] == [1, 2, 1].map(refused_as)
         };
         hold(format!("text {text:02X?}"), right)?;
     }
-    for (column, value, expected) in READS {
+    for (column, value, expected) in reads(edition) {
         let mut found = [9; 2];
-        let answer = side.read(column, value, &mut found);
+        let answer = side.read(edition, column, value, &mut found);
         let right = match expected {
             Ok((case, numbers)) => answer == u64::from(case) && found == numbers,
-            Err(number) => answer == refused(number, 0),
+            Err(number) => answer == refused(number, 0) && found == [9; 2],
         };
         hold(format!("column {column:?}, value {value:02X?}"), right)?;
     }
-    for (column, a, b, expected) in ORDERS {
+    for (column, a, b, expected) in orders(edition) {
         let right = expected.map_or_else(|number| refused(number, 0), u64::from);
-        hold(format!("column {column:?}, values {a:02X?}, {b:02X?}"), side.order(column, a, b) == right)?;
+        hold(format!("column {column:?}, values {a:02X?}, {b:02X?}"), side.order(edition, column, a, b) == right)?;
     }
     for (length, most) in PRECISIONS {
-        let reads = |precision| side.read([7, length, 5, precision, 0], &vec![0; length as usize], &mut [0; 2]);
-        hold(format!("precision {most} of {length} bytes"), reads(most) == 5 && reads(most + 1) == refused(20, 0))?;
+        let reads =
+            |precision| side.read(edition, [7, length, 5, precision, 0], &vec![0; length as usize], &mut [0; 2]);
+        let right = [reads(most), reads(most + 1)] == [5, refused(20, 0)].map(unless_unknown);
+        hold(format!("precision {most} of {length} bytes"), right)?;
     }
-    for (title, slots, expected) in SHEETS {
+    for (title, slots, expected) in sheets(edition) {
         let sheet = assemble(&slots.iter().map(slot).collect::<Vec<_>>());
-        let mut rows = [0; ROW_WIDTH * 10];
-        let answer = side.resolve(&sheet, &mut rows);
+        let mut rows = [9; ROW_WIDTH * 10];
+        let answer = side.resolve(edition, &sheet, &mut rows);
         let right = match expected {
             Ok(expected) => answer == expected.len() as u64 && rows[..ROW_WIDTH * expected.len()] == expected.concat(),
-            Err((number, place)) => answer == refused(number, place),
+            Err((number, place)) => answer == refused(number, place) && rows == [9; ROW_WIDTH * 10],
         };
         hold(title.to_string(), right)?;
     }
-    Ok(count)
+    Ok(())
 }
 
 fn slot(&(numbers, name): &Slot) -> crate::trees::Slot {

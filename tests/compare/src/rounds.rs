@@ -2,6 +2,7 @@
 
 use std::iter;
 
+use independent::edition::{FIRST, SECOND};
 use independent::refusal;
 use independent::sheet::{self, MAX_NODES};
 use independent::tree::MAX_DEPTH;
@@ -13,8 +14,8 @@ use crate::comparison::{broken, Comparison, Difference};
 use crate::instants::{count, fields, unit};
 use crate::random::Random;
 use crate::sheets::{assemble, random_bytes, store_unreduced, total_of};
-use crate::side::{refusal_of, shown, value_of};
-use crate::trees::{deep_tree, tree};
+use crate::side::{refusal_of, refused, shown, value_of};
+use crate::trees::{deep_tree, is_fraction, tree, Slot};
 
 /// Runs one round.
 pub fn run(comparison: &mut Comparison, seed: u64, round: u64) -> Result<(), Difference> {
@@ -25,6 +26,7 @@ pub fn run(comparison: &mut Comparison, seed: u64, round: u64) -> Result<(), Dif
     for _ in 0..12 {
         values(comparison, random)?;
     }
+    other_editions(comparison, random, &bytes)?;
     for _ in 0..8 {
         instants(comparison, random)?;
     }
@@ -36,7 +38,7 @@ fn sheets(comparison: &mut Comparison, random: &mut Random) -> Result<(), Differ
     let size = size(random);
     let slots = tree(random, size);
     let lawful = assemble(&slots);
-    accepted(comparison, random, &lawful)?;
+    accepted(comparison, random, &slots)?;
     for changes in [1, 1, 1, 2, 2, 2] {
         let mut sheet = lawful.clone();
         (0..changes).for_each(|_| change(random, &mut sheet));
@@ -83,10 +85,20 @@ fn size(random: &mut Random) -> usize {
     }
 }
 
-/// A sheet that must be accepted: what rewriting it gives is held to what document 01 says of it.
-fn accepted(comparison: &mut Comparison, random: &mut Random, sheet: &[u8]) -> Result<(), Difference> {
-    let total = total_of(sheet);
-    let answer = comparison.resolve(sheet, ROW_WIDTH * total)?;
+/// A sheet that the second edition must accept, and the first where no scale equals its precision: what rewriting it gives is held to what
+/// document 01 says of it.
+fn accepted(comparison: &mut Comparison, random: &mut Random, slots: &[Slot]) -> Result<(), Difference> {
+    let sheet = &assemble(slots);
+    let of_second = slots.iter().position(is_fraction);
+    let total = slots.len();
+    if let Some(node) = of_second {
+        let answer = comparison.resolve(FIRST, sheet, ROW_WIDTH * total)?;
+        if answer != refused(refusal::DECIMAL, node as u32) {
+            return Err(broken("resolve", format!("scale as precision at {node}: {}", shown(answer)), sheet));
+        }
+    }
+    let edition = if of_second.is_some() { SECOND } else { random.pick(&[FIRST, SECOND]) };
+    let answer = comparison.resolve(edition, sheet, ROW_WIDTH * total)?;
     if answer != total as u64 {
         return Err(broken("resolve", format!("a lawful tree was refused by {}", refusal_of(answer)), sheet));
     }
@@ -95,16 +107,16 @@ fn accepted(comparison: &mut Comparison, random: &mut Random, sheet: &[u8]) -> R
         return Err(broken("resolve", "levels that are not the counts over the path".to_string(), sheet));
     }
     let start = random.below(20);
-    let answer = comparison.rewrite(sheet, start + sheet.len() + 3, start)?;
+    let answer = comparison.rewrite(edition, sheet, start + sheet.len() + 3, start)?;
     if answer != sheet.len() as u64 {
         return Err(broken("rewrite", format!("a lawful tree was refused by {}", refusal_of(answer)), sheet));
     }
     let made = comparison.rewritten(start, answer);
-    let answer = comparison.resolve(&made, ROW_WIDTH * total)?;
+    let answer = comparison.resolve(edition, &made, ROW_WIDTH * total)?;
     if refusal_of(answer) != 0 || comparison.resolved(answer) != rows {
         return Err(broken("rewrite", "the rewritten sheet has other rows".to_string(), sheet));
     }
-    let answer = comparison.rewrite(&made, made.len(), 0)?;
+    let answer = comparison.rewrite(edition, &made, made.len(), 0)?;
     if refusal_of(answer) != 0 || comparison.rewritten(0, answer) != made {
         return Err(broken("rewrite", "the rewritten sheet is rewritten to another".to_string(), sheet));
     }
@@ -131,7 +143,7 @@ fn both(comparison: &mut Comparison, random: &mut Random, sheet: &[u8]) -> Resul
         3 => needed + random.below(40),
         _ => needed,
     };
-    comparison.resolve(sheet, lent)?;
+    comparison.resolve_in_all(sheet, lent)?;
     let start = random.pick(&[0, 0, 1, 7, 511, 513]);
     let (lent, start) = match random.below(8) {
         0 => ((sheet.len() + start).saturating_sub(1), start),
@@ -141,7 +153,19 @@ fn both(comparison: &mut Comparison, random: &mut Random, sheet: &[u8]) -> Resul
         4 => (sheet.len() + start + random.below(600), start),
         _ => (sheet.len() + start, start),
     };
-    comparison.rewrite(sheet, lent, start)?;
+    comparison.rewrite_in_all(sheet, lent, start)
+}
+
+/// Each entry asked in an edition far from the known ones.
+fn other_editions(comparison: &mut Comparison, random: &mut Random, sheet: &[u8]) -> Result<(), Difference> {
+    let any = random.any() as u32;
+    let edition = random.pick(&[257, 258, 1 << 16 | 1, 1 << 31 | 2, u32::MAX, any]);
+    comparison.resolve(edition, sheet, ROW_WIDTH)?;
+    comparison.rewrite(edition, sheet, sheet.len(), 0)?;
+    let column = column(random);
+    let value = value(random, column);
+    comparison.read(edition, column, &value, 2)?;
+    comparison.order(edition, column, &value, &value)?;
     Ok(())
 }
 
@@ -150,7 +174,7 @@ fn values(comparison: &mut Comparison, random: &mut Random) -> Result<(), Differ
     let column = column(random);
     let first = value(random, column);
     let lent = if random.percent(5) { random.below(2) } else { random.pick(&[2, 2, 3, 9]) };
-    let answer = comparison.read(column, &first, lent)?;
+    let answer = comparison.read_in_all(column, &first, lent)?;
     if is_text(column) && refusal_of(answer) == refusal::VALUE {
         let stop = std::str::from_utf8(&first).map_or_else(|fault| fault.valid_up_to(), str::len);
         if value_of(answer) as usize != stop {
@@ -158,8 +182,7 @@ fn values(comparison: &mut Comparison, random: &mut Random) -> Result<(), Differ
         }
     }
     let second = second_value(random, column, &first);
-    comparison.order(column, &first, &second)?;
-    Ok(())
+    comparison.order_in_all(column, &first, &second)
 }
 
 /// A count decoded and encoded again, and fields encoded and decoded again.

@@ -2,17 +2,17 @@
 
 use independent::Refusal;
 
-/// The entries of the C interface. An answer has a refusal's number in bits 32 to 39, 0 for a result, and its place or the
+/// The entries of the C interface; all but timestamps take an edition first. An answer has a refusal's number in bits 32 to 39, 0 for a result, and its place or the
 /// result's value in bits 0 to 31. The refusal of an order has in bits 40 to 47 the value at fault.
 pub trait Side {
     /// T.
-    fn resolve(&self, sheet: &[u8], rows: &mut [u32]) -> u64;
+    fn resolve(&self, edition: u32, sheet: &[u8], rows: &mut [u32]) -> u64;
     /// Bytes written.
-    fn rewrite(&self, sheet: &[u8], out: &mut [u8], start: usize) -> u64;
+    fn rewrite(&self, edition: u32, sheet: &[u8], out: &mut [u8], start: usize) -> u64;
     /// The case: 0 truth, 1 signed whole, 2 unsigned whole, 3 FLOAT, 4 DOUBLE, 5 bytes; two numbers are written.
-    fn read(&self, column: [u32; 5], value: &[u8], out: &mut [u64]) -> u64;
+    fn read(&self, edition: u32, column: [u32; 5], value: &[u8], out: &mut [u64]) -> u64;
     /// 0 less, 1 equal, 2 greater, 3 unordered.
-    fn order(&self, column: [u32; 5], a: &[u8], b: &[u8]) -> u64;
+    fn order(&self, edition: u32, column: [u32; 5], a: &[u8], b: &[u8]) -> u64;
     /// 7; year, month, day, hour, minute, second and fraction are written.
     fn decode(&self, unit: u32, count: i64, fields: &mut [i64]) -> u64;
     /// 1; one count is written.
@@ -68,18 +68,19 @@ macro_rules! side {
         $visible struct $name;
 
         impl $crate::side::Side for $name {
-            fn resolve(&self, sheet: &[u8], rows: &mut [u32]) -> u64 {
-                $crate::side!(@answer $library::resolve(sheet, rows))
+            fn resolve(&self, edition: u32, sheet: &[u8], rows: &mut [u32]) -> u64 {
+                $crate::side!(@answer $library::resolve(edition, sheet, rows))
             }
 
-            fn rewrite(&self, sheet: &[u8], out: &mut [u8], start: usize) -> u64 {
-                $crate::side!(@answer $library::rewrite(sheet, out, start))
+            fn rewrite(&self, edition: u32, sheet: &[u8], out: &mut [u8], start: usize) -> u64 {
+                $crate::side!(@answer $library::rewrite(edition, sheet, out, start))
             }
 
-            fn read(&self, [physical, type_length, kind, p1, p2]: [u32; 5], value: &[u8], out: &mut [u64]) -> u64 {
+            fn read(&self, edition: u32, column: [u32; 5], value: &[u8], out: &mut [u64]) -> u64 {
                 use $library::Value;
+                let [physical, type_length, kind, p1, p2] = column;
                 let column = $library::ColumnType { physical, type_length, kind, p1, p2 };
-                let (case, first, second) = match $library::read(column, value) {
+                let (case, first, second) = match $library::read(edition, column, value) {
                     Err(refusal) => return $crate::side::refused(refusal.number, refusal.place),
                     Ok(Value::Truth(truth)) => (0, u64::from(truth), 0),
                     Ok(Value::Signed(number)) => (1, number as u64, 0),
@@ -95,9 +96,10 @@ macro_rules! side {
                 case
             }
 
-            fn order(&self, [physical, type_length, kind, p1, p2]: [u32; 5], a: &[u8], b: &[u8]) -> u64 {
+            fn order(&self, edition: u32, column: [u32; 5], a: &[u8], b: &[u8]) -> u64 {
+                let [physical, type_length, kind, p1, p2] = column;
                 let column = $library::ColumnType { physical, type_length, kind, p1, p2 };
-                match $library::order(column, a, b) {
+                match $library::order(edition, column, a, b) {
                     Ok(order) => order as u64,
                     Err($library::OrderRefusal { refusal, value }) => {
                         $crate::side::order_refused(value, refusal.number, refusal.place)

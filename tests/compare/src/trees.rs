@@ -40,9 +40,11 @@ struct Grower<'a> {
     max_depth: usize,
     shape: Shape,
     favour: Favour,
+    /// Whether the scale of a DECIMAL may equal its precision.
+    has_fractions: bool,
 }
 
-/// The slots of a random tree of so many nodes that keeps every rule.
+/// The slots of a random tree of so many nodes that keeps every rule of the second edition; half the time also those of the first.
 pub fn tree(random: &mut Random, size: usize) -> Vec<Slot> {
     let shape = random.pick(&[Shape::Any, Shape::Any, Shape::Any, Shape::Flat, Shape::Deep]);
     grown(random, size, MAX_DEPTH, shape)
@@ -56,7 +58,8 @@ pub fn deep_tree(random: &mut Random, size: usize, max_depth: usize) -> Vec<Slot
 
 fn grown(random: &mut Random, size: usize, max_depth: usize, shape: Shape) -> Vec<Slot> {
     let favour = random.pick(&[Favour::None, Favour::None, Favour::Lists, Favour::Maps, Favour::Groups]);
-    let mut grower = Grower { random, slots: Vec::with_capacity(size), max_depth, shape, favour };
+    let has_fractions = random.percent(50);
+    let mut grower = Grower { random, slots: Vec::with_capacity(size), max_depth, shape, favour, has_fractions };
     let name = grower.name();
     grower.push(GROUP, repetition::NONE, NO_ANNOTATION, &name);
     grower.fields(0, size - 1, 1, 0);
@@ -279,7 +282,8 @@ impl Grower<'_> {
         let any = self.random.between(1, most);
         let precision = self.random.pick(&[1, 2, most, any]);
         let any = self.random.below(precision);
-        let scale = self.random.pick(&[0, precision - 1, any]);
+        let greatest = if self.has_fractions { precision } else { precision - 1 };
+        let scale = self.random.pick(&[0, greatest, any]);
         self.number(node, 16, precision as i32);
         self.number(node, 12, scale as i32);
     }
@@ -315,6 +319,11 @@ impl Grower<'_> {
             _ => self.random.pick(&near).to_vec(),
         }
     }
+}
+
+/// Whether a slot is a DECIMAL whose scale equals its precision.
+pub fn is_fraction(slot: &Slot) -> bool {
+    (slot[2] == converted::DECIMAL || slot[3] == logical::DECIMAL) && slot[12..16] == slot[16..20]
 }
 
 /// A logical type of a leaf with any of its parameters.

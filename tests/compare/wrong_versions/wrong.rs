@@ -149,8 +149,8 @@ pub const ALL: &[Wrong] = &[
     wrong(
         "MAP_KEY_VALUE always a MAP",
         "rules.rs",
-        "annotation::resolve(&slot, under_map)",
-        "annotation::resolve(&slot, under_map && false)",
+        "annotation::resolve(edition, &slot, under_map)",
+        "annotation::resolve(edition, &slot, under_map && false)",
     ),
     wrong(
         "a bare repeated node a field",
@@ -225,8 +225,37 @@ pub const ALL: &[Wrong] = &[
         "physical == physical::FIXED && type_length == 16",
         "physical == physical::FIXED && type_length >= 12",
     ),
-    wrong("scale equal to precision", "annotation.rs", "scale < precision", "scale <= precision"),
+    wrong("a scale above the precision", "annotation.rs", "scale < precision", "scale != precision"),
     wrong("precision 10 on INT32", "annotation.rs", "physical::INT32 => 9,", "physical::INT32 => 10,"),
+    // Editions.
+    wrong("the second edition's rule in the first", "edition.rs", "self.0 >= SECOND", "self.0 >= FIRST"),
+    wrong("the first edition's rule in the second", "edition.rs", "self.0 >= SECOND", "self.0 > SECOND"),
+    wrong(
+        "precision 0 where the scale may equal it",
+        "annotation.rs",
+        "(1..=most).contains(&precision) && is_scale",
+        "precision <= most && is_scale",
+    ),
+    wrong(
+        "21 behind 1",
+        "sheet.rs",
+        "        let edition = Edition::known(edition)?;\n",
+        "        if bytes.len() % BLOCK != 0 {\n            return Err(Refusal::whole(refusal::SHEET_LENGTH));\n        }\n        let edition = Edition::known(edition)?;\n",
+    ),
+    wrong(
+        "21 behind 20",
+        "column.rs",
+        "        let edition = Edition::known(edition)?;\n",
+        "        if given.physical > physical::FIXED.into() {\n            return Err(Refusal::whole(refusal::COLUMN_TYPE));\n        }\n        let edition = Edition::known(edition)?;\n",
+    ),
+    wrong("edition 0 taken for the first", "edition.rs", "FIRST | SECOND => Ok(Edition(number))", "0 | FIRST | SECOND => Ok(Edition(number))"),
+    wrong("edition 3 taken for the second", "edition.rs", "FIRST | SECOND => Ok(Edition(number))", "FIRST | SECOND | 3 => Ok(Edition(number))"),
+    wrong(
+        "a number modulo 256 taken for an edition",
+        "edition.rs",
+        "match number {",
+        "match number % 256 {",
+    ),
     // Rows and the rewritten sheet.
     wrong(
         "a refusal that writes rows",
@@ -275,8 +304,8 @@ pub const ALL: &[Wrong] = &[
     wrong(
         "a refusal that writes bytes",
         "rewrite.rs",
-        "    let schema = Schema::read(sheet)?;",
-        "    let schema = Schema::read(sheet).inspect_err(|_| out.iter_mut().take(1).for_each(|first| *first = !*first))?;",
+        "    let schema = Schema::read(edition, sheet)?;",
+        "    let schema = Schema::read(edition, sheet).inspect_err(|_| out.iter_mut().take(1).for_each(|first| *first = !*first))?;",
     ),
     wrong("the stretch a byte early", "rewrite.rs", ".get_mut(start..)", ".get_mut(start.saturating_sub(1)..)"),
     wrong("checks not renewed", "rewrite.rs", "    sheet::renew_checks(stretch);\n", ""),
@@ -463,8 +492,8 @@ pub const ALL: &[Wrong] = &[
     wrong(
         "20 laid on the first value",
         "order.rs",
-        "Column::of(column).map_err(OrderRefusal::of_neither)",
-        "Column::of(column).map_err(OrderRefusal::of_first)",
+        "Column::of(edition, column).map_err(OrderRefusal::of_neither)",
+        "Column::of(edition, column).map_err(OrderRefusal::of_first)",
     ),
     wrong(
         "the refusal of the first value at the second's place",

@@ -7,10 +7,12 @@ use independent::codes::kind::{INTERVAL, PLAIN_LEAF};
 use independent::codes::logical::{BSON, DATE, DECIMAL, ENUM, INTEGER, JSON, STRING, TIME, TIMESTAMP, UNKNOWN, UUID};
 use independent::codes::physical::{BOOLEAN, BYTE_ARRAY, DOUBLE, FIXED, FLOAT, INT32, INT64, INT96};
 use independent::decimal::greatest_precision;
+use independent::edition::FIRST;
 use independent::value::MAX_VALUE;
 use independent::{order, read, ColumnType, Order, Value};
 
 use crate::bytes::{put, put_size, Reader};
+use crate::editions::Editions;
 use crate::{plain_text, wide};
 
 const PHYSICAL: [&str; 8] = ["BOOLEAN", "INT32", "INT64", "INT96", "FLOAT", "DOUBLE", "BYTE_ARRAY", "FIXED"];
@@ -31,9 +33,11 @@ const KINDS: [(u8, &str); 13] = [
 ];
 const TICKS_PER_DAY: [i128; 4] = [0, 86_400_000, 86_400_000_000, 86_400_000_000_000];
 
-/// The vectors as they are stored: their number; then for each a title after its length, the five numbers of a
-/// column type, a value, whether a second follows, and it.
 pub fn input() -> Vec<u8> {
+    packed(Editions::First, &vectors().0)
+}
+
+pub fn vectors() -> Vectors {
     let mut vectors = Vectors::default();
     for column in lawful_columns() {
         for value in edges(column) {
@@ -50,7 +54,7 @@ pub fn input() -> Vec<u8> {
         vectors.add(column, &Bytes::all(vec![0; size]), None);
     }
     for column in lawful_columns() {
-        pairs(&mut vectors, column);
+        pairs(&mut vectors, FIRST, column);
     }
     let int96 = |kind| ColumnType { kind, ..plain(INT96) };
     for column in [plain(8), int96(STRING.into()), int96(INTERVAL.into()), int96(UNKNOWN.into())] {
@@ -58,34 +62,63 @@ pub fn input() -> Vec<u8> {
     }
     bad_texts(&mut vectors);
     plain_texts(&mut vectors);
-    let mut bytes = vectors.count.to_le_bytes().to_vec();
-    bytes.extend(vectors.bytes);
+    vectors
+}
+
+/// The vectors as they are stored: their number; then for each its edition, where that stands before each, a title after its length, the
+/// five numbers of a column type, a value, whether a second follows, and it.
+pub fn packed(editions: Editions, vectors: &[Vector]) -> Vec<u8> {
+    let mut bytes = Vec::new();
+    put_size(&mut bytes, vectors.len());
+    for Vector { edition, title, column, first, second } in vectors {
+        editions.put(&mut bytes, *edition);
+        put_size(&mut bytes, title.len());
+        bytes.extend(title.bytes());
+        for number in [column.physical, column.type_length, column.kind, column.p1, column.p2] {
+            put(&mut bytes, number);
+        }
+        first.packed(&mut bytes);
+        put(&mut bytes, second.is_some().into());
+        if let Some(second) = second {
+            second.packed(&mut bytes);
+        }
+    }
     bytes
 }
 
 pub fn answers(input: &[u8]) -> Vec<u8> {
+    answers_in(Editions::First, input)
+}
+
+pub fn answers_in(editions: Editions, input: &[u8]) -> Vec<u8> {
     let mut lines = String::new();
     let mut reader = Reader::new(input);
     for _ in 0..reader.u32() {
+        let edition = editions.read(&mut reader);
         let length = reader.size();
         let title = reader.text(length);
         let mut number = || reader.u32();
         let column =
             ColumnType { physical: number(), type_length: number(), kind: number(), p1: number(), p2: number() };
-        let first = Bytes::unpacked(&mut reader).content();
-        if reader.u32() == 0 {
-            writeln!(lines, "{title}: {}", read_text(column, &first)).unwrap();
-        } else {
-            let second = Bytes::unpacked(&mut reader).content();
-            let order = |a: &[u8], b: &[u8]| order_text(column, a, b);
-            writeln!(lines, "{title}: {}, {}", order(&first, &second), order(&second, &first)).unwrap();
-        }
+        let first = Bytes::unpacked(&mut reader);
+        let second = if reader.u32() == 0 { None } else { Some(Bytes::unpacked(&mut reader)) };
+        writeln!(lines, "{title}: {}", answer_text(edition, column, &first, second.as_ref())).unwrap();
     }
     lines.into()
 }
 
-fn read_text(column: ColumnType, value: &[u8]) -> String {
-    match read(column, value) {
+/// What a value is read as, or how two values are ordered both ways round.
+pub fn answer_text(edition: u32, column: ColumnType, first: &Bytes, second: Option<&Bytes>) -> String {
+    let first = first.content();
+    let Some(second) = second.map(Bytes::content) else {
+        return read_text(edition, column, &first);
+    };
+    let order = |a: &[u8], b: &[u8]| order_text(edition, column, a, b);
+    format!("{}, {}", order(&first, &second), order(&second, &first))
+}
+
+fn read_text(edition: u32, column: ColumnType, value: &[u8]) -> String {
+    match read(edition, column, value) {
         Ok(Value::Truth(truth)) => truth.to_string(),
         Ok(Value::Signed(number)) => number.to_string(),
         Ok(Value::Unsigned(number)) => number.to_string(),
@@ -98,8 +131,8 @@ fn read_text(column: ColumnType, value: &[u8]) -> String {
     }
 }
 
-fn order_text(column: ColumnType, a: &[u8], b: &[u8]) -> String {
-    match order(column, a, b) {
+fn order_text(edition: u32, column: ColumnType, a: &[u8], b: &[u8]) -> String {
+    match order(edition, column, a, b) {
         Ok(Order::Less) => "less".to_string(),
         Ok(Order::Equal) => "equal".to_string(),
         Ok(Order::Greater) => "greater".to_string(),
@@ -110,14 +143,14 @@ fn order_text(column: ColumnType, a: &[u8], b: &[u8]) -> String {
 
 /// A value, as the bytes given and a byte that fills the rest.
 #[derive(Clone)]
-struct Bytes {
+pub struct Bytes {
     head: Vec<u8>,
     length: usize,
     fill: u8,
 }
 
 impl Bytes {
-    fn all(head: Vec<u8>) -> Self {
+    pub fn all(head: Vec<u8>) -> Self {
         Bytes { length: head.len(), head, fill: 0 }
     }
 
@@ -163,29 +196,27 @@ impl Bytes {
     }
 }
 
-#[derive(Default)]
-struct Vectors {
-    count: u32,
-    bytes: Vec<u8>,
+/// A value of a column to read, or two to order, by an edition.
+#[derive(Clone)]
+pub struct Vector {
+    pub edition: u32,
+    pub title: String,
+    pub column: ColumnType,
+    pub first: Bytes,
+    pub second: Option<Bytes>,
 }
 
+#[derive(Default)]
+pub struct Vectors(pub Vec<Vector>);
+
 impl Vectors {
-    fn add(&mut self, column: ColumnType, first: &Bytes, second: Option<&Bytes>) {
+    /// A value to read, or two to order, by the first edition.
+    pub fn add(&mut self, column: ColumnType, first: &Bytes, second: Option<&Bytes>) {
         let mut title = format!("{} {}", column_title(column), first.title());
         if let Some(second) = second {
             write!(title, " against {}", second.title()).unwrap();
         }
-        self.count += 1;
-        put_size(&mut self.bytes, title.len());
-        self.bytes.extend(title.bytes());
-        for number in [column.physical, column.type_length, column.kind, column.p1, column.p2] {
-            put(&mut self.bytes, number);
-        }
-        first.packed(&mut self.bytes);
-        put(&mut self.bytes, second.is_some().into());
-        if let Some(second) = second {
-            second.packed(&mut self.bytes);
-        }
+        self.0.push(Vector { edition: FIRST, title, column, first: first.clone(), second: second.cloned() });
     }
 }
 
@@ -197,10 +228,10 @@ fn column_title(column: ColumnType) -> String {
     format!("{physical} {type_length} {kind} {p1} {p2}")
 }
 
-/// Orders of values that can be read with one another and with themselves, and of some that cannot.
-fn pairs(vectors: &mut Vectors, column: ColumnType) {
+/// Orders of values that can be read in an edition with one another and with themselves, and of some that cannot.
+pub fn pairs(vectors: &mut Vectors, edition: u32, column: ColumnType) {
     let (valid, mut wrong): (Vec<_>, Vec<_>) =
-        edges(column).into_iter().partition(|value| read(column, &value.content()).is_ok());
+        edges(column).into_iter().partition(|value| read(edition, column, &value.content()).is_ok());
     wrong.truncate(3);
     let is_float = [FLOAT, DOUBLE].map(u32::from).contains(&column.physical);
     let step = if is_float || valid.len() <= 12 { 1 } else { valid.len() / 10 };
@@ -363,7 +394,7 @@ fn plain_texts(vectors: &mut Vectors) {
 }
 
 /// Values of a column at the edges of its length and of its annotation.
-fn edges(column: ColumnType) -> Vec<Bytes> {
+pub fn edges(column: ColumnType) -> Vec<Bytes> {
     let (physical, kind) = (column.physical as u8, column.kind as u8);
     let size = match physical {
         BOOLEAN => Some(1),
@@ -457,7 +488,7 @@ fn bit_length(number: &[u8]) -> usize {
 }
 
 /// A column type without annotation.
-fn plain(physical: u8) -> ColumnType {
+pub fn plain(physical: u8) -> ColumnType {
     ColumnType { physical: physical.into(), type_length: 0, kind: PLAIN_LEAF.into(), p1: 0, p2: 0 }
 }
 

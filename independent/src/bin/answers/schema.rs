@@ -9,10 +9,12 @@ use independent::annotation::Logical;
 use independent::codes::physical::{BOOLEAN, BYTE_ARRAY, DOUBLE, FIXED, INT32, INT64};
 use independent::codes::repetition::{NONE, OPTIONAL, REPEATED, REQUIRED};
 use independent::codes::{converted, logical};
+use independent::edition::FIRST;
 use independent::sheet::{BLOCK, MAX_NODES, SLOT};
 use independent::{resolve, rewrite, ROW_WIDTH};
 
 use crate::bytes::{put, put_size, Reader};
+use crate::editions::Editions;
 use crate::nodes::{
     changed, entry, example, group, int32, key, key_value, layer, leaf, list, map, root, sheet_of, sheet_of_nodes, Node,
 };
@@ -65,23 +67,26 @@ const LOGICAL: [&str; 15] = [
 /// The most numbers that are lent.
 const MOST_LENT: usize = 9984;
 
-struct Vector {
-    title: String,
-    sheet: Vec<u8>,
-    lent: usize,
+/// A sheet to resolve into so many lent numbers, by an edition.
+#[derive(Clone)]
+pub struct Vector {
+    pub edition: u32,
+    pub title: String,
+    pub sheet: Vec<u8>,
+    pub lent: usize,
 }
 
 #[derive(Default)]
-struct Vectors(Vec<Vector>);
+pub struct Vectors(pub Vec<Vector>);
 
 impl Vectors {
-    /// A sheet to resolve into so many lent numbers.
-    fn lend(&mut self, title: impl Into<String>, sheet: Vec<u8>, lent: usize) {
-        self.0.push(Vector { title: title.into(), sheet, lent: lent.min(MOST_LENT) });
+    /// A sheet to resolve into so many lent numbers, by the first edition.
+    pub fn lend(&mut self, title: impl Into<String>, sheet: Vec<u8>, lent: usize) {
+        self.0.push(Vector { edition: FIRST, title: title.into(), sheet, lent: lent.min(MOST_LENT) });
     }
 
     /// A sheet to resolve, with a few more numbers lent than its rows need.
-    fn sheet(&mut self, title: impl Into<String>, sheet: Vec<u8>) {
+    pub fn sheet(&mut self, title: impl Into<String>, sheet: Vec<u8>) {
         let lent = match sheet[..] {
             [_, _, _, _, low, high, ..] if sheet.len() <= 65536 => {
                 ROW_WIDTH * usize::from(u16::from_le_bytes([low, high])) + 4
@@ -96,19 +101,19 @@ impl Vectors {
     }
 
     /// Fields of a root, beside a plain leaf on either side.
-    fn fields(&mut self, title: impl Into<String>, fields: impl IntoIterator<Item = Node>) {
+    pub fn fields(&mut self, title: impl Into<String>, fields: impl IntoIterator<Item = Node>) {
         let mut all = vec![int32().named("before")];
         all.extend(fields);
         all.push(int32().named("after"));
         self.tree(title, root(all));
     }
 
-    fn field(&mut self, title: impl Into<String>, field: Node) {
+    pub fn field(&mut self, title: impl Into<String>, field: Node) {
         self.fields(title, [field]);
     }
 }
 
-fn vectors() -> Vectors {
+pub fn vectors() -> Vectors {
     let mut vectors = Vectors::default();
     for part in [
         outputs,
@@ -135,47 +140,58 @@ fn vectors() -> Vectors {
     vectors
 }
 
-/// The vectors as they are stored: the number of sheets to resolve; for each the lengths of its title and of the
-/// sheet, the number of lent numbers, the title and the sheet; then the number of sheets to rewrite; for each the lengths
-/// of its title and of the sheet, the number of lent bytes, the start, the title, the sheet, and what the lent bytes hold
-/// afterwards.
 pub fn input() -> Vec<u8> {
-    let mut bytes = Vec::new();
     let vectors = vectors().0;
+    packed(Editions::First, &vectors, &rewrites(&vectors))
+}
+
+/// The vectors as they are stored: the number of sheets to resolve; for each its edition, where that stands before each, the lengths of its
+/// title and of the sheet, the number of lent numbers, the title and the sheet; then the number of sheets to rewrite; for each its edition
+/// likewise, the lengths of its title and of the sheet, the number of lent bytes, the start, the title, the sheet, and what the lent bytes
+/// hold afterwards.
+pub fn packed(editions: Editions, vectors: &[Vector], rewrites: &[Rewrite]) -> Vec<u8> {
+    let mut bytes = Vec::new();
     put_size(&mut bytes, vectors.len());
-    for Vector { title, sheet, lent } in &vectors {
+    for Vector { edition, title, sheet, lent } in vectors {
+        editions.put(&mut bytes, *edition);
         put_size(&mut bytes, title.len());
         put_size(&mut bytes, sheet.len());
         put_size(&mut bytes, *lent);
         bytes.extend(title.bytes());
         bytes.extend(sheet);
     }
-    let rewrites = rewrites(&vectors);
     put_size(&mut bytes, rewrites.len());
-    for Rewrite { title, sheet, lent, start } in rewrites {
+    for Rewrite { edition, title, sheet, lent, start } in rewrites {
+        editions.put(&mut bytes, *edition);
         put_size(&mut bytes, title.len());
         put_size(&mut bytes, sheet.len());
-        put_size(&mut bytes, lent);
-        put(&mut bytes, start);
+        put_size(&mut bytes, *lent);
+        put(&mut bytes, *start);
         bytes.extend(title.bytes());
-        bytes.extend(&*sheet);
-        bytes.extend(rewritten(&sheet, lent, start as usize).1);
+        bytes.extend(&**sheet);
+        bytes.extend(rewritten(*edition, sheet, *lent, *start as usize).1);
     }
     bytes
 }
 
 pub fn answers(input: &[u8]) -> Vec<u8> {
+    answers_in(Editions::First, input)
+}
+
+pub fn answers_in(editions: Editions, input: &[u8]) -> Vec<u8> {
     let mut lines = String::new();
     let mut reader = Reader::new(input);
     for _ in 0..reader.u32() {
+        let edition = editions.read(&mut reader);
         let (title_length, length, lent) = (reader.size(), reader.size(), reader.size());
         let title = reader.text(title_length);
-        writeln!(lines, "{title}: {}", resolved(reader.take(length), lent)).unwrap();
+        writeln!(lines, "{title}: {}", resolved(edition, reader.take(length), lent)).unwrap();
     }
     for _ in 0..reader.u32() {
+        let edition = editions.read(&mut reader);
         let (title_length, length, lent, start) = (reader.size(), reader.size(), reader.size(), reader.size());
         let title = reader.text(title_length);
-        let (first, held) = rewritten(reader.take(length), lent, start);
+        let (first, held) = rewritten(edition, reader.take(length), lent, start);
         let found = if held == reader.take(lent) { "as expected" } else { "not as expected" };
         writeln!(lines, "{title}: {first} {found}").unwrap();
     }
@@ -186,9 +202,9 @@ pub fn answers(input: &[u8]) -> Vec<u8> {
 const MARK: u32 = 0xA5A5_A5A5;
 
 /// The answer to a sheet, whether the lent numbers beyond it were kept, and the rows.
-fn resolved(sheet: &[u8], lent: usize) -> String {
+pub fn resolved(edition: u32, sheet: &[u8], lent: usize) -> String {
     let mut rows = vec![MARK; lent];
-    let (first, written) = match resolve(sheet, &mut rows) {
+    let (first, written) = match resolve(edition, sheet, &mut rows) {
         Ok(count) => (format!("nodes {count}"), ROW_WIDTH * count as usize),
         Err(refusal) => (refusal.to_string(), 0),
     };
@@ -201,13 +217,13 @@ fn resolved(sheet: &[u8], lent: usize) -> String {
 const MARKS: usize = 251;
 
 /// The answer to a sheet to rewrite, and what the lent bytes hold afterwards.
-fn rewritten(sheet: &[u8], lent: usize, start: usize) -> (String, Vec<u8>) {
+fn rewritten(edition: u32, sheet: &[u8], lent: usize, start: usize) -> (String, Vec<u8>) {
     let mut held: Vec<u8> = (0..lent).map(|at| (at % MARKS) as u8).collect();
-    let first = match rewrite(sheet, &mut held, start) {
+    let first = match rewrite(edition, sheet, &mut held, start) {
         Ok(count) => {
             let made = &held[start..][..count as usize];
             let mut again = vec![0; made.len()];
-            let same = rewrite(made, &mut again, 0).is_ok() && again == made;
+            let same = rewrite(edition, made, &mut again, 0).is_ok() && again == made;
             format!("bytes {count} again {}", if same { "the same" } else { "another" })
         }
         Err(refusal) => refusal.to_string(),
@@ -215,11 +231,13 @@ fn rewritten(sheet: &[u8], lent: usize, start: usize) -> (String, Vec<u8>) {
     (first, held)
 }
 
-struct Rewrite<'a> {
-    title: String,
-    sheet: Cow<'a, [u8]>,
-    lent: usize,
-    start: u32,
+/// A sheet to rewrite into so many lent bytes from a start on, by an edition.
+pub struct Rewrite<'a> {
+    pub edition: u32,
+    pub title: String,
+    pub sheet: Cow<'a, [u8]>,
+    pub lent: usize,
+    pub start: u32,
 }
 
 /// How the titles begin of the sheets that are rewritten too.
@@ -241,7 +259,9 @@ const REWRITTEN: [&str; 13] = [
 
 fn rewrites(vectors: &[Vector]) -> Vec<Rewrite<'_>> {
     let mut rewrites = Vec::new();
-    let mut add = |title: String, sheet, lent, start| rewrites.push(Rewrite { title, sheet, lent, start });
+    let mut add = |title: String, sheet, lent, start| {
+        rewrites.push(Rewrite { edition: FIRST, title, sheet, lent, start });
+    };
     let sample = sheet_of(&example());
     for (lent, start) in [
         (512, 0),

@@ -8,13 +8,13 @@ pub fn input() -> Vec<u8> {
     sheet_of(&example())
 }
 
-pub fn rows(sheet: &[u8]) -> Vec<u8> {
-    text_of_rows(sheet, &mut [0; ROW_WIDTH * independent::sheet::MAX_NODES]).into()
+pub fn rows(edition: u32, sheet: &[u8]) -> Vec<u8> {
+    text_of_rows(edition, sheet, &mut [0; ROW_WIDTH * independent::sheet::MAX_NODES]).into()
 }
 
 /// The text of a sheet's rows, or of its refusal.
-pub fn text_of_rows(sheet: &[u8], lent: &mut [u32]) -> String {
-    match resolve(sheet, lent) {
+pub fn text_of_rows(edition: u32, sheet: &[u8], lent: &mut [u32]) -> String {
+    match resolve(edition, sheet, lent) {
         Ok(count) => format!("nodes {count}\n{}", rows_text(&lent[..ROW_WIDTH * count as usize])),
         Err(refusal) => format!("{refusal}\n"),
     }
@@ -27,9 +27,9 @@ pub fn rows_text(rows: &[u32]) -> String {
         .collect()
 }
 
-pub fn rewritten(sheet: &[u8]) -> Vec<u8> {
+pub fn rewritten(edition: u32, sheet: &[u8]) -> Vec<u8> {
     let mut out = vec![0; sheet.len()];
-    match rewrite(sheet, &mut out, 0) {
+    match rewrite(edition, sheet, &mut out, 0) {
         Ok(_) => out,
         Err(refusal) => format!("{refusal}\n").into(),
     }

@@ -44,8 +44,8 @@ pub fn input() -> Vec<u8> {
     sheet_of_nodes(&nodes().iter().collect::<Vec<_>>())
 }
 
-pub fn answers(sheet: &[u8]) -> Vec<u8> {
-    let opened = match Sheet::open(sheet) {
+pub fn answers(edition: u32, sheet: &[u8]) -> Vec<u8> {
+    let opened = match Sheet::open(edition, sheet) {
         Ok(opened) => opened,
         Err(refusal) => return format!("{refusal}\n").into(),
     };

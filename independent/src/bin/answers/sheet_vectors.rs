@@ -47,7 +47,7 @@ pub fn input() -> Vec<u8> {
     bytes
 }
 
-pub fn answers(input: &[u8]) -> Vec<u8> {
+pub fn answers(edition: u32, input: &[u8]) -> Vec<u8> {
     let mut lines = String::new();
     let mut reader = Reader::new(input);
     for _ in 0..reader.u32() {
@@ -56,7 +56,7 @@ pub fn answers(input: &[u8]) -> Vec<u8> {
         let text_length = reader.size();
         let text = reader.take(text_length);
         let sheet = reader.take(length);
-        match Sheet::open(sheet) {
+        match Sheet::open(edition, sheet) {
             Ok(opened) => write!(lines, "nodes {}", opened.node_count()).unwrap(),
             Err(refusal) => write!(lines, "{refusal}").unwrap(),
         }

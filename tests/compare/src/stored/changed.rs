@@ -8,6 +8,9 @@ use crate::Side;
 /// How many lines of the answers are changed, besides the first.
 const LINES: usize = 8;
 
+/// The bytes of a count.
+const COUNT: usize = 4;
+
 /// Changes the stored files, a byte at a time, and holds a side to each; answers how many there were, or the first that was not found.
 pub fn find_changes(side: &dyn Side, folder: &Path) -> Result<usize, String> {
     let mut count = 0;
@@ -26,15 +29,19 @@ pub fn find_changes(side: &dyn Side, folder: &Path) -> Result<usize, String> {
     Ok(count)
 }
 
-/// Where questions are changed: in the first title, and in what the lent bytes hold after the last rewriting.
+/// Where questions are changed: in the first title, in the first edition where one stands behind the count, and in what the lent bytes hold
+/// after the last rewriting.
 fn question_places(stored: &Stored, files: &Files) -> Vec<usize> {
     let Some(questions) = &files.questions else {
         return Vec::new();
     };
     let title = files.answers.split(|&byte| byte == b':').next().expect("an answer behind its title");
     let first = questions.windows(title.len()).position(|window| window == title).expect("the first title");
+    let last = questions.len() - 1;
     match stored.name {
-        "schema" => vec![first, questions.len() - 1],
+        "schema" => vec![first, last],
+        "schema_editions" => vec![COUNT, first, last],
+        "column_editions" => vec![COUNT, first],
         _ => vec![first],
     }
 }

@@ -12,7 +12,9 @@ pub use changed::find_changes;
 use std::fmt::Write;
 use std::path::{Path, PathBuf};
 
-use crate::Side;
+use questions::Editions;
+
+use crate::{Comparison, Side};
 
 /// Questions and answers of one kind.
 pub struct Stored {
@@ -21,14 +23,51 @@ pub struct Stored {
     /// Whether each answer begins with its question, so that there is no file of questions.
     is_one_file: bool,
     ask: fn(&dyn Side, &[u8]) -> Result<Answered, String>,
+    /// Asks both sides of a comparison every question in every edition; none where no edition is taken.
+    compare: Option<Compare>,
 }
 
+type Compare = fn(&mut Comparison, &[u8]) -> Result<(), String>;
+
 /// All that is stored.
-pub const ALL: [Stored; 3] = [
-    Stored { name: "schema", is_one_file: false, ask: schema::ask },
-    Stored { name: "column", is_one_file: false, ask: column::ask },
-    Stored { name: "timestamp", is_one_file: true, ask: timestamp::ask },
+pub const ALL: [Stored; 5] = [
+    Stored {
+        name: "schema",
+        is_one_file: false,
+        ask: |side, questions| schema::ask(side, questions, Editions::First),
+        compare: Some(|comparison, questions| schema::compare(comparison, questions, Editions::First)),
+    },
+    Stored {
+        name: "schema_editions",
+        is_one_file: false,
+        ask: |side, questions| schema::ask(side, questions, Editions::BeforeEach),
+        compare: Some(|comparison, questions| schema::compare(comparison, questions, Editions::BeforeEach)),
+    },
+    Stored {
+        name: "column",
+        is_one_file: false,
+        ask: |side, questions| column::ask(side, questions, Editions::First),
+        compare: Some(|comparison, questions| column::compare(comparison, questions, Editions::First)),
+    },
+    Stored {
+        name: "column_editions",
+        is_one_file: false,
+        ask: |side, questions| column::ask(side, questions, Editions::BeforeEach),
+        compare: Some(|comparison, questions| column::compare(comparison, questions, Editions::BeforeEach)),
+    },
+    Stored { name: "timestamp", is_one_file: true, ask: timestamp::ask, compare: None },
 ];
+
+/// Asks both sides of a comparison every stored question in every edition.
+pub fn compare(comparison: &mut Comparison, folder: &Path) -> Result<(), String> {
+    for stored in &ALL {
+        let files = stored.files(folder)?;
+        if let (Some(compare), Some(questions)) = (stored.compare, &files.questions) {
+            compare(comparison, questions).map_err(|fault| format!("{}: {fault}", stored.name))?;
+        }
+    }
+    Ok(())
+}
 
 /// The folder of all that is stored.
 pub fn folder() -> PathBuf {

@@ -1,14 +1,34 @@
 //! Reading stored questions: numbers of four bytes, the least first, and stretches of bytes.
 
+use independent::edition::FIRST;
+
+/// Where the edition of a question stands.
+#[derive(Clone, Copy)]
+pub enum Editions {
+    /// Nowhere: it is the first.
+    First,
+    /// Before each question.
+    BeforeEach,
+}
+
 /// Questions that are read from their front.
 pub struct Questions<'a> {
     all: &'a [u8],
     at: usize,
+    editions: Editions,
 }
 
 impl<'a> Questions<'a> {
-    pub fn new(all: &'a [u8]) -> Self {
-        Questions { all, at: 0 }
+    pub fn new(all: &'a [u8], editions: Editions) -> Self {
+        Questions { all, at: 0, editions }
+    }
+
+    /// The edition of the next question.
+    pub fn edition(&mut self) -> Result<u32, String> {
+        match self.editions {
+            Editions::First => Ok(FIRST),
+            Editions::BeforeEach => self.number(),
+        }
     }
 
     /// The next bytes.

@@ -1,0 +1,92 @@
+//! Values by edition: those of `column` that the known editions answer otherwise, those of decimals whose scale equals their precision,
+//! and what unknown editions are asked too.
+
+use independent::codes::logical::{DECIMAL, STRING};
+use independent::codes::physical::{BOOLEAN, BYTE_ARRAY, FIXED, INT32, INT64, INT96};
+use independent::decimal::greatest_precision;
+use independent::edition::{FIRST, SECOND};
+use independent::ColumnType;
+
+use crate::column::{self, edges, pairs, plain, Bytes, Vector, Vectors};
+use crate::editions::{in_each, title_in, Editions, KNOWN, KNOWN_AND_OTHERS};
+
+/// Every question in its edition.
+pub fn input() -> Vec<u8> {
+    let mut vectors = asked_in(&KNOWN, otherwise());
+    vectors.extend(asked_in(&KNOWN, decimals()));
+    vectors.extend(asked_in(&KNOWN_AND_OTHERS, of_any_edition()));
+    column::packed(Editions::BeforeEach, &vectors)
+}
+
+pub fn answers(input: &[u8]) -> Vec<u8> {
+    column::answers_in(Editions::BeforeEach, input)
+}
+
+fn asked_in(editions: &[u32], vectors: Vectors) -> Vec<Vector> {
+    in_each(editions, &vectors.0, |vector, edition| Vector {
+        edition,
+        title: title_in(edition, &vector.title),
+        ..vector.clone()
+    })
+}
+
+/// Those of `column` that the second edition answers otherwise than the first.
+fn otherwise() -> Vectors {
+    let mut vectors = column::vectors();
+    vectors.0.retain(|Vector { column, first, second, .. }| {
+        let answer = |edition| column::answer_text(edition, *column, first, second.as_ref());
+        answer(FIRST) != answer(SECOND)
+    });
+    vectors
+}
+
+/// Scale equal to precision on each physical type, at the least and the greatest precision: values at the edges read, and of some column
+/// types ordered; and scales and precisions that no edition has.
+fn decimals() -> Vectors {
+    const MOST: u32 = i32::MAX as u32;
+    let mut vectors = Vectors::default();
+    let fixed = [1, 2, 16, 256].map(|length| (FIXED, length, greatest_precision(length as usize).expect("a length")));
+    let types: Vec<_> = [(INT32, 0, 9), (INT64, 0, 18), (BYTE_ARRAY, 0, MOST)].into_iter().chain(fixed).collect();
+    for &(physical, type_length, most) in &types {
+        for precision in [1, most] {
+            let column = decimal(physical, type_length, precision, precision);
+            edges(column).iter().for_each(|value| vectors.add(column, value, None));
+        }
+    }
+    for (physical, type_length, precision) in [(INT32, 0, 1), (INT64, 0, 18), (BYTE_ARRAY, 0, 3), (FIXED, 2, 4)] {
+        pairs(&mut vectors, SECOND, decimal(physical, type_length, precision, precision));
+    }
+    for &(physical, type_length, most) in &types {
+        let zero = Bytes::all(vec![0; if physical == INT32 { 4 } else { 8.max(type_length as usize) }]);
+        for (precision, scale) in [(0, 0), (0, 1), (1, 2), (most, most + 1), (most + 1, most + 1), (u32::MAX, u32::MAX)]
+        {
+            vectors.add(decimal(physical, type_length, precision, scale), &zero, None);
+        }
+        vectors.add(decimal(physical, type_length, 0, 0), &zero, Some(&zero));
+    }
+    vectors
+}
+
+fn decimal(physical: u8, type_length: u32, precision: u32, scale: u32) -> ColumnType {
+    ColumnType { type_length, kind: DECIMAL.into(), p1: precision, p2: scale, ..plain(physical) }
+}
+
+/// Values that are read and ordered, and of each refusal: no column type, no order, a wrong length, a broken annotation.
+fn of_any_edition() -> Vectors {
+    let mut vectors = Vectors::default();
+    let text = ColumnType { kind: STRING.into(), ..plain(BYTE_ARRAY) };
+    let all = |bytes: &[u8]| Bytes::all(bytes.to_vec());
+    for (column, first, second) in [
+        (plain(INT32), all(&[1, 0, 0, 0]), all(&[2, 0, 0, 0])),
+        (plain(BOOLEAN), all(&[1]), all(&[2])),
+        (decimal(BYTE_ARRAY, 0, 2, 2), all(&[0x63]), all(&[0x64])),
+        (plain(8), all(&[]), all(&[])),
+        (plain(INT96), all(&[0; 12]), all(&[])),
+        (plain(INT64), all(&[]), all(&[0; 9])),
+        (text, all(b"a\xFF"), all(b"ab")),
+    ] {
+        vectors.add(column, &first, None);
+        vectors.add(column, &first, Some(&second));
+    }
+    vectors
+}

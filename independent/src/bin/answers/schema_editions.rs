@@ -1,0 +1,111 @@
+//! Sheets by edition: those of `schema` that the known editions answer otherwise, decimals whose scale equals their precision, and what
+//! unknown editions are asked too.
+
+use std::borrow::Cow;
+
+use independent::codes::physical::{BOOLEAN, BYTE_ARRAY, FIXED, INT32, INT64};
+use independent::codes::repetition::OPTIONAL;
+use independent::codes::{converted, logical};
+use independent::decimal::greatest_precision;
+use independent::edition::{FIRST, SECOND};
+
+use crate::editions::{in_each, title_in, Editions, KNOWN, KNOWN_AND_OTHERS};
+use crate::nodes::{changed, example, group, int32, leaf, list, map, root, sheet_of, Node};
+use crate::schema::{self, Rewrite, Vector, Vectors};
+
+/// Every question in its edition, and the sheets rewritten too.
+pub fn input() -> Vec<u8> {
+    let mut vectors = asked_in(&KNOWN, otherwise());
+    vectors.extend(asked_in(&KNOWN, decimals()));
+    vectors.extend(asked_in(&KNOWN_AND_OTHERS, of_any_edition()));
+    let rewrites: Vec<Rewrite> = vectors.iter().enumerate().map(rewrite).collect();
+    schema::packed(Editions::BeforeEach, &vectors, &rewrites)
+}
+
+pub fn answers(input: &[u8]) -> Vec<u8> {
+    schema::answers_in(Editions::BeforeEach, input)
+}
+
+fn asked_in(editions: &[u32], vectors: Vectors) -> Vec<Vector> {
+    in_each(editions, &vectors.0, |vector, edition| Vector {
+        edition,
+        title: title_in(edition, &vector.title),
+        ..vector.clone()
+    })
+}
+
+/// The sheet of a vector to rewrite, with marked bytes before and behind, or with a byte too few.
+fn rewrite((at, vector): (usize, &Vector)) -> Rewrite<'_> {
+    let Vector { edition, title, sheet, lent } = vector;
+    let lent = if *lent == 0 { sheet.len().saturating_sub(1) } else { sheet.len() + 2 };
+    Rewrite { edition: *edition, title: title.clone(), sheet: Cow::Borrowed(sheet), lent, start: at as u32 % 3 }
+}
+
+/// Those of `schema` that the second edition answers otherwise than the first.
+fn otherwise() -> Vectors {
+    let mut vectors = schema::vectors();
+    vectors.0.retain(|Vector { sheet, lent, .. }| {
+        schema::resolved(FIRST, sheet, *lent) != schema::resolved(SECOND, sheet, *lent)
+    });
+    vectors
+}
+
+/// Scale equal to precision at the least and the greatest precision of each physical type, and no precision, by either annotation and by
+/// both; other digits; and such a leaf before, behind and under other faults.
+fn decimals() -> Vectors {
+    let mut vectors = Vectors::default();
+    let fixed = |length: usize| {
+        let most = greatest_precision(length).expect("a length of the table");
+        (format!("FIXED {length}"), leaf(FIXED).length(length as i32), most as i32)
+    };
+    let others = [("INT32", INT32, 9), ("INT64", INT64, 18), ("BYTE_ARRAY", BYTE_ARRAY, i32::MAX)]
+        .map(|(name, physical, most)| (name.to_string(), leaf(physical), most));
+    for (name, plain, most) in others.into_iter().chain([1, 2, 16, 256].map(fixed)) {
+        let by_converted = plain.clone().converted(converted::DECIMAL);
+        let by_logical = plain.logical(logical::DECIMAL);
+        let by_both = by_logical.clone().converted(converted::DECIMAL);
+        for (form, node) in [("converted", by_converted), ("logical", by_logical), ("both", by_both)] {
+            for (precision, scale) in [(0, 0), (1, 1), (most, most)] {
+                let title = format!("DECIMAL({precision}, {scale}) on {name} by {form}");
+                vectors.field(title, node.clone().digits(precision, scale));
+            }
+        }
+    }
+    for (precision, scale) in [(2, 1), (2, 3), (-1, -1), (0, -1), (10, 10), (i32::MIN, i32::MIN), (i32::MAX, i32::MIN)]
+    {
+        vectors.field(format!("DECIMAL({precision}, {scale})"), decimal(precision, scale));
+    }
+    vectors.fields("the second of three", [decimal(3, 2), decimal(3, 3).repetition(OPTIONAL), decimal(3, 4)]);
+    vectors.fields("two of three", [decimal(4, 4), decimal(4, 3), decimal(5, 5)]);
+    vectors.fields("11, then 12", [decimal(3, 3), list([int32()])]);
+    vectors.fields("13, then 11", [map([int32()]), decimal(3, 3)]);
+    vectors.field("in a group of a group", group([group([decimal(9, 9)])]));
+    vectors.field("9 and scale as precision", decimal(3, 3).converted(converted::UTF8));
+    vectors.field("10 and scale as precision", leaf(BOOLEAN).logical(logical::DECIMAL).digits(3, 3));
+    let sheet = sheet_of(&root([decimal(3, 3)]));
+    vectors.lend("scale as precision, too little lent", sheet.clone(), 21);
+    vectors.lend("scale as precision, nothing lent", sheet, 0);
+    vectors
+}
+
+fn decimal(precision: i32, scale: i32) -> Node {
+    int32().logical(logical::DECIMAL).digits(precision, scale)
+}
+
+/// A lawful sheet, one of the second edition alone, and one of each refusal that comes early or last.
+fn of_any_edition() -> Vectors {
+    let mut vectors = Vectors::default();
+    let sample = sheet_of(&example());
+    vectors.sheet("example", sample.clone());
+    vectors.lend("example, nothing lent", sample.clone(), 0);
+    vectors.sheet("scale as precision", sheet_of(&root([decimal(3, 3)])));
+    vectors.sheet("no bytes", Vec::new());
+    vectors.sheet("511 bytes", sample[..511].to_vec());
+    vectors.sheet("zeros", vec![0; 512]);
+    vectors.sheet("check", [&sample[..511], &[0xFF]].concat());
+    vectors.sheet("header", changed(&sample, 3, &[2]));
+    vectors.sheet("slot", changed(&sample, 6, &[9]));
+    vectors.sheet("a node missing", sheet_of(&root([int32()]).claiming(2)));
+    vectors.sheet("shape", sheet_of(&root([int32().length(1)])));
+    vectors
+}

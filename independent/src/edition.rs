@@ -1,0 +1,27 @@
+//! Editions, by document 02's R-4: which are known, and what each decides. No other module asks for the number of one.
+
+use crate::refusal::{self, Refusal};
+
+/// The number of the first edition: document 01 as it stands.
+pub const FIRST: u32 = 1;
+/// The number of the second: a DECIMAL's scale may equal its precision.
+pub const SECOND: u32 = 2;
+
+/// A known edition.
+#[derive(Clone, Copy, Debug, PartialEq, Eq)]
+pub struct Edition(u32);
+
+impl Edition {
+    /// The edition of a number: refusal 21 where it is none's.
+    pub fn known(number: u32) -> Result<Self, Refusal> {
+        match number {
+            FIRST | SECOND => Ok(Edition(number)),
+            _ => Err(Refusal::whole(refusal::UNKNOWN_EDITION)),
+        }
+    }
+
+    /// Whether the scale of a DECIMAL may equal its precision.
+    pub fn scale_may_equal_precision(self) -> bool {
+        self.0 >= SECOND
+    }
+}

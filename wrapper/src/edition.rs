@@ -1,0 +1,37 @@
+//! Editions of the rules.
+
+/// An edition, by its number. Any number may be asked; refusal 21 is for those that are no known edition's.
+///
+/// ```
+/// use griffeljol::codes::{kind, physical};
+/// use griffeljol::{read, ColumnType, Edition, Value};
+///
+/// // DECIMAL(2, 2) on BYTE_ARRAY.
+/// let column = ColumnType { physical: physical::BYTE_ARRAY, type_length: 0, kind: kind::DECIMAL, p1: 2, p2: 2 };
+/// assert_eq!(read(Edition::FIRST, column, &[0x63]).unwrap_err().number, 20);
+/// assert_eq!(read(Edition::SECOND, column, &[0x63]), Ok(Value::Bytes { start: 0, length: 1 }));
+/// let unknown = read(Edition::from(3), column, &[0x63]).unwrap_err();
+/// assert_eq!(unknown.to_string(), "refused 21 at 0");
+/// assert_eq!(unknown.meaning(), "edition unknown");
+/// ```
+#[derive(Clone, Copy, Debug, PartialEq, Eq, Hash)]
+pub struct Edition(u32);
+
+impl Edition {
+    /// Document 01 as it stands: the scale of a DECIMAL is below its precision.
+    pub const FIRST: Self = Edition(1);
+
+    /// The scale of a DECIMAL is at most its precision. What the first edition accepts this one accepts too, with the same answer.
+    pub const SECOND: Self = Edition(2);
+
+    /// Its number.
+    pub fn number(self) -> u32 {
+        self.0
+    }
+}
+
+impl From<u32> for Edition {
+    fn from(number: u32) -> Self {
+        Edition(number)
+    }
+}
