@@ -1,4 +1,4 @@
--- Every refusal of a sheet has a number of 1 to 13, or 14 for an output, and a place of at most 896; T is at most 896, and a sheet has at most 65,536 bytes.
+-- Every refusal of a sheet has a number of 1 to 13 or 21, or 14 for an output, and a place of at most 896; T is at most 896, and a sheet has at most 65,536 bytes.
 use Prim.Native.Nat.{ℕ, zero, suc, _+_, _*_, _≤_, _<_}
 use mathlib.Core.Path.{_≡_, refl, ap}
 use mathlib.Core.Bool.{Bool, true, false, cond, not}
@@ -7,8 +7,8 @@ use native.Mathlib.Omega.{arith}
 use borrow.Author.Tests.{ltb-true}
 use lib.Dec.{ltb, leb}
 use lib.ListN.{length, length-append, length-map}
-use Rattle.refusal.specs.Numbers.{SHEET-LENGTH, BLOCK-CHECK, BLOCK-HEADER, SLOT, SHORT-OUTPUT}
-use Rattle.refusal.specs.Outcome.{refusal, unplaced, shortOutput}
+use Rattle.refusal.specs.Numbers.{SHEET-LENGTH, BLOCK-CHECK, BLOCK-HEADER, SLOT, GREATEST}
+use Rattle.refusal.specs.Outcome.{refusal, unplaced, unknownEdition, shortOutput}
 use Rattle.sheet.specs.Block.{mostBytes, mostNodes, slotsInBlock, blockCount, totalOf}
 use Rattle.sheet.specs.Check.{checkRight}
 use Rattle.sheet.specs.Header.{lengthRight, headerRight}
@@ -22,6 +22,7 @@ use Rattle.sheet.proofs.HeaderLaws.{lengthRight-most}
 use Rattle.sheet.proofs.OpeningLaws.{openOf-blocks, openOf-total, openOf-most, openOf-slots-length}
 use Rattle.tree.specs.Annotated.{rule9, rule10, rule11}
 use Rattle.tree.specs.Tree.{SlotBytes, Tree, Fields, node, empty, field, listing, listings, size, depths, mostDepth}
+use Rattle.edition.specs.Editions.{isKnown}
 use Rattle.tree.specs.Rules.{underMap, standingBelow, rule8, rule12, rule13}
 use Rattle.tree.specs.Faults.{broken, faults, runFaults}
 use Rattle.tree.specs.Reading.{trees, firstTree, treeOf}
@@ -62,30 +63,30 @@ module _ (number place : ℕ) where
   firstFault-bounded (suc n ∷ ns) k a h = record { some-number = omega arith; most-number = a .0; most-place = omega arith }
 
 -- the rules are 8 to 13
-broken-most : (p : Standing) (s : SlotBytes) (fs : Fields) → broken p s fs ≤ 13
+broken-most : (edition : ℕ) (p : Standing) (s : SlotBytes) (fs : Fields) → broken edition p s fs ≤ GREATEST
 unfolding broken
-broken-most p s fs =
-    cond-most 13 (rule8 p s fs) _ 8
-    (cond-most 13 (rule9 s) _ 9
-    (cond-most 13 (rule10 (underMap p) s) _ 10
-    (cond-most 13 (rule11 (underMap p) s) _ 11
-    (cond-most 13 (rule12 p s fs) _ 12
-    (cond-most 13 (rule13 p s fs) 0 13 (omega arith) (omega arith))
+broken-most edition p s fs =
+    cond-most GREATEST (rule8 p s fs) _ 8
+    (cond-most GREATEST (rule9 s) _ 9
+    (cond-most GREATEST (rule10 (underMap p) s) _ 10
+    (cond-most GREATEST (rule11 edition (underMap p) s) _ 11
+    (cond-most GREATEST (rule12 p s fs) _ 12
+    (cond-most GREATEST (rule13 p s fs) 0 13 (omega arith) (omega arith))
     (omega arith)) (omega arith)) (omega arith)) (omega arith)) (omega arith)
 
 mutual
   unfolding faults
 
-  faults-most : (t : Tree) (p : Standing) → AtMost 13 (faults p t)
-  faults-most (node s fs) p = (broken-most p s fs, runFaults-most fs (standingBelow p s))
+  faults-most : (edition : ℕ) (t : Tree) (p : Standing) → AtMost GREATEST (faults edition p t)
+  faults-most edition (node s fs) p = (broken-most edition p s fs, runFaults-most edition fs (standingBelow p s))
 
-  runFaults-most : (fs : Fields) (p : Standing) → AtMost 13 (runFaults p fs)
-  runFaults-most empty p = tt
-  runFaults-most (field t fs) p = atMost-append 13 (faults p t) (runFaults p fs) (faults-most t p) (runFaults-most fs p)
+  runFaults-most : (edition : ℕ) (fs : Fields) (p : Standing) → AtMost GREATEST (runFaults edition p fs)
+  runFaults-most edition empty p = tt
+  runFaults-most edition (field t fs) p = atMost-append GREATEST (faults edition p t) (runFaults edition p fs) (faults-most edition t p) (runFaults-most edition fs p)
 
-deepness-most : (d : ℕ) → deepness d ≤ 13
+deepness-most : (d : ℕ) → deepness d ≤ GREATEST
 unfolding deepness
-deepness-most d = cond-most 13 (leb d mostDepth) 0 7 (omega arith) (omega arith)
+deepness-most d = cond-most GREATEST (leb d mostDepth) 0 7 (omega arith) (omega arith)
 
 -- the first tree of a run has at most one node more than the run, where the run is empty
 first-size : (fs : Fields) → size (firstTree fs) ≤ suc (length (listings fs))
@@ -93,57 +94,57 @@ unfolding size firstTree listing
 first-size empty = omega arith
 first-size (field t fs) = omega (arith, length-append (listing t) (listings fs))
 
-module _ (ss : List SlotBytes) (place : ℕ) (most : length ss ≤ place) where
+module _ (edition : ℕ) (ss : List SlotBytes) (place : ℕ) (most : length ss ≤ place) where
   size-most : size (treeOf ss) ≤ suc place
   unfolding treeOf
   size-most = omega (arith, first-size (trees ss), ap length (listings-trees ss))
 
-  leftOver-bounded : VerdictBounded 13 place (leftOver ss)
+  leftOver-bounded : VerdictBounded GREATEST place (leftOver ss)
   unfolding leftOver
   leftOver-bounded = on (ltb k (length ss)) refl
     where
       k : ℕ
       k = firstWrong (λ (j : ℕ). not (isNoPlace (openPlaces ss j))) (length ss)
 
-      on : (b : Bool) → ltb k (length ss) ≡ b → VerdictBounded 13 place (cond b (Refused (refusal 6 k)) Lawful)
+      on : (b : Bool) → ltb k (length ss) ≡ b → VerdictBounded GREATEST place (cond b (Refused (refusal 6 k)) Lawful)
       on true e = record { some-number = omega arith; most-number = omega arith; most-place = omega (arith, ltb-true k (length ss) e) }
       on false e = tt
 
-  missing-bounded : VerdictBounded 13 place (missing ss)
+  missing-bounded : VerdictBounded GREATEST place (missing ss)
   unfolding missing
   missing-bounded = on (isNoPlace (openPlaces ss (length ss)))
     where
-      on : (b : Bool) → VerdictBounded 13 place (cond b Lawful (Refused (refusal 5 (length ss))))
+      on : (b : Bool) → VerdictBounded GREATEST place (cond b Lawful (Refused (refusal 5 (length ss))))
       on true = tt
       on false = record { some-number = omega arith; most-number = omega arith; most-place = most }
 
-  tooDeep-bounded : VerdictBounded 13 place (tooDeep (treeOf ss))
+  tooDeep-bounded : VerdictBounded GREATEST place (tooDeep (treeOf ss))
   unfolding tooDeep
   tooDeep-bounded =
-      firstFault-bounded 13 place (map deepness (depths 0 (treeOf ss))) 0
-      (atMost-map 13 deepness (depths 0 (treeOf ss)) deepness-most)
+      firstFault-bounded GREATEST place (map deepness (depths 0 (treeOf ss))) 0
+      (atMost-map GREATEST deepness (depths 0 (treeOf ss)) deepness-most)
       (omega (arith, size-most, length-map (depths 0 (treeOf ss)) deepness, length-depths (treeOf ss) 0))
 
-  unlawful-bounded : VerdictBounded 13 place (unlawful (treeOf ss))
+  unlawful-bounded : VerdictBounded GREATEST place (unlawful edition (treeOf ss))
   unfolding unlawful
   unlawful-bounded =
-      firstFault-bounded 13 place (faults Root (treeOf ss)) 0 (faults-most (treeOf ss) Root) (omega (arith, size-most, length-faults (treeOf ss) Root))
+      firstFault-bounded GREATEST place (faults edition Root (treeOf ss)) 0 (faults-most edition (treeOf ss) Root) (omega (arith, size-most, length-faults edition (treeOf ss) Root))
 
-  treeRefusal-bounded : VerdictBounded 13 place (treeRefusal ss)
+  treeRefusal-bounded : VerdictBounded GREATEST place (treeRefusal edition ss)
   unfolding treeRefusal
   treeRefusal-bounded =
-      orElse-bounded 13 place (leftOver ss) _ leftOver-bounded
-      (orElse-bounded 13 place (missing ss) _ missing-bounded
-      (orElse-bounded 13 place (tooDeep (treeOf ss)) _ tooDeep-bounded unlawful-bounded))
+      orElse-bounded GREATEST place (leftOver ss) _ leftOver-bounded
+      (orElse-bounded GREATEST place (missing ss) _ missing-bounded
+      (orElse-bounded GREATEST place (tooDeep (treeOf ss)) _ tooDeep-bounded unlawful-bounded))
 
--- ---- refusals 1 to 4
+-- ---- refusals 21 and 1 to 4
 
 -- a refusal to open is within these
 abbrev OpenedBounded : Counted → Type 0
 OpenedBounded (Counted.Count t) = Unit {0}
-OpenedBounded (Counted.Refused r) = Bounded 13 mostNodes r
+OpenedBounded (Counted.Refused r) = Bounded GREATEST mostNodes r
 
-atFirst-bounded : (right : ℕ → Bool) (n number : ℕ) (next : Counted) → n ≤ mostNodes → 0 < number → number ≤ 13 → OpenedBounded next → OpenedBounded (atFirst right n number next)
+atFirst-bounded : (right : ℕ → Bool) (n number : ℕ) (next : Counted) → n ≤ mostNodes → 0 < number → number ≤ GREATEST → OpenedBounded next → OpenedBounded (atFirst right n number next)
 unfolding atFirst
 atFirst-bounded right n number next few some most rest = on (ltb (firstWrong right n) n) refl
   where
@@ -151,9 +152,9 @@ atFirst-bounded right n number next few some most rest = on (ltb (firstWrong rig
     on true e = record { some-number = some; most-number = most; most-place = omega (arith, ltb-true (firstWrong right n) n e) }
     on false e = rest
 
-openOf-bounded : (sheet : List ℕ) → OpenedBounded (openOf sheet)
+openOf-bounded : (edition : ℕ) (sheet : List ℕ) → OpenedBounded (openOf edition sheet)
 unfolding openOf
-openOf-bounded sheet = on (lengthRight (length sheet)) refl
+openOf-bounded edition sheet = by-edition (isKnown edition)
   where
     on : (b : Bool)
         → lengthRight (length sheet) ≡ b
@@ -171,60 +172,70 @@ openOf-bounded sheet = on (lengthRight (length sheet)) refl
         (atFirst-bounded (headerRight sheet) (blockCount sheet) BLOCK-HEADER _ (omega arith) (omega arith) (omega arith)
         (atFirst-bounded (slotRight sheet) (slotsInBlock * blockCount sheet) SLOT _ most (omega arith) (omega arith) tt))
 
+    by-edition : (k : Bool)
+        → OpenedBounded
+        (cond k
+        (cond (lengthRight (length sheet))
+        (atFirst (checkRight sheet) (blockCount sheet) BLOCK-CHECK
+        (atFirst (headerRight sheet) (blockCount sheet) BLOCK-HEADER
+        (atFirst (slotRight sheet) (slotsInBlock * blockCount sheet) SLOT
+        (Counted.Count (totalOf sheet)))))
+        (Counted.Refused (unplaced SHEET-LENGTH)))
+        (Counted.Refused unknownEdition))
+    by-edition true = on (lengthRight (length sheet)) refl
+    by-edition false = record { some-number = omega arith; most-number = omega arith; most-place = omega arith }
+
 -- ---- what judging, resolving and rewriting answer
 
--- of refusals 1 to 13
-pub judgement-bounded : (sheet : List ℕ) → VerdictBounded 13 mostNodes (judgement sheet)
-judgement-bounded sheet = on (openOf sheet) refl (openOf-bounded sheet)
+-- of refusals 21 and 1 to 13
+pub judgement-bounded : (edition : ℕ) (sheet : List ℕ) → VerdictBounded GREATEST mostNodes (judgement edition sheet)
+judgement-bounded edition sheet = on (openOf edition sheet) refl (openOf-bounded edition sheet)
   where
-    on : (o : Counted) → openOf sheet ≡ o → OpenedBounded o → VerdictBounded 13 mostNodes (judgement sheet)
+    on : (o : Counted) → openOf edition sheet ≡ o → OpenedBounded o → VerdictBounded GREATEST mostNodes (judgement edition sheet)
     on (Counted.Count t) e p =
-        rw (judgement-nodes sheet t e) (treeRefusal-bounded (slots sheet) mostNodes (omega (arith, openOf-slots-length sheet t e, openOf-most sheet t e)))
-    on (Counted.Refused r) e p = rw (judgement-refused sheet r e) p
+        rw (judgement-nodes edition sheet t e) (treeRefusal-bounded edition (slots sheet) mostNodes (omega (arith, openOf-slots-length edition sheet t e, openOf-most edition sheet t e)))
+    on (Counted.Refused r) e p = rw (judgement-refused edition sheet r e) p
 
-module _ (sheet : List ℕ) (lawful : judgement sheet ≡ Lawful) where
-  opens : (t : ℕ) × (openOf sheet ≡ Counted.Count t)
-  opens = lawful-opened sheet lawful
+module _ (edition : ℕ) (sheet : List ℕ) (lawful : judgement edition sheet ≡ Lawful) where
+  opens : (t : ℕ) × (openOf edition sheet ≡ Counted.Count t)
+  opens = lawful-opened edition sheet lawful
 
   lawful-total : totalOf sheet ≤ mostNodes
-  lawful-total = omega (arith, openOf-total sheet (opens .0) (opens .1), openOf-most sheet (opens .0) (opens .1))
+  lawful-total = omega (arith, openOf-total edition sheet (opens .0) (opens .1), openOf-most edition sheet (opens .0) (opens .1))
 
   lawful-length : length sheet ≤ mostBytes
-  lawful-length = lengthRight-most (length sheet) (openOf-blocks sheet (opens .0) (opens .1) .length-right)
+  lawful-length = lengthRight-most (length sheet) (openOf-blocks edition sheet (opens .0) (opens .1) .length-right)
 
-widened : (r : Refusal) → Bounded 13 mostNodes r → Bounded SHORT-OUTPUT mostNodes r
-widened r w = record { some-number = w .some-number; most-number = omega (arith, w .most-number); most-place = w .most-place }
-
-short : Bounded SHORT-OUTPUT mostNodes shortOutput
+short : Bounded GREATEST mostNodes shortOutput
 short = record { some-number = omega arith; most-number = omega arith; most-place = omega arith }
 
-answer-bounded : (v : Verdict) (t lent : ℕ) → VerdictBounded 13 mostNodes v → (v ≡ Lawful → t ≤ mostNodes) → CountedBounded mostNodes SHORT-OUTPUT mostNodes (answer v t lent)
+answer-bounded : (v : Verdict) (t lent : ℕ) → VerdictBounded GREATEST mostNodes v → (v ≡ Lawful → t ≤ mostNodes) → CountedBounded mostNodes GREATEST mostNodes (answer v t lent)
 unfolding answer
-answer-bounded (Refused r) t lent b most = widened r b
+answer-bounded (Refused r) t lent b most = b
 answer-bounded Lawful t lent b most = on (ltb lent (rowWidth * t))
   where
-    on : (b : Bool) → CountedBounded mostNodes SHORT-OUTPUT mostNodes (cond b (Counted.Refused shortOutput) (Counted.Count t))
+    on : (b : Bool) → CountedBounded mostNodes GREATEST mostNodes (cond b (Counted.Refused shortOutput) (Counted.Count t))
     on true = short
     on false = most refl
 
-pub resolved-bounded : (sheet : List ℕ) (lent : ℕ) → CountedBounded mostNodes SHORT-OUTPUT mostNodes (outcome sheet lent)
+pub resolved-bounded : (edition : ℕ) (sheet : List ℕ) (lent : ℕ) → CountedBounded mostNodes GREATEST mostNodes (outcome edition sheet lent)
 unfolding outcome
-resolved-bounded sheet lent = answer-bounded (judgement sheet) (totalOf sheet) lent (judgement-bounded sheet) (lawful-total sheet)
+resolved-bounded edition sheet lent = answer-bounded (judgement edition sheet) (totalOf sheet) lent (judgement-bounded edition sheet) (lawful-total edition sheet)
 
-rewriteAnswer-bounded : (v : Verdict) (enough : Bool) (n : ℕ) → VerdictBounded 13 mostNodes v → (v ≡ Lawful → n ≤ mostBytes) → CountedBounded mostBytes SHORT-OUTPUT mostNodes (rewriteAnswer v enough n)
+rewriteAnswer-bounded : (v : Verdict) (enough : Bool) (n : ℕ) → VerdictBounded GREATEST mostNodes v → (v ≡ Lawful → n ≤ mostBytes) → CountedBounded mostBytes GREATEST mostNodes (rewriteAnswer v enough n)
 unfolding rewriteAnswer
-rewriteAnswer-bounded (Refused r) enough n b most = widened r b
+rewriteAnswer-bounded (Refused r) enough n b most = b
 rewriteAnswer-bounded Lawful true n b most = most refl
 rewriteAnswer-bounded Lawful false n b most = short
 
-pub rewritten-bounded : (sheet : List ℕ) (lent start : ℕ) → CountedBounded mostBytes SHORT-OUTPUT mostNodes (rewriteOutcome sheet lent start)
+pub rewritten-bounded : (edition : ℕ) (sheet : List ℕ) (lent start : ℕ) → CountedBounded mostBytes GREATEST mostNodes (rewriteOutcome edition sheet lent start)
 unfolding rewriteOutcome
-rewritten-bounded sheet lent start = rewriteAnswer-bounded (judgement sheet) (fits sheet lent start) (length sheet) (judgement-bounded sheet) (lawful-length sheet)
+rewritten-bounded edition sheet lent start = rewriteAnswer-bounded (judgement edition sheet) (fits sheet lent start) (length sheet) (judgement-bounded edition sheet) (lawful-length edition sheet)
 
 -- there are no more nodes than bytes
-nodes-bounded : (c : Counted) → CountedBounded mostNodes SHORT-OUTPUT mostNodes c → CountedBounded mostBytes SHORT-OUTPUT mostNodes c
+nodes-bounded : (c : Counted) → CountedBounded mostNodes GREATEST mostNodes c → CountedBounded mostBytes GREATEST mostNodes c
 nodes-bounded (Counted.Count n) b = omega arith
 nodes-bounded (Counted.Refused r) b = b
 
-pub resolved-answered : (sheet : List ℕ) (lent : ℕ) → CountedBounded mostBytes SHORT-OUTPUT mostNodes (outcome sheet lent)
-resolved-answered sheet lent = nodes-bounded (outcome sheet lent) (resolved-bounded sheet lent)
+pub resolved-answered : (edition : ℕ) (sheet : List ℕ) (lent : ℕ) → CountedBounded mostBytes GREATEST mostNodes (outcome edition sheet lent)
+resolved-answered edition sheet lent = nodes-bounded (outcome edition sheet lent) (resolved-bounded edition sheet lent)

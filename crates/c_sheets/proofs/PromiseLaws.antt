@@ -12,27 +12,27 @@ use Rattle.c_answer.proofs.PackingLaws.{counted-packs, counted-refused}
 use Rattle.c_sheets.specs.Promises.{Promises}
 use Rattle.c_sheets.proofs.BoundLaws.{resolved-bounded, rewritten-bounded}
 
-resolve-packs : (sheet : List ℕ) (lent : ℕ) → PacksCounted (outcome sheet lent)
-resolve-packs sheet lent = counted-packs _ _ _ (omega arith) (omega arith) (omega arith) (outcome sheet lent) (resolved-bounded sheet lent)
+resolve-packs : (edition : ℕ) (sheet : List ℕ) (lent : ℕ) → PacksCounted (outcome edition sheet lent)
+resolve-packs edition sheet lent = counted-packs _ _ _ (omega arith) (omega arith) (omega arith) (outcome edition sheet lent) (resolved-bounded edition sheet lent)
 
-rewrite-packs : (sheet : List ℕ) (lent start : ℕ) → PacksCounted (rewriteOutcome sheet lent start)
-rewrite-packs sheet lent start = counted-packs _ _ _ (omega arith) (omega arith) (omega arith) (rewriteOutcome sheet lent start) (rewritten-bounded sheet lent start)
+rewrite-packs : (edition : ℕ) (sheet : List ℕ) (lent start : ℕ) → PacksCounted (rewriteOutcome edition sheet lent start)
+rewrite-packs edition sheet lent start = counted-packs _ _ _ (omega arith) (omega arith) (omega arith) (rewriteOutcome edition sheet lent start) (rewritten-bounded edition sheet lent start)
 
-resolve-unchanged : (sheet lent : List ℕ) → RESULT < numberIn (countedAnswer (outcome sheet (length lent))) → written (outcome sheet (length lent)) sheet lent ≡ lent
+resolve-unchanged : (edition : ℕ) (sheet lent : List ℕ) → RESULT < numberIn (countedAnswer (outcome edition sheet (length lent))) → written (outcome edition sheet (length lent)) sheet lent ≡ lent
 unfolding written
-resolve-unchanged sheet lent h = rw (counted-refused (outcome sheet (length lent)) (resolve-packs sheet (length lent)) h .1)
+resolve-unchanged edition sheet lent h = rw (counted-refused (outcome edition sheet (length lent)) (resolve-packs edition sheet (length lent)) h .1)
 
-rewrite-unchanged : (sheet lent : List ℕ) (start : ℕ) → RESULT < numberIn (countedAnswer (rewriteOutcome sheet (length lent) start)) → rewriteWritten (rewriteOutcome sheet (length lent) start) sheet lent start ≡ lent
+rewrite-unchanged : (edition : ℕ) (sheet lent : List ℕ) (start : ℕ) → RESULT < numberIn (countedAnswer (rewriteOutcome edition sheet (length lent) start)) → rewriteWritten (rewriteOutcome edition sheet (length lent) start) sheet lent start ≡ lent
 unfolding rewriteWritten
-rewrite-unchanged sheet lent start h = rw (counted-refused (rewriteOutcome sheet (length lent) start) (rewrite-packs sheet (length lent) start) h .1)
+rewrite-unchanged edition sheet lent start h = rw (counted-refused (rewriteOutcome edition sheet (length lent) start) (rewrite-packs edition sheet (length lent) start) h .1)
 
-pub promised : Promises
-promised =
+pub promised : (edition : ℕ) → Promises edition
+promised edition =
     record {
-      resolve-bounded = resolved-bounded;
-      rewrite-bounded = rewritten-bounded;
-      resolve-packs = resolve-packs;
-      rewrite-packs = rewrite-packs;
-      resolve-unchanged = resolve-unchanged;
-      rewrite-unchanged = rewrite-unchanged;
+      resolve-bounded = resolved-bounded edition;
+      rewrite-bounded = rewritten-bounded edition;
+      resolve-packs = resolve-packs edition;
+      rewrite-packs = rewrite-packs edition;
+      resolve-unchanged = resolve-unchanged edition;
+      rewrite-unchanged = rewrite-unchanged edition;
     }

@@ -3,7 +3,7 @@ use Prim.Native.Nat.{ℕ, _<_}
 use mathlib.Core.Path.{_≡_}
 use mathlib.Core.List.{List}
 use lib.ListN.{length}
-use Rattle.refusal.specs.Numbers.{SHORT-OUTPUT}
+use Rattle.refusal.specs.Numbers.{GREATEST}
 use Rattle.sheet.specs.Block.{mostBytes, mostNodes}
 use Rattle.schema.specs.Outcome.{outcome, written}
 use Rattle.schema.specs.Rewriting.{rewriteOutcome, rewriteWritten}
@@ -11,13 +11,13 @@ use Rattle.c_answer.specs.Answers.{RESULT, numberIn, countedAnswer}
 use Rattle.refusal.specs.Bounds.{CountedBounded}
 use Rattle.c_answer.specs.Packing.{PacksCounted}
 
-pub record Promises : Type 0 where
-  -- T is at most 896, and at most 65,536 bytes are written; a refusal has a number of 1 to 14, and a place of at most 896
-  pub resolve-bounded : (sheet : List ℕ) (lent : ℕ) → CountedBounded mostNodes SHORT-OUTPUT mostNodes (outcome sheet lent)
-  pub rewrite-bounded : (sheet : List ℕ) (lent start : ℕ) → CountedBounded mostBytes SHORT-OUTPUT mostNodes (rewriteOutcome sheet lent start)
+pub record Promises (edition : ℕ) : Type 0 where
+  -- T is at most 896, and at most 65,536 bytes are written; a refusal has a number of 1 to 14 or 21, and a place of at most 896
+  pub resolve-bounded : (sheet : List ℕ) (lent : ℕ) → CountedBounded mostNodes GREATEST mostNodes (outcome edition sheet lent)
+  pub rewrite-bounded : (sheet : List ℕ) (lent start : ℕ) → CountedBounded mostBytes GREATEST mostNodes (rewriteOutcome edition sheet lent start)
   -- every answer can be taken apart again
-  pub resolve-packs : (sheet : List ℕ) (lent : ℕ) → PacksCounted (outcome sheet lent)
-  pub rewrite-packs : (sheet : List ℕ) (lent start : ℕ) → PacksCounted (rewriteOutcome sheet lent start)
+  pub resolve-packs : (sheet : List ℕ) (lent : ℕ) → PacksCounted (outcome edition sheet lent)
+  pub rewrite-packs : (sheet : List ℕ) (lent start : ℕ) → PacksCounted (rewriteOutcome edition sheet lent start)
   -- where an answer has a number, the output is as it was
-  pub resolve-unchanged : (sheet lent : List ℕ) → RESULT < numberIn (countedAnswer (outcome sheet (length lent))) → written (outcome sheet (length lent)) sheet lent ≡ lent
-  pub rewrite-unchanged : (sheet lent : List ℕ) (start : ℕ) → RESULT < numberIn (countedAnswer (rewriteOutcome sheet (length lent) start)) → rewriteWritten (rewriteOutcome sheet (length lent) start) sheet lent start ≡ lent
+  pub resolve-unchanged : (sheet lent : List ℕ) → RESULT < numberIn (countedAnswer (outcome edition sheet (length lent))) → written (outcome edition sheet (length lent)) sheet lent ≡ lent
+  pub rewrite-unchanged : (sheet lent : List ℕ) (start : ℕ) → RESULT < numberIn (countedAnswer (rewriteOutcome edition sheet (length lent) start)) → rewriteWritten (rewriteOutcome edition sheet (length lent) start) sheet lent start ≡ lent

@@ -1,8 +1,8 @@
-// A sheet resolved and rewritten.
+// A sheet resolved and rewritten in an edition.
 ghost use mathlib.Core.Path.{_≡_};
 ghost use lib.ListN.{length};
 ghost use Rattle.sheet.specs.Block.{mostBytes, mostNodes};
-ghost use Rattle.refusal.specs.Numbers.{SHORT-OUTPUT};
+ghost use Rattle.refusal.specs.Numbers.{GREATEST};
 ghost use Rattle.schema.specs.Outcome.{outcome, written};
 ghost use Rattle.schema.specs.Rewriting.{rewriteOutcome, rewriteWritten};
 ghost use Rattle.c_answer.specs.Answers.{countedAnswer};
@@ -12,24 +12,24 @@ use c_answer::packed;
 use refusal::Counted;
 
 // Resolves a sheet into rows. The value is T, the number of its nodes.
-pub fn resolve(sheet: &[u8], rows: &mut [u32]) -> u64
-    ensures { λ r. ⌜ r ≡ countedAnswer (outcome (now (sheet .entry)) (length (now (rows .entry)))) ⌝ }
-    ensures { λ _. ⌜ now (rows .exit) ≡ written (outcome (now (sheet .entry)) (length (now (rows .entry)))) (now (sheet .entry)) (now (rows .entry)) ⌝ }
+pub fn resolve(edition: u32, sheet: &[u8], rows: &mut [u32]) -> u64
+    ensures { λ r. ⌜ r ≡ countedAnswer (outcome edition (now (sheet .entry)) (length (now (rows .entry)))) ⌝ }
+    ensures { λ _. ⌜ now (rows .exit) ≡ written (outcome edition (now (sheet .entry)) (length (now (rows .entry)))) (now (sheet .entry)) (now (rows .entry)) ⌝ }
 {
-    answered(schema::resolve(sheet, rows))
+    answered(schema::resolve(edition, sheet, rows))
 }
 
 // Rewrites a sheet with both annotations into the output from start on. The value is the number of bytes written.
-pub fn rewrite(sheet: &[u8], out: &mut [u8], start: usize) -> u64
-    ensures { λ r. ⌜ r ≡ countedAnswer (rewriteOutcome (now (sheet .entry)) (length (now (out .entry))) start) ⌝ }
-    ensures { λ _. ⌜ now (out .exit) ≡ rewriteWritten (rewriteOutcome (now (sheet .entry)) (length (now (out .entry))) start) (now (sheet .entry)) (now (out .entry)) start ⌝ }
+pub fn rewrite(edition: u32, sheet: &[u8], out: &mut [u8], start: usize) -> u64
+    ensures { λ r. ⌜ r ≡ countedAnswer (rewriteOutcome edition (now (sheet .entry)) (length (now (out .entry))) start) ⌝ }
+    ensures { λ _. ⌜ now (out .exit) ≡ rewriteWritten (rewriteOutcome edition (now (sheet .entry)) (length (now (out .entry))) start) (now (sheet .entry)) (now (out .entry)) start ⌝ }
 {
-    answered(schema::rewrite(sheet, out, start))
+    answered(schema::rewrite(edition, sheet, out, start))
 }
 
 // The answer of what is counted in a sheet, nodes or bytes.
 fn answered(counted: Counted) -> u64
-    requires { ⌜ CountedBounded mostBytes SHORT-OUTPUT mostNodes counted ⌝ }
+    requires { ⌜ CountedBounded mostBytes GREATEST mostNodes counted ⌝ }
     ensures { λ r. ⌜ r ≡ countedAnswer counted ⌝ }
 {
     match counted {

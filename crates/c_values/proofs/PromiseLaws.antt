@@ -3,7 +3,7 @@ use Prim.Native.Nat.{ℕ}
 use mathlib.Core.Path.{_≡_, refl}
 use mathlib.Core.List.{List}
 use native.Mathlib.Omega.{arith}
-use Rattle.refusal.specs.Numbers.{UNKNOWN-TYPE}
+use Rattle.refusal.specs.Numbers.{GREATEST}
 use Rattle.float_order.specs.declared.relation.Relation.{Relation}
 use Rattle.column_type.specs.declared.types.ColumnType.{ColumnType}
 use Rattle.column.specs.Lengths.{mostBytes}
@@ -32,13 +32,13 @@ case-packs (value.Float x) = result-packs 3 (omega arith)
 case-packs (value.Double x) = result-packs 4 (omega arith)
 case-packs (value.Bytes start len) = result-packs 5 (omega arith)
 
-read-packs : (c : ColumnType) (bs : List ℕ) → PacksEffect (readEffect (column.outcome c bs))
+read-packs : (edition : ℕ) (c : ColumnType) (bs : List ℕ) → PacksEffect (readEffect (column.outcome edition c bs))
 unfolding column.outcome
-read-packs c bs = by-answer (readOf c bs) refl
+read-packs edition c bs = by-answer (readOf edition c bs) refl
   where
-    by-answer : (r : Read) → readOf c bs ≡ r → PacksEffect (readEffect (column.outcomeOf r))
+    by-answer : (r : Read) → readOf edition c bs ≡ r → PacksEffect (readEffect (column.outcomeOf r))
     by-answer (Read.Value v) e = case-packs v
-    by-answer (Read.Refused r) e = refusal-packs UNKNOWN-TYPE mostBytes (omega arith) (omega arith) r (refusal-bounded c bs r e)
+    by-answer (Read.Refused r) e = refusal-packs GREATEST mostBytes (omega arith) (omega arith) r (refusal-bounded edition c bs r e)
 
 relation-packs : (r : Relation) → PacksResult (packed RESULT (relationNumber r)) (relationNumber r)
 relation-packs Relation.Less = result-packs 0 (omega arith)
@@ -46,21 +46,21 @@ relation-packs Relation.Equal = result-packs 1 (omega arith)
 relation-packs Relation.Greater = result-packs 2 (omega arith)
 relation-packs Relation.Unordered = result-packs 3 (omega arith)
 
-order-packs : (c : ColumnType) (a b : List ℕ) → PacksOrder (column_order.outcome c a b)
+order-packs : (edition : ℕ) (c : ColumnType) (a b : List ℕ) → PacksOrder (column_order.outcome edition c a b)
 unfolding column_order.outcome
-order-packs c a b = by-answer (orderOf c a b) refl
+order-packs edition c a b = by-answer (orderOf edition c a b) refl
   where
-    by-answer : (o : Order) → orderOf c a b ≡ o → PacksOrder (column_order.outcomeOf o)
+    by-answer : (o : Order) → orderOf edition c a b ≡ o → PacksOrder (column_order.outcomeOf o)
     by-answer (Order.Related r) e = relation-packs r
     by-answer (Order.Refused f) e =
-        let bounded = order-bounded c a b f e in
-        fault-packs UNKNOWN-TYPE mostBytes (omega arith) (omega arith) (f .refusal) (bounded .refusal) (f .side) (omega (arith, bounded .side))
+        let bounded = order-bounded edition c a b f e in
+        fault-packs GREATEST mostBytes (omega arith) (omega arith) (f .refusal) (bounded .refusal) (f .side) (omega (arith, bounded .side))
 
-pub promised : Promises
+pub promised : (edition : ℕ) → Promises edition
 unfolding reading
-promised =
+promised edition =
     record {
-      read-packs = λ c bs lent. short-packs lent (readEffect (column.outcome c bs)) (read-packs c bs);
-      order-packs = order-packs;
+      read-packs = λ c bs lent. short-packs lent (readEffect (column.outcome edition c bs)) (read-packs edition c bs);
+      order-packs = order-packs edition;
       float-own = own-bits;
     }

@@ -73,11 +73,11 @@ truth-bits false = refl
 -- ---- answers
 
 -- what reading comes to, of what `column` answers
-pub reading-of : (c : ColumnType) (bs : List ℕ) (lent : ℕ) {r : Read} → r ≡ readOf c bs → reading c bs lent ≡ within lent (readEffect (column.outcomeOf r))
+pub reading-of : (edition : ℕ) (c : ColumnType) (bs : List ℕ) (lent : ℕ) {r : Read} → r ≡ readOf edition c bs → reading edition c bs lent ≡ within lent (readEffect (column.outcomeOf r))
 unfolding reading column.outcome
-reading-of c bs lent e = ap (λ (x : Read). within lent (readEffect (column.outcomeOf x))) (sym e)
+reading-of edition c bs lent e = ap (λ (x : Read). within lent (readEffect (column.outcomeOf x))) (sym e)
 
 -- what ordering answers, of what `column_order` answers
-pub ordering-of : (c : ColumnType) (a b : List ℕ) {o : Order} → o ≡ orderOf c a b → ordering c a b ≡ orderAnswer (column_order.outcomeOf o)
+pub ordering-of : (edition : ℕ) (c : ColumnType) (a b : List ℕ) {o : Order} → o ≡ orderOf edition c a b → ordering edition c a b ≡ orderAnswer (column_order.outcomeOf o)
 unfolding ordering column_order.outcome
-ordering-of c a b e = ap (λ (x : Order). orderAnswer (column_order.outcomeOf x)) (sym e)
+ordering-of edition c a b e = ap (λ (x : Order). orderAnswer (column_order.outcomeOf x)) (sym e)

@@ -17,9 +17,9 @@ abbrev pub PacksOrder : Sided Relation → Type 0
 PacksOrder (sided.given r) = PacksResult (orderAnswer (sided.given r)) (relationNumber r)
 PacksOrder (sided.refused f) = PacksFault (orderAnswer (sided.refused f)) (f .side) (f .refusal)
 
-pub record Promises : Type 0 where
+pub record Promises (edition : ℕ) : Type 0 where
   -- every answer can be taken apart again
-  pub read-packs : (c : ColumnType) (bytes : List ℕ) (lent : ℕ) → PacksEffect (reading c bytes lent)
-  pub order-packs : (c : ColumnType) (a b : List ℕ) → PacksOrder (outcome c a b)
+  pub read-packs : (c : ColumnType) (bytes : List ℕ) (lent : ℕ) → PacksEffect (reading edition c bytes lent)
+  pub order-packs : (c : ColumnType) (a b : List ℕ) → PacksOrder (outcome edition c a b)
   -- a FLOAT or DOUBLE is written as the bits that it was read of, unless they are a NaN's
   pub float-own : (f : Format) (bits : ℕ) → bits < 2 * top f → nanBits f bits ≡ false → floatBits f (ofBits f bits) ≡ bits

@@ -58,8 +58,8 @@ readEffect (given v) = result (caseOf v) (numbersOf v)
 readEffect (refused r) = refused r
 
 -- what reading comes to for any column type, any bytes and any number of lent places
-unfoldable pub reading : ColumnType → List ℕ → ℕ → Effect ℕ
-reading c bs lent = within lent (readEffect (column.outcome c bs))
+unfoldable pub reading : ℕ → ColumnType → List ℕ → ℕ → Effect ℕ
+reading edition c bs lent = within lent (readEffect (column.outcome edition c bs))
 
 -- "0 less, 1 equal, 2 greater, 3 unordered"
 abbrev pub relationNumber : Relation → ℕ
@@ -78,5 +78,5 @@ orderAnswer (sided.given r) = packed RESULT (relationNumber r)
 orderAnswer (sided.refused f) = faultAnswer f
 
 -- the answer of ordering for any column type and any two values
-unfoldable pub ordering : ColumnType → List ℕ → List ℕ → ℕ
-ordering c a b = orderAnswer (column_order.outcome c a b)
+unfoldable pub ordering : ℕ → ColumnType → List ℕ → List ℕ → ℕ
+ordering edition c a b = orderAnswer (column_order.outcome edition c a b)

@@ -1,10 +1,10 @@
-// Values read and ordered, in a column of five numbers.
+// Values read and ordered in an edition, in a column of five numbers.
 ghost use mathlib.Core.Path.{_≡_};
 ghost use mathlib.Core.List.{[], _∷_};
 ghost use lib.Ieee.{binary32, binary64};
 ghost use lib.ListN.{length};
 ghost use Rattle.refusal.specs.Bounds.{Bounded};
-ghost use Rattle.refusal.specs.Numbers.{UNKNOWN-TYPE};
+ghost use Rattle.refusal.specs.Numbers as refusals;
 ghost use Rattle.column.specs.Lengths.{mostBytes};
 ghost use Rattle.column_order.proofs.FaultLaws.{FaultBounded};
 ghost use Rattle.c_answer.specs.Answers.{refusalAnswer, result, within, answer, left};
@@ -64,6 +64,7 @@ struct ValueNumbers {
 // Reads a value. The value of the answer is its case: 0 truth, 1 signed whole, 2 unsigned whole, 3 FLOAT, 4 DOUBLE, 5 bytes.
 // Two numbers are written: its bits and 0, or start and length.
 pub fn read(
+    edition: u32,
     physical: u32,
     type_length: u32,
     kind: u32,
@@ -72,10 +73,11 @@ pub fn read(
     value: &[u8],
     out: &mut [u64],
 ) -> u64
-    ensures { λ r. ⌜ r ≡ answer (reading (columnType physical «type_length» kind p1 p2) (now (value .entry)) (length (now (out .entry)))) ⌝ }
-    ensures { λ _. ⌜ now (out .exit) ≡ left (reading (columnType physical «type_length» kind p1 p2) (now (value .entry)) (length (now (out .entry)))) (now (out .entry)) ⌝ }
+    ensures { λ r. ⌜ r ≡ answer (reading edition (columnType physical «type_length» kind p1 p2) (now (value .entry)) (length (now (out .entry)))) ⌝ }
+    ensures { λ _. ⌜ now (out .exit) ≡ left (reading edition (columnType physical «type_length» kind p1 p2) (now (value .entry)) (length (now (out .entry)))) (now (out .entry)) ⌝ }
 {
     let read = column::read(
+        edition,
         ColumnType {
             physical,
             type_length,
@@ -94,6 +96,7 @@ pub fn read(
 // Orders two values. The value of the answer is 0 less, 1 equal, 2 greater or 3 unordered. A refusal has besides the value at
 // fault: 1 or 2, and 0 for neither.
 pub fn order(
+    edition: u32,
     physical: u32,
     type_length: u32,
     kind: u32,
@@ -102,9 +105,10 @@ pub fn order(
     a: &[u8],
     b: &[u8],
 ) -> u64
-    ensures { λ r. ⌜ r ≡ ordering (columnType physical «type_length» kind p1 p2) (now (a .entry)) (now (b .entry)) ⌝ }
+    ensures { λ r. ⌜ r ≡ ordering edition (columnType physical «type_length» kind p1 p2) (now (a .entry)) (now (b .entry)) ⌝ }
 {
     let order = column_order::order(
+        edition,
         ColumnType {
             physical,
             type_length,
@@ -135,7 +139,7 @@ fn relation(relation: Relation) -> u32
 
 // The answer of a value's refusal.
 fn refused(refusal: Refusal) -> u64
-    requires { ⌜ Bounded UNKNOWN-TYPE mostBytes refusal ⌝ }
+    requires { ⌜ Bounded refusals.GREATEST mostBytes refusal ⌝ }
     ensures { λ r. ⌜ r ≡ refusalAnswer refusal ⌝ }
 {
     packed(refusal.number, refusal.place as u32)

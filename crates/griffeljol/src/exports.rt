@@ -9,26 +9,27 @@ ghost use Rattle.c_timestamps.specs.Timestamps.{Decoding, encoding};
 
 // Resolves a sheet into rows. The value is T, the number of its nodes.
 #[no_mangle]
-pub extern "C" fn griffeljol_resolve(sheet: &[u8], rows: &mut [u32]) -> u64
-    ensures { λ r. ⌜ r ≡ countedAnswer (outcome (now (sheet .entry)) (length (now (rows .entry)))) ⌝ }
-    ensures { λ _. ⌜ now (rows .exit) ≡ written (outcome (now (sheet .entry)) (length (now (rows .entry)))) (now (sheet .entry)) (now (rows .entry)) ⌝ }
+pub extern "C" fn griffeljol_resolve(edition: u32, sheet: &[u8], rows: &mut [u32]) -> u64
+    ensures { λ r. ⌜ r ≡ countedAnswer (outcome edition (now (sheet .entry)) (length (now (rows .entry)))) ⌝ }
+    ensures { λ _. ⌜ now (rows .exit) ≡ written (outcome edition (now (sheet .entry)) (length (now (rows .entry)))) (now (sheet .entry)) (now (rows .entry)) ⌝ }
 {
-    c_sheets::resolve(sheet, rows)
+    c_sheets::resolve(edition, sheet, rows)
 }
 
 // Rewrites a sheet with both annotations into the output from start on. The value is the number of bytes written.
 #[no_mangle]
-pub extern "C" fn griffeljol_rewrite(sheet: &[u8], out: &mut [u8], start: usize) -> u64
-    ensures { λ r. ⌜ r ≡ countedAnswer (rewriteOutcome (now (sheet .entry)) (length (now (out .entry))) start) ⌝ }
-    ensures { λ _. ⌜ now (out .exit) ≡ rewriteWritten (rewriteOutcome (now (sheet .entry)) (length (now (out .entry))) start) (now (sheet .entry)) (now (out .entry)) start ⌝ }
+pub extern "C" fn griffeljol_rewrite(edition: u32, sheet: &[u8], out: &mut [u8], start: usize) -> u64
+    ensures { λ r. ⌜ r ≡ countedAnswer (rewriteOutcome edition (now (sheet .entry)) (length (now (out .entry))) start) ⌝ }
+    ensures { λ _. ⌜ now (out .exit) ≡ rewriteWritten (rewriteOutcome edition (now (sheet .entry)) (length (now (out .entry))) start) (now (sheet .entry)) (now (out .entry)) start ⌝ }
 {
-    c_sheets::rewrite(sheet, out, start)
+    c_sheets::rewrite(edition, sheet, out, start)
 }
 
 // Reads a value. The value of the answer is its case: 0 truth, 1 signed whole, 2 unsigned whole, 3 FLOAT, 4 DOUBLE, 5 bytes.
 // Two numbers are written: its bits and 0, or start and length.
 #[no_mangle]
 pub extern "C" fn griffeljol_read(
+    edition: u32,
     physical: u32,
     type_length: u32,
     kind: u32,
@@ -37,16 +38,17 @@ pub extern "C" fn griffeljol_read(
     value: &[u8],
     out: &mut [u64],
 ) -> u64
-    ensures { λ r. ⌜ r ≡ answer (reading (columnType physical «type_length» kind p1 p2) (now (value .entry)) (length (now (out .entry)))) ⌝ }
-    ensures { λ _. ⌜ now (out .exit) ≡ left (reading (columnType physical «type_length» kind p1 p2) (now (value .entry)) (length (now (out .entry)))) (now (out .entry)) ⌝ }
+    ensures { λ r. ⌜ r ≡ answer (reading edition (columnType physical «type_length» kind p1 p2) (now (value .entry)) (length (now (out .entry)))) ⌝ }
+    ensures { λ _. ⌜ now (out .exit) ≡ left (reading edition (columnType physical «type_length» kind p1 p2) (now (value .entry)) (length (now (out .entry)))) (now (out .entry)) ⌝ }
 {
-    c_values::read(physical, type_length, kind, p1, p2, value, out)
+    c_values::read(edition, physical, type_length, kind, p1, p2, value, out)
 }
 
 // Orders two values. The value of the answer is 0 less, 1 equal, 2 greater or 3 unordered. A refusal has besides the value at
 // fault: 1 or 2, and 0 for neither.
 #[no_mangle]
 pub extern "C" fn griffeljol_order(
+    edition: u32,
     physical: u32,
     type_length: u32,
     kind: u32,
@@ -55,9 +57,9 @@ pub extern "C" fn griffeljol_order(
     a: &[u8],
     b: &[u8],
 ) -> u64
-    ensures { λ r. ⌜ r ≡ ordering (columnType physical «type_length» kind p1 p2) (now (a .entry)) (now (b .entry)) ⌝ }
+    ensures { λ r. ⌜ r ≡ ordering edition (columnType physical «type_length» kind p1 p2) (now (a .entry)) (now (b .entry)) ⌝ }
 {
-    c_values::order(physical, type_length, kind, p1, p2, a, b)
+    c_values::order(edition, physical, type_length, kind, p1, p2, a, b)
 }
 
 // Writes the fields of a count: year, month, day, hour, minute, second, fraction. The value is 7.

@@ -2,7 +2,7 @@
 use mathlib.Core.Path.{_≡_, sym, ap, _∙_, subst}
 use native.Mathlib.Omega.{arith}
 use borrow.Author.Needs.{needs}
-use Rattle.refusal.specs.Numbers.{SHORT-OUTPUT}
+use Rattle.refusal.specs.Numbers.{GREATEST}
 use Rattle.refusal.specs.declared.answers.Counted.{Counted}
 use Rattle.sheet.specs.Block.{mostBytes, mostNodes}
 use Rattle.c_answer.specs.Answers.{countedAnswer}
@@ -11,9 +11,9 @@ use Rattle.c_sheets.proofs.sheets.answered.Statement.{statement}
 use Rattle.c_sheets.proofs.sheets.answered.Tie as tie
 
 -- what is counted is within the bounds of what was handed in
-module _ {counted told : Counted} (is : counted ≡ told) (bounds : CountedBounded mostBytes SHORT-OUTPUT mostNodes counted) where
-  bounded : CountedBounded mostBytes SHORT-OUTPUT mostNodes told
-  bounded = subst (CountedBounded mostBytes SHORT-OUTPUT mostNodes) is bounds
+module _ {counted told : Counted} (is : counted ≡ told) (bounds : CountedBounded mostBytes GREATEST mostNodes counted) where
+  bounded : CountedBounded mostBytes GREATEST mostNodes told
+  bounded = subst (CountedBounded mostBytes GREATEST mostNodes) is bounds
 
 enum-known-counted : tie.Need-enum-known-counted
 enum-known-counted c = search needs

@@ -1,7 +1,7 @@
 -- `c_sheets::sheets::resolve` meets its contract: what resolving answers is within bounds.
 use mathlib.Core.Path.{sym, ap, _∙_, subst}
 use borrow.Author.Needs.{needs}
-use Rattle.refusal.specs.Numbers.{SHORT-OUTPUT}
+use Rattle.refusal.specs.Numbers.{GREATEST}
 use Rattle.sheet.specs.Block.{mostBytes, mostNodes}
 use Rattle.c_answer.specs.Answers.{countedAnswer}
 use Rattle.refusal.specs.Bounds.{CountedBounded}
@@ -17,7 +17,7 @@ resolve-requires c κs = search needs
 
 answered-requires : tie.Need-answered-requires
 answered-requires c κs =
-    subst (CountedBounded mostBytes SHORT-OUTPUT mostNodes) (sym (at-resolve c .resolve .ensures .0)) (resolved-answered _ _)
+    subst (CountedBounded mostBytes GREATEST mostNodes) (sym (at-resolve c .resolve .ensures .0)) (resolved-answered _ _ _)
 
 same-length : tie.Need-same-length
 same-length c = search needs

@@ -1,7 +1,7 @@
 -- `c_sheets::sheets::rewrite` meets its contract: what rewriting answers is within bounds.
 use mathlib.Core.Path.{sym, ap, _∙_, subst}
 use borrow.Author.Needs.{needs}
-use Rattle.refusal.specs.Numbers.{SHORT-OUTPUT}
+use Rattle.refusal.specs.Numbers.{GREATEST}
 use Rattle.sheet.specs.Block.{mostBytes, mostNodes}
 use Rattle.c_answer.specs.Answers.{countedAnswer}
 use Rattle.refusal.specs.Bounds.{CountedBounded}
@@ -16,7 +16,7 @@ rewrite-requires : tie.Need-rewrite-requires
 rewrite-requires c κs = search needs
 
 answered-requires : tie.Need-answered-requires
-answered-requires c κs = subst (CountedBounded mostBytes SHORT-OUTPUT mostNodes) (sym (at-rewrite c .rewrite .ensures .0)) (rewritten-bounded _ _ _)
+answered-requires c κs = subst (CountedBounded mostBytes GREATEST mostNodes) (sym (at-rewrite c .rewrite .ensures .0)) (rewritten-bounded _ _ _ _)
 
 same-length : tie.Need-same-length
 same-length c = search needs
