@@ -115,7 +115,7 @@ pub refused-unlawful : (edition : ℕ) (c : ColumnType) (bs : List ℕ) → (out
 refused-unlawful edition c bs = (
   λ e. (
     by-test (isKnown edition) (λ k. k)
-    (λ u. absurd (let z : UNKNOWN-EDITION ≡ UNKNOWN-TYPE = ap (λ (r : Refusal). r .number) (sym (refusal-unknown edition u) ∙ unlawful-number edition c bs UNKNOWN-TYPE (λ h. omega (arith, h)) (λ h. omega (arith, h)) e .1) in omega arith)),
+        (λ u. absurd (let z : UNKNOWN-EDITION ≡ UNKNOWN-TYPE = ap (λ (r : Refusal). r .number) (sym (refusal-unknown edition u) ∙ unlawful-number edition c bs UNKNOWN-TYPE (λ h. omega (arith, h)) (λ h. omega (arith, h)) e .1) in omega arith)),
     unlawful-exactly edition c .0 (unlawful-number edition c bs UNKNOWN-TYPE (λ h. omega (arith, h)) (λ h. omega (arith, h)) e .0),
   ),
   λ h. refused-type edition c bs (unlawful-exactly edition c .1 (h .1)) ∙ ap refused (refusal-known edition (h .0)),
@@ -125,8 +125,8 @@ refused-unlawful edition c bs = (
 pub refused-unknown : (edition : ℕ) (c : ColumnType) (bs : List ℕ) → (outcome edition c bs ≡ refused unknownEdition) ↔ (isKnown edition ≡ false)
 refused-unknown edition c bs = (
   λ e. by-test (isKnown edition)
-  (λ k. absurd (let z : UNKNOWN-TYPE ≡ UNKNOWN-EDITION = ap (λ (r : Refusal). r .number) (sym (refusal-known edition k) ∙ unlawful-number edition c bs UNKNOWN-EDITION (λ h. omega (arith, h)) (λ h. omega (arith, h)) e .1) in omega arith))
-  (λ u. u),
+      (λ k. absurd (let z : UNKNOWN-TYPE ≡ UNKNOWN-EDITION = ap (λ (r : Refusal). r .number) (sym (refusal-known edition k) ∙ unlawful-number edition c bs UNKNOWN-EDITION (λ h. omega (arith, h)) (λ h. omega (arith, h)) e .1) in omega arith))
+      (λ u. u),
   λ u. refused-type edition c bs (unknown-unlawful edition c u) ∙ ap refused (refusal-unknown edition u),
 )
 

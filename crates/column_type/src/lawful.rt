@@ -120,7 +120,9 @@ fn other_keeps(edition: u32, c: ColumnType) -> bool
     if !fits_slot(c) {
         return false;
     }
-    is_leaf(c.physical) & length_right(c.physical, c.type_length) & annotation_right(edition, slot(c))
+    is_leaf(c.physical)
+        & length_right(c.physical, c.type_length)
+        & annotation_right(edition, slot(c))
 }
 
 // Whether each number fits its field of a slot, of any kind but DECIMAL.

@@ -18,7 +18,12 @@ pub extern "C" fn griffeljol_resolve(edition: u32, sheet: &[u8], rows: &mut [u32
 
 // Rewrites a sheet with both annotations into the output from start on. The value is the number of bytes written.
 #[no_mangle]
-pub extern "C" fn griffeljol_rewrite(edition: u32, sheet: &[u8], out: &mut [u8], start: usize) -> u64
+pub extern "C" fn griffeljol_rewrite(
+    edition: u32,
+    sheet: &[u8],
+    out: &mut [u8],
+    start: usize,
+) -> u64
     ensures { λ r. ⌜ r ≡ countedAnswer (rewriteOutcome edition (now (sheet .entry)) (length (now (out .entry))) start) ⌝ }
     ensures { λ _. ⌜ now (out .exit) ≡ rewriteWritten (rewriteOutcome edition (now (sheet .entry)) (length (now (out .entry))) start) (now (sheet .entry)) (now (out .entry)) start ⌝ }
 {

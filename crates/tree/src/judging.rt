@@ -94,7 +94,13 @@ pub(crate) fn judge_run(
 }
 
 // Judges the tree at a number, its root's standing known, with so many depths allowed.
-fn judge_tree(edition: u32, sheet: &[u8], at: usize, allowed: usize, standing: Standing) -> TreeJudged
+fn judge_tree(
+    edition: u32,
+    sheet: &[u8],
+    at: usize,
+    allowed: usize,
+    standing: Standing,
+) -> TreeJudged
     requires { ⌜ Claimed (now sheet) ⌝ }
     requires { ⌜ at < totalOf (now sheet) ⌝ }
     requires { ⌜ allowed ≤ suc mostDepth ⌝ }
@@ -107,7 +113,14 @@ fn judge_tree(edition: u32, sheet: &[u8], at: usize, allowed: usize, standing: S
     let judged = annotation::judge(edition, annotated(s), under_map(standing));
     let below = standing_under(judged.logical);
     let least = broken_to_12(sheet, at, standing, s, judged);
-    let run = judge_fields(edition, sheet, at + 1, s.children as usize, allowed - 1, below);
+    let run = judge_fields(
+        edition,
+        sheet,
+        at + 1,
+        s.children as usize,
+        allowed - 1,
+        below,
+    );
     match run {
         RunJudged::Deep(node) => TreeJudged::Deep(node),
         RunJudged::Judged {

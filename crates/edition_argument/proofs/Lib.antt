@@ -1,0 +1,2 @@
+-- What is proved of editions in digits.
+pub mod SpellingLaws

@@ -1,0 +1,63 @@
+// A program's argument, and the edition that a text spells.
+ghost use Prim.Native.Nat.{ℕ};
+ghost use mathlib.Core.Path.{_≡_};
+ghost use mathlib.Core.Bool.{true};
+ghost use Rattle.edition.specs.Editions.{isKnown};
+ghost use Rattle.text.specs.Numbers.{decimalText};
+use edition::FIRST;
+use edition::is_known;
+
+// The program's name alone, and one argument behind it.
+const ALONE: usize = 1;
+
+const ONE_ARGUMENT: usize = 2;
+
+// Room for a known edition and one byte more; an argument that is longer spells none.
+const ROOM: usize = 2;
+
+// No edition: every entry refuses it with 21.
+const NONE: u32 = 0;
+
+// The edition of a program that is given one argument, the first edition where it is given none, and no edition where it is given more.
+pub fn given() -> u32 {
+    let count = os::arg_count();
+    if count <= ALONE {
+        return FIRST;
+    }
+    if count > ONE_ARGUMENT {
+        return NONE;
+    }
+    at(1)
+}
+
+// The edition that an argument spells.
+pub fn at(i: usize) -> u32 {
+    let mut text = [0u8; ROOM];
+    let length = os::arg(i, &mut text);
+    edition_of(&text[..length])
+}
+
+// The known edition that a text spells in decimal digits, without needless zeros; of any other text no edition.
+pub fn edition_of(text: &[u8]) -> u32
+    ensures { λ r. ⌜ (isKnown r ≡ true → decimalText r ≡ now (text .entry)) ⌝ }
+    ensures { λ r. ⌜ ((e : ℕ) → isKnown e ≡ true → decimalText e ≡ now (text .entry) → r ≡ e) ⌝ }
+{
+    if text.len() != 1 {
+        return NONE;
+    }
+    let byte = text[0];
+    if byte < b'0' {
+        return NONE;
+    }
+    let edition = wide(byte - b'0');
+    if is_known(edition) {
+        return edition;
+    }
+    NONE
+}
+
+fn wide(byte: u8) -> u32
+    ensures { λ r. ⌜ r ≡ byte ⌝ }
+{
+    byte as u32
+}

@@ -1,0 +1,6 @@
+// The edition that a program is given as its argument.
+mod arguments; // arguments.rt: the argument, and the edition that a text spells
+
+pub use arguments::at;
+pub use arguments::edition_of;
+pub use arguments::given;
