@@ -9,6 +9,6 @@ use Rattle.column.specs.Reading.{readOf}
 use Rattle.column_text.specs.Answers.{outcomeText, readText}
 
 -- in any column
-pub read-outcome : (c : ColumnType) (bs : List ℕ) → readText (readOf c bs) ≡ outcomeText (column.outcome c bs)
+pub read-outcome : (edition : ℕ) (c : ColumnType) (bs : List ℕ) → readText (readOf edition c bs) ≡ outcomeText (column.outcome edition c bs)
 unfolding column.outcome
-read-outcome c bs = refl
+read-outcome edition c bs = refl

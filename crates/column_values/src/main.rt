@@ -1,14 +1,21 @@
-// Reads one value of a column. The arguments are the five numbers of its column type, and standard input is the value.
+// Reads one value of a column. The arguments are the five numbers of its column type, and standard input is the value. The edition may stand
+// before them; without it, it is the first.
 ghost use mathlib.Core.Path.{_≡_};
 use column::MOST_BYTES;
 use column_text::LINE_ROOM;
 use column_type::ColumnType;
+use edition::FIRST;
 use libc::STDERR_FILENO;
 use libc::STDIN_FILENO;
 use libc::STDOUT_FILENO;
 
-// The program's name, and the numbers of a column type.
+// The program's name and the numbers of a column type, and the same with an edition before these.
 const ARGUMENTS: usize = 6;
+
+const ARGUMENTS_WITH_EDITION: usize = 7;
+
+// The numbers of a column type.
+const NUMBERS: usize = 5;
 
 // Room for the digits of a number; an argument that is longer is no number of 32 bits, but for zeros in front.
 const DIGITS: usize = 16;
@@ -19,37 +26,46 @@ const GREATEST: u64 = 0xffff_ffff;
 const NO_NUMBER: u64 = GREATEST + 1;
 
 fn main() {
-    if arguments_right() {
-        print_value(read_type());
+    let count = os::arg_count();
+    if count == ARGUMENTS {
+        return run(FIRST, 1);
+    }
+    if count == ARGUMENTS_WITH_EDITION {
+        return run(edition_argument::at(1), 2);
+    }
+    print_usage();
+}
+
+// Reads and prints in an edition, where the numbers of the column type stand from an argument on.
+fn run(edition: u32, first: usize) {
+    if numbers_right(first) {
+        print_value(edition, read_type(first));
     } else {
         print_usage();
     }
 }
 
 // Reads to the end of the input, or to the first byte past the most, and prints the value or the refusal.
-fn print_value(c: ColumnType) {
+fn print_value(edition: u32, c: ColumnType) {
     let mut value = [0u8; MOST_BYTES + 1];
     let length = io::read_full(STDIN_FILENO, &mut value);
     let mut line = [0u8; LINE_ROOM];
-    let count = column_text::read_line(column::read(c, &value[..length]), &mut line);
+    let count = column_text::read_line(column::read(edition, c, &value[..length]), &mut line);
     io::write_all(STDOUT_FILENO, &line[..count]);
 }
 
 fn print_usage() {
     io::write_all(
         STDERR_FILENO,
-        b"usage: column_values PHYSICAL TYPE_LENGTH KIND P1 P2 < VALUE\n",
+        b"usage: column_values [EDITION] PHYSICAL TYPE_LENGTH KIND P1 P2 < VALUE\n",
     );
 }
 
-// Whether the arguments are five numbers of 32 bits.
-fn arguments_right() -> bool {
-    if os::arg_count() != ARGUMENTS {
-        return false;
-    }
-    let mut i = 1;
-    while i < ARGUMENTS {
-        if argument_at(i) > GREATEST {
+// Whether five arguments are numbers of 32 bits.
+fn numbers_right(first: usize) -> bool {
+    let mut i = 0;
+    while i < NUMBERS {
+        if argument_at(first + i) > GREATEST {
             return false;
         }
         i += 1;
@@ -57,12 +73,12 @@ fn arguments_right() -> bool {
     true
 }
 
-fn read_type() -> ColumnType {
-    let physical = number_at(1);
-    let type_length = number_at(2);
-    let kind = number_at(3);
-    let p1 = number_at(4);
-    let p2 = number_at(5);
+fn read_type(first: usize) -> ColumnType {
+    let physical = number_at(first);
+    let type_length = number_at(first + 1);
+    let kind = number_at(first + 2);
+    let p1 = number_at(first + 3);
+    let p2 = number_at(first + 4);
     ColumnType {
         physical,
         type_length,

@@ -1,4 +1,5 @@
-// Reads a sheet from standard input and writes the rewritten sheet to standard output, or prints the refusal and nothing else.
+// Reads a sheet from standard input and writes the rewritten sheet to standard output, or prints the refusal and nothing else. Its argument
+// is the edition, the first without one.
 use libc::STDIN_FILENO;
 use libc::STDOUT_FILENO;
 use refusal::Counted;
@@ -10,13 +11,13 @@ use text::REFUSAL_ROOM;
 fn main() {
     let mut sheet = [0u8; MOST_BYTES + 1];
     let length = io::read_full(STDIN_FILENO, &mut sheet);
-    write_answer(&sheet[..length]);
+    write_answer(edition_argument::given(), &sheet[..length]);
 }
 
 // Rewrites a sheet and writes the answer.
-fn write_answer(sheet: &[u8]) {
+fn write_answer(edition: u32, sheet: &[u8]) {
     let mut out = [0u8; MOST_BYTES];
-    let rewritten = schema::rewrite(sheet, &mut out, 0);
+    let rewritten = schema::rewrite(edition, sheet, &mut out, 0);
     match rewritten {
         Counted::Count(n) => {
             io::write_all(STDOUT_FILENO, &out[..n]);

@@ -1,4 +1,5 @@
-// Reads a sheet from standard input and prints the rows of its nodes, a line for each, or the refusal.
+// Reads a sheet from standard input and prints the rows of its nodes, a line for each, or the refusal. Its argument is the edition, the first
+// without one.
 use libc::STDIN_FILENO;
 use libc::STDOUT_FILENO;
 use schema_text::MOST_NUMBERS;
@@ -11,6 +12,6 @@ fn main() {
     let length = io::read_full(STDIN_FILENO, &mut sheet);
     let mut rows = [0u32; MOST_NUMBERS];
     let mut text = [0u8; MOST_TEXT_BYTES];
-    let count = schema_text::sheet_text(&sheet[..length], &mut rows, &mut text);
+    let count = schema_text::sheet_text(edition_argument::given(), &sheet[..length], &mut rows, &mut text);
     io::write_all(STDOUT_FILENO, &text[..count]);
 }

@@ -18,6 +18,6 @@ unfoldable pub printedAs : Counted → List ℕ → List ℕ
 printedAs (Counted.Count total) bytes = rowsText total (rows (treeOf (slots bytes)))
 printedAs (Counted.Refused r) bytes = refusalLine r
 
--- what is printed of any bytes; there is output enough for any sheet
-unfoldable pub printed : List ℕ → List ℕ
-printed bytes = printedAs (outcome bytes mostNumbers) bytes
+-- what is printed of any bytes in any edition; there is output enough for any sheet
+unfoldable pub printed : ℕ → List ℕ → List ℕ
+printed edition bytes = printedAs (outcome edition bytes mostNumbers) bytes

@@ -23,18 +23,19 @@ pub const MOST_NUMBERS: usize = ROW_WIDTH * MOST_NODES;
 // As many bytes as the text of any sheet takes.
 pub const MOST_TEXT_BYTES: usize = NUMBER_BYTES * MOST_NUMBERS + HEADER_BYTES;
 
-// Resolves a sheet into rows and makes the text that is printed of it, and answers the text's length.
+// Resolves a sheet in an edition into rows and makes the text that is printed of it, and answers the text's length.
 pub fn sheet_text(
+    edition: u32,
     sheet: &[u8],
     rows: &mut [u32; MOST_NUMBERS],
     out: &mut [u8; MOST_TEXT_BYTES],
 ) -> usize
     ensures { λ r. ⌜ Counts r (now (out .exit)) ⌝ }
-    ensures { λ r. ⌜ take r (now (out .exit)) ≡ printed (now (sheet .entry)) ⌝ }
+    ensures { λ r. ⌜ take r (now (out .exit)) ≡ printed edition (now (sheet .entry)) ⌝ }
     ensures { λ r. ⌜ drop r (now (out .exit)) ≡ drop r (now (out .entry)) ⌝ }
-    ensures { λ _. ⌜ now (rows .exit) ≡ written (outcome (now (sheet .entry)) mostNumbers) (now (sheet .entry)) (now (rows .entry)) ⌝ }
+    ensures { λ _. ⌜ now (rows .exit) ≡ written (outcome edition (now (sheet .entry)) mostNumbers) (now (sheet .entry)) (now (rows .entry)) ⌝ }
 {
-    let resolved = schema::resolve(sheet, rows);
+    let resolved = schema::resolve(edition, sheet, rows);
     let made = answer_text(resolved, rows, out);
     match made {
         Counted::Count(count) => count,

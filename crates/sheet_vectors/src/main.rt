@@ -1,11 +1,14 @@
-// Runs the library on the sheets of standard input and prints a line for each: what opening answers, and of one node the
+// Runs the library on the sheets of standard input, in the edition of its argument or in the first, and prints a line for each: what opening answers, and of one node the
 // numbers of its slot, the stretch of its name, whether its name is a text, and whether it is another's name with that text.
 //
 // Standard input is a count, and then each sheet as the length of its bytes, the node, the other node, the length of the
 // text, the text and the bytes. Each number is four bytes, the least first.
+use edition::is_known;
 use libc::STDIN_FILENO;
 use libc::STDOUT_FILENO;
 use refusal::Counted;
+use refusal::unknown_edition;
+use text::REFUSAL_ROOM;
 
 // Room for a sheet of two blocks more than there may be, for a text, and for a line.
 const SHEET_ROOM: usize = 66560;
@@ -17,20 +20,31 @@ const LINE_ROOM: usize = 512;
 fn main() {
     let mut sheet = [0u8; SHEET_ROOM];
     let mut text = [0u8; TEXT_ROOM];
-    run(&mut sheet, &mut text, read_number());
+    let edition = edition_argument::given();
+    if !is_known(edition) {
+        return print_refusal();
+    }
+    run(edition, &mut sheet, &mut text, read_number());
+}
+
+// An edition that is none is refused once, for all sheets.
+fn print_refusal() {
+    let mut line = [0u8; REFUSAL_ROOM];
+    let count = slot_text::refusal_line(Counted::Refused(unknown_edition()), &mut line);
+    io::write_all(STDOUT_FILENO, &line[..count]);
 }
 
 // Runs so many sheets, in the room lent for a sheet and a text.
-fn run(sheet: &mut [u8], text: &mut [u8], count: u32) {
+fn run(edition: u32, sheet: &mut [u8], text: &mut [u8], count: u32) {
     let mut done = 0;
     while done < count {
-        run_next(sheet, text);
+        run_next(edition, sheet, text);
         done += 1;
     }
 }
 
 // Runs the next sheet; one for which there is no room is left out.
-fn run_next(sheet: &mut [u8], text: &mut [u8]) {
+fn run_next(edition: u32, sheet: &mut [u8], text: &mut [u8]) {
     let length = read_number() as usize;
     let node = read_number() as usize;
     let other = read_number() as usize;
@@ -41,19 +55,25 @@ fn run_next(sheet: &mut [u8], text: &mut [u8]) {
     if text_length > text.len() {
         return;
     }
-    read_and_answer(&mut sheet[..length], node, other, &mut text[..text_length]);
+    read_and_answer(
+        edition,
+        &mut sheet[..length],
+        node,
+        other,
+        &mut text[..text_length],
+    );
 }
 
-fn read_and_answer(sheet: &mut [u8], node: usize, other: usize, text: &mut [u8]) {
+fn read_and_answer(edition: u32, sheet: &mut [u8], node: usize, other: usize, text: &mut [u8]) {
     io::read_full(STDIN_FILENO, text);
     io::read_full(STDIN_FILENO, sheet);
-    answer(sheet, node, other, text);
+    answer(edition, sheet, node, other, text);
 }
 
 // Prints the line of a sheet that was read. There is room for each.
-fn answer(bytes: &[u8], node: usize, other: usize, text: &[u8]) {
+fn answer(edition: u32, bytes: &[u8], node: usize, other: usize, text: &[u8]) {
     let mut line = [0u8; LINE_ROOM];
-    let opened = put_opened(&mut line, sheet::open(bytes));
+    let opened = put_opened(&mut line, sheet::open(edition, bytes));
     let slot = put_slot(&mut line, opened, bytes, node);
     let end = put_names(&mut line, slot, bytes, node, other, text);
     if end <= line.len() {

@@ -33,9 +33,9 @@ line-some [] h = absurd (omega arith)
 line-some (b ∷ bs) h = refl
 
 -- the text of the outcome
-pub opened-outcome : (sheet : List ℕ) → openedText (openOf sheet) ≡ outcomeText (outcome sheet)
+pub opened-outcome : (edition : ℕ) (sheet : List ℕ) → openedText (openOf edition sheet) ≡ outcomeText (outcome edition sheet)
 unfolding outcome outcomeOf openedText outcomeText
-opened-outcome sheet = by-answer (openOf sheet)
+opened-outcome edition sheet = by-answer (openOf edition sheet)
   where
     by-answer : (o : Counted) → openedText o ≡ outcomeText (outcomeOf sheet o)
     by-answer (Counted.Count total) = refl

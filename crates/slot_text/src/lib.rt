@@ -1,4 +1,4 @@
-// A sheet's slots and refusals 1 to 4, as text in a lent buffer.
+// A sheet's slots and refusals 21 and 1 to 4, as text in a lent buffer.
 //
 // A function that is lent a position answers the position after its text. Where the text does not fit from its position on,
 // nothing is written and the answer is one past the buffer's end, as in `text`.

@@ -17,7 +17,7 @@ enum-known-rewritten : tie.Need-enum-known-rewritten
 enum-known-rewritten c = search needs
 
 array-share-prefix-out : tie.Need-array-share-prefix-out
-array-share-prefix-out c = omega (arith, bytes-fit _ _ 0 _ (sym (c .before .before .before .before .rewrite .ensures .0) ∙ c .before .rewritten .given .1))
+array-share-prefix-out c = omega (arith, bytes-fit _ _ _ 0 _ (sym (c .before .before .before .before .rewrite .ensures .0) ∙ c .before .rewritten .given .1))
 
 slice-aggregate-write-all : tie.Need-slice-aggregate-write-all
 slice-aggregate-write-all c = sym (length-take-le _ _ (array-share-prefix-out (c .before)))

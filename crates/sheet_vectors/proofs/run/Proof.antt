@@ -7,10 +7,10 @@ use Rattle.sheet_vectors.proofs.run.Statement.{statement}
 use Rattle.sheet_vectors.proofs.run.Tie as tie
 
 abbrev Inv-loop : tie.InvT-loop
-Inv-loop sheet₀ text₀ count done₀ sheet text done = (done ≤ count) × (length sheet ≡ length sheet₀) × (length text ≡ length text₀)
+Inv-loop edition sheet₀ text₀ count done₀ sheet text done = (done ≤ count) × (length sheet ≡ length sheet₀) × (length text ≡ length text₀)
 
 abbrev μ-loop : tie.MeasureT-loop
-μ-loop sheet₀ text₀ count done₀ sheet text done = count - done
+μ-loop edition sheet₀ text₀ count done₀ sheet text done = count - done
 
 loop-holds : tie.Need-loop-holds Inv-loop μ-loop
 loop-holds c = search needs

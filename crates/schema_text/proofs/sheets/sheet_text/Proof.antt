@@ -11,7 +11,7 @@ use Rattle.schema_text.proofs.sheets.sheet_text.Statement.{statement}
 use Rattle.schema_text.proofs.sheets.sheet_text.Tie as tie
 
 -- what the two calls came to
-steps : (c : tie.After-answer-text) → Steps (c .before .before .before .before .before .before .before .args .sheet .now) (c .before .before .before .before .before .before .before .args .rows .now) (c .before .before .before .before .resolve .last .1 .0) (c .before .before .before .before .before .before .before .args .out .now) (c .answer-text .last .1 .1 .0) (c .before .before .before .before .resolve .result) (c .answer-text .result)
+steps : (c : tie.After-answer-text) → Steps (c .before .before .before .before .before .before .before .args .edition) (c .before .before .before .before .before .before .before .args .sheet .now) (c .before .before .before .before .before .before .before .args .rows .now) (c .before .before .before .before .resolve .last .1 .1 .0) (c .before .before .before .before .before .before .before .args .out .now) (c .answer-text .last .1 .1 .0) (c .before .before .before .before .resolve .result) (c .answer-text .result)
 steps c =
     let at-resolve = c .before .before .before .before in
     let start = at-resolve .before .before .before in
@@ -21,7 +21,7 @@ steps c =
       room = omega (arith, start .good);
       answered = resolve .ensures .0;
       left = resolve .ensures .1;
-      kept = resolve .kept .1 .0;
+      kept = resolve .kept .1 .1 .0;
       told = c .answer-text .ensures .0;
       filled = c .answer-text .ensures .1 .0;
       most = c .answer-text .ensures .1 .1;
@@ -42,11 +42,11 @@ enum-told c = search needs
 returns : tie.Need-returns
 returns c =
     let done = steps (c .before .before .before) in
-    let held = steps-hold done _ (c .before .made .given .1) in
-    ((holds-within held, sym (length-take-le _ _ (holds-within held))), (holds-front held, (holds-back held, steps-written done)))
+    let held = steps-hold _ done _ (c .before .made .given .1) in
+    ((holds-within held, sym (length-take-le _ _ (holds-within held))), (holds-front held, (holds-back held, steps-written _ done)))
 
 returns-2 : tie.Need-returns-2
-returns-2 c = absurd (refused-other _ _ (sym (c .enum-told .given .1) ∙ steps-made (steps (c .before .before))))
+returns-2 c = absurd (refused-other _ _ (sym (c .enum-told .given .1) ∙ steps-made _ (steps (c .before .before))))
 
 pub sheet-text-spec : {M : Type 1} → statement M
 sheet-text-spec =

@@ -1,19 +1,19 @@
--- `column_values::arguments_right` is safe and ends: it counts up.
+-- `column_values::numbers_right` is safe and ends: it counts up.
 -- Assumes nothing.
 use Prim.Native.Nat.{_≤_, _-_}
 use native.Mathlib.Omega.{arith}
 use borrow.Author.Needs.{needs}
-use Rattle.column_values.proofs.arguments_right.Statement.{statement}
-use Rattle.column_values.proofs.arguments_right.Tie as tie
+use Rattle.column_values.proofs.numbers_right.Statement.{statement}
+use Rattle.column_values.proofs.numbers_right.Tie as tie
 
 abbrev Inv-loop : tie.InvT-loop
-Inv-loop i₀ i = i ≤ 6
+Inv-loop first i₀ i = i ≤ 5
 
 abbrev μ-loop : tie.MeasureT-loop
-μ-loop i₀ i = 6 - i
+μ-loop first i₀ i = 5 - i
 
-pub arguments-right-spec : {M : Type 1} → statement M
-arguments-right-spec =
+pub numbers-right-spec : {M : Type 1} → statement M
+numbers-right-spec =
     tie.close
     (tie.spec
     Inv-loop
