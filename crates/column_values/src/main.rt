@@ -1,6 +1,7 @@
 // Reads one value of a column. The arguments are the five numbers of its column type, and standard input is the value. The edition may stand
 // before them; without it, it is the first.
 ghost use mathlib.Core.Path.{_≡_};
+ghost use Prim.Native.Nat.{_≤_};
 use column::MOST_BYTES;
 use column_text::LINE_ROOM;
 use column_type::ColumnType;
@@ -37,7 +38,9 @@ fn main() {
 }
 
 // Reads and prints in an edition, where the numbers of the column type stand from an argument on.
-fn run(edition: u32, first: usize) {
+fn run(edition: u32, first: usize)
+    requires { ⌜ first ≤ 2 ⌝ }
+{
     if numbers_right(first) {
         print_value(edition, read_type(first));
     } else {
@@ -62,7 +65,9 @@ fn print_usage() {
 }
 
 // Whether five arguments are numbers of 32 bits.
-fn numbers_right(first: usize) -> bool {
+fn numbers_right(first: usize) -> bool
+    requires { ⌜ first ≤ 2 ⌝ }
+{
     let mut i = 0;
     while i < NUMBERS {
         if argument_at(first + i) > GREATEST {
@@ -73,7 +78,9 @@ fn numbers_right(first: usize) -> bool {
     true
 }
 
-fn read_type(first: usize) -> ColumnType {
+fn read_type(first: usize) -> ColumnType
+    requires { ⌜ first ≤ 2 ⌝ }
+{
     let physical = number_at(first);
     let type_length = number_at(first + 1);
     let kind = number_at(first + 2);

@@ -1,5 +1,5 @@
--- What a C caller may rely on beyond each entry's contract.
-use Prim.Native.Nat.{_<_}
+-- What a C caller may rely on beyond each entry's contract, in any edition.
+use Prim.Native.Nat.{ℕ, _<_}
 use mathlib.Core.Path.{_≡_}
 use mathlib.Core.List.{List}
 use Rattle.c_answer.specs.Answers.{RESULT, numberIn, Effect, answer, left}
@@ -9,8 +9,8 @@ use Rattle.c_values.specs.Promises as values
 use Rattle.c_timestamps.specs.Promises as timestamps
 
 pub record Promises : Type 1 where
-  pub of-sheets : sheets.Promises
-  pub of-values : values.Promises
+  pub of-sheets : (edition : ℕ) → sheets.Promises edition
+  pub of-values : (edition : ℕ) → values.Promises edition
   pub of-timestamps : timestamps.Promises
   -- where an answer has a number, the output of reading, decoding and encoding is as it was
   pub unchanged : {A : Type 0} (e : Effect A) (lent : List A) → PacksEffect e → RESULT < numberIn (answer e) → left e lent ≡ lent

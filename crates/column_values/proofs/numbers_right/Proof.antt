@@ -18,8 +18,7 @@ numbers-right-spec =
     (tie.spec
     Inv-loop
     μ-loop
-    (λ c κs. search needs)
-    (λ c. tt)
+    (λ c. omega arith)
     (λ c. omega arith)
     (λ c κs. search needs)
     (λ c. tt)
