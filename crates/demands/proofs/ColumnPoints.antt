@@ -38,13 +38,13 @@ use Rattle.demands.specs.Points.{uint8, decimals}
 use Rattle.demands.specs.Requests.{strings}
 
 -- what reading and ordering compute with, opened
-read : ColumnType → List ℕ → Outcome Value
+read : (edition : ℕ) → ColumnType → List ℕ → Outcome Value
 unfolding reading.outcome readOf valueOf annotationPlace keeps wholeKeeps bytesKeep inSignedBits lengthRight little twosComplement number isLawful fits isLeaf physicalListed listed lengthShape isNought slotOf rule9 rule10 rule11 decimalHolds ordered physicalHolds annotationOf backwardOf statedOf namedOf validParameters unitOf bitWidthOf natural
-read = reading.outcome
+read edition = reading.outcome edition
 
-order : ColumnType → List ℕ → List ℕ → Sided Relation
+order : (edition : ℕ) → ColumnType → List ℕ → List ℕ → Sided Relation
 unfolding read outcome orderOf keyOrder keyOf wholeOrder numberOf
-order = outcome
+order edition = outcome edition
 
 -- and what text computes with besides
 text : List ℕ → ℕ
@@ -52,45 +52,45 @@ unfolding read order validUpTo utf8.reading leading matched spells inside utf8-c
 text = validUpTo
 
 -- "*INT(8, false): 255 valid, 256: 16"
-pub uint8-255 : reading.outcome uint8 (255 ∷ 0 ∷ 0 ∷ 0 ∷ []) ≡ given (Unsigned 255)
+pub uint8-255 : (edition : ℕ) → reading.outcome edition uint8 (255 ∷ 0 ∷ 0 ∷ 0 ∷ []) ≡ given (Unsigned 255)
 unfolding read
-uint8-255 = refl
+uint8-255 edition = refl
 
-pub uint8-256 : reading.outcome uint8 (0 ∷ 1 ∷ 0 ∷ 0 ∷ []) ≡ refused (refusal 16 0)
+pub uint8-256 : (edition : ℕ) → reading.outcome edition uint8 (0 ∷ 1 ∷ 0 ∷ 0 ∷ []) ≡ refused (refusal 16 0)
 unfolding read
-uint8-256 = refl
+uint8-256 edition = refl
 
 -- "*Precision 2: 63 hex valid, 64 hex 16"
-pub two-digits : reading.outcome (decimals 2) (0x63 ∷ []) ≡ given (Bytes 0 1)
+pub two-digits : (edition : ℕ) → reading.outcome edition (decimals 2) (0x63 ∷ []) ≡ given (Bytes 0 1)
 unfolding read
-two-digits = refl
+two-digits edition = refl
 
-pub three-digits : reading.outcome (decimals 2) (0x64 ∷ []) ≡ refused (refusal 16 0)
+pub three-digits : (edition : ℕ) → reading.outcome edition (decimals 2) (0x64 ∷ []) ≡ refused (refusal 16 0)
 unfolding read
-three-digits = refl
+three-digits edition = refl
 
 -- "BYTE_ARRAY decimals of precision 3: *FF and FFFF equal; *80 below 7F; *00FF above 7F"
-pub ff-ffff : outcome (decimals 3) (0xFF ∷ []) (0xFF ∷ 0xFF ∷ []) ≡ sided.given Equal
+pub ff-ffff : (edition : ℕ) → outcome edition (decimals 3) (0xFF ∷ []) (0xFF ∷ 0xFF ∷ []) ≡ sided.given Equal
 unfolding order
-ff-ffff = refl
+ff-ffff edition = refl
 
-pub minus-below-plus : outcome (decimals 3) (0x80 ∷ []) (0x7F ∷ []) ≡ sided.given Less
+pub minus-below-plus : (edition : ℕ) → outcome edition (decimals 3) (0x80 ∷ []) (0x7F ∷ []) ≡ sided.given Less
 unfolding order
-minus-below-plus = refl
+minus-below-plus edition = refl
 
-pub longer-above : outcome (decimals 3) (0x00 ∷ 0xFF ∷ []) (0x7F ∷ []) ≡ sided.given Greater
+pub longer-above : (edition : ℕ) → outcome edition (decimals 3) (0x00 ∷ 0xFF ∷ []) (0x7F ∷ []) ≡ sided.given Greater
 unfolding order
-longer-above = refl
+longer-above edition = refl
 
 -- document 02, R-6
-pub cut-off : reading.outcome strings (0x6B ∷ 0xC3 ∷ 0xA9 ∷ 0xE2 ∷ 0x82 ∷ []) ≡ refused (refusal 16 3)
+pub cut-off : (edition : ℕ) → reading.outcome edition strings (0x6B ∷ 0xC3 ∷ 0xA9 ∷ 0xE2 ∷ 0x82 ∷ []) ≡ refused (refusal 16 3)
 unfolding text
-cut-off = refl
+cut-off edition = refl
 
-pub second-bad : outcome strings (0x6B ∷ []) (0x6B ∷ 0xFF ∷ []) ≡ sided.refused (fault 2 (refusal 16 1))
+pub second-bad : (edition : ℕ) → outcome edition strings (0x6B ∷ []) (0x6B ∷ 0xFF ∷ []) ≡ sided.refused (fault 2 (refusal 16 1))
 unfolding text
-second-bad = refl
+second-bad edition = refl
 
-pub both-bad : outcome strings (0x6B ∷ 0x6B ∷ 0x80 ∷ []) (0xFF ∷ []) ≡ sided.refused (fault 1 (refusal 16 2))
+pub both-bad : (edition : ℕ) → outcome edition strings (0x6B ∷ 0x6B ∷ 0x80 ∷ []) (0xFF ∷ []) ≡ sided.refused (fault 1 (refusal 16 2))
 unfolding text
-both-bad = refl
+both-bad edition = refl

@@ -58,19 +58,19 @@ decodes-fields unit count f g p q =
     let same : _≡_ {A = Outcome Fields} (given f) (given g) = decodes-one (some unit) count (given f) (given g) p q in
     cc
 
-pub demand1 : Demand1
-demand1 =
+pub demand1 : (edition : ℕ) → Demand1 edition
+demand1 edition =
     record {
       chosen =
           record {
-            opening = sheets.opening-first;
-            judging = sheets.judging-first;
-            resolving = sheets.resolving-first;
-            rewriting = sheets.rewriting-first;
-            slot-resolving = sheets.slot-first;
-            slot-rewriting = sheets.slot-rewriting-first;
-            reading = values.reading-first;
-            ordering = values.ordering-first;
+            opening = sheets.opening-first edition;
+            judging = sheets.judging-first edition;
+            resolving = sheets.resolving-first edition;
+            rewriting = sheets.rewriting-first edition;
+            slot-resolving = sheets.slot-first edition;
+            slot-rewriting = sheets.slot-rewriting-first edition;
+            reading edition = values.reading-first edition;
+            ordering = values.ordering-first edition;
             decoding = values.decoding-first;
             decoding-one = λ unit count o o′. decodes-one (unitOf unit) count o o′;
             encoding = values.encoding-first;
@@ -78,24 +78,24 @@ demand1 =
             rows-text = sheets.rows-text-first;
             answer-rows = sheets.answer-rows-first;
             answer-refusal = sheets.answer-refusal-first;
-            c-reading = values.c-reading-first;
+            c-reading = values.c-reading-first edition;
             c-decoding = values.c-decoding-first;
             c-encoding = values.c-encoding-first;
           };
       unchanged =
           record {
-            rows = demand.refused-unchanged;
-            output = rewrite-kept;
+            rows = demand.refused-unchanged edition;
+            output = rewrite-kept edition;
             text-buffer = sheets.text-left;
-            c-value = λ c bs lent. values.refused-left (reading c bs (length lent)) lent;
+            c-value = λ c bs lent. values.refused-left (reading edition c bs (length lent)) lent;
             c-count = λ unit numbers lent. values.refused-left (encoding unit numbers (length lent)) lent;
             c-fields = values.fields-left;
             c-interface = promised;
           };
     }
 
-pub demand2 : Demand2
-demand2 =
+pub demand2 : (edition : ℕ) → Demand2 edition
+demand2 edition =
     record {
       resolving =
           record {
@@ -103,64 +103,64 @@ demand2 =
             forward-backward = forward-backward;
             never-map-key-value = forward-not-map-key-value;
             map-key-value = map-key-value;
-            resolves = λ sheet t h k l. subst (λ (ss : List SlotBytes). ResolvesTo (isUnderMap (ascent t k)) (getD ss k []) (kindIn (rows t) k)) (h .lists) (node-resolves t (h .keeps) k l);
+            resolves = λ sheet t h k l. subst (λ (ss : List SlotBytes). ResolvesTo (isUnderMap (ascent t k)) (getD ss k []) (kindIn (rows t) k)) (h .lists) (node-resolves edition t (h .keeps) k l);
             rows-kinds = rows-kinds;
           };
       rewriting =
           record {
-            accepts = rewriting.rewriting-accepts;
-            lawful = rewriting.rewritten-lawful;
-            same-outcome = rewriting.rewritten-outcome;
-            same-rows = rewriting.rewritten-rows;
-            again = rewriting.rewritten-rewritten;
-            written-back = written-back;
-            key-value-layer = key-value-bare;
+            accepts = rewriting.rewriting-accepts edition;
+            lawful = rewriting.rewritten-lawful edition;
+            same-outcome = rewriting.rewritten-outcome edition;
+            same-rows = rewriting.rewritten-rows edition;
+            again = rewriting.rewritten-rewritten edition;
+            written-back edition = written-back edition;
+            key-value-layer = key-value-bare edition;
             copied = rewriting.rewritten-copied;
-            stretch = rewriting.stretch-is;
-            before = rewriting.stretch-before;
-            after = rewriting.stretch-after;
+            stretch = rewriting.stretch-is edition;
+            before = rewriting.stretch-before edition;
+            after = rewriting.stretch-after edition;
           };
       values =
           record {
-            lawful-exactly = lawful-exactly;
-            unlawful-exactly = unlawful-exactly;
-            refused-unlawful = value.refused-unlawful;
-            wrong-length = value.wrong-length;
-            boolean = value.truth-held;
-            unsigned = value.unsigned-held;
-            signed = value.signed-held;
-            time = value.time-held;
-            decimal = value.decimal-whole-held;
-            decimal-bytes = value.decimal-bytes-held;
-            text = value.text-held;
+            lawful-exactly edition = lawful-exactly edition;
+            unlawful-exactly edition = unlawful-exactly edition;
+            refused-unlawful = value.refused-unlawful edition;
+            wrong-length = value.wrong-length edition;
+            boolean = value.truth-held edition;
+            unsigned = value.unsigned-held edition;
+            signed = value.signed-held edition;
+            time = value.time-held edition;
+            decimal = value.decimal-whole-held edition;
+            decimal-bytes = value.decimal-bytes-held edition;
+            text = value.text-held edition;
             text-exactly = validUpTo-length;
             fits-exactly = fitOf-exactly;
-            unknown = value.unknown-refused;
-            any-whole = value.any-whole;
-            any-float = value.any-float;
-            any-double = value.any-double;
-            any-int96 = value.any-int96;
-            any-bytes = value.any-bytes;
+            unknown = value.unknown-refused edition;
+            any-whole = value.any-whole edition;
+            any-float = value.any-float edition;
+            any-double = value.any-double edition;
+            any-int96 = value.any-int96 edition;
+            any-bytes = value.any-bytes edition;
           };
       ordering =
           record {
-            given-exactly = ordered.given-exactly;
-            no-order = ordered.no-order-exactly;
+            given-exactly = ordered.given-exactly edition;
+            no-order = ordered.no-order-exactly edition;
             has-order = λ c. (ordered.no-order-tested c, ordered.tested-no-order c);
-            signed = ordered.signed-order;
-            unsigned = ordered.unsigned-order;
-            boolean = ordered.truth-order;
-            decimal-bytes = ordered.decimal-bytes-order;
-            decimals = ordered.decimals-order;
-            bytes = ordered.bytes-order;
-            float = ordered.float-order;
-            double = ordered.double-order;
-            float-unordered = ordered.float-unordered;
-            double-unordered = ordered.double-unordered;
-            order-turned = order.order-turned;
-            order-trans = order.order-trans;
-            order-antisym = order.order-antisym;
-            order-total = order.order-total;
+            signed = ordered.signed-order edition;
+            unsigned = ordered.unsigned-order edition;
+            boolean = ordered.truth-order edition;
+            decimal-bytes = ordered.decimal-bytes-order edition;
+            decimals = ordered.decimals-order edition;
+            bytes = ordered.bytes-order edition;
+            float = ordered.float-order edition;
+            double = ordered.double-order edition;
+            float-unordered = ordered.float-unordered edition;
+            double-unordered = ordered.double-unordered edition;
+            order-turned = order.order-turned edition;
+            order-trans = order.order-trans edition;
+            order-antisym = order.order-antisym edition;
+            order-total = order.order-total edition;
           };
       timestamps =
           record {
@@ -174,25 +174,25 @@ demand2 =
           };
     }
 
-pub reader : Reader
-reader =
+pub reader : (edition : ℕ) → Reader edition
+reader edition =
     record {
-      handed-out = steps-handouts;
-      all-handed-out = steps-all;
-      held = λ sheet n. movedBy-sheet n (openedOn sheet);
-      found = λ sheet n. movedBy-opened n (openedOn sheet);
+      handed-out = steps-handouts edition;
+      all-handed-out = steps-all edition;
+      held = λ sheet n. movedBy-sheet n (openedOn edition sheet);
+      found = λ sheet n. movedBy-opened n (openedOn edition sheet);
     }
 
-pub demand3 : Demand3
-demand3 =
+pub demand3 : (edition : ℕ) → Demand3 edition
+demand3 edition =
     record {
-      accepted-exactly = demand.accepted-exactly;
-      one-tree = demand.one-tree;
-      rows-are = demand.rows-are;
-      rows-length = demand.rows-length;
+      accepted-exactly = demand.accepted-exactly edition;
+      one-tree = demand.one-tree edition;
+      rows-are = demand.rows-are edition;
+      rows-length = demand.rows-length edition;
       roles =
           λ sheet t h k l.
-          let exactly = roles-exactly t (h .keeps) k l in
+          let exactly = roles-exactly edition t (h .keeps) k l in
           record {
             field = exactly 0;
             list-layer = exactly 1;
@@ -203,8 +203,8 @@ demand3 =
             value = exactly 6;
             bare-repeated = exactly 7;
           };
-      sound-exactly = demand.sound-exactly;
+      sound-exactly = demand.sound-exactly edition;
       six-five-or-tree = six-five-or-tree;
       tree-neither = tree-neither;
-      seven-to-thirteen = treeRefusal-tree;
+      seven-to-thirteen = treeRefusal-tree edition;
     }

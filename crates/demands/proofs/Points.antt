@@ -4,8 +4,8 @@ use Rattle.demands.proofs.TimePoints.{third-day, tick-before, least-nan
 use Rattle.demands.proofs.ColumnPoints.{ff-ffff, minus-below-plus, longer-above, two-digits, three-digits, uint8-255, uint8-256}
 use Rattle.demands.proofs.SheetPoints.{fixed-1-precision-3, scale-is-precision, time-millis-with-nanos, root-alone}
 
-pub points-hold : Hold points
-points-hold = (
+pub points-hold : (edition : ℕ) → Hold points edition
+points-hold edition = (
   third-day,
   (
     tick-before,
@@ -18,27 +18,27 @@ points-hold = (
           (
             no-leap-nanos,
             (
-              ff-ffff,
+              ff-ffff edition,
               (
-                minus-below-plus,
+                minus-below-plus edition,
                 (
-                  longer-above,
+                  longer-above edition,
                   (
-                    two-digits,
+                    two-digits edition,
                     (
-                      three-digits,
+                      three-digits edition,
                       (
-                        fixed-1-precision-3,
+                        fixed-1-precision-3 edition,
                         (
-                          uint8-255,
+                          uint8-255 edition,
                           (
-                            uint8-256,
+                            uint8-256 edition,
                             (
-                              scale-is-precision,
+                              scale-is-precision edition,
                               (
-                                time-millis-with-nanos,
+                                time-millis-with-nanos edition,
                                 (
-                                  root-alone,
+                                  root-alone edition,
                                   tt,
                                 ),
                               ),

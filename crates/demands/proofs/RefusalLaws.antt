@@ -110,9 +110,9 @@ opened-first number n right next gs a rest = either (ltb (firstWrong right n) n)
     either false = rest
 
 -- 1 to 4
-pub opening-first : (sheet : List ℕ) → counted (openOf sheet) ≡ first (openingGrounds sheet) (totalOf sheet)
+pub opening-first : (edition : ℕ) (sheet : List ℕ) → counted (openOf edition sheet) ≡ first (openingGrounds edition sheet) (totalOf sheet)
 unfolding openOf first
-opening-first sheet = by-length (lengthRight (length sheet))
+opening-first edition sheet = by-length (lengthRight (length sheet))
   where
     checks : List Ground
     checks = each 2 (λ b. not (checkRight sheet b)) (blockCount sheet)
@@ -166,13 +166,13 @@ deep-first (d ∷ ds) k a =
     (λ e. rw (e, lt-ltb 32 d (leb-false d mostDepth e)))
 
 -- 8 to 13
-node-first : (k : ℕ) (p : Standing) (s : SlotBytes) (fs : Fields) (ns : List ℕ) (gs : List Ground) (a : ℕ) → judgingEnd (firstFault (suc k) ns) a ≡ first gs a → judgingEnd (firstFault k (broken p s fs ∷ ns)) a ≡ first (nodeGrounds k p s fs ++ gs) a
+node-first : (edition : ℕ) (k : ℕ) (p : Standing) (s : SlotBytes) (fs : Fields) (ns : List ℕ) (gs : List Ground) (a : ℕ) → judgingEnd (firstFault (suc k) ns) a ≡ first gs a → judgingEnd (firstFault k (broken edition p s fs ∷ ns)) a ≡ first (nodeGrounds edition k p s fs ++ gs) a
 unfolding firstFault broken first
-node-first k p s fs ns gs a rest =
+node-first edition k p s fs ns gs a rest =
     by-test (rule8 p s fs)
     (λ e. by-test (rule9 s)
     (λ f. by-test (rule10 (underMap p) s)
-    (λ g. by-test (rule11 (underMap p) s)
+    (λ g. by-test (rule11 edition (underMap p) s)
     (λ h. by-test (rule12 p s fs)
     (λ i. by-test (rule13 p s fs) (λ j. rw (e, f, g, h, i, j) rest) (λ j. rw (e, f, g, h, i, j)))
     (λ i. rw (e, f, g, h, i)))
@@ -184,15 +184,15 @@ node-first k p s fs ns gs a rest =
 mutual
   unfolding faults ruleGrounds firstFault first
 
-  rules-first : (t : Tree) (p : Standing) (k a : ℕ) → judgingEnd (firstFault k (faults p t)) a ≡ first (ruleGrounds k p t) a
-  rules-first (node s fs) p k a =
-      node-first k p s fs (runFaults (standingBelow p s) fs) (runGrounds (suc k) (standingBelow p s) fs) a (run-first fs (standingBelow p s) (suc k) a)
+  rules-first : (edition : ℕ) (t : Tree) (p : Standing) (k a : ℕ) → judgingEnd (firstFault k (faults edition p t)) a ≡ first (ruleGrounds edition k p t) a
+  rules-first edition (node s fs) p k a =
+      node-first edition k p s fs (runFaults edition (standingBelow p s) fs) (runGrounds edition (suc k) (standingBelow p s) fs) a (run-first edition fs (standingBelow p s) (suc k) a)
 
-  run-first : (fs : Fields) (p : Standing) (k a : ℕ) → judgingEnd (firstFault k (runFaults p fs)) a ≡ first (runGrounds k p fs) a
-  run-first empty p k a = refl
-  run-first (field t fs) p k a =
-      ap (λ (v : Verdict). judgingEnd v a) (firstFault-append k (faults p t) (runFaults p fs) ∙ ap (λ (n : ℕ). orElse (firstFault k (faults p t)) (firstFault (k + n) (runFaults p fs))) (length-faults t p))
-      ∙ end-both (firstFault k (faults p t)) (firstFault (k + size t) (runFaults p fs)) (ruleGrounds k p t) (runGrounds (k + size t) p fs) a (rules-first t p k a) (run-first fs p (k + size t) a)
+  run-first : (edition : ℕ) (fs : Fields) (p : Standing) (k a : ℕ) → judgingEnd (firstFault k (runFaults edition p fs)) a ≡ first (runGrounds edition k p fs) a
+  run-first edition empty p k a = refl
+  run-first edition (field t fs) p k a =
+      ap (λ (v : Verdict). judgingEnd v a) (firstFault-append k (faults edition p t) (runFaults edition p fs) ∙ ap (λ (n : ℕ). orElse (firstFault k (faults edition p t)) (firstFault (k + n) (runFaults edition p fs))) (length-faults edition t p))
+      ∙ end-both (firstFault k (faults edition p t)) (firstFault (k + size t) (runFaults edition p fs)) (ruleGrounds edition k p t) (runGrounds edition (k + size t) p fs) a (rules-first edition t p k a) (run-first edition fs p (k + size t) a)
 
 -- 5 and 6, and what follows
 places-first : (ss : List SlotBytes) (rest : Verdict) (gs : List Ground) (a : ℕ) → judgingEnd rest a ≡ first gs a → judgingEnd (orElse (leftOver ss) (orElse (missing ss) rest)) a ≡ first (missingGround ss ∷ (leftOverGrounds ss ++ gs)) a
@@ -219,28 +219,28 @@ places-first ss rest gs a e =
     either false false = refl
 
 -- 5 to 13
-pub tree-first : (ss : List SlotBytes) (a : ℕ) → judgingEnd (treeRefusal ss) a ≡ first (treeGrounds ss) a
+pub tree-first : (edition : ℕ) (ss : List SlotBytes) (a : ℕ) → judgingEnd (treeRefusal edition ss) a ≡ first (treeGrounds edition ss) a
 unfolding treeRefusal tooDeep unlawful
-tree-first ss a =
-    places-first ss (orElse (tooDeep (treeOf ss)) (unlawful (treeOf ss))) (deepGrounds 0 (depths 0 (treeOf ss)) ++ ruleGrounds 0 Root (treeOf ss)) a
-    (end-both (tooDeep (treeOf ss)) (unlawful (treeOf ss)) (deepGrounds 0 (depths 0 (treeOf ss))) (ruleGrounds 0 Root (treeOf ss)) a (deep-first (depths 0 (treeOf ss)) 0 a) (rules-first (treeOf ss) Root 0 a))
-    ∙ ap (λ (gs : List Ground). first (missingGround ss ∷ gs) a) (sym (append-assoc (leftOverGrounds ss) (deepGrounds 0 (depths 0 (treeOf ss))) (ruleGrounds 0 Root (treeOf ss))))
+tree-first edition ss a =
+    places-first ss (orElse (tooDeep (treeOf ss)) (unlawful edition (treeOf ss))) (deepGrounds 0 (depths 0 (treeOf ss)) ++ ruleGrounds edition 0 Root (treeOf ss)) a
+    (end-both (tooDeep (treeOf ss)) (unlawful edition (treeOf ss)) (deepGrounds 0 (depths 0 (treeOf ss))) (ruleGrounds edition 0 Root (treeOf ss)) a (deep-first (depths 0 (treeOf ss)) 0 a) (rules-first edition (treeOf ss) Root 0 a))
+    ∙ ap (λ (gs : List Ground). first (missingGround ss ∷ gs) a) (sym (append-assoc (leftOverGrounds ss) (deepGrounds 0 (depths 0 (treeOf ss))) (ruleGrounds edition 0 Root (treeOf ss))))
 
 -- 1 to 13
-judgement-first : (sheet : List ℕ) → judgingEnd (judgement sheet) (totalOf sheet) ≡ first (judgingGrounds sheet) (totalOf sheet)
+judgement-first : (edition : ℕ) (sheet : List ℕ) → judgingEnd (judgement edition sheet) (totalOf sheet) ≡ first (judgingGrounds edition sheet) (totalOf sheet)
 unfolding judgement judgedAs opened.outcome opened.outcomeOf
-judgement-first sheet =
-    behind (openOf sheet)
-    ∙ ap (λ (e : Outcome ℕ). andThen e (first (treeGrounds (slots sheet)) (totalOf sheet))) (opening-first sheet)
-    ∙ sym (first-append (openingGrounds sheet) (treeGrounds (slots sheet)) (totalOf sheet))
+judgement-first edition sheet =
+    behind (openOf edition sheet)
+    ∙ ap (λ (e : Outcome ℕ). andThen e (first (treeGrounds edition (slots sheet)) (totalOf sheet))) (opening-first edition sheet)
+    ∙ sym (first-append (openingGrounds edition sheet) (treeGrounds edition (slots sheet)) (totalOf sheet))
   where
-    behind : (o : Counted) → judgingEnd (judgedAs (opened.outcomeOf sheet o)) (totalOf sheet) ≡ andThen (counted o) (first (treeGrounds (slots sheet)) (totalOf sheet))
-    behind (Counted.Count t) = tree-first (slots sheet) (totalOf sheet)
+    behind : (o : Counted) → judgingEnd (judgedAs edition (opened.outcomeOf sheet o)) (totalOf sheet) ≡ andThen (counted o) (first (treeGrounds edition (slots sheet)) (totalOf sheet))
+    behind (Counted.Count t) = tree-first edition (slots sheet) (totalOf sheet)
     behind (Counted.Refused r) = refl
 
-pub judging-first : (sheet : List ℕ) → counted (judgementOf sheet) ≡ first (judgingGrounds sheet) (totalOf sheet)
+pub judging-first : (edition : ℕ) (sheet : List ℕ) → counted (judgementOf edition sheet) ≡ first (judgingGrounds edition sheet) (totalOf sheet)
 unfolding judgementOf judgedNodes
-judging-first sheet = by-verdict (judgement sheet) ∙ judgement-first sheet
+judging-first edition sheet = by-verdict (judgement edition sheet) ∙ judgement-first edition sheet
   where
     by-verdict : (v : Verdict) → counted (judgedNodes v (totalOf sheet)) ≡ judgingEnd v (totalOf sheet)
     by-verdict Verdict.Lawful = refl
@@ -248,23 +248,23 @@ judging-first sheet = by-verdict (judgement sheet) ∙ judgement-first sheet
 
 -- 14 behind them ---------------------------------------------------------------------------------------------------------------------
 
-pub resolving-first : (sheet : List ℕ) (lent : ℕ) → counted (schema.outcome sheet lent) ≡ first (resolvingGrounds sheet lent) (totalOf sheet)
+pub resolving-first : (edition : ℕ) (sheet : List ℕ) (lent : ℕ) → counted (schema.outcome edition sheet lent) ≡ first (resolvingGrounds edition sheet lent) (totalOf sheet)
 unfolding schema.outcome schema.answer first
-resolving-first sheet lent =
-    behind (judgement sheet)
-    ∙ ap (λ (e : Outcome ℕ). andThen e (first (ground 14 0 (ltb lent (11 * totalOf sheet)) ∷ []) (totalOf sheet))) (judgement-first sheet)
-    ∙ sym (first-append (judgingGrounds sheet) (ground 14 0 (ltb lent (11 * totalOf sheet)) ∷ []) (totalOf sheet))
+resolving-first edition sheet lent =
+    behind (judgement edition sheet)
+    ∙ ap (λ (e : Outcome ℕ). andThen e (first (ground 14 0 (ltb lent (11 * totalOf sheet)) ∷ []) (totalOf sheet))) (judgement-first edition sheet)
+    ∙ sym (first-append (judgingGrounds edition sheet) (ground 14 0 (ltb lent (11 * totalOf sheet)) ∷ []) (totalOf sheet))
   where
     behind : (v : Verdict) → counted (schema.answer v (totalOf sheet) lent) ≡ andThen (judgingEnd v (totalOf sheet)) (first (ground 14 0 (ltb lent (11 * totalOf sheet)) ∷ []) (totalOf sheet))
     behind (Verdict.Refused r) = refl
     behind Verdict.Lawful = by-test (ltb lent (11 * totalOf sheet)) (λ e. rw e) (λ e. rw e)
 
-pub rewriting-first : (sheet : List ℕ) (lent start : ℕ) → counted (rewriteOutcome sheet lent start) ≡ first (rewritingGrounds sheet lent start) (length sheet)
+pub rewriting-first : (edition : ℕ) (sheet : List ℕ) (lent start : ℕ) → counted (rewriteOutcome edition sheet lent start) ≡ first (rewritingGrounds edition sheet lent start) (length sheet)
 unfolding rewriteOutcome rewriteAnswer first
-rewriting-first sheet lent start =
-    behind (judgement sheet)
-    ∙ ap (λ (e : Outcome ℕ). andThen e short) (sized (judgement sheet) (judgingGrounds sheet) (judgement-first sheet))
-    ∙ sym (first-append (judgingGrounds sheet) grounds (length sheet))
+rewriting-first edition sheet lent start =
+    behind (judgement edition sheet)
+    ∙ ap (λ (e : Outcome ℕ). andThen e short) (sized (judgement edition sheet) (judgingGrounds edition sheet) (judgement-first edition sheet))
+    ∙ sym (first-append (judgingGrounds edition sheet) grounds (length sheet))
   where
     grounds : List Ground
     grounds = ground 14 0 (ltb lent (start + length sheet)) ∷ ground 14 0 (ltb lent start) ∷ []
@@ -298,18 +298,18 @@ rewriting-first sheet lent start =
 
 -- slots --------------------------------------------------------------------------------------------------------------------------------
 
-pub slot-first : (k : ℕ) (n : Annotated) (under : Bool) → annotation.outcome k n under ≡ first (slotGrounds k n under) (kindOf n under)
+pub slot-first : (edition : ℕ) (k : ℕ) (n : Annotated) (under : Bool) → annotation.outcome edition k n under ≡ first (slotGrounds edition k n under) (kindOf n under)
 unfolding annotation.outcome annotation.resolutionOf first
-slot-first k n under =
+slot-first edition k n under =
     by-test (nine.rule9 n)
-    (λ e. by-test (ten.rule10 n under) (λ f. by-test (eleven.rule11 n under) (λ g. rw (e, f, g)) (λ g. rw (e, f, g))) (λ f. rw (e, f)))
+    (λ e. by-test (ten.rule10 n under) (λ f. by-test (eleven.rule11 edition n under) (λ g. rw (e, f, g)) (λ g. rw (e, f, g))) (λ f. rw (e, f)))
     (λ e. rw e)
 
-pub slot-rewriting-first : (k : ℕ) (n : Annotated) (under : Bool) → slot_rewriting.outcome k n under ≡ first (slotGrounds k n under) (writtenOf n under)
+pub slot-rewriting-first : (edition : ℕ) (k : ℕ) (n : Annotated) (under : Bool) → slot_rewriting.outcome edition k n under ≡ first (slotGrounds edition k n under) (writtenOf n under)
 unfolding slot_rewriting.outcome slot_rewriting.rewritingOf annotation.resolutionOf first
-slot-rewriting-first k n under =
+slot-rewriting-first edition k n under =
     by-test (nine.rule9 n)
-    (λ e. by-test (ten.rule10 n under) (λ f. by-test (eleven.rule11 n under) (λ g. rw (e, f, g)) (λ g. rw (e, f, g))) (λ f. rw (e, f)))
+    (λ e. by-test (ten.rule10 n under) (λ f. by-test (eleven.rule11 edition n under) (λ g. rw (e, f, g)) (λ g. rw (e, f, g))) (λ f. rw (e, f)))
     (λ e. rw e)
 
 -- texts ------------------------------------------------------------------------------------------------------------------------------

@@ -62,9 +62,9 @@ unfolding slotRight slotSound codesListed listed physicalListed repetitionListed
 slot-layer = slotRight
 
 -- what opening answers
-sheet-layer : List ℕ → Outcome sheet.Nodes
+sheet-layer : (edition : ℕ) → List ℕ → Outcome sheet.Nodes
 unfolding sheet.outcome sheet.outcomeOf sheet.openOf sheet.atFirst firstWrong firstWrongFrom block-layer slot-layer
-sheet-layer = sheet.outcome
+sheet-layer edition = sheet.outcome edition
 
 -- what a slot's annotations say
 annotation-layer : Bool → List ℕ → Kind
@@ -72,49 +72,49 @@ unfolding kind annotated kindOf annotationOf backwardOf statedOf namedOf unitOf 
 annotation-layer = kind
 
 -- the rules of a node
-rule-layer : Standing → SlotBytes → Fields → ℕ
+rule-layer : (edition : ℕ) → Standing → SlotBytes → Fields → ℕ
 unfolding broken rule8 shape lengthShape decimalShape isNought rule9 rule10 rule11 rule12 rule13 isList isMap standingBelow listKept listRun listChild isElementGroup namedElement isRepeated holdsElement nine.rule9 ten.rule10 eleven.rule11 eleven.decimalHolds eleven.ordered eleven.physicalHolds annotation-layer
-rule-layer = broken
+rule-layer edition = broken edition
 
 -- the tree that the slots spell, and its judgement
-tree-layer : List ℕ → Verdict
+tree-layer : (edition : ℕ) → List ℕ → Verdict
 unfolding judgement judgedAs treeRefusal orElse leftOver missing openPlaces sum isNoPlace tooDeep deepness firstFault unlawful faults treeOf firstTree trees takeFields dropFields depths count sheet-layer rule-layer
-tree-layer = judgement
+tree-layer edition = judgement edition
 
-opened : List ℕ → ℕ → Counted
+opened : (edition : ℕ) → List ℕ → ℕ → Counted
 unfolding outcome answer sheetOf blockOf uncheckedBlock joinBelow bytesOf emptySlot tree-layer
-opened = outcome
+opened edition = outcome edition
 
 -- "One root alone: accepted"
-pub root-alone : outcome (sheetOf (rootSlot 0 ∷ [])) rowWidth ≡ Counted.Count 1
+pub root-alone : (edition : ℕ) → outcome edition (sheetOf (rootSlot 0 ∷ [])) rowWidth ≡ Counted.Count 1
 unfolding opened
-root-alone = refl
+root-alone edition = refl
 
 -- "Scale = precision: 11"
-pub scale-is-precision : outcome (leafSheet physical.INT32 converted.NONE logical.DECIMAL UNUSED UNUSED 0 3 3) (rowWidth * 2) ≡ Counted.Refused (refusal 11 1)
+pub scale-is-precision : (edition : ℕ) → outcome edition (leafSheet physical.INT32 converted.NONE logical.DECIMAL UNUSED UNUSED 0 3 3) (rowWidth * 2) ≡ Counted.Refused (refusal 11 1)
 unfolding opened
-scale-is-precision = refl
+scale-is-precision edition = refl
 
 -- "TIME_MILLIS with TIME(NANOS): 9"
-pub time-millis-with-nanos : outcome (leafSheet physical.INT64 converted.TIME-MILLIS logical.TIME (unitCode TimeUnit.Nanos) (flagCode true) 0 0 0) (rowWidth * 2) ≡ Counted.Refused (refusal 9 1)
+pub time-millis-with-nanos : (edition : ℕ) → outcome edition (leafSheet physical.INT64 converted.TIME-MILLIS logical.TIME (unitCode TimeUnit.Nanos) (flagCode true) 0 0 0) (rowWidth * 2) ≡ Counted.Refused (refusal 9 1)
 unfolding opened
-time-millis-with-nanos = refl
+time-millis-with-nanos edition = refl
 
-pub example-accepted : outcome exampleSheet (rowWidth * 4) ≡ Counted.Count 4
+pub example-accepted : (edition : ℕ) → outcome edition exampleSheet (rowWidth * 4) ≡ Counted.Count 4
 unfolding opened
-example-accepted = refl
+example-accepted edition = refl
 
 -- with the levels of document 02's R-8
-pub example-rows : written (outcome exampleSheet (rowWidth * 4)) exampleSheet (replicate (rowWidth * 4) 0) ≡ exampleRows
+pub example-rows : (edition : ℕ) → written (outcome edition exampleSheet (rowWidth * 4)) exampleSheet (replicate (rowWidth * 4) 0) ≡ exampleRows
 unfolding opened written rows rowsFrom row parentOf parentBy role listRole howMany size listing
-example-rows = refl
+example-rows edition = refl
 
 -- document 02, R-2
-pub repeated-rows : written (outcome repeatedSheet (rowWidth * 4)) repeatedSheet (replicate (rowWidth * 4) 0) ≡ repeatedRows
+pub repeated-rows : (edition : ℕ) → written (outcome edition repeatedSheet (rowWidth * 4)) repeatedSheet (replicate (rowWidth * 4) 0) ≡ repeatedRows
 unfolding opened written rows rowsFrom row parentOf parentBy role listRole howMany size listing
-repeated-rows = refl
+repeated-rows edition = refl
 
 -- "FIXED 1 precision 3: 11"
-pub fixed-1-precision-3 : outcome (leafSheet physical.FIXED-LEN-BYTE-ARRAY converted.NONE logical.DECIMAL UNUSED UNUSED 1 0 3) (rowWidth * 2) ≡ Counted.Refused (refusal 11 1)
+pub fixed-1-precision-3 : (edition : ℕ) → outcome edition (leafSheet physical.FIXED-LEN-BYTE-ARRAY converted.NONE logical.DECIMAL UNUSED UNUSED 1 0 3) (rowWidth * 2) ≡ Counted.Refused (refusal 11 1)
 unfolding opened greatestPrecision greatest
-fixed-1-precision-3 = refl
+fixed-1-precision-3 edition = refl

@@ -37,17 +37,17 @@ use Rattle.demands.specs.Refusals.{unsided, ground, first, readingGround
 
 -- values ---------------------------------------------------------------------------------------------------------------------------
 
-pub reading-first : (c : ColumnType) (bs : List ℕ) → column.outcome c bs ≡ first (readingGrounds c bs) (valueOf c bs)
+pub reading-first : (edition : ℕ) (c : ColumnType) (bs : List ℕ) → column.outcome edition c bs ≡ first (readingGrounds edition c bs) (valueOf c bs)
 unfolding column.outcome readOf first
-reading-first c bs =
-    by-test (isLawful c)
+reading-first edition c bs =
+    by-test (isLawful edition c)
     (λ e. by-test (value.lengthRight c (length bs)) (λ f. by-test (keeps c bs) (λ g. rw (e, f, g)) (λ g. rw (e, f, g))) (λ f. rw (e, f)))
     (λ e. rw e)
 
-pub ordering-first : (c : ColumnType) (a b : List ℕ) → unsided (column_order.outcome c a b) ≡ first (orderingGrounds c a b) (keyOrder (keyOf c a) (keyOf c b))
+pub ordering-first : (edition : ℕ) (c : ColumnType) (a b : List ℕ) → unsided (column_order.outcome edition c a b) ≡ first (orderingGrounds edition c a b) (keyOrder (keyOf c a) (keyOf c b))
 unfolding column_order.outcome orderOf readOf first
-ordering-first c a b =
-    by-test (isLawful c)
+ordering-first edition c a b =
+    by-test (isLawful edition c)
     (λ e. by-test (hasOrder c)
     (λ f. by-test (value.lengthRight c (length a))
     (λ g. by-test (keeps c a)
@@ -120,10 +120,10 @@ within-first : {A : Type 0} (lent value : ℕ) (numbers : List A) → within len
 unfolding first
 within-first lent value numbers = by-test (ltb lent (length numbers)) (λ e. rw e) (λ e. rw e)
 
-pub c-reading-first : (c : ColumnType) (bs : List ℕ) (lent : ℕ) → c_values.reading c bs lent ≡ first (cReadingGrounds c bs lent) (written (caseOf (valueOf c bs)) (numbersOf (valueOf c bs)))
+pub c-reading-first : (edition : ℕ) (c : ColumnType) (bs : List ℕ) (lent : ℕ) → c_values.reading edition c bs lent ≡ first (cReadingGrounds edition c bs lent) (written (caseOf (valueOf c bs)) (numbersOf (valueOf c bs)))
 unfolding c_values.reading column.outcome readOf first
-c-reading-first c bs lent =
-    by-test (isLawful c)
+c-reading-first edition c bs lent =
+    by-test (isLawful edition c)
     (λ e. by-test (value.lengthRight c (length bs))
     (λ f. by-test (keeps c bs)
     (λ g. rw (e, f, g) (within-first lent (caseOf (valueOf c bs)) (numbersOf (valueOf c bs)) ∙ ap (λ (n : ℕ). first (ground 14 0 (ltb lent n) ∷ []) (written (caseOf (valueOf c bs)) (numbersOf (valueOf c bs)))) (numbersOf-length (valueOf c bs))))

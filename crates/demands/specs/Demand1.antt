@@ -47,22 +47,22 @@ use Rattle.griffeljol.specs.Promises.{Promises}
 use Rattle.demands.specs.Refusals.{unsided, first, openingGrounds, judgingGrounds, resolvingGrounds, rewritingGrounds, slotGrounds, readingGrounds, orderingGrounds, unknownUnit, ticks, encodingGrounds, rowsTextGrounds, shortFor, cReadingGrounds, cDecodingGrounds, cEncodingGrounds}
 
 -- "Each call ends with the result or one numbered refusal, chosen in the order document 01 states"
-pub record Chosen : Type 1 where
+pub record Chosen (edition : ℕ) : Type 1 where
   -- `sheet::open`, and `sheet_reader::open`, which keeps what it answers
-  pub opening : (sheet : List ℕ) → counted (openOf sheet) ≡ first (openingGrounds sheet) (totalOf sheet)
+  pub opening : (sheet : List ℕ) → counted (openOf edition sheet) ≡ first (openingGrounds edition sheet) (totalOf sheet)
   -- `tree::judge`
-  pub judging : (sheet : List ℕ) → counted (judgementOf sheet) ≡ first (judgingGrounds sheet) (totalOf sheet)
+  pub judging : (sheet : List ℕ) → counted (judgementOf edition sheet) ≡ first (judgingGrounds edition sheet) (totalOf sheet)
   -- `schema::resolve`, and in C, which answers the same outcome as one number
-  pub resolving : (sheet : List ℕ) (lent : ℕ) → counted (schema.outcome sheet lent) ≡ first (resolvingGrounds sheet lent) (totalOf sheet)
+  pub resolving : (sheet : List ℕ) (lent : ℕ) → counted (schema.outcome edition sheet lent) ≡ first (resolvingGrounds edition sheet lent) (totalOf sheet)
   -- `schema::rewrite`, and in C
-  pub rewriting : (sheet : List ℕ) (lent start : ℕ) → counted (rewriteOutcome sheet lent start) ≡ first (rewritingGrounds sheet lent start) (length sheet)
+  pub rewriting : (sheet : List ℕ) (lent start : ℕ) → counted (rewriteOutcome edition sheet lent start) ≡ first (rewritingGrounds edition sheet lent start) (length sheet)
   -- `annotation::resolve` and `annotation::rewrite`, of a slot that is node k's
-  pub slot-resolving : (k : ℕ) (n : Annotated) (under : Bool) → annotation.outcome k n under ≡ first (slotGrounds k n under) (kindOf n under)
-  pub slot-rewriting : (k : ℕ) (n : Annotated) (under : Bool) → annotation_rewriting.outcome k n under ≡ first (slotGrounds k n under) (writtenOf n under)
+  pub slot-resolving : (k : ℕ) (n : Annotated) (under : Bool) → annotation.outcome edition k n under ≡ first (slotGrounds edition k n under) (kindOf n under)
+  pub slot-rewriting : (k : ℕ) (n : Annotated) (under : Bool) → annotation_rewriting.outcome edition k n under ≡ first (slotGrounds edition k n under) (writtenOf n under)
   -- `column::read`
-  pub reading : (c : ColumnType) (bs : List ℕ) → column.outcome c bs ≡ first (readingGrounds c bs) (valueOf c bs)
+  pub reading : (c : ColumnType) (bs : List ℕ) → column.outcome edition c bs ≡ first (readingGrounds edition c bs) (valueOf c bs)
   -- `column_order::order`, and in C: how the values' keys stand, where nothing is refused
-  pub ordering : (c : ColumnType) (a b : List ℕ) → unsided (column_order.outcome c a b) ≡ first (orderingGrounds c a b) (keyOrder (keyOf c a) (keyOf c b))
+  pub ordering : (c : ColumnType) (a b : List ℕ) → unsided (column_order.outcome edition c a b) ≡ first (orderingGrounds edition c a b) (keyOrder (keyOf c a) (keyOf c b))
   -- `timestamp::decode`, whose outcome is stated by a relation that one outcome meets
   pub decoding : (unit : ℕ) (count : ℤ) (o : Outcome Fields) → Decodes (unitOf unit) count o → (f : Fields) × (o ≡ first (unknownUnit unit ∷ []) f)
   pub decoding-one : (unit : ℕ) (count : ℤ) (o o′ : Outcome Fields) → Decodes (unitOf unit) count o → Decodes (unitOf unit) count o′ → o ≡ o′
@@ -75,26 +75,26 @@ pub record Chosen : Type 1 where
   pub answer-rows : (total : ℕ) (numbers : List ℕ) (room : ℕ) → counted (made (answerText (Counted.Count total) numbers) room) ≡ first (rowsTextGrounds total numbers room) (length (rowsText total numbers))
   pub answer-refusal : (r : Refusal) (numbers : List ℕ) (room : ℕ) → counted (made (answerText (Counted.Refused r) numbers) room) ≡ first (shortFor (length (refusalLine r)) room ∷ []) (length (refusalLine r))
   -- `griffeljol_read`, `griffeljol_decode` and `griffeljol_encode`
-  pub c-reading : (c : ColumnType) (bs : List ℕ) (lent : ℕ) → c_values.reading c bs lent ≡ first (cReadingGrounds c bs lent) (record { value = caseOf (valueOf c bs); numbers = numbersOf (valueOf c bs) })
+  pub c-reading : (c : ColumnType) (bs : List ℕ) (lent : ℕ) → c_values.reading edition c bs lent ≡ first (cReadingGrounds edition c bs lent) (record { value = caseOf (valueOf c bs); numbers = numbersOf (valueOf c bs) })
   pub c-decoding : (unit : ℕ) (count : ℤ) (lent : ℕ) (o : Outcome Fields) → Decodes (unitOf unit) count o → (f : Fields) × (o ≡ first (unknownUnit unit ∷ []) f) × (within lent (decodeEffect o) ≡ first (cDecodingGrounds unit lent) (record { value = 7; numbers = fieldNumbers f }))
   pub c-encoding : (unit : ℕ) (numbers : List ℤ) (lent : ℕ) → c_timestamps.encoding unit numbers lent ≡ first (cEncodingGrounds unit numbers lent) (record { value = 1; numbers = countOf (ticks unit) (fieldsOf numbers) ∷ [] })
 
 -- "A refusal changes no lent buffer"
-pub record Unchanged : Type 1 where
+pub record Unchanged (edition : ℕ) : Type 1 where
   -- the rows of `schema::resolve`, and in C
-  pub rows : (sheet lent : List ℕ) (r : Refusal) → schema.outcome sheet (length lent) ≡ Counted.Refused r → written (schema.outcome sheet (length lent)) sheet lent ≡ lent
+  pub rows : (sheet lent : List ℕ) (r : Refusal) → schema.outcome edition sheet (length lent) ≡ Counted.Refused r → written (schema.outcome edition sheet (length lent)) sheet lent ≡ lent
   -- the output of `schema::rewrite`, and in C
-  pub output : (sheet lent : List ℕ) (start : ℕ) (r : Refusal) → rewriteOutcome sheet (length lent) start ≡ Counted.Refused r → rewriteWritten (rewriteOutcome sheet (length lent) start) sheet lent start ≡ lent
+  pub output : (sheet lent : List ℕ) (start : ℕ) (r : Refusal) → rewriteOutcome edition sheet (length lent) start ≡ Counted.Refused r → rewriteWritten (rewriteOutcome edition sheet (length lent) start) sheet lent start ≡ lent
   -- the buffer of a text
   pub text-buffer : (may : Option (List ℕ)) (lent : List ℕ) (r : Refusal) → made may (length lent) ≡ Counted.Refused r → madeIn may lent ≡ lent
   -- the outputs of `griffeljol_read` and `griffeljol_encode`
-  pub c-value : (c : ColumnType) (bs lent : List ℕ) (r : Refusal) → c_values.reading c bs (length lent) ≡ refused r → left (c_values.reading c bs (length lent)) lent ≡ lent
+  pub c-value : (c : ColumnType) (bs lent : List ℕ) (r : Refusal) → c_values.reading edition c bs (length lent) ≡ refused r → left (c_values.reading edition c bs (length lent)) lent ≡ lent
   pub c-count : (unit : ℕ) (numbers lent : List ℤ) (r : Refusal) → c_timestamps.encoding unit numbers (length lent) ≡ refused r → left (c_timestamps.encoding unit numbers (length lent)) lent ≡ lent
   -- the output of `griffeljol_decode`, whatever meets its contract
   pub c-fields : (unit : ℕ) (count : ℤ) (lent held : List ℤ) (answered : ℕ) (o : Outcome Fields) (r : Refusal) → Decoding unit count lent answered held → Decodes (unitOf unit) count o → within (length lent) (decodeEffect o) ≡ refused r → held ≡ lent
   -- every C answer tells whether it is a refusal, and which
   pub c-interface : Promises
 
-pub record Demand1 : Type 1 where
-  pub chosen : Chosen
-  pub unchanged : Unchanged
+pub record Demand1 (edition : ℕ) : Type 1 where
+  pub chosen : Chosen edition
+  pub unchanged : Unchanged edition

@@ -34,22 +34,22 @@ pub record RoleIn (number : ℕ) (a : Ascent) : Type 0 where
   pub value : (number ≡ 6) ↔ IsValue a
   pub bare-repeated : (number ≡ 7) ↔ IsBareRepeated a
 
-pub record Demand3 : Type 1 where
+pub record Demand3 (edition : ℕ) : Type 1 where
   -- "given sound blocks, sound node slots and enough output, the sheet is accepted exactly when some tree .."
-  pub accepted-exactly : (sheet : List ℕ) (lent : ℕ) → Sound sheet → EnoughOutput sheet lent → Accepted (outcome sheet lent) ↔ ((t : Tree) × IsTreeOf sheet t)
+  pub accepted-exactly : (sheet : List ℕ) (lent : ℕ) → Sound edition sheet → EnoughOutput sheet lent → Accepted (outcome edition sheet lent) ↔ ((t : Tree) × IsTreeOf edition sheet t)
   -- "Any two such trees are equal"
-  pub one-tree : (sheet : List ℕ) (t u : Tree) → IsTreeOf sheet t → IsTreeOf sheet u → t ≡ u
+  pub one-tree : (sheet : List ℕ) (t u : Tree) → IsTreeOf edition sheet t → IsTreeOf edition sheet u → t ≡ u
   -- "The rows written are that tree's rows, .. equal in every number", and numbers beyond them stay
-  pub rows-are : (sheet lent : List ℕ) (t : Tree) → Sound sheet → EnoughOutput sheet (length lent) → IsTreeOf sheet t → written (outcome sheet (length lent)) sheet lent ≡ rows t ++ drop (rowWidth * totalOf sheet) lent
+  pub rows-are : (sheet lent : List ℕ) (t : Tree) → Sound edition sheet → EnoughOutput sheet (length lent) → IsTreeOf edition sheet t → written (outcome edition sheet (length lent)) sheet lent ≡ rows t ++ drop (rowWidth * totalOf sheet) lent
   -- "one for each node in listing order": eleven numbers each
-  pub rows-length : (sheet : List ℕ) (t : Tree) → IsTreeOf sheet t → length (rows t) ≡ rowWidth * totalOf sheet
+  pub rows-length : (sheet : List ℕ) (t : Tree) → IsTreeOf edition sheet t → length (rows t) ≡ rowWidth * totalOf sheet
   -- the roles in terms of the tree
-  pub roles : (sheet : List ℕ) (t : Tree) → IsTreeOf sheet t → (k : ℕ) → k < size t → RoleIn (numberIn (rows t) k 8) (ascent t k)
+  pub roles : (sheet : List ℕ) (t : Tree) → IsTreeOf edition sheet t → (k : ℕ) → k < size t → RoleIn (numberIn (rows t) k 8) (ascent t k)
   -- "blocks are sound where refusals 1 to 3 don't hold, node slots where 4 doesn't": together, exactly where opening refuses nothing
-  pub sound-exactly : (sheet : List ℕ) → Sound sheet ↔ (openOf sheet ≡ Counted.Count (totalOf sheet))
+  pub sound-exactly : (sheet : List ℕ) → Sound edition sheet ↔ (openOf edition sheet ≡ Counted.Count (totalOf sheet))
   -- of refusal 6, refusal 5 and a tree that claims rightly and lists the slots, one holds, with the refusal's place
   pub six-five-or-tree : (ss : List SlotBytes) → ((k : ℕ) × (k < length ss) × (leftOver ss ≡ Verdict.Refused (refusal 6 k))) ⊎ (((leftOver ss ≡ Verdict.Lawful) × (missing ss ≡ Verdict.Refused (refusal 5 (length ss)))) ⊎ ((t : Tree) × Claims t × (listing t ≡ ss)))
   -- and where there is such a tree, neither refusal is given
   pub tree-neither : (ss : List SlotBytes) (t : Tree) → Claims t → listing t ≡ ss → (leftOver ss ≡ Verdict.Lawful) × (missing ss ≡ Verdict.Lawful)
   -- refusals 7 to 13, with their places, are then those of that tree: its first node that is too deep, else its first node that breaks a rule
-  pub seven-to-thirteen : (ss : List SlotBytes) (t : Tree) → Claims t → listing t ≡ ss → treeRefusal ss ≡ orElse (tooDeep t) (unlawful t)
+  pub seven-to-thirteen : (ss : List SlotBytes) (t : Tree) → Claims t → listing t ≡ ss → treeRefusal edition ss ≡ orElse (tooDeep t) (unlawful edition t)

@@ -51,8 +51,8 @@ decimals precision = record { physical = physical.BYTE-ARRAY; «type_length» = 
 abbrev pub uint8 : ColumnType
 uint8 = record { physical = physical.INT32; «type_length» = 0; kind = logical.INTEGER; p1 = bitWidthCode BitWidth.Bits8; p2 = flagCode false }
 
-abbrev pub points : List (Type 0)
-points =
+abbrev pub points : ℕ → List (Type 0)
+points edition =
     -- "*172800000 ms: 1970-01-03 00:00:00"
     timestamp.Decodes (unitOf MILLIS) (pos 172800000) (given (fields (pos 1970) 1 3 0 0 0 0))
     -- "*-1 ms: 1969-12-31 23:59:59.999"
@@ -64,23 +64,23 @@ points =
     ∷ NoSuchDay MICROS
     ∷ NoSuchDay NANOS
     -- "BYTE_ARRAY decimals of precision 3: *FF and FFFF equal; *80 below 7F; *00FF above 7F"
-    ∷ (ordering.outcome (decimals 3) (0xFF ∷ []) (0xFF ∷ 0xFF ∷ []) ≡ sided.given Equal)
-    ∷ (ordering.outcome (decimals 3) (0x80 ∷ []) (0x7F ∷ []) ≡ sided.given Less)
-    ∷ (ordering.outcome (decimals 3) (0x00 ∷ 0xFF ∷ []) (0x7F ∷ []) ≡ sided.given Greater)
+    ∷ (ordering.outcome edition (decimals 3) (0xFF ∷ []) (0xFF ∷ 0xFF ∷ []) ≡ sided.given Equal)
+    ∷ (ordering.outcome edition (decimals 3) (0x80 ∷ []) (0x7F ∷ []) ≡ sided.given Less)
+    ∷ (ordering.outcome edition (decimals 3) (0x00 ∷ 0xFF ∷ []) (0x7F ∷ []) ≡ sided.given Greater)
     -- "*Precision 2: 63 hex valid, 64 hex 16"
-    ∷ (reading.outcome (decimals 2) (0x63 ∷ []) ≡ given (Bytes 0 1))
-    ∷ (reading.outcome (decimals 2) (0x64 ∷ []) ≡ refused (refusal 16 0))
+    ∷ (reading.outcome edition (decimals 2) (0x63 ∷ []) ≡ given (Bytes 0 1))
+    ∷ (reading.outcome edition (decimals 2) (0x64 ∷ []) ≡ refused (refusal 16 0))
     -- "*FIXED 1 precision 3: 11"
-    ∷ (schema.outcome (leafSheet physical.FIXED-LEN-BYTE-ARRAY converted.NONE logical.DECIMAL UNUSED UNUSED 1 0 3) (rowWidth * 2) ≡ Counted.Refused (refusal 11 1))
+    ∷ (schema.outcome edition (leafSheet physical.FIXED-LEN-BYTE-ARRAY converted.NONE logical.DECIMAL UNUSED UNUSED 1 0 3) (rowWidth * 2) ≡ Counted.Refused (refusal 11 1))
     -- "*INT(8, false): 255 valid, 256: 16"
-    ∷ (reading.outcome uint8 (255 ∷ 0 ∷ 0 ∷ 0 ∷ []) ≡ given (Unsigned 255))
-    ∷ (reading.outcome uint8 (0 ∷ 1 ∷ 0 ∷ 0 ∷ []) ≡ refused (refusal 16 0))
+    ∷ (reading.outcome edition uint8 (255 ∷ 0 ∷ 0 ∷ 0 ∷ []) ≡ given (Unsigned 255))
+    ∷ (reading.outcome edition uint8 (0 ∷ 1 ∷ 0 ∷ 0 ∷ []) ≡ refused (refusal 16 0))
     -- "*Scale = precision: 11"
-    ∷ (schema.outcome (leafSheet physical.INT32 converted.NONE logical.DECIMAL UNUSED UNUSED 0 3 3) (rowWidth * 2) ≡ Counted.Refused (refusal 11 1))
+    ∷ (schema.outcome edition (leafSheet physical.INT32 converted.NONE logical.DECIMAL UNUSED UNUSED 0 3 3) (rowWidth * 2) ≡ Counted.Refused (refusal 11 1))
     -- "*TIME_MILLIS with TIME(NANOS): 9"
-    ∷ (schema.outcome (leafSheet physical.INT64 converted.TIME-MILLIS logical.TIME (unitCode TimeUnit.Nanos) (flagCode true) 0 0 0) (rowWidth * 2) ≡ Counted.Refused (refusal 9 1))
+    ∷ (schema.outcome edition (leafSheet physical.INT64 converted.TIME-MILLIS logical.TIME (unitCode TimeUnit.Nanos) (flagCode true) 0 0 0) (rowWidth * 2) ≡ Counted.Refused (refusal 9 1))
     -- "*One root alone: accepted"
-    ∷ (schema.outcome (sheetOf (rootSlot 0 ∷ [])) rowWidth ≡ Counted.Count 1)
+    ∷ (schema.outcome edition (sheetOf (rootSlot 0 ∷ [])) rowWidth ≡ Counted.Count 1)
     ∷ []
 
 -- all claims of a list hold

@@ -10,11 +10,11 @@ use Rattle.sheet_reader.specs.Step.{handoutOf, slotHanded}
 use Rattle.sheet_reader.specs.Reading.{openedOn, movedBy, steps, handouts}
 
 -- a reader opened on any bytes
-pub record Reader : Type 1 where
+pub record Reader (edition : ℕ) : Type 1 where
   -- any number of steps hands out, of an accepted sheet, its used slots, each once and in order, and then the end; of a refused sheet nothing
-  pub handed-out : (sheet : RefT (List ℕ)) (n : ℕ) → map (handoutOf (now sheet)) (steps n (openedOn sheet)) ≡ handouts (outcome (now sheet)) n
+  pub handed-out : (sheet : RefT (List ℕ)) (n : ℕ) → map (handoutOf (now sheet)) (steps n (openedOn edition sheet)) ≡ handouts (outcome edition (now sheet)) n
   -- "ending after T steps": the first T steps hand out all of them
-  pub all-handed-out : (sheet : RefT (List ℕ)) (t : ℕ) → openOf (now sheet) ≡ Counted.Count t → map (handoutOf (now sheet)) (steps t (openedOn sheet)) ≡ map slotHanded (slots (now sheet))
+  pub all-handed-out : (sheet : RefT (List ℕ)) (t : ℕ) → openOf edition (now sheet) ≡ Counted.Count t → map (handoutOf (now sheet)) (steps t (openedOn edition sheet)) ≡ map slotHanded (slots (now sheet))
   -- it "keeps hold of the lent sheet": after any number of steps it holds the same, and what opening found
-  pub held : (sheet : RefT (List ℕ)) (n : ℕ) → movedBy n (openedOn sheet) .sheet ≡ sheet
-  pub found : (sheet : RefT (List ℕ)) (n : ℕ) → movedBy n (openedOn sheet) .opened ≡ openOf (now sheet)
+  pub held : (sheet : RefT (List ℕ)) (n : ℕ) → movedBy n (openedOn edition sheet) .sheet ≡ sheet
+  pub found : (sheet : RefT (List ℕ)) (n : ℕ) → movedBy n (openedOn edition sheet) .opened ≡ openOf edition (now sheet)

@@ -9,6 +9,7 @@ use lib.ListN.{length}
 use Rattle.refusal.specs.Outcome.{Outcome, given, refused, refusal}
 use Rattle.refusal.specs.Faults as sided
 use Rattle.refusal.specs.Faults.{Sided}
+use Rattle.edition.specs.Editions.{isKnown}
 use Rattle.sheet.specs.Block.{slotsInBlock, blockCount, totalOf}
 use Rattle.sheet.specs.Header.{lengthRight, headerRight}
 use Rattle.sheet.specs.Check.{checkRight}
@@ -70,10 +71,14 @@ each number holds n = eachFrom number holds 0 n
 
 -- a sheet ------------------------------------------------------------------------------------------------------------------------
 
--- "1 to 7 are judged over the whole sheet, in that order": 1 to 4
-abbrev pub openingGrounds : List ℕ → List Ground
-openingGrounds sheet =
-    (ground 1 0 (not (lengthRight (length sheet))) ∷ [])
+-- "21, edition unknown, before all others, place 0" (document 02, R-4)
+abbrev pub unknownEdition : ℕ → Ground
+unknownEdition edition = ground 21 0 (not (isKnown edition))
+
+-- "1 to 7 are judged over the whole sheet, in that order": 1 to 4, behind 21
+abbrev pub openingGrounds : ℕ → List ℕ → List Ground
+openingGrounds edition sheet =
+    (unknownEdition edition ∷ ground 1 0 (not (lengthRight (length sheet))) ∷ [])
     ++ each 2 (λ block. not (checkRight sheet block)) (blockCount sheet)
     ++ each 3 (λ block. not (headerRight sheet block)) (blockCount sheet)
     ++ each 4 (λ k. not (slotRight sheet k)) (slotsInBlock * blockCount sheet)
@@ -92,68 +97,68 @@ deepGrounds k [] = []
 deepGrounds k (d ∷ ds) = ground 7 k (ltb 32 d) ∷ deepGrounds (suc k) ds
 
 -- "8 to 13 .., at one node in number order": node k
-abbrev pub nodeGrounds : ℕ → Standing → SlotBytes → Fields → List Ground
-nodeGrounds k p s fs =
+abbrev pub nodeGrounds : ℕ → ℕ → Standing → SlotBytes → Fields → List Ground
+nodeGrounds edition k p s fs =
     ground 8 k (not (rule8 p s fs))
     ∷ ground 9 k (not (rule9 s))
     ∷ ground 10 k (not (rule10 (underMap p) s))
-    ∷ ground 11 k (not (rule11 (underMap p) s))
+    ∷ ground 11 k (not (rule11 edition (underMap p) s))
     ∷ ground 12 k (not (rule12 p s fs))
     ∷ ground 13 k (not (rule13 p s fs))
     ∷ []
 
 -- "node by node", a tree's root being node k
 unfoldable mutual
-  pub ruleGrounds : ℕ → Standing → Tree → List Ground
-  ruleGrounds k p (node s fs) = nodeGrounds k p s fs ++ runGrounds (suc k) (standingBelow p s) fs
+  pub ruleGrounds : ℕ → ℕ → Standing → Tree → List Ground
+  ruleGrounds edition k p (node s fs) = nodeGrounds edition k p s fs ++ runGrounds edition (suc k) (standingBelow p s) fs
 
-  pub runGrounds : ℕ → Standing → Fields → List Ground
-  runGrounds k p empty = []
-  runGrounds k p (field t fs) = ruleGrounds k p t ++ runGrounds (k + size t) p fs
+  pub runGrounds : ℕ → ℕ → Standing → Fields → List Ground
+  runGrounds edition k p empty = []
+  runGrounds edition k p (field t fs) = ruleGrounds edition k p t ++ runGrounds edition (k + size t) p fs
 
 -- 5 to 13 of a sheet's slots
-abbrev pub treeGrounds : List SlotBytes → List Ground
-treeGrounds ss =
+abbrev pub treeGrounds : ℕ → List SlotBytes → List Ground
+treeGrounds edition ss =
     (missingGround ss ∷ [])
     ++ leftOverGrounds ss
     ++ deepGrounds 0 (depths 0 (treeOf ss))
-    ++ ruleGrounds 0 Root (treeOf ss)
+    ++ ruleGrounds edition 0 Root (treeOf ss)
 
--- 1 to 13 of any bytes
-abbrev pub judgingGrounds : List ℕ → List Ground
-judgingGrounds sheet = openingGrounds sheet ++ treeGrounds (slots sheet)
+-- 21 and 1 to 13 of any bytes
+abbrev pub judgingGrounds : ℕ → List ℕ → List Ground
+judgingGrounds edition sheet = openingGrounds edition sheet ++ treeGrounds edition (slots sheet)
 
 -- "14 last": "output too short", for eleven numbers a node
-abbrev pub resolvingGrounds : List ℕ → ℕ → List Ground
-resolvingGrounds sheet lent = judgingGrounds sheet ++ (ground 14 0 (ltb lent (11 * totalOf sheet)) ∷ [])
+abbrev pub resolvingGrounds : ℕ → List ℕ → ℕ → List Ground
+resolvingGrounds edition sheet lent = judgingGrounds edition sheet ++ (ground 14 0 (ltb lent (11 * totalOf sheet)) ∷ [])
 
 -- "output too short, or its start lies beyond its end", for the sheet's bytes
-abbrev pub rewritingGrounds : List ℕ → ℕ → ℕ → List Ground
-rewritingGrounds sheet lent start =
-    judgingGrounds sheet ++ (ground 14 0 (ltb lent (start + length sheet)) ∷ ground 14 0 (ltb lent start) ∷ [])
+abbrev pub rewritingGrounds : ℕ → List ℕ → ℕ → ℕ → List Ground
+rewritingGrounds edition sheet lent start =
+    judgingGrounds edition sheet ++ (ground 14 0 (ltb lent (start + length sheet)) ∷ ground 14 0 (ltb lent start) ∷ [])
 
 -- 9 to 11 of the numbers of a slot, which is node k's
-abbrev pub slotGrounds : ℕ → Annotated → Bool → List Ground
-slotGrounds k n under =
-    ground 9 k (not (nine.rule9 n)) ∷ ground 10 k (not (ten.rule10 n under)) ∷ ground 11 k (not (eleven.rule11 n under)) ∷ []
+abbrev pub slotGrounds : ℕ → ℕ → Annotated → Bool → List Ground
+slotGrounds edition k n under =
+    ground 9 k (not (nine.rule9 n)) ∷ ground 10 k (not (ten.rule10 n under)) ∷ ground 11 k (not (eleven.rule11 edition n under)) ∷ []
 
 -- a value ------------------------------------------------------------------------------------------------------------------------
 
 -- "no accepted sheet has a leaf of this column type"
-abbrev pub unlawful : ColumnType → Ground
-unlawful c = ground 20 0 (not (isLawful c))
+abbrev pub unlawful : ℕ → ColumnType → Ground
+unlawful edition c = ground 20 0 (not (isLawful edition c))
 
 -- "value of wrong length, or over 65,536 bytes", "value breaks its annotation"
 abbrev pub valueGrounds : ColumnType → List ℕ → List Ground
 valueGrounds c bs = ground 15 0 (not (value.lengthRight c (length bs))) ∷ ground 16 (annotationPlace c bs) (not (keeps c bs)) ∷ []
 
--- "One value is checked for 20, then 15, then 16"
-abbrev pub readingGrounds : ColumnType → List ℕ → List Ground
-readingGrounds c bs = unlawful c ∷ valueGrounds c bs
+-- "One value is checked for 20, then 15, then 16", behind 21
+abbrev pub readingGrounds : ℕ → ColumnType → List ℕ → List Ground
+readingGrounds edition c bs = unknownEdition edition ∷ unlawful edition c ∷ valueGrounds c bs
 
--- "Checks: 20, 17, first value, second value"
-abbrev pub orderingGrounds : ColumnType → List ℕ → List ℕ → List Ground
-orderingGrounds c a b = unlawful c ∷ ground 17 0 (not (hasOrder c)) ∷ (valueGrounds c a ++ valueGrounds c b)
+-- "Checks: 20, 17, first value, second value", behind 21
+abbrev pub orderingGrounds : ℕ → ColumnType → List ℕ → List ℕ → List Ground
+orderingGrounds edition c a b = unknownEdition edition ∷ unlawful edition c ∷ ground 17 0 (not (hasOrder c)) ∷ (valueGrounds c a ++ valueGrounds c b)
 
 -- a timestamp --------------------------------------------------------------------------------------------------------------------
 
@@ -187,8 +192,8 @@ abbrev pub shortFor : ℕ → ℕ → Ground
 shortFor numbers lent = ground 14 0 (ltb lent numbers)
 
 -- two numbers for a value, seven for fields, one for a count; numbers that can be no fields form no date or time
-abbrev pub cReadingGrounds : ColumnType → List ℕ → ℕ → List Ground
-cReadingGrounds c bs lent = readingGrounds c bs ++ (shortFor 2 lent ∷ [])
+abbrev pub cReadingGrounds : ℕ → ColumnType → List ℕ → ℕ → List Ground
+cReadingGrounds edition c bs lent = readingGrounds edition c bs ++ (shortFor 2 lent ∷ [])
 
 abbrev pub cDecodingGrounds : ℕ → ℕ → List Ground
 cDecodingGrounds unit lent = unknownUnit unit ∷ shortFor 7 lent ∷ []

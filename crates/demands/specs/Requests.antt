@@ -56,19 +56,19 @@ repeatedRows =
     ++ (1 ∷ 0 ∷ 2 ∷ 0 ∷ 0 ∷ 0 ∷ 2 ∷ 4 ∷ 7 ∷ 2 ∷ 2 ∷ [])
 
 -- the layer's one field is the node of s
-pub record Request2 : Type 1 where
+pub record Request2 (edition : ℕ) : Type 1 where
   -- "no 12 at that LIST on this ground": its field is repeated
   pub kept : (p : Standing) (list layer s : SlotBytes) (fs : Fields) → IsLayer layer → repetition s ≡ REPEATED → isRequiredOrOptional (repetition list) ≡ true → rule12 p list (one layer (one s fs)) ≡ true
   -- "the layer has role 3", below a LIST that stands anywhere: it is q to its parent
   pub layer-role : (q : Parent) (above list layer s : SlotBytes) (fs : Fields) → IsLayer layer → repetition s ≡ REPEATED → kind (isMapParent q) list .kind ≡ logical.LIST → role (parentOf q above list (one layer (one s fs))) list layer (one s fs) ≡ ELEMENT-LAYER
   -- "and the field role 7", where the layer keeps the rules
-  pub field-role : (q : Parent) (above list layer s : SlotBytes) (fs : Fields) → IsLayer layer → repetition s ≡ REPEATED → kind (isMapParent q) list .kind ≡ logical.LIST → KeepsAt Field layer (one s fs) → role (parentOf (parentOf q above list (one layer (one s fs))) list layer (one s fs)) layer s fs ≡ BARE-REPEATED
+  pub field-role : (q : Parent) (above list layer s : SlotBytes) (fs : Fields) → IsLayer layer → repetition s ≡ REPEATED → kind (isMapParent q) list .kind ≡ logical.LIST → KeepsAt edition Field layer (one s fs) → role (parentOf (parentOf q above list (one layer (one s fs))) list layer (one s fs)) layer s fs ≡ BARE-REPEATED
   -- a field that is neither repeated, required nor optional stays 12, where the layer is not named as an element
   pub refused : (p : Standing) (list layer s : SlotBytes) (fs : Fields) → IsLayer layer → isList p list ≡ true → namedElement list layer ≡ false → (repetition s ≡ REPEATED → ⊥) → isRequiredOrOptional (repetition s) ≡ false → rule12 p list (one layer (one s fs)) ≡ false
   -- "a repeated LIST is judged as before"
   pub repeated-list : (p : Standing) (s : SlotBytes) (fs : Fields) → isList p s ≡ true → repetition s ≡ REPEATED → rule12 p s fs ≡ false
   -- a sheet of such a LIST
-  pub example : written (outcome repeatedSheet (rowWidth * 4)) repeatedSheet (replicate (rowWidth * 4) 0) ≡ repeatedRows
+  pub example : written (outcome edition repeatedSheet (rowWidth * 4)) repeatedSheet (replicate (rowWidth * 4) 0) ≡ repeatedRows
 
 -- R-6. "Say where the string went bad" --------------------------------------------------------------------------------------
 
@@ -77,36 +77,36 @@ abbrev pub strings : ColumnType
 strings = record { physical = BYTE-ARRAY; «type_length» = 0; kind = logical.STRING; p1 = 0; p2 = 0 }
 
 -- `read` and `order` answer what these outcomes give: `column::read`, `column_order::order`
-pub record Request6 : Type 1 where
+pub record Request6 (edition : ℕ) : Type 1 where
   -- "The check itself should answer with the offset where whole valid sequences, read from the start, stop": `utf8::valid_up_to` has one such offset for any bytes
   pub offset : (s : List ℕ) → Stops s (validUpTo s)
   pub one-offset : (s : List ℕ) (q r : ℕ) → Stops s q → Stops s r → q ≡ r
   -- "the place of 16 is this offset for STRING, ENUM and JSON", which lies before the end
-  pub text-place : (c : ColumnType) (bs : List ℕ) (place : ℕ) → isText (c .kind) ≡ true → read.outcome c bs ≡ refused (refusal 16 place) → Stops bs place × (place < length bs)
+  pub text-place : (c : ColumnType) (bs : List ℕ) (place : ℕ) → isText (c .kind) ≡ true → read.outcome edition c bs ≡ refused (refusal 16 place) → Stops bs place × (place < length bs)
   -- and text that stops there is refused so
-  pub text-refused : (c : ColumnType) (bs : List ℕ) (place : ℕ) → isLawful c ≡ true → isText (c .kind) ≡ true → length bs ≤ 65536 → Stops bs place → place < length bs → read.outcome c bs ≡ refused (refusal 16 place)
+  pub text-refused : (c : ColumnType) (bs : List ℕ) (place : ℕ) → isLawful edition c ≡ true → isText (c .kind) ≡ true → length bs ≤ 65536 → Stops bs place → place < length bs → read.outcome edition c bs ≡ refused (refusal 16 place)
   -- "and 0 otherwise"
-  pub other-place : (c : ColumnType) (bs : List ℕ) (number place : ℕ) → read.outcome c bs ≡ refused (refusal number place) → ((number ≡ 16) × (isText (c .kind) ≡ true) → ⊥) → place ≡ 0
+  pub other-place : (c : ColumnType) (bs : List ℕ) (number place : ℕ) → read.outcome edition c bs ≡ refused (refusal number place) → ((number ≡ 16) × (isText (c .kind) ≡ true) → ⊥) → place ≡ 0
   -- "In order, a refusal also says which value is at fault, 1": it is reading's for the first value, with its place
-  pub first : (c : ColumnType) (a b : List ℕ) (number place : ℕ) → (order.outcome c a b ≡ sided.refused (fault 1 (refusal number place))) ↔ ((isLawful c ≡ true) × (hasOrder c ≡ true) × (read.outcome c a ≡ refused (refusal number place)))
+  pub first : (c : ColumnType) (a b : List ℕ) (number place : ℕ) → (order.outcome edition c a b ≡ sided.refused (fault 1 (refusal number place))) ↔ ((isLawful edition c ≡ true) × (hasOrder c ≡ true) × (read.outcome edition c a ≡ refused (refusal number place)))
   -- "or 2": the first value is read, and it is reading's for the second
-  pub second : (c : ColumnType) (a b : List ℕ) (number place : ℕ) → (order.outcome c a b ≡ sided.refused (fault 2 (refusal number place))) ↔ ((isLawful c ≡ true) × (hasOrder c ≡ true) × Valid c a × (read.outcome c b ≡ refused (refusal number place)))
+  pub second : (c : ColumnType) (a b : List ℕ) (number place : ℕ) → (order.outcome edition c a b ≡ sided.refused (fault 2 (refusal number place))) ↔ ((isLawful edition c ≡ true) × (hasOrder c ≡ true) × Valid edition c a × (read.outcome edition c b ≡ refused (refusal number place)))
   -- "and 0 for neither": 20, or 17
-  pub neither : (c : ColumnType) (a b : List ℕ) (number place : ℕ) → (order.outcome c a b ≡ sided.refused (fault 0 (refusal number place))) ↔ (((isLawful c ≡ false) × (number ≡ 20) × (place ≡ 0)) ⊎ ((isLawful c ≡ true) × (hasOrder c ≡ false) × (number ≡ 17) × (place ≡ 0)))
+  pub neither : (c : ColumnType) (a b : List ℕ) (number place : ℕ) → (order.outcome edition c a b ≡ sided.refused (fault 0 (refusal number place))) ↔ (((isLawful edition c ≡ false) × (number ≡ 20) × (place ≡ 0)) ⊎ ((isLawful edition c ≡ true) × (hasOrder c ≡ false) × (number ≡ 17) × (place ≡ 0)))
   -- and there is no other number of a value
-  pub no-other : (c : ColumnType) (a b : List ℕ) (number place value : ℕ) → order.outcome c a b ≡ sided.refused (fault value (refusal number place)) → value ≤ 2
+  pub no-other : (c : ColumnType) (a b : List ℕ) (number place value : ℕ) → order.outcome edition c a b ≡ sided.refused (fault value (refusal number place)) → value ≤ 2
   -- `k`, e acute, and the beginning of a letter of three bytes: it goes bad where that begins
-  pub cut-off : read.outcome strings (0x6B ∷ 0xC3 ∷ 0xA9 ∷ 0xE2 ∷ 0x82 ∷ []) ≡ refused (refusal 16 3)
+  pub cut-off : read.outcome edition strings (0x6B ∷ 0xC3 ∷ 0xA9 ∷ 0xE2 ∷ 0x82 ∷ []) ≡ refused (refusal 16 3)
   -- the first value is good, and the second goes bad at its second byte
-  pub second-bad : order.outcome strings (0x6B ∷ []) (0x6B ∷ 0xFF ∷ []) ≡ sided.refused (fault 2 (refusal 16 1))
+  pub second-bad : order.outcome edition strings (0x6B ∷ []) (0x6B ∷ 0xFF ∷ []) ≡ sided.refused (fault 2 (refusal 16 1))
   -- both are bad: the first is at fault, at its own byte
-  pub both-bad : order.outcome strings (0x6B ∷ 0x6B ∷ 0x80 ∷ []) (0xFF ∷ []) ≡ sided.refused (fault 1 (refusal 16 2))
+  pub both-bad : order.outcome edition strings (0x6B ∷ 0x6B ∷ 0x80 ∷ []) (0xFF ∷ []) ≡ sided.refused (fault 1 (refusal 16 2))
 
 -- R-8. "Levels in the rows" ------------------------------------------------------------------------------------------------
 
 -- what is left in the numbers that were lent, once a sheet is resolved
-abbrev pub left : List ℕ → List ℕ → List ℕ
-left sheet lent = written (outcome sheet (length lent)) sheet lent
+abbrev pub left : ℕ → List ℕ → List ℕ → List ℕ
+left edition sheet lent = written (outcome edition sheet (length lent)) sheet lent
 
 -- what stands in the row of node k: its repetition, its parent, and its definition and repetition level
 abbrev pub repetitionIn : List ℕ → ℕ → ℕ
@@ -131,21 +131,21 @@ exampleRows =
 
 -- what a reader of pages may take from the rows of an accepted sheet; that they are the counts over the path to each node is their definition
 -- (`schema/specs/Levels`), and demand 3 has them for the tree's
-pub record Request8 : Type 1 where
+pub record Request8 (edition : ℕ) : Type 1 where
   -- the root counts in neither level
-  pub root-definition : (sheet lent : List ℕ) → Accepted (outcome sheet (length lent)) → definitionIn (left sheet lent) 0 ≡ 0
-  pub root-repetition : (sheet lent : List ℕ) → Accepted (outcome sheet (length lent)) → repetitionLevelIn (left sheet lent) 0 ≡ 0
+  pub root-definition : (sheet lent : List ℕ) → Accepted (outcome edition sheet (length lent)) → definitionIn (left edition sheet lent) 0 ≡ 0
+  pub root-repetition : (sheet lent : List ℕ) → Accepted (outcome edition sheet (length lent)) → repetitionLevelIn (left edition sheet lent) 0 ≡ 0
   -- every other node's parent has its row before it
-  pub parent-before : (sheet lent : List ℕ) (k : ℕ) → Accepted (outcome sheet (length lent)) → 0 < k → k < totalOf sheet → parentIn (left sheet lent) k < k
+  pub parent-before : (sheet lent : List ℕ) (k : ℕ) → Accepted (outcome edition sheet (length lent)) → 0 < k → k < totalOf sheet → parentIn (left edition sheet lent) k < k
   -- and its levels are its parent's and what its own repetition adds
-  pub definition-below : (sheet lent : List ℕ) (k : ℕ) → Accepted (outcome sheet (length lent)) → 0 < k → k < totalOf sheet → definitionIn (left sheet lent) k ≡ definitionIn (left sheet lent) (parentIn (left sheet lent) k) + counted isOptionalOrRepeated (repetitionIn (left sheet lent) k)
-  pub repetition-below : (sheet lent : List ℕ) (k : ℕ) → Accepted (outcome sheet (length lent)) → 0 < k → k < totalOf sheet → repetitionLevelIn (left sheet lent) k ≡ repetitionLevelIn (left sheet lent) (parentIn (left sheet lent) k) + counted isRepeatedCode (repetitionIn (left sheet lent) k)
+  pub definition-below : (sheet lent : List ℕ) (k : ℕ) → Accepted (outcome edition sheet (length lent)) → 0 < k → k < totalOf sheet → definitionIn (left edition sheet lent) k ≡ definitionIn (left edition sheet lent) (parentIn (left edition sheet lent) k) + counted isOptionalOrRepeated (repetitionIn (left edition sheet lent) k)
+  pub repetition-below : (sheet lent : List ℕ) (k : ℕ) → Accepted (outcome edition sheet (length lent)) → 0 < k → k < totalOf sheet → repetitionLevelIn (left edition sheet lent) k ≡ repetitionLevelIn (left edition sheet lent) (parentIn (left edition sheet lent) k) + counted isRepeatedCode (repetitionIn (left edition sheet lent) k)
   -- the second is never above the first, and neither above 32
-  pub ordered : (sheet lent : List ℕ) (k : ℕ) → Accepted (outcome sheet (length lent)) → k < totalOf sheet → repetitionLevelIn (left sheet lent) k ≤ definitionIn (left sheet lent) k
-  pub at-most-32 : (sheet lent : List ℕ) (k : ℕ) → Accepted (outcome sheet (length lent)) → k < totalOf sheet → definitionIn (left sheet lent) k ≤ 32
+  pub ordered : (sheet lent : List ℕ) (k : ℕ) → Accepted (outcome edition sheet (length lent)) → k < totalOf sheet → repetitionLevelIn (left edition sheet lent) k ≤ definitionIn (left edition sheet lent) k
+  pub at-most-32 : (sheet lent : List ℕ) (k : ℕ) → Accepted (outcome edition sheet (length lent)) → k < totalOf sheet → definitionIn (left edition sheet lent) k ≤ 32
   -- "14 now compares with 11T"
-  pub short : (sheet : List ℕ) (lent : ℕ) → judgement sheet ≡ Verdict.Lawful → lent < 11 * totalOf sheet → outcome sheet lent ≡ Counted.Refused (refusal 14 0)
-  pub enough : (sheet : List ℕ) (lent : ℕ) → judgement sheet ≡ Verdict.Lawful → 11 * totalOf sheet ≤ lent → outcome sheet lent ≡ Counted.Count (totalOf sheet)
+  pub short : (sheet : List ℕ) (lent : ℕ) → judgement edition sheet ≡ Verdict.Lawful → lent < 11 * totalOf sheet → outcome edition sheet lent ≡ Counted.Refused (refusal 14 0)
+  pub enough : (sheet : List ℕ) (lent : ℕ) → judgement edition sheet ≡ Verdict.Lawful → 11 * totalOf sheet ≤ lent → outcome edition sheet lent ≡ Counted.Count (totalOf sheet)
   -- "numbers beyond 11T stay"
-  pub beyond : (sheet lent : List ℕ) → drop (11 * totalOf sheet) (left sheet lent) ≡ drop (11 * totalOf sheet) lent
-  pub example : left exampleSheet (replicate (rowWidth * 4) 0) ≡ exampleRows
+  pub beyond : (sheet lent : List ℕ) → drop (11 * totalOf sheet) (left edition sheet lent) ≡ drop (11 * totalOf sheet) lent
+  pub example : left edition exampleSheet (replicate (rowWidth * 4) 0) ≡ exampleRows
