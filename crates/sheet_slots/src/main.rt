@@ -1,4 +1,5 @@
-// Reads a sheet from standard input and lists its slots, a line for each, or prints the refusal.
+// Reads a sheet from standard input and lists its slots, a line for each, or prints the refusal. Its argument is the edition, the first
+// without one.
 ghost use mathlib.Core.Path.{_≡_};
 ghost use mathlib.Core.Bool.{false};
 ghost use Rattle.sheet.specs.Opening.{openOf};
@@ -16,17 +17,18 @@ use text::REFUSAL_ROOM;
 fn main() {
     let mut sheet = [0u8; MOST_BYTES + 1];
     let length = io::read_full(STDIN_FILENO, &mut sheet);
-    let opened = print_slots(&sheet[..length]);
+    let opened = print_slots(edition_argument::given(), &sheet[..length]);
     let mut line = [0u8; REFUSAL_ROOM];
     let count = slot_text::refusal_line(opened, &mut line);
     io::write_all(STDOUT_FILENO, &line[..count]);
 }
 
-// Prints what a reader over a sheet hands out, to its end or to the first line that cannot be written, and answers what opening found.
-fn print_slots(sheet: &[u8]) -> Counted
-    ensures { λ r. ⌜ r ≡ openOf (now (sheet .entry)) ⌝ }
+// Prints what a reader opened on a sheet in an edition hands out, to its end or to the first line that cannot be written, and answers what
+// opening found.
+fn print_slots(edition: u32, sheet: &[u8]) -> Counted
+    ensures { λ r. ⌜ r ≡ openOf edition (now (sheet .entry)) ⌝ }
 {
-    let mut reader = sheet_reader::open(sheet);
+    let mut reader = sheet_reader::open(edition, sheet);
     while print_step(sheet_reader::next(&mut reader)) {}
     reader.opened
 }
