@@ -8,7 +8,7 @@ use borrow.Author.Tests.{ltb-true}
 use lib.Dec.{ltb, leb}
 use lib.ListN.{length, length-append, length-map}
 use Rattle.refusal.specs.Numbers.{SHEET-LENGTH, BLOCK-CHECK, BLOCK-HEADER, SLOT, GREATEST}
-use Rattle.refusal.specs.Outcome.{refusal, unplaced, unknownEdition, shortOutput}
+use Rattle.refusal.specs.Outcome.{refusal, unplaced, shortOutput}
 use Rattle.sheet.specs.Block.{mostBytes, mostNodes, slotsInBlock, blockCount, totalOf}
 use Rattle.sheet.specs.Check.{checkRight}
 use Rattle.sheet.specs.Header.{lengthRight, headerRight}
@@ -19,7 +19,7 @@ use Rattle.sheet.specs.Sound.{slotRight}
 use Rattle.refusal.specs.declared.answers.Counted.{Counted}
 use Rattle.sheet.proofs.BlockLaws.{blocks-within}
 use Rattle.sheet.proofs.HeaderLaws.{lengthRight-most}
-use Rattle.sheet.proofs.OpeningLaws.{openOf-blocks, openOf-total, openOf-most, openOf-slots-length}
+use Rattle.sheet.proofs.OpeningLaws.{openOf-unknown, openOf-blocks, openOf-total, openOf-most, openOf-slots-length}
 use Rattle.tree.specs.Annotated.{rule9, rule10, rule11}
 use Rattle.tree.specs.Tree.{SlotBytes, Tree, Fields, node, empty, field, listing, listings, size, depths, mostDepth}
 use Rattle.edition.specs.Editions.{isKnown}
@@ -40,6 +40,7 @@ use Rattle.schema.specs.Rows.{rowWidth}
 use Rattle.schema.specs.Outcome.{answer, outcome}
 use Rattle.schema.specs.Rewriting.{fits, rewriteAnswer, rewriteOutcome}
 use Rattle.refusal.specs.Bounds.{Bounded, CountedBounded}
+use Rattle.laws.proofs.BoolLaws.{by-test}
 use Rattle.laws.proofs.MostLaws.{AtMost, atMost-append, atMost-map, cond-most}
 
 -- a verdict whose refusal, if it is one, is within these
@@ -63,30 +64,30 @@ module _ (number place : ℕ) where
   firstFault-bounded (suc n ∷ ns) k a h = record { some-number = omega arith; most-number = a .0; most-place = omega arith }
 
 -- the rules are 8 to 13
-broken-most : (edition : ℕ) (p : Standing) (s : SlotBytes) (fs : Fields) → broken edition p s fs ≤ GREATEST
+broken-most : (edition : ℕ) (p : Standing) (s : SlotBytes) (fs : Fields) → broken edition p s fs ≤ 13
 unfolding broken
 broken-most edition p s fs =
-    cond-most GREATEST (rule8 p s fs) _ 8
-    (cond-most GREATEST (rule9 s) _ 9
-    (cond-most GREATEST (rule10 (underMap p) s) _ 10
-    (cond-most GREATEST (rule11 edition (underMap p) s) _ 11
-    (cond-most GREATEST (rule12 p s fs) _ 12
-    (cond-most GREATEST (rule13 p s fs) 0 13 (omega arith) (omega arith))
+    cond-most 13 (rule8 p s fs) _ 8
+    (cond-most 13 (rule9 s) _ 9
+    (cond-most 13 (rule10 (underMap p) s) _ 10
+    (cond-most 13 (rule11 edition (underMap p) s) _ 11
+    (cond-most 13 (rule12 p s fs) _ 12
+    (cond-most 13 (rule13 p s fs) 0 13 (omega arith) (omega arith))
     (omega arith)) (omega arith)) (omega arith)) (omega arith)) (omega arith)
 
 mutual
   unfolding faults
 
-  faults-most : (edition : ℕ) (t : Tree) (p : Standing) → AtMost GREATEST (faults edition p t)
+  faults-most : (edition : ℕ) (t : Tree) (p : Standing) → AtMost 13 (faults edition p t)
   faults-most edition (node s fs) p = (broken-most edition p s fs, runFaults-most edition fs (standingBelow p s))
 
-  runFaults-most : (edition : ℕ) (fs : Fields) (p : Standing) → AtMost GREATEST (runFaults edition p fs)
+  runFaults-most : (edition : ℕ) (fs : Fields) (p : Standing) → AtMost 13 (runFaults edition p fs)
   runFaults-most edition empty p = tt
-  runFaults-most edition (field t fs) p = atMost-append GREATEST (faults edition p t) (runFaults edition p fs) (faults-most edition t p) (runFaults-most edition fs p)
+  runFaults-most edition (field t fs) p = atMost-append 13 (faults edition p t) (runFaults edition p fs) (faults-most edition t p) (runFaults-most edition fs p)
 
-deepness-most : (d : ℕ) → deepness d ≤ GREATEST
+deepness-most : (d : ℕ) → deepness d ≤ 13
 unfolding deepness
-deepness-most d = cond-most GREATEST (leb d mostDepth) 0 7 (omega arith) (omega arith)
+deepness-most d = cond-most 13 (leb d mostDepth) 0 7 (omega arith) (omega arith)
 
 -- the first tree of a run has at most one node more than the run, where the run is empty
 first-size : (fs : Fields) → size (firstTree fs) ≤ suc (length (listings fs))
@@ -99,52 +100,52 @@ module _ (edition : ℕ) (ss : List SlotBytes) (place : ℕ) (most : length ss �
   unfolding treeOf
   size-most = omega (arith, first-size (trees ss), ap length (listings-trees ss))
 
-  leftOver-bounded : VerdictBounded GREATEST place (leftOver ss)
+  leftOver-bounded : VerdictBounded 13 place (leftOver ss)
   unfolding leftOver
   leftOver-bounded = on (ltb k (length ss)) refl
     where
       k : ℕ
       k = firstWrong (λ (j : ℕ). not (isNoPlace (openPlaces ss j))) (length ss)
 
-      on : (b : Bool) → ltb k (length ss) ≡ b → VerdictBounded GREATEST place (cond b (Refused (refusal 6 k)) Lawful)
+      on : (b : Bool) → ltb k (length ss) ≡ b → VerdictBounded 13 place (cond b (Refused (refusal 6 k)) Lawful)
       on true e = record { some-number = omega arith; most-number = omega arith; most-place = omega (arith, ltb-true k (length ss) e) }
       on false e = tt
 
-  missing-bounded : VerdictBounded GREATEST place (missing ss)
+  missing-bounded : VerdictBounded 13 place (missing ss)
   unfolding missing
   missing-bounded = on (isNoPlace (openPlaces ss (length ss)))
     where
-      on : (b : Bool) → VerdictBounded GREATEST place (cond b Lawful (Refused (refusal 5 (length ss))))
+      on : (b : Bool) → VerdictBounded 13 place (cond b Lawful (Refused (refusal 5 (length ss))))
       on true = tt
       on false = record { some-number = omega arith; most-number = omega arith; most-place = most }
 
-  tooDeep-bounded : VerdictBounded GREATEST place (tooDeep (treeOf ss))
+  tooDeep-bounded : VerdictBounded 13 place (tooDeep (treeOf ss))
   unfolding tooDeep
   tooDeep-bounded =
-      firstFault-bounded GREATEST place (map deepness (depths 0 (treeOf ss))) 0
-      (atMost-map GREATEST deepness (depths 0 (treeOf ss)) deepness-most)
+      firstFault-bounded 13 place (map deepness (depths 0 (treeOf ss))) 0
+      (atMost-map 13 deepness (depths 0 (treeOf ss)) deepness-most)
       (omega (arith, size-most, length-map (depths 0 (treeOf ss)) deepness, length-depths (treeOf ss) 0))
 
-  unlawful-bounded : VerdictBounded GREATEST place (unlawful edition (treeOf ss))
+  unlawful-bounded : VerdictBounded 13 place (unlawful edition (treeOf ss))
   unfolding unlawful
   unlawful-bounded =
-      firstFault-bounded GREATEST place (faults edition Root (treeOf ss)) 0 (faults-most edition (treeOf ss) Root) (omega (arith, size-most, length-faults edition (treeOf ss) Root))
+      firstFault-bounded 13 place (faults edition Root (treeOf ss)) 0 (faults-most edition (treeOf ss) Root) (omega (arith, size-most, length-faults edition (treeOf ss) Root))
 
-  treeRefusal-bounded : VerdictBounded GREATEST place (treeRefusal edition ss)
+  treeRefusal-bounded : VerdictBounded 13 place (treeRefusal edition ss)
   unfolding treeRefusal
   treeRefusal-bounded =
-      orElse-bounded GREATEST place (leftOver ss) _ leftOver-bounded
-      (orElse-bounded GREATEST place (missing ss) _ missing-bounded
-      (orElse-bounded GREATEST place (tooDeep (treeOf ss)) _ tooDeep-bounded unlawful-bounded))
+      orElse-bounded 13 place (leftOver ss) _ leftOver-bounded
+      (orElse-bounded 13 place (missing ss) _ missing-bounded
+      (orElse-bounded 13 place (tooDeep (treeOf ss)) _ tooDeep-bounded unlawful-bounded))
 
--- ---- refusals 21 and 1 to 4
+-- ---- refusals 1 to 4, in a known edition
 
 -- a refusal to open is within these
 abbrev OpenedBounded : Counted → Type 0
 OpenedBounded (Counted.Count t) = Unit {0}
-OpenedBounded (Counted.Refused r) = Bounded GREATEST mostNodes r
+OpenedBounded (Counted.Refused r) = Bounded 13 mostNodes r
 
-atFirst-bounded : (right : ℕ → Bool) (n number : ℕ) (next : Counted) → n ≤ mostNodes → 0 < number → number ≤ GREATEST → OpenedBounded next → OpenedBounded (atFirst right n number next)
+atFirst-bounded : (right : ℕ → Bool) (n number : ℕ) (next : Counted) → n ≤ mostNodes → 0 < number → number ≤ 13 → OpenedBounded next → OpenedBounded (atFirst right n number next)
 unfolding atFirst
 atFirst-bounded right n number next few some most rest = on (ltb (firstWrong right n) n) refl
   where
@@ -152,9 +153,9 @@ atFirst-bounded right n number next few some most rest = on (ltb (firstWrong rig
     on true e = record { some-number = some; most-number = most; most-place = omega (arith, ltb-true (firstWrong right n) n e) }
     on false e = rest
 
-openOf-bounded : (edition : ℕ) (sheet : List ℕ) → OpenedBounded (openOf edition sheet)
+openOf-bounded : (edition : ℕ) (sheet : List ℕ) → isKnown edition ≡ true → OpenedBounded (openOf edition sheet)
 unfolding openOf
-openOf-bounded edition sheet = by-edition (isKnown edition)
+openOf-bounded edition sheet known = rw known (on (lengthRight (length sheet)) refl)
   where
     on : (b : Bool)
         → lengthRight (length sheet) ≡ b
@@ -172,29 +173,26 @@ openOf-bounded edition sheet = by-edition (isKnown edition)
         (atFirst-bounded (headerRight sheet) (blockCount sheet) BLOCK-HEADER _ (omega arith) (omega arith) (omega arith)
         (atFirst-bounded (slotRight sheet) (slotsInBlock * blockCount sheet) SLOT _ most (omega arith) (omega arith) tt))
 
-    by-edition : (k : Bool)
-        → OpenedBounded
-        (cond k
-        (cond (lengthRight (length sheet))
-        (atFirst (checkRight sheet) (blockCount sheet) BLOCK-CHECK
-        (atFirst (headerRight sheet) (blockCount sheet) BLOCK-HEADER
-        (atFirst (slotRight sheet) (slotsInBlock * blockCount sheet) SLOT
-        (Counted.Count (totalOf sheet)))))
-        (Counted.Refused (unplaced SHEET-LENGTH)))
-        (Counted.Refused unknownEdition))
-    by-edition true = on (lengthRight (length sheet)) refl
-    by-edition false = record { some-number = omega arith; most-number = omega arith; most-place = omega arith }
-
 -- ---- what judging, resolving and rewriting answer
 
--- of refusals 21 and 1 to 13
-pub judgement-bounded : (edition : ℕ) (sheet : List ℕ) → VerdictBounded GREATEST mostNodes (judgement edition sheet)
-judgement-bounded edition sheet = on (openOf edition sheet) refl (openOf-bounded edition sheet)
+-- of refusals 1 to 13, in a known edition
+pub known-bounded : (edition : ℕ) (sheet : List ℕ) → isKnown edition ≡ true → VerdictBounded 13 mostNodes (judgement edition sheet)
+known-bounded edition sheet known = on (openOf edition sheet) refl (openOf-bounded edition sheet known)
   where
-    on : (o : Counted) → openOf edition sheet ≡ o → OpenedBounded o → VerdictBounded GREATEST mostNodes (judgement edition sheet)
+    on : (o : Counted) → openOf edition sheet ≡ o → OpenedBounded o → VerdictBounded 13 mostNodes (judgement edition sheet)
     on (Counted.Count t) e p =
         rw (judgement-nodes edition sheet t e) (treeRefusal-bounded edition (slots sheet) mostNodes (omega (arith, openOf-slots-length edition sheet t e, openOf-most edition sheet t e)))
     on (Counted.Refused r) e p = rw (judgement-refused edition sheet r e) p
+
+-- and with 21
+widened : (v : Verdict) → VerdictBounded 13 mostNodes v → VerdictBounded GREATEST mostNodes v
+widened Lawful w = tt
+widened (Refused r) w = record { some-number = w .some-number; most-number = omega (arith, w .most-number); most-place = w .most-place }
+
+pub judgement-bounded : (edition : ℕ) (sheet : List ℕ) → VerdictBounded GREATEST mostNodes (judgement edition sheet)
+judgement-bounded edition sheet =
+    by-test (isKnown edition) (λ k. widened (judgement edition sheet) (known-bounded edition sheet k))
+    (λ u. rw (judgement-refused edition sheet _ (openOf-unknown edition sheet u)) (record { some-number = omega arith; most-number = omega arith; most-place = omega arith }))
 
 module _ (edition : ℕ) (sheet : List ℕ) (lawful : judgement edition sheet ≡ Lawful) where
   opens : (t : ℕ) × (openOf edition sheet ≡ Counted.Count t)

@@ -65,7 +65,7 @@ module _ (edition : ℕ) (c : ColumnType) (lawful : isLawful edition c ≡ true)
   leaf : isGroup (c .physical) ≡ false
   leaf = isLeaf-not-group (c .physical) (fitting .1)
 
-  spelt : Spelt c (slotOf c)
+  pub spelt : Spelt c (slotOf c)
   spelt = slotOf-spelt c (fits-parts c (fitting .0)) leaf (ten .1)
 
   leaf-slot : LeafSlot (slotOf c)

@@ -8,6 +8,7 @@ pub mod LeafSheet
 pub mod LeafTree
 pub mod SpeltLaws
 pub mod LawfulLaws
+pub mod EditionLaws
 pub mod Points
 pub mod DecimalLaws
 pub mod PlacementLaws

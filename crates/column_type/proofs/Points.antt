@@ -19,7 +19,7 @@ use Rattle.annotation.specs.Kinds.{PLAIN-LEAF, PLAIN-GROUP}
 use Rattle.logical_type.specs.declared.types.TimeUnit.{TimeUnit}
 use Rattle.logical_type.specs.declared.types.BitWidth.{BitWidth}
 use Rattle.edition.specs.Editions.{FIRST, SECOND, isKnown, scaleMayEqual}
-use Rattle.edition.proofs.EditionLaws.{OneOf, first, second, one-of-known}
+use Rattle.edition.proofs.EditionLaws.{each-edition}
 use Rattle.sheet.specs.Sound.{listed, physicalListed}
 use Rattle.tree.specs.Rules.{isNought, lengthShape}
 use Rattle.column_type.specs.Lawful.{slotOf, fits, isLeaf, slotKeeps, isLawful}
@@ -108,19 +108,11 @@ opened edition = isLawful edition
 
 pub points-lawful : (edition : ℕ) → isKnown edition ≡ true → map (isLawful edition) lawfulPoints ≡ map (λ c. true) lawfulPoints
 unfolding opened
-points-lawful edition known = each (one-of-known edition known)
-  where
-    each : {e : ℕ} → OneOf e → map (isLawful e) lawfulPoints ≡ map (λ c. true) lawfulPoints
-    each first = refl
-    each second = refl
+points-lawful = each-edition _ refl refl
 
 pub points-unlawful : (edition : ℕ) → isKnown edition ≡ true → map (isLawful edition) unlawfulPoints ≡ map (λ c. false) unlawfulPoints
 unfolding opened
-points-unlawful edition known = each (one-of-known edition known)
-  where
-    each : {e : ℕ} → OneOf e → map (isLawful e) unlawfulPoints ≡ map (λ c. false) unlawfulPoints
-    each first = refl
-    each second = refl
+points-unlawful = each-edition _ refl refl
 
 pub points-equal-first : map (isLawful FIRST) equalPoints ≡ map (λ c. false) equalPoints
 unfolding opened

@@ -1,14 +1,17 @@
 -- Points on single values and their order, which the definitions compute.
 use mathlib.Core.Path.{_≡_, refl}
+use mathlib.Core.Bool.{true}
 use mathlib.Core.List.{List, [], _∷_}
 use Prim.Native.Nat.{ℕ}
+use Rattle.edition.specs.Editions.{FIRST, SECOND, isKnown, scaleMayEqual}
+use Rattle.edition.proofs.EditionLaws.{each-edition}
 use Rattle.laws.specs.Bytes.{little, twosComplement}
 use Rattle.logical_type.specs.Backward.{backwardOf}
 use Rattle.annotation.specs.Meaning.{annotationOf}
 use Rattle.logical_type.specs.Parameters.{unitOf, bitWidthOf, validParameters}
 use Rattle.annotation.specs.Rule9.{rule9}
 use Rattle.annotation.specs.Rule10.{rule10}
-use Rattle.annotation.specs.Rule11.{ordered, physicalHolds, decimalHolds, rule11}
+use Rattle.annotation.specs.Rule11.{scaleAllowed, ordered, physicalHolds, decimalHolds, rule11}
 use Rattle.annotation.specs.Signed.{natural}
 use Rattle.logical_type.specs.Spelling.{namedOf, statedOf}
 use Rattle.column.specs.Annotations.{inSignedBits, wholeKeeps, bytesKeep, annotationPlace, keeps}
@@ -20,7 +23,7 @@ use Rattle.column.specs.Outcome as reading
 use Rattle.column.specs.Reading.{valueOf, readOf}
 use Rattle.column.specs.declared.value.Value.{Value}
 use Rattle.column.specs.declared.value.Value.the-variants.{Unsigned, Bytes}
-use Rattle.column_type.specs.Lawful.{slotOf, fits, isLeaf, isLawful}
+use Rattle.column_type.specs.Lawful.{slotOf, fits, isLeaf, slotKeeps, isLawful}
 use Rattle.column_type.specs.declared.types.ColumnType.{ColumnType}
 use Rattle.decimal_bytes.specs.Number.{number}
 use Rattle.tree.specs.Rules.{isNought, lengthShape}
@@ -39,7 +42,7 @@ use Rattle.demands.specs.Requests.{strings}
 
 -- what reading and ordering compute with, opened
 read : (edition : ℕ) → ColumnType → List ℕ → Outcome Value
-unfolding reading.outcome readOf valueOf annotationPlace keeps wholeKeeps bytesKeep inSignedBits lengthRight little twosComplement number isLawful fits isLeaf physicalListed listed lengthShape isNought slotOf rule9 rule10 rule11 decimalHolds ordered physicalHolds annotationOf backwardOf statedOf namedOf validParameters unitOf bitWidthOf natural
+unfolding reading.outcome readOf valueOf annotationPlace keeps wholeKeeps bytesKeep inSignedBits lengthRight little twosComplement number isLawful slotKeeps isKnown scaleMayEqual fits isLeaf physicalListed listed lengthShape isNought slotOf rule9 rule10 rule11 decimalHolds ordered scaleAllowed physicalHolds annotationOf backwardOf statedOf namedOf validParameters unitOf bitWidthOf natural
 read edition = reading.outcome edition
 
 order : (edition : ℕ) → ColumnType → List ℕ → List ℕ → Sided Relation
@@ -52,45 +55,45 @@ unfolding read order validUpTo utf8.reading leading matched spells inside utf8-c
 text = validUpTo
 
 -- "*INT(8, false): 255 valid, 256: 16"
-pub uint8-255 : (edition : ℕ) → reading.outcome edition uint8 (255 ∷ 0 ∷ 0 ∷ 0 ∷ []) ≡ given (Unsigned 255)
+pub uint8-255 : (edition : ℕ) → isKnown edition ≡ true → reading.outcome edition uint8 (255 ∷ 0 ∷ 0 ∷ 0 ∷ []) ≡ given (Unsigned 255)
 unfolding read
-uint8-255 edition = refl
+uint8-255 = each-edition _ refl refl
 
-pub uint8-256 : (edition : ℕ) → reading.outcome edition uint8 (0 ∷ 1 ∷ 0 ∷ 0 ∷ []) ≡ refused (refusal 16 0)
+pub uint8-256 : (edition : ℕ) → isKnown edition ≡ true → reading.outcome edition uint8 (0 ∷ 1 ∷ 0 ∷ 0 ∷ []) ≡ refused (refusal 16 0)
 unfolding read
-uint8-256 edition = refl
+uint8-256 = each-edition _ refl refl
 
 -- "*Precision 2: 63 hex valid, 64 hex 16"
-pub two-digits : (edition : ℕ) → reading.outcome edition (decimals 2) (0x63 ∷ []) ≡ given (Bytes 0 1)
+pub two-digits : (edition : ℕ) → isKnown edition ≡ true → reading.outcome edition (decimals 2) (0x63 ∷ []) ≡ given (Bytes 0 1)
 unfolding read
-two-digits edition = refl
+two-digits = each-edition _ refl refl
 
-pub three-digits : (edition : ℕ) → reading.outcome edition (decimals 2) (0x64 ∷ []) ≡ refused (refusal 16 0)
+pub three-digits : (edition : ℕ) → isKnown edition ≡ true → reading.outcome edition (decimals 2) (0x64 ∷ []) ≡ refused (refusal 16 0)
 unfolding read
-three-digits edition = refl
+three-digits = each-edition _ refl refl
 
 -- "BYTE_ARRAY decimals of precision 3: *FF and FFFF equal; *80 below 7F; *00FF above 7F"
-pub ff-ffff : (edition : ℕ) → outcome edition (decimals 3) (0xFF ∷ []) (0xFF ∷ 0xFF ∷ []) ≡ sided.given Equal
+pub ff-ffff : (edition : ℕ) → isKnown edition ≡ true → outcome edition (decimals 3) (0xFF ∷ []) (0xFF ∷ 0xFF ∷ []) ≡ sided.given Equal
 unfolding order
-ff-ffff edition = refl
+ff-ffff = each-edition _ refl refl
 
-pub minus-below-plus : (edition : ℕ) → outcome edition (decimals 3) (0x80 ∷ []) (0x7F ∷ []) ≡ sided.given Less
+pub minus-below-plus : (edition : ℕ) → isKnown edition ≡ true → outcome edition (decimals 3) (0x80 ∷ []) (0x7F ∷ []) ≡ sided.given Less
 unfolding order
-minus-below-plus edition = refl
+minus-below-plus = each-edition _ refl refl
 
-pub longer-above : (edition : ℕ) → outcome edition (decimals 3) (0x00 ∷ 0xFF ∷ []) (0x7F ∷ []) ≡ sided.given Greater
+pub longer-above : (edition : ℕ) → isKnown edition ≡ true → outcome edition (decimals 3) (0x00 ∷ 0xFF ∷ []) (0x7F ∷ []) ≡ sided.given Greater
 unfolding order
-longer-above edition = refl
+longer-above = each-edition _ refl refl
 
 -- document 02, R-6
-pub cut-off : (edition : ℕ) → reading.outcome edition strings (0x6B ∷ 0xC3 ∷ 0xA9 ∷ 0xE2 ∷ 0x82 ∷ []) ≡ refused (refusal 16 3)
+pub cut-off : (edition : ℕ) → isKnown edition ≡ true → reading.outcome edition strings (0x6B ∷ 0xC3 ∷ 0xA9 ∷ 0xE2 ∷ 0x82 ∷ []) ≡ refused (refusal 16 3)
 unfolding text
-cut-off edition = refl
+cut-off = each-edition _ refl refl
 
-pub second-bad : (edition : ℕ) → outcome edition strings (0x6B ∷ []) (0x6B ∷ 0xFF ∷ []) ≡ sided.refused (fault 2 (refusal 16 1))
+pub second-bad : (edition : ℕ) → isKnown edition ≡ true → outcome edition strings (0x6B ∷ []) (0x6B ∷ 0xFF ∷ []) ≡ sided.refused (fault 2 (refusal 16 1))
 unfolding text
-second-bad edition = refl
+second-bad = each-edition _ refl refl
 
-pub both-bad : (edition : ℕ) → outcome edition strings (0x6B ∷ 0x6B ∷ 0x80 ∷ []) (0xFF ∷ []) ≡ sided.refused (fault 1 (refusal 16 2))
+pub both-bad : (edition : ℕ) → isKnown edition ≡ true → outcome edition strings (0x6B ∷ 0x6B ∷ 0x80 ∷ []) (0xFF ∷ []) ≡ sided.refused (fault 1 (refusal 16 2))
 unfolding text
-both-bad edition = refl
+both-bad = each-edition _ refl refl

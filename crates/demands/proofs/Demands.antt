@@ -1,4 +1,5 @@
 -- The three demands hold. Each part cites the law of the layer that shows it.
+use Prim.Native.Nat.{ℕ}
 use Rattle.logical_type.proofs.ConversionLaws.{backward-forward, forward-backward, forward-not-map-key-value}
 use Rattle.tree.proofs.TreeOfLaws.{six-five-or-tree, tree-neither, treeRefusal-tree}
 use Rattle.schema.proofs.DemandLaws as demand
@@ -69,7 +70,8 @@ demand1 edition =
             rewriting = sheets.rewriting-first edition;
             slot-resolving = sheets.slot-first edition;
             slot-rewriting = sheets.slot-rewriting-first edition;
-            reading edition = values.reading-first edition;
+            typing = values.typing-first edition;
+            reading = values.reading-first edition;
             ordering = values.ordering-first edition;
             decoding = values.decoding-first;
             decoding-one = λ unit count o o′. decodes-one (unitOf unit) count o o′;
@@ -113,7 +115,7 @@ demand2 edition =
             same-outcome = rewriting.rewritten-outcome edition;
             same-rows = rewriting.rewritten-rows edition;
             again = rewriting.rewritten-rewritten edition;
-            written-back edition = written-back edition;
+            written-back = written-back edition;
             key-value-layer = key-value-bare edition;
             copied = rewriting.rewritten-copied;
             stretch = rewriting.stretch-is edition;
@@ -122,8 +124,8 @@ demand2 edition =
           };
       values =
           record {
-            lawful-exactly edition = lawful-exactly edition;
-            unlawful-exactly edition = unlawful-exactly edition;
+            lawful-exactly = lawful-exactly edition;
+            unlawful-exactly = unlawful-exactly edition;
             refused-unlawful = value.refused-unlawful edition;
             wrong-length = value.wrong-length edition;
             boolean = value.truth-held edition;

@@ -37,8 +37,8 @@ use Rattle.annotation.proofs.judge.Statement as annotation-judge-stated
 use Rattle.annotation.proofs.judge.Met as annotation-judge-met
 use Rattle.annotation.proofs.rewrite.Statement as annotation-rewrite-stated
 use Rattle.annotation.proofs.rewrite.Met as annotation-rewrite-met
-use Rattle.column_type.proofs.is_lawful.Statement as column-type-is-lawful-stated
-use Rattle.column_type.proofs.is_lawful.Met as column-type-is-lawful-met
+use Rattle.column_type.proofs.judge.Statement as column-type-judge-stated
+use Rattle.column_type.proofs.judge.Met as column-type-judge-met
 use Rattle.column.proofs.read.Statement as column-read-stated
 use Rattle.column.proofs.read.Met as column-read-met
 use Rattle.column.proofs.read_both.Statement as column-read-both-stated
@@ -160,8 +160,8 @@ annotation-rewrite = annotation-rewrite-met.met
 
 -- single values -------------------------------------------------------------------------------------------------------------------
 
-pub column-type-is-lawful : {M : Type 1} → column-type-is-lawful-stated.statement M
-column-type-is-lawful = column-type-is-lawful-met.met
+pub column-type-judge : {M : Type 1} → column-type-judge-stated.statement M
+column-type-judge = column-type-judge-met.met
 
 pub column-read : {M : Type 1} → column-read-stated.statement M
 column-read = column-read-met.met

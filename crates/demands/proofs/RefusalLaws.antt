@@ -9,6 +9,7 @@ use borrow.Author.Tests.{lt-ltb, le-ltb, leb-true, leb-false}
 use lib.Dec.{leb, ltb}
 use lib.ListN.{length}
 use Rattle.refusal.specs.Outcome.{Outcome, given, refused, refusal, shortOutput, counted}
+use Rattle.edition.specs.Editions.{isKnown}
 use Rattle.sheet.specs.Block.{slotsInBlock, blockCount, totalOf}
 use Rattle.sheet.specs.First.{firstWrongFrom, firstWrong}
 use Rattle.sheet.specs.Header.{lengthRight, headerRight}
@@ -109,10 +110,10 @@ opened-first number n right next gs a rest = either (ltb (firstWrong right n) n)
     either true = refl
     either false = rest
 
--- 1 to 4
+-- 21 and 1 to 4
 pub opening-first : (edition : ℕ) (sheet : List ℕ) → counted (openOf edition sheet) ≡ first (openingGrounds edition sheet) (totalOf sheet)
 unfolding openOf first
-opening-first edition sheet = by-length (lengthRight (length sheet))
+opening-first edition sheet = by-edition (isKnown edition)
   where
     checks : List Ground
     checks = each 2 (λ b. not (checkRight sheet b)) (blockCount sheet)
@@ -140,6 +141,12 @@ opening-first edition sheet = by-length (lengthRight (length sheet))
     by-length : (b : Bool) → counted (cond b (atFirst (checkRight sheet) (blockCount sheet) 2 headers-opened) (Counted.Refused (refusal 1 0))) ≡ cond (not b) (refused (refusal 1 0)) (first ((checks ++ headers) ++ unsound) (totalOf sheet))
     by-length true = behind
     by-length false = refl
+
+    by-edition : (b : Bool)
+        → counted (cond b (cond (lengthRight (length sheet)) (atFirst (checkRight sheet) (blockCount sheet) 2 headers-opened) (Counted.Refused (refusal 1 0))) (Counted.Refused (refusal 21 0)))
+        ≡ cond (not b) (refused (refusal 21 0)) (cond (not (lengthRight (length sheet))) (refused (refusal 1 0)) (first ((checks ++ headers) ++ unsound) (totalOf sheet)))
+    by-edition true = by-length (lengthRight (length sheet))
+    by-edition false = refl
 
 -- the tree -------------------------------------------------------------------------------------------------------------------------
 
@@ -226,7 +233,7 @@ tree-first edition ss a =
     (end-both (tooDeep (treeOf ss)) (unlawful edition (treeOf ss)) (deepGrounds 0 (depths 0 (treeOf ss))) (ruleGrounds edition 0 Root (treeOf ss)) a (deep-first (depths 0 (treeOf ss)) 0 a) (rules-first edition (treeOf ss) Root 0 a))
     ∙ ap (λ (gs : List Ground). first (missingGround ss ∷ gs) a) (sym (append-assoc (leftOverGrounds ss) (deepGrounds 0 (depths 0 (treeOf ss))) (ruleGrounds edition 0 Root (treeOf ss))))
 
--- 1 to 13
+-- 21 and 1 to 13
 judgement-first : (edition : ℕ) (sheet : List ℕ) → judgingEnd (judgement edition sheet) (totalOf sheet) ≡ first (judgingGrounds edition sheet) (totalOf sheet)
 unfolding judgement judgedAs opened.outcome opened.outcomeOf
 judgement-first edition sheet =

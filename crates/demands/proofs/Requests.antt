@@ -1,41 +1,228 @@
 -- What the requests of document 02 ask holds.
 use Prim.Native.Nat.{ℕ, zero, suc, _*_, _≤_, _<_}
-use mathlib.Core.Path.{_≡_, refl, ap, _∙_}
+use mathlib.Core.Path.{_≡_, refl, sym, ap, subst, _∙_}
+use mathlib.Core.Bool.{Bool, true, false, true≢false, not, cond, _&&_}
+use mathlib.Core.Logic.{_⊎_, inl, inr, _↔_}
 use mathlib.Core.List.{List, _++_}
 use native.Mathlib.Omega.{arith}
-use borrow.Author.Tests.{lt-ltb}
+use borrow.Author.Tests.{lt-ltb, eq-eqb, eqb-true, not-false}
+use lib.Dec.{eqb, ltb}
 use lib.ListN.{length, drop}
 use lib.Seq.{drop-at}
-use Rattle.refusal.specs.Outcome.{refusal}
-use Rattle.sheet.specs.Block.{totalOf}
-use Rattle.tree.specs.Tree.{Tree}
-use Rattle.tree.specs.Judgement.{judgement}
+use Rattle.refusal.specs.Outcome.{refused, refusal, shortOutput}
+use Rattle.refusal.specs.Faults as sided
+use Rattle.refusal.specs.Faults.{fault}
+use Rattle.refusal.specs.declared.answers.Refusal.{Refusal}
+use Rattle.laws.proofs.BoolLaws.{and-both, both-and, by-test}
+use Rattle.edition.specs.Editions.{isKnown}
+use Rattle.edition.proofs.EditionLaws.{OneOf, first, second, known-of, one-of-known}
+use Rattle.parquet.specs.Logical.{DECIMAL}
+use Rattle.annotation.proofs.EditionLaws.{isEqual, first-ordered, second-ordered, ordered-precision, ordered-scale}
+use Rattle.sheet.specs.Block.{totalOf, mostNodes}
+use Rattle.sheet.specs.Opening.{openOf}
+use Rattle.sheet.proofs.OpeningLaws.{openOf-unknown}
+use Rattle.column_type.specs.Lawful.{isLawful, typeRefusal, judgementOf as typeJudgement}
+use Rattle.column_type.specs.declared.types.ColumnType.{ColumnType}
+use Rattle.column_type.proofs.RefusalLaws.{unknown-unlawful, refusal-known, refusal-unknown}
+use Rattle.column_type.proofs.EditionLaws.{lawful-second, lawful-first}
+use Rattle.column.specs.Outcome as read
+use Rattle.column.specs.Reading.{readOf}
+use Rattle.column.proofs.PromiseLaws.{refused-unknown}
+use Rattle.column_order.specs.Outcome as order
+use Rattle.column_order.specs.Order.{orderOf}
+use Rattle.c_sheets.proofs.BoundLaws.{VerdictBounded, known-bounded}
+use Rattle.tree.specs.Tree.{Tree, size}
+use Rattle.tree.specs.Judgement.{judgement, judgedNodes, judgementOf}
+use Rattle.tree.proofs.JudgementLaws.{judgement-refused, judged-refused}
 use Rattle.refusal.specs.declared.answers.Verdict.{Verdict}
-use Rattle.schema.specs.Rows.{rowWidth, rows}
-use Rattle.schema.specs.Outcome.{answer, outcome}
-use Rattle.schema.specs.Demand.{IsTreeOf, Accepted}
+use Rattle.schema.specs.Rows.{rowWidth, rows, numberIn}
+use Rattle.schema.specs.Outcome.{answer, outcome, written}
+use Rattle.schema.specs.Rewriting.{fits, rewriteAnswer, rewriteOutcome, rewriteWritten}
+use Rattle.schema.proofs.EditionLaws.{second-lawful, FirstIn, first-refused, first-lawful}
+use Rattle.schema.specs.Demand.{IsTreeOf, Sound, Accepted, kindIn}
 use Rattle.refusal.specs.declared.answers.Counted.{Counted}
 use Rattle.schema.proofs.AcceptedLaws.{accepted-rows}
-use Rattle.schema.proofs.DemandLaws.{no-refusal-rows, size-is, rows-length, refused-unchanged}
+use Rattle.schema.proofs.DemandLaws.{no-refusal-rows, size-is, rows-length, refused-resolving, refused-unchanged}
 use Rattle.schema.proofs.NodeLevelsLaws.{InRow, root-levels, field-levels}
 use Rattle.schema.proofs.RepeatedFieldLaws as repeated
 use Rattle.utf8.proofs.ValidLaws.{validUpTo-stops, stops-unique}
 use Rattle.column.proofs.PlaceLaws.{text-stops, other-place, text-refused}
-use Rattle.column_order.proofs.FaultLaws.{first-exactly, second-exactly, neither-exactly, fault-most}
-use Rattle.demands.specs.Requests.{one, Request2, Request6, left, definitionIn, repetitionLevelIn, Request8}
+use Rattle.column_order.proofs.FaultLaws.{OfNeither, first-exactly, second-exactly, neither-exactly, fault-most}
+use Rattle.demands.specs.Requests.{one, Request2, EqualIn, FirstEqual, Request4, Request6, left, definitionIn, repetitionLevelIn, Request8}
 use Rattle.demands.proofs.ColumnPoints.{cut-off, second-bad, both-bad}
 use Rattle.demands.proofs.SheetPoints.{repeated-rows, example-rows}
 
 pub request2 : (edition : ℕ) → Request2 edition
 request2 edition =
     record {
-      kept = λ p list layer s fs h r. repeated.repeated-kept edition list layer s fs (h .group) (h .repeated) r p;
-      layer-role = λ q above list layer s fs h r k. repeated.layer-role edition list layer s fs (h .group) (h .repeated) r q above k (one layer (one s fs));
-      field-role = λ q above list layer s fs h r k keeps. repeated.field-role edition list layer s fs (h .group) (h .repeated) r q above k keeps (one layer (one s fs));
-      refused = λ p list layer s fs h. repeated.no-element edition list layer s fs (h .group) (h .repeated) p;
+      kept = λ p list layer s fs h r. repeated.repeated-kept list layer s fs (h .group) (h .repeated) r p;
+      layer-role = λ q above list layer s fs h r k. repeated.layer-role list layer s fs (h .group) (h .repeated) r q above k (one layer (one s fs));
+      field-role = λ q above list layer s fs h r k keeps. repeated.field-role list layer s fs (h .group) (h .repeated) r q above k edition keeps (one layer (one s fs));
+      refused = λ p list layer s fs h. repeated.no-element list layer s fs (h .group) (h .repeated) p;
       repeated-list = repeated.repeated-list;
       example = repeated-rows edition;
     }
+
+-- R-4 ----------------------------------------------------------------------------------------------------------------------
+
+editions : (edition : ℕ) → (isKnown edition ≡ true) ↔ ((edition ≡ 1) ⊎ (edition ≡ 2))
+editions edition = ((λ k. each (one-of-known edition k)), λ h. on h)
+  where
+    each : {e : ℕ} → OneOf e → (e ≡ 1) ⊎ (e ≡ 2)
+    each first = inl refl
+    each second = inr refl
+
+    on : (edition ≡ 1) ⊎ (edition ≡ 2) → isKnown edition ≡ true
+    on (inl e) = rw e (known-of first)
+    on (inr e) = rw e (known-of second)
+
+-- both are lawful, so both give the same
+same-rows : (sheet lent : List ℕ) → judgement 1 sheet ≡ Verdict.Lawful → (outcome 2 sheet (length lent) ≡ outcome 1 sheet (length lent)) × (written (outcome 2 sheet (length lent)) sheet lent ≡ written (outcome 1 sheet (length lent)) sheet lent)
+unfolding outcome
+same-rows sheet lent e = let f = second-lawful sheet e in (rw (e, f), rw (e, f))
+
+same-rewritten : (sheet lent : List ℕ) (start : ℕ) → judgement 1 sheet ≡ Verdict.Lawful → (rewriteOutcome 2 sheet (length lent) start ≡ rewriteOutcome 1 sheet (length lent) start) × (rewriteWritten (rewriteOutcome 2 sheet (length lent) start) sheet lent start ≡ rewriteWritten (rewriteOutcome 1 sheet (length lent) start) sheet lent start)
+unfolding rewriteOutcome
+same-rewritten sheet lent start e = let f = second-lawful sheet e in (rw (e, f), rw (e, f))
+
+-- the test of a kind, and what it says of a row
+equal-in : (numbers : List ℕ) (k : ℕ) → isEqual (kindIn numbers k) ≡ true → EqualIn numbers k
+unfolding isEqual
+equal-in numbers k e =
+    let both = and-both (eqb (numberIn numbers k 3) DECIMAL) (eqb (numberIn numbers k 4) (numberIn numbers k 5)) e in
+    record { is-decimal = eqb-true _ _ (both .0); digits = eqb-true _ _ (both .1) }
+
+in-equal : (numbers : List ℕ) (k : ℕ) → EqualIn numbers k → isEqual (kindIn numbers k) ≡ true
+unfolding isEqual
+in-equal numbers k h = both-and (eqb (numberIn numbers k 3) DECIMAL) (eqb (numberIn numbers k 4) (numberIn numbers k 5)) (eq-eqb _ _ (h .is-decimal)) (eq-eqb _ _ (h .digits))
+
+refused-alone : (sheet : List ℕ) (t : Tree) (r : Refusal) → Sound 2 sheet → IsTreeOf 2 sheet t → judgement 1 sheet ≡ Verdict.Refused r → (r .number ≡ 11) × FirstEqual t (r .place)
+refused-alone sheet t r sound tree e =
+    let found = first-refused sheet t sound tree r e in
+    let at : r .place ≡ found .0 = ap (λ (q : Refusal). q .place) (found .1) in
+    let equal : FirstEqual t (found .0) = record { below = found .2 .below; here = equal-in (rows t) (found .0) (found .2 .here); earlier = λ j h q. true≢false (sym (in-equal (rows t) j q) ∙ found .2 .earlier j h) } in
+    (ap (λ (q : Refusal). q .number) (found .1), subst (FirstEqual t) (sym at) equal)
+
+not-accepted : (sheet : List ℕ) (t : Tree) (k : ℕ) → Sound 2 sheet → IsTreeOf 2 sheet t → k < size t → EqualIn (rows t) k → judgement 1 sheet ≡ Verdict.Lawful → ⊥
+not-accepted sheet t k sound tree h q e = true≢false (sym (in-equal (rows t) k q) ∙ first-lawful sheet t sound tree e k h)
+
+same-reading : (c : ColumnType) (bs : List ℕ) → isLawful 1 c ≡ true → read.outcome 2 c bs ≡ read.outcome 1 c bs
+unfolding read.outcome readOf
+same-reading c bs e = rw (e, lawful-second c e)
+
+same-order : (c : ColumnType) (a b : List ℕ) → isLawful 1 c ≡ true → order.outcome 2 c a b ≡ order.outcome 1 c a b
+unfolding order.outcome orderOf readOf
+same-order c a b e = rw (e, lawful-second c e)
+
+lawful-alone : (c : ColumnType) → isLawful 2 c ≡ true → (isLawful 1 c ≡ false) ↔ ((c .kind ≡ DECIMAL) × (c .p1 ≡ c .p2))
+lawful-alone c e = (
+  (λ f.
+      let both = and-both (eqb (c .kind) DECIMAL) (eqb (c .p1) (c .p2)) (not-false _ (sym (lawful-first c e) ∙ f)) in
+      (eqb-true _ _ (both .0), eqb-true _ _ (both .1))),
+  λ h. lawful-first c e ∙ ap not (both-and (eqb (c .kind) DECIMAL) (eqb (c .p1) (c .p2)) (eq-eqb _ _ (h .0)) (eq-eqb _ _ (h .1))),
+)
+
+-- 21: where the edition is known, no other refusal has its number
+other-number : (number place : ℕ) (v : Verdict) → number < 21 → VerdictBounded number place v → v ≡ Verdict.Refused (refusal 21 0) → ⊥
+other-number number place Verdict.Lawful h b e = let z : _≡_ {A = ℕ} 0 1 = cc in omega arith
+other-number number place (Verdict.Refused r) h b e =
+    let q : r ≡ refusal 21 0 = cc in
+    let n : r .number ≡ 21 = ap (λ (s : Refusal). s .number) q in
+    omega (arith, b .most-number, n)
+
+unknown-judgement : (edition : ℕ) (sheet : List ℕ) → (judgement edition sheet ≡ Verdict.Refused (refusal 21 0)) ↔ (isKnown edition ≡ false)
+unknown-judgement edition sheet = (
+  (λ e. by-test (isKnown edition) (λ k. absurd (other-number 13 mostNodes (judgement edition sheet) (omega arith) (known-bounded edition sheet k) e)) (λ u. u)),
+  λ u. judgement-refused edition sheet _ (openOf-unknown edition sheet u),
+)
+
+unknown-opening : (edition : ℕ) (sheet : List ℕ) → (openOf edition sheet ≡ Counted.Refused (refusal 21 0)) ↔ (isKnown edition ≡ false)
+unknown-opening edition sheet = (λ e. unknown-judgement edition sheet .0 (judgement-refused edition sheet _ e), λ u. openOf-unknown edition sheet u)
+
+unknown-judging : (edition : ℕ) (sheet : List ℕ) → (judgementOf edition sheet ≡ Counted.Refused (refusal 21 0)) ↔ (isKnown edition ≡ false)
+unfolding judgementOf judgedNodes
+unknown-judging edition sheet = (
+  (λ e. unknown-judgement edition sheet .0 (judged-refused edition sheet _ e)),
+  λ u. rw (unknown-judgement edition sheet .1 u),
+)
+
+-- an answer of 21 is the verdict's: 14 has another number
+answered-refused : (v : Verdict) (total lent : ℕ) → answer v total lent ≡ Counted.Refused (refusal 21 0) → v ≡ Verdict.Refused (refusal 21 0)
+unfolding answer
+answered-refused (Verdict.Refused r) total lent e = cc
+answered-refused Verdict.Lawful total lent e = absurd (on (ltb lent (11 * total)) e)
+  where
+    on : (b : Bool) → cond b (Counted.Refused shortOutput) (Counted.Count total) ≡ Counted.Refused (refusal 21 0) → ⊥
+    on true q = let z : shortOutput ≡ refusal 21 0 = cc in let n : _≡_ {A = ℕ} 14 21 = ap (λ (r : Refusal). r .number) z in omega arith
+    on false q = let z : _≡_ {A = ℕ} 0 1 = cc in omega arith
+
+unknown-resolving : (edition : ℕ) (sheet : List ℕ) (lent : ℕ) → (outcome edition sheet lent ≡ Counted.Refused (refusal 21 0)) ↔ (isKnown edition ≡ false)
+unfolding outcome
+unknown-resolving edition sheet lent = (
+  (λ e. unknown-judgement edition sheet .0 (answered-refused (judgement edition sheet) (totalOf sheet) lent e)),
+  λ u. refused-resolving edition sheet lent _ (unknown-judgement edition sheet .1 u),
+)
+
+rewritten-refused : (v : Verdict) (enough : Bool) (n : ℕ) → rewriteAnswer v enough n ≡ Counted.Refused (refusal 21 0) → v ≡ Verdict.Refused (refusal 21 0)
+unfolding rewriteAnswer
+rewritten-refused (Verdict.Refused r) enough n e = cc
+rewritten-refused Verdict.Lawful true n e = absurd (let z : _≡_ {A = ℕ} 0 1 = cc in omega arith)
+rewritten-refused Verdict.Lawful false n e = absurd (let z : shortOutput ≡ refusal 21 0 = cc in let n : _≡_ {A = ℕ} 14 21 = ap (λ (r : Refusal). r .number) z in omega arith)
+
+unknown-rewriting : (edition : ℕ) (sheet : List ℕ) (lent start : ℕ) → (rewriteOutcome edition sheet lent start ≡ Counted.Refused (refusal 21 0)) ↔ (isKnown edition ≡ false)
+unfolding rewriteOutcome rewriteAnswer
+unknown-rewriting edition sheet lent start = (
+  (λ e. unknown-judgement edition sheet .0 (rewritten-refused (judgement edition sheet) (fits sheet lent start) (length sheet) e)),
+  λ u. rw (unknown-judgement edition sheet .1 u),
+)
+
+unknown-typing : (edition : ℕ) (c : ColumnType) → (typeJudgement edition c ≡ Verdict.Refused (refusal 21 0)) ↔ (isKnown edition ≡ false)
+unfolding typeJudgement
+unknown-typing edition c = (
+  (λ e. by-test (isKnown edition) (λ k. absurd (known k e)) (λ u. u)),
+  λ u. rw (unknown-unlawful edition c u, refusal-unknown edition u),
+)
+  where
+    known : isKnown edition ≡ true → cond (isLawful edition c) Verdict.Lawful (Verdict.Refused (typeRefusal edition)) ≡ Verdict.Refused (refusal 21 0) → ⊥
+    known k e =
+        by-test (isLawful edition c) (λ l. other-number 20 0 Verdict.Lawful (omega arith) tt (rw l at e))
+        (λ l. other-number 20 0 (Verdict.Refused (refusal 20 0)) (omega arith) (record { some-number = omega arith; most-number = omega arith; most-place = omega arith }) (rw (l, refusal-known edition k) at e))
+
+unknown-ordering : (edition : ℕ) (c : ColumnType) (a b : List ℕ) → (order.outcome edition c a b ≡ sided.refused (fault 0 (refusal 21 0))) ↔ (isKnown edition ≡ false)
+unknown-ordering edition c a b = ((λ e. on (neither-exactly edition c a b 21 0 .0 e)), λ u. neither-exactly edition c a b 21 0 .1 (inl (u, refl, refl)))
+  where
+    on : OfNeither edition c a b 21 0 → isKnown edition ≡ false
+    on (inl h) = h .0
+    on (inr (inl h)) = absurd (omega (arith, h .2))
+    on (inr (inr h)) = absurd (omega (arith, h .2))
+
+pub request4 : Request4
+request4 =
+    record {
+      editions = editions;
+      old-rule = first-ordered;
+      new-rule = second-ordered;
+      no-precision = ordered-precision;
+      no-scale = ordered-scale;
+      accepted = second-lawful;
+      same-rows = same-rows;
+      same-rewritten = same-rewritten;
+      refused-alone = refused-alone;
+      not-accepted = not-accepted;
+      lawful = lawful-second;
+      same-reading = same-reading;
+      same-order = same-order;
+      lawful-alone = lawful-alone;
+      unknown-opening = unknown-opening;
+      unknown-judging = unknown-judging;
+      unknown-resolving = unknown-resolving;
+      unknown-rewriting = unknown-rewriting;
+      unknown-typing = unknown-typing;
+      unknown-reading = refused-unknown;
+      unknown-ordering = unknown-ordering;
+    }
+
+-- R-6 ----------------------------------------------------------------------------------------------------------------------
 
 pub request6 : (edition : ℕ) → Request6 edition
 request6 edition =
@@ -43,15 +230,15 @@ request6 edition =
       offset = validUpTo-stops;
       one-offset = λ s q r. stops-unique;
       text-place = text-stops edition;
-      text-refused edition = text-refused edition;
-      other-place edition = other-place edition;
+      text-refused = text-refused edition;
+      other-place = other-place edition;
       first = first-exactly edition;
       second = second-exactly edition;
       neither = neither-exactly edition;
       no-other = fault-most edition;
-      cut-off edition = cut-off edition;
-      second-bad edition = second-bad edition;
-      both-bad edition = both-bad edition;
+      cut-off = cut-off edition;
+      second-bad = second-bad edition;
+      both-bad = both-bad edition;
     }
 
 -- R-8 ----------------------------------------------------------------------------------------------------------------------

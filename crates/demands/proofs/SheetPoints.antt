@@ -4,6 +4,8 @@ use mathlib.Core.Path.{_≡_, refl}
 use mathlib.Core.Bool.{Bool, true}
 use mathlib.Core.List.{List, [], _∷_}
 use lib.ListN.{replicate}
+use Rattle.edition.specs.Editions.{FIRST, SECOND, isKnown, scaleMayEqual}
+use Rattle.edition.proofs.EditionLaws.{each-edition}
 use Rattle.laws.specs.Bytes.{little, twosComplement, bytesOf}
 use Rattle.block_check.specs.Check.{sumBelow, weighted, check}
 use Rattle.refusal.specs.Outcome.{Outcome, refusal}
@@ -47,6 +49,7 @@ use Rattle.tree.specs.Judgement.{orElse, leftOver, missing, firstFault, deepnes
 use Rattle.schema.specs.Outcome.{answer, outcome, written}
 use Rattle.refusal.specs.declared.answers.Counted.{Counted}
 use Rattle.demands.specs.Sheets.{rootSlot, leafSheet, exampleSheet, repeatedSheet}
+use Rattle.demands.specs.Points.{equalSheet}
 use Rattle.demands.specs.Requests.{repeatedRows, exampleRows}
 
 -- Each layer's definitions, open: what names a layer on its `unfolding` line computes through it.
@@ -63,7 +66,7 @@ slot-layer = slotRight
 
 -- what opening answers
 sheet-layer : (edition : ℕ) → List ℕ → Outcome sheet.Nodes
-unfolding sheet.outcome sheet.outcomeOf sheet.openOf sheet.atFirst firstWrong firstWrongFrom block-layer slot-layer
+unfolding sheet.outcome sheet.outcomeOf sheet.openOf isKnown sheet.atFirst firstWrong firstWrongFrom block-layer slot-layer
 sheet-layer edition = sheet.outcome edition
 
 -- what a slot's annotations say
@@ -73,7 +76,7 @@ annotation-layer = kind
 
 -- the rules of a node
 rule-layer : (edition : ℕ) → Standing → SlotBytes → Fields → ℕ
-unfolding broken rule8 shape lengthShape decimalShape isNought rule9 rule10 rule11 rule12 rule13 isList isMap standingBelow listKept listRun listChild isElementGroup namedElement isRepeated holdsElement nine.rule9 ten.rule10 eleven.rule11 eleven.decimalHolds eleven.ordered eleven.physicalHolds annotation-layer
+unfolding broken rule8 shape lengthShape decimalShape isNought rule9 rule10 rule11 rule12 rule13 isList isMap standingBelow listKept listRun listChild isElementGroup namedElement isRepeated holdsElement nine.rule9 ten.rule10 eleven.rule11 eleven.decimalHolds eleven.ordered eleven.scaleAllowed scaleMayEqual eleven.physicalHolds annotation-layer
 rule-layer edition = broken edition
 
 -- the tree that the slots spell, and its judgement
@@ -86,35 +89,39 @@ unfolding outcome answer sheetOf blockOf uncheckedBlock joinBelow bytesOf emptyS
 opened edition = outcome edition
 
 -- "One root alone: accepted"
-pub root-alone : (edition : ℕ) → outcome edition (sheetOf (rootSlot 0 ∷ [])) rowWidth ≡ Counted.Count 1
+pub root-alone : (edition : ℕ) → isKnown edition ≡ true → outcome edition (sheetOf (rootSlot 0 ∷ [])) rowWidth ≡ Counted.Count 1
 unfolding opened
-root-alone edition = refl
+root-alone = each-edition _ refl refl
 
--- "Scale = precision: 11"
-pub scale-is-precision : (edition : ℕ) → outcome edition (leafSheet physical.INT32 converted.NONE logical.DECIMAL UNUSED UNUSED 0 3 3) (rowWidth * 2) ≡ Counted.Refused (refusal 11 1)
+-- "Scale = precision: 11", in edition 1, and accepted in edition 2
+pub equal-refused : outcome FIRST equalSheet (rowWidth * 2) ≡ Counted.Refused (refusal 11 1)
 unfolding opened
-scale-is-precision edition = refl
+equal-refused = refl
+
+pub equal-accepted : outcome SECOND equalSheet (rowWidth * 2) ≡ Counted.Count 2
+unfolding opened
+equal-accepted = refl
 
 -- "TIME_MILLIS with TIME(NANOS): 9"
-pub time-millis-with-nanos : (edition : ℕ) → outcome edition (leafSheet physical.INT64 converted.TIME-MILLIS logical.TIME (unitCode TimeUnit.Nanos) (flagCode true) 0 0 0) (rowWidth * 2) ≡ Counted.Refused (refusal 9 1)
+pub time-millis-with-nanos : (edition : ℕ) → isKnown edition ≡ true → outcome edition (leafSheet physical.INT64 converted.TIME-MILLIS logical.TIME (unitCode TimeUnit.Nanos) (flagCode true) 0 0 0) (rowWidth * 2) ≡ Counted.Refused (refusal 9 1)
 unfolding opened
-time-millis-with-nanos edition = refl
+time-millis-with-nanos = each-edition _ refl refl
 
-pub example-accepted : (edition : ℕ) → outcome edition exampleSheet (rowWidth * 4) ≡ Counted.Count 4
+pub example-accepted : (edition : ℕ) → isKnown edition ≡ true → outcome edition exampleSheet (rowWidth * 4) ≡ Counted.Count 4
 unfolding opened
-example-accepted edition = refl
+example-accepted = each-edition _ refl refl
 
 -- with the levels of document 02's R-8
-pub example-rows : (edition : ℕ) → written (outcome edition exampleSheet (rowWidth * 4)) exampleSheet (replicate (rowWidth * 4) 0) ≡ exampleRows
+pub example-rows : (edition : ℕ) → isKnown edition ≡ true → written (outcome edition exampleSheet (rowWidth * 4)) exampleSheet (replicate (rowWidth * 4) 0) ≡ exampleRows
 unfolding opened written rows rowsFrom row parentOf parentBy role listRole howMany size listing
-example-rows edition = refl
+example-rows = each-edition _ refl refl
 
 -- document 02, R-2
-pub repeated-rows : (edition : ℕ) → written (outcome edition repeatedSheet (rowWidth * 4)) repeatedSheet (replicate (rowWidth * 4) 0) ≡ repeatedRows
+pub repeated-rows : (edition : ℕ) → isKnown edition ≡ true → written (outcome edition repeatedSheet (rowWidth * 4)) repeatedSheet (replicate (rowWidth * 4) 0) ≡ repeatedRows
 unfolding opened written rows rowsFrom row parentOf parentBy role listRole howMany size listing
-repeated-rows edition = refl
+repeated-rows = each-edition _ refl refl
 
 -- "FIXED 1 precision 3: 11"
-pub fixed-1-precision-3 : (edition : ℕ) → outcome edition (leafSheet physical.FIXED-LEN-BYTE-ARRAY converted.NONE logical.DECIMAL UNUSED UNUSED 1 0 3) (rowWidth * 2) ≡ Counted.Refused (refusal 11 1)
+pub fixed-1-precision-3 : (edition : ℕ) → isKnown edition ≡ true → outcome edition (leafSheet physical.FIXED-LEN-BYTE-ARRAY converted.NONE logical.DECIMAL UNUSED UNUSED 1 0 3) (rowWidth * 2) ≡ Counted.Refused (refusal 11 1)
 unfolding opened greatestPrecision greatest
-fixed-1-precision-3 edition = refl
+fixed-1-precision-3 = each-edition _ refl refl

@@ -10,9 +10,11 @@ use lib.Dec.{eqb, leb, ltb}
 use lib.IntN.{ℤ, pos}
 use lib.ListN.{length}
 use Rattle.laws.proofs.BoolLaws.{by-test}
-use Rattle.refusal.specs.Outcome.{Outcome, given, refused, refusal}
+use Rattle.refusal.specs.Outcome.{Outcome, given, refused, refusal, judged}
 use Rattle.refusal.specs.declared.answers.Refusal.{Refusal}
-use Rattle.column_type.specs.Lawful.{isLawful}
+use Rattle.column_type.specs.Lawful.{isLawful, judgementOf}
+use Rattle.column_type.proofs.RefusalLaws.{lawful-known, refusal-known, refusal-unknown}
+use Rattle.edition.specs.Editions.{isKnown}
 use Rattle.column_type.specs.declared.types.ColumnType.{ColumnType}
 use Rattle.column.specs.Lengths as value
 use Rattle.column.specs.Annotations.{keeps}
@@ -33,31 +35,37 @@ use Rattle.c_values.specs.Values.{caseOf, numbersOf}
 use Rattle.c_values.proofs.ValueLaws.{numbersOf-length}
 use Rattle.c_timestamps.specs.Timestamps as c_timestamps
 use Rattle.c_timestamps.specs.Timestamps.{fieldNumbers, areFields, fieldsOf, decodeEffect, encodeEffect, Decoding}
-use Rattle.demands.specs.Refusals.{unsided, ground, first, readingGrounds, orderingGrounds, unknownUnit, ticks, encodingGrounds, cReadingGrounds, cDecodingGrounds, cEncodingGrounds}
+use Rattle.demands.specs.Refusals.{unsided, ground, first, typeGrounds, readingGrounds, orderingGrounds, unknownUnit, ticks, encodingGrounds, cReadingGrounds, cDecodingGrounds, cEncodingGrounds}
 
 -- values ---------------------------------------------------------------------------------------------------------------------------
+
+pub typing-first : (edition : ℕ) (c : ColumnType) → judged (judgementOf edition c) ≡ first (typeGrounds edition c) tt
+unfolding judgementOf first
+typing-first edition c =
+    by-test (isLawful edition c) (λ e. rw (lawful-known edition c e, e))
+    (λ e. by-test (isKnown edition) (λ k. rw (k, e, refusal-known edition k)) (λ u. rw (u, e, refusal-unknown edition u)))
 
 pub reading-first : (edition : ℕ) (c : ColumnType) (bs : List ℕ) → column.outcome edition c bs ≡ first (readingGrounds edition c bs) (valueOf c bs)
 unfolding column.outcome readOf first
 reading-first edition c bs =
     by-test (isLawful edition c)
-    (λ e. by-test (value.lengthRight c (length bs)) (λ f. by-test (keeps c bs) (λ g. rw (e, f, g)) (λ g. rw (e, f, g))) (λ f. rw (e, f)))
-    (λ e. rw e)
+    (λ e. let k = lawful-known edition c e in by-test (value.lengthRight c (length bs)) (λ f. by-test (keeps c bs) (λ g. rw (k, e, f, g)) (λ g. rw (k, e, f, g))) (λ f. rw (k, e, f)))
+    (λ e. by-test (isKnown edition) (λ k. rw (k, e, refusal-known edition k)) (λ u. rw (u, e, refusal-unknown edition u)))
 
 pub ordering-first : (edition : ℕ) (c : ColumnType) (a b : List ℕ) → unsided (column_order.outcome edition c a b) ≡ first (orderingGrounds edition c a b) (keyOrder (keyOf c a) (keyOf c b))
 unfolding column_order.outcome orderOf readOf first
 ordering-first edition c a b =
     by-test (isLawful edition c)
-    (λ e. by-test (hasOrder c)
+    (λ e. let k = lawful-known edition c e in by-test (hasOrder c)
     (λ f. by-test (value.lengthRight c (length a))
     (λ g. by-test (keeps c a)
     (λ h. by-test (value.lengthRight c (length b))
-    (λ i. by-test (keeps c b) (λ j. rw (e, f, g, h, i, j)) (λ j. rw (e, f, g, h, i, j)))
-    (λ i. rw (e, f, g, h, i)))
-    (λ h. rw (e, f, g, h)))
-    (λ g. rw (e, f, g)))
-    (λ f. rw (e, f)))
-    (λ e. rw e)
+    (λ i. by-test (keeps c b) (λ j. rw (k, e, f, g, h, i, j)) (λ j. rw (k, e, f, g, h, i, j)))
+    (λ i. rw (k, e, f, g, h, i)))
+    (λ h. rw (k, e, f, g, h)))
+    (λ g. rw (k, e, f, g)))
+    (λ f. rw (k, e, f)))
+    (λ e. by-test (isKnown edition) (λ k. rw (k, e, refusal-known edition k)) (λ u. rw (u, e, refusal-unknown edition u)))
 
 -- timestamps -------------------------------------------------------------------------------------------------------------------------
 
@@ -124,12 +132,12 @@ pub c-reading-first : (edition : ℕ) (c : ColumnType) (bs : List ℕ) (lent : �
 unfolding c_values.reading column.outcome readOf first
 c-reading-first edition c bs lent =
     by-test (isLawful edition c)
-    (λ e. by-test (value.lengthRight c (length bs))
+    (λ e. let k = lawful-known edition c e in by-test (value.lengthRight c (length bs))
     (λ f. by-test (keeps c bs)
-    (λ g. rw (e, f, g) (within-first lent (caseOf (valueOf c bs)) (numbersOf (valueOf c bs)) ∙ ap (λ (n : ℕ). first (ground 14 0 (ltb lent n) ∷ []) (written (caseOf (valueOf c bs)) (numbersOf (valueOf c bs)))) (numbersOf-length (valueOf c bs))))
-    (λ g. rw (e, f, g)))
-    (λ f. rw (e, f)))
-    (λ e. rw e)
+    (λ g. rw (k, e, f, g) (within-first lent (caseOf (valueOf c bs)) (numbersOf (valueOf c bs)) ∙ ap (λ (n : ℕ). first (ground 14 0 (ltb lent n) ∷ []) (written (caseOf (valueOf c bs)) (numbersOf (valueOf c bs)))) (numbersOf-length (valueOf c bs))))
+    (λ g. rw (k, e, f, g)))
+    (λ f. rw (k, e, f)))
+    (λ e. by-test (isKnown edition) (λ k. rw (k, e, refusal-known edition k)) (λ u. rw (u, e, refusal-unknown edition u)))
 
 pub c-decoding-first : (unit : ℕ) (count : ℤ) (lent : ℕ) (o : Outcome Fields) → Decodes (unitOf unit) count o → (f : Fields) × (o ≡ first (unknownUnit unit ∷ []) f) × (within lent (decodeEffect o) ≡ first (cDecodingGrounds unit lent) (written 7 (fieldNumbers f)))
 unfolding first

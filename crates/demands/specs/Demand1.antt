@@ -12,7 +12,7 @@ use mathlib.Core.Option.{Option}
 use lib.Dec.{ltb}
 use lib.IntN.{ℤ}
 use lib.ListN.{length}
-use Rattle.refusal.specs.Outcome.{Outcome, refused, counted}
+use Rattle.refusal.specs.Outcome.{Outcome, refused, judged, counted}
 use Rattle.refusal.specs.declared.answers.Counted.{Counted}
 use Rattle.refusal.specs.declared.answers.Refusal.{Refusal}
 use Rattle.sheet.specs.Block.{totalOf}
@@ -26,6 +26,7 @@ use Rattle.tree.specs.Judgement.{judgementOf}
 use Rattle.schema.specs.Outcome as schema
 use Rattle.schema.specs.Outcome.{written}
 use Rattle.schema.specs.Rewriting.{rewriteOutcome, rewriteWritten}
+use Rattle.column_type.specs.Lawful.{judgementOf as typeJudgement}
 use Rattle.column_type.specs.declared.types.ColumnType.{ColumnType}
 use Rattle.column.specs.Outcome as column
 use Rattle.column.specs.Reading.{valueOf}
@@ -44,9 +45,9 @@ use Rattle.c_values.specs.Values.{caseOf, numbersOf}
 use Rattle.c_timestamps.specs.Timestamps.{fieldNumbers, fieldsOf, decodeEffect, Decoding}
 use Rattle.c_timestamps.specs.Timestamps as c_timestamps
 use Rattle.griffeljol.specs.Promises.{Promises}
-use Rattle.demands.specs.Refusals.{unsided, first, openingGrounds, judgingGrounds, resolvingGrounds, rewritingGrounds, slotGrounds, readingGrounds, orderingGrounds, unknownUnit, ticks, encodingGrounds, rowsTextGrounds, shortFor, cReadingGrounds, cDecodingGrounds, cEncodingGrounds}
+use Rattle.demands.specs.Refusals.{unsided, first, openingGrounds, judgingGrounds, resolvingGrounds, rewritingGrounds, slotGrounds, typeGrounds, readingGrounds, orderingGrounds, unknownUnit, ticks, encodingGrounds, rowsTextGrounds, shortFor, cReadingGrounds, cDecodingGrounds, cEncodingGrounds}
 
--- "Each call ends with the result or one numbered refusal, chosen in the order document 01 states"
+-- "Each call ends with the result or one numbered refusal, chosen in the order document 01 states", in any edition: 21 before all others
 pub record Chosen (edition : ℕ) : Type 1 where
   -- `sheet::open`, and `sheet_reader::open`, which keeps what it answers
   pub opening : (sheet : List ℕ) → counted (openOf edition sheet) ≡ first (openingGrounds edition sheet) (totalOf sheet)
@@ -59,6 +60,8 @@ pub record Chosen (edition : ℕ) : Type 1 where
   -- `annotation::resolve` and `annotation::rewrite`, of a slot that is node k's
   pub slot-resolving : (k : ℕ) (n : Annotated) (under : Bool) → annotation.outcome edition k n under ≡ first (slotGrounds edition k n under) (kindOf n under)
   pub slot-rewriting : (k : ℕ) (n : Annotated) (under : Bool) → annotation_rewriting.outcome edition k n under ≡ first (slotGrounds edition k n under) (writtenOf n under)
+  -- `column_type::judge`
+  pub typing : (c : ColumnType) → judged (typeJudgement edition c) ≡ first (typeGrounds edition c) tt
   -- `column::read`
   pub reading : (c : ColumnType) (bs : List ℕ) → column.outcome edition c bs ≡ first (readingGrounds edition c bs) (valueOf c bs)
   -- `column_order::order`, and in C: how the values' keys stand, where nothing is refused

@@ -34,6 +34,7 @@ use Rattle.schema.specs.Outcome.{outcome, written}
 use Rattle.schema.specs.Rewriting.{rewritten, rewriteOutcome, rewriteWritten}
 use Rattle.schema.specs.Demand.{IsTreeOf, Sound, EnoughOutput, Accepted, EnoughRoom, AcceptedRewriting, Copied, kindIn, ResolvesTo, Bare, WrittenBack}
 use Rattle.schema.specs.Roles.{ascent, isUnderMap}
+use Rattle.edition.specs.Editions.{isKnown}
 use Rattle.column_type.specs.Lawful.{isLawful}
 use Rattle.column_type.specs.Leaf.{HasLeaf}
 use Rattle.column_type.specs.declared.types.ColumnType.{ColumnType}
@@ -102,10 +103,10 @@ pub record Rewriting (edition : ℕ) : Type 1 where
 
 -- "Value checks .. follow those rules too": each sentence of "Single values", of what `column::read` gives (`read.outcome`) in a lawful column
 pub record Values (edition : ℕ) : Type 1 where
-  -- 20: "no accepted sheet has a leaf of this column type", and given for no other
+  -- 20: "no accepted sheet has a leaf of this column type", and given for no other; where there is no such edition, 21 comes before it
   pub lawful-exactly : (c : ColumnType) → (isLawful edition c ≡ true) ↔ HasLeaf edition c
   pub unlawful-exactly : (c : ColumnType) → (isLawful edition c ≡ false) ↔ (HasLeaf edition c → ⊥)
-  pub refused-unlawful : (c : ColumnType) (bs : List ℕ) → (read.outcome edition c bs ≡ refused (refusal 20 0)) ↔ (HasLeaf edition c → ⊥)
+  pub refused-unlawful : (c : ColumnType) (bs : List ℕ) → (read.outcome edition c bs ≡ refused (refusal 20 0)) ↔ ((isKnown edition ≡ true) × (HasLeaf edition c → ⊥))
   -- 15: "value of wrong length, or over 65,536 bytes"
   pub wrong-length : (c : ColumnType) (bs : List ℕ) → isLawful edition c ≡ true → (read.outcome edition c bs ≡ refused (refusal 15 0)) ↔ (RightLength c (length bs) → ⊥)
   -- "BOOLEAN one byte, 0 or 1 (else 16)"

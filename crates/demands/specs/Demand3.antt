@@ -4,7 +4,7 @@
 -- order, equal in every number."
 --
 -- A tree is a root with its run (`tree/specs/Tree`), and the rules are judged on it alone (`tree/specs/Rules`); `IsTreeOf` puts the demand's four parts together
--- (`schema/specs/Demand`). None of them names a reader.
+-- (`schema/specs/Demand`). None of them names a reader. Each edition has its rules (document 02, R-4).
 use Prim.Native.Nat.{ℕ, _*_, _<_}
 use mathlib.Core.Path.{_≡_}
 use mathlib.Core.Logic.{_⊎_, _↔_}
@@ -45,7 +45,7 @@ pub record Demand3 (edition : ℕ) : Type 1 where
   pub rows-length : (sheet : List ℕ) (t : Tree) → IsTreeOf edition sheet t → length (rows t) ≡ rowWidth * totalOf sheet
   -- the roles in terms of the tree
   pub roles : (sheet : List ℕ) (t : Tree) → IsTreeOf edition sheet t → (k : ℕ) → k < size t → RoleIn (numberIn (rows t) k 8) (ascent t k)
-  -- "blocks are sound where refusals 1 to 3 don't hold, node slots where 4 doesn't": together, exactly where opening refuses nothing
+  -- "blocks are sound where refusals 1 to 3 don't hold, node slots where 4 doesn't", and the edition is known: together, exactly where opening refuses nothing
   pub sound-exactly : (sheet : List ℕ) → Sound edition sheet ↔ (openOf edition sheet ≡ Counted.Count (totalOf sheet))
   -- of refusal 6, refusal 5 and a tree that claims rightly and lists the slots, one holds, with the refusal's place
   pub six-five-or-tree : (ss : List SlotBytes) → ((k : ℕ) × (k < length ss) × (leftOver ss ≡ Verdict.Refused (refusal 6 k))) ⊎ (((leftOver ss ≡ Verdict.Lawful) × (missing ss ≡ Verdict.Refused (refusal 5 (length ss)))) ⊎ ((t : Tree) × Claims t × (listing t ≡ ss)))

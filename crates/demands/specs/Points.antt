@@ -1,4 +1,4 @@
--- The starred points of document 01, each a claim about a public definition, in its order.
+-- The starred points of document 01, each a claim about a public definition, in its order. All but one hold in every edition.
 use Prim.Native.Nat.{ℕ, _*_, _-_, _^_}
 use mathlib.Core.Path.{_≡_}
 use mathlib.Core.Bool.{true, false}
@@ -13,6 +13,7 @@ use Rattle.logical_type.specs.declared.types.TimeUnit.{TimeUnit}
 use Rattle.refusal.specs.Faults as sided
 use Rattle.refusal.specs.Outcome.{given, refused, refusal}
 use Rattle.refusal.specs.declared.answers.Counted.{Counted}
+use Rattle.edition.specs.Editions.{FIRST, SECOND}
 use Rattle.sheet.specs.Sheet.{sheetOf}
 use Rattle.schema.specs.Rows.{rowWidth}
 use Rattle.schema.specs.Outcome as schema
@@ -51,6 +52,7 @@ decimals precision = record { physical = physical.BYTE-ARRAY; «type_length» = 
 abbrev pub uint8 : ColumnType
 uint8 = record { physical = physical.INT32; «type_length» = 0; kind = logical.INTEGER; p1 = bitWidthCode BitWidth.Bits8; p2 = flagCode false }
 
+-- the points in an edition
 abbrev pub points : ℕ → List (Type 0)
 points edition =
     -- "*172800000 ms: 1970-01-03 00:00:00"
@@ -75,12 +77,23 @@ points edition =
     -- "*INT(8, false): 255 valid, 256: 16"
     ∷ (reading.outcome edition uint8 (255 ∷ 0 ∷ 0 ∷ 0 ∷ []) ≡ given (Unsigned 255))
     ∷ (reading.outcome edition uint8 (0 ∷ 1 ∷ 0 ∷ 0 ∷ []) ≡ refused (refusal 16 0))
-    -- "*Scale = precision: 11"
-    ∷ (schema.outcome edition (leafSheet physical.INT32 converted.NONE logical.DECIMAL UNUSED UNUSED 0 3 3) (rowWidth * 2) ≡ Counted.Refused (refusal 11 1))
     -- "*TIME_MILLIS with TIME(NANOS): 9"
     ∷ (schema.outcome edition (leafSheet physical.INT64 converted.TIME-MILLIS logical.TIME (unitCode TimeUnit.Nanos) (flagCode true) 0 0 0) (rowWidth * 2) ≡ Counted.Refused (refusal 9 1))
     -- "*One root alone: accepted"
     ∷ (schema.outcome edition (sheetOf (rootSlot 0 ∷ [])) rowWidth ≡ Counted.Count 1)
+    ∷ []
+
+-- a DECIMAL on INT32 whose scale equals its precision
+abbrev pub equalSheet : List ℕ
+equalSheet = leafSheet physical.INT32 converted.NONE logical.DECIMAL UNUSED UNUSED 0 3 3
+
+-- the one point that editions decide
+abbrev pub editionPoints : List (Type 0)
+editionPoints =
+    -- "*Scale = precision: 11", in edition 1
+    (schema.outcome FIRST equalSheet (rowWidth * 2) ≡ Counted.Refused (refusal 11 1))
+    -- and in edition 2 it is accepted
+    ∷ (schema.outcome SECOND equalSheet (rowWidth * 2) ≡ Counted.Count 2)
     ∷ []
 
 -- all claims of a list hold

@@ -148,17 +148,21 @@ slotGrounds edition k n under =
 abbrev pub unlawful : ℕ → ColumnType → Ground
 unlawful edition c = ground 20 0 (not (isLawful edition c))
 
+-- a column type: 20, behind 21
+abbrev pub typeGrounds : ℕ → ColumnType → List Ground
+typeGrounds edition c = unknownEdition edition ∷ unlawful edition c ∷ []
+
 -- "value of wrong length, or over 65,536 bytes", "value breaks its annotation"
 abbrev pub valueGrounds : ColumnType → List ℕ → List Ground
 valueGrounds c bs = ground 15 0 (not (value.lengthRight c (length bs))) ∷ ground 16 (annotationPlace c bs) (not (keeps c bs)) ∷ []
 
 -- "One value is checked for 20, then 15, then 16", behind 21
 abbrev pub readingGrounds : ℕ → ColumnType → List ℕ → List Ground
-readingGrounds edition c bs = unknownEdition edition ∷ unlawful edition c ∷ valueGrounds c bs
+readingGrounds edition c bs = typeGrounds edition c ++ valueGrounds c bs
 
 -- "Checks: 20, 17, first value, second value", behind 21
 abbrev pub orderingGrounds : ℕ → ColumnType → List ℕ → List ℕ → List Ground
-orderingGrounds edition c a b = unknownEdition edition ∷ unlawful edition c ∷ ground 17 0 (not (hasOrder c)) ∷ (valueGrounds c a ++ valueGrounds c b)
+orderingGrounds edition c a b = typeGrounds edition c ++ (ground 17 0 (not (hasOrder c)) ∷ (valueGrounds c a ++ valueGrounds c b))
 
 -- a timestamp --------------------------------------------------------------------------------------------------------------------
 

@@ -4,17 +4,21 @@ use mathlib.Core.Path.{_≡_}
 use mathlib.Core.Bool.{true, false}
 use mathlib.Core.List.{List, [], _∷_, _++_}
 use mathlib.Core.Logic.{_⊎_, _↔_}
+use lib.IntN.{ℤ, pos, negsuc}
 use lib.ListN.{length, drop, replicate}
 use Rattle.refusal.specs.Faults as sided
 use Rattle.refusal.specs.Faults.{fault}
 use Rattle.refusal.specs.Outcome.{refused, refusal}
+use Rattle.edition.specs.Editions.{isKnown}
+use Rattle.annotation.specs.Rule11.{ordered}
 use Rattle.sheet.specs.Block.{totalOf}
+use Rattle.sheet.specs.Opening.{openOf}
 use Rattle.sheet.specs.Slot.{physical, repetition}
 use Rattle.parquet.specs.Repetition.{REPEATED}
 use Rattle.parquet.specs.Logical as logical
 use Rattle.parquet.specs.Physical.{BYTE-ARRAY}
 use Rattle.utf8.specs.Valid.{validUpTo, Stops}
-use Rattle.column_type.specs.Lawful.{isLawful}
+use Rattle.column_type.specs.Lawful.{isLawful, judgementOf as typeJudgement}
 use Rattle.column_type.specs.declared.types.ColumnType.{ColumnType}
 use Rattle.column.specs.Annotations.{isText}
 use Rattle.column.specs.Outcome as read
@@ -22,17 +26,19 @@ use Rattle.column_order.specs.Order.{hasOrder}
 use Rattle.column_order.specs.Comparison.{Valid}
 use Rattle.column_order.specs.Outcome as order
 use Rattle.tree.specs.Annotated.{kind}
-use Rattle.tree.specs.Tree.{SlotBytes, Fields, node, empty, field}
+use Rattle.tree.specs.Tree.{SlotBytes, Tree, Fields, node, empty, field, size}
 use Rattle.tree.specs.Rules.{isGroup, isRequiredOrOptional, isList, namedElement, rule12, KeepsAt}
 use Rattle.tree.specs.declared.standing.Standing.{Standing}
 use Rattle.tree.specs.declared.standing.Standing.the-variants.{Field}
-use Rattle.tree.specs.Judgement.{judgement}
+use Rattle.tree.specs.Judgement.{judgement, judgementOf}
 use Rattle.refusal.specs.declared.answers.Counted.{Counted}
+use Rattle.refusal.specs.declared.answers.Refusal.{Refusal}
 use Rattle.refusal.specs.declared.answers.Verdict.{Verdict}
 use Rattle.schema.specs.Levels.{isOptionalOrRepeated, isRepeatedCode, counted}
-use Rattle.schema.specs.Rows.{isMapParent, ELEMENT-LAYER, BARE-REPEATED, role, parentOf, rowWidth, numberIn}
+use Rattle.schema.specs.Rows.{isMapParent, ELEMENT-LAYER, BARE-REPEATED, role, parentOf, rows, rowWidth, numberIn}
 use Rattle.schema.specs.Outcome.{outcome, written}
-use Rattle.schema.specs.Demand.{Accepted}
+use Rattle.schema.specs.Rewriting.{rewriteOutcome, rewriteWritten}
+use Rattle.schema.specs.Demand.{IsTreeOf, Sound, Accepted}
 use Rattle.schema.specs.declared.roles.Parent.{Parent}
 use Rattle.demands.specs.Sheets.{exampleSheet, repeatedSheet}
 
@@ -68,7 +74,52 @@ pub record Request2 (edition : ℕ) : Type 1 where
   -- "a repeated LIST is judged as before"
   pub repeated-list : (p : Standing) (s : SlotBytes) (fs : Fields) → isList p s ≡ true → repetition s ≡ REPEATED → rule12 p s fs ≡ false
   -- a sheet of such a LIST
-  pub example : written (outcome edition repeatedSheet (rowWidth * 4)) repeatedSheet (replicate (rowWidth * 4) 0) ≡ repeatedRows
+  pub example : isKnown edition ≡ true → written (outcome edition repeatedSheet (rowWidth * 4)) repeatedSheet (replicate (rowWidth * 4) 0) ≡ repeatedRows
+
+-- R-4. "Scale equal to precision, by edition" -----------------------------------------------------------------------------
+
+-- in the row of node k, a DECIMAL whose scale equals its precision
+pub record EqualIn (numbers : List ℕ) (k : ℕ) : Type 0 where
+  pub is-decimal : numberIn numbers k 3 ≡ logical.DECIMAL
+  pub digits : numberIn numbers k 4 ≡ numberIn numbers k 5
+
+-- node k is the first of a tree's that has one
+pub record FirstEqual (t : Tree) (k : ℕ) : Type 0 where
+  pub below : k < size t
+  pub here : EqualIn (rows t) k
+  pub earlier : (j : ℕ) → j < k → EqualIn (rows t) j → ⊥
+
+pub record Request4 : Type 1 where
+  -- there are two editions
+  pub editions : (edition : ℕ) → (isKnown edition ≡ true) ↔ ((edition ≡ 1) ⊎ (edition ≡ 2))
+  -- "1 keeps the old rule, 2 has the new one": precision and scale of a DECIMAL; neither is negative in any edition
+  pub old-rule : (p s : ℕ) → (ordered 1 (pos p) (pos s) ≡ true) ↔ ((1 ≤ p) × (s < p))
+  pub new-rule : (p s : ℕ) → (ordered 2 (pos p) (pos s) ≡ true) ↔ ((1 ≤ p) × (s ≤ p))
+  pub no-precision : (edition p : ℕ) (s : ℤ) → ordered edition (negsuc p) s ≡ false
+  pub no-scale : (edition : ℕ) (p : ℤ) (s : ℕ) → ordered edition p (negsuc s) ≡ false
+  -- "Whatever edition 1 accepts, edition 2 accepts"
+  pub accepted : (sheet : List ℕ) → judgement 1 sheet ≡ Verdict.Lawful → judgement 2 sheet ≡ Verdict.Lawful
+  -- "with the same rows", and the same rewritten sheet: the same answer, and the same in what was lent
+  pub same-rows : (sheet lent : List ℕ) → judgement 1 sheet ≡ Verdict.Lawful → (outcome 2 sheet (length lent) ≡ outcome 1 sheet (length lent)) × (written (outcome 2 sheet (length lent)) sheet lent ≡ written (outcome 1 sheet (length lent)) sheet lent)
+  pub same-rewritten : (sheet lent : List ℕ) (start : ℕ) → judgement 1 sheet ≡ Verdict.Lawful → (rewriteOutcome 2 sheet (length lent) start ≡ rewriteOutcome 1 sheet (length lent) start) × (rewriteWritten (rewriteOutcome 2 sheet (length lent) start) sheet lent start ≡ rewriteWritten (rewriteOutcome 1 sheet (length lent) start) sheet lent start)
+  -- what 2 accepts and 1 refuses, 1 refuses with 11 at the first DECIMAL whose scale equals its precision
+  pub refused-alone : (sheet : List ℕ) (t : Tree) (r : Refusal) → Sound 2 sheet → IsTreeOf 2 sheet t → judgement 1 sheet ≡ Verdict.Refused r → (r .number ≡ 11) × FirstEqual t (r .place)
+  -- and a sheet that has one it does not accept
+  pub not-accepted : (sheet : List ℕ) (t : Tree) (k : ℕ) → Sound 2 sheet → IsTreeOf 2 sheet t → k < size t → EqualIn (rows t) k → judgement 1 sheet ≡ Verdict.Lawful → ⊥
+  -- "document 01's .. refusal 20 read per edition": a column type that is lawful in 1 is so in 2, and is read and ordered as there
+  pub lawful : (c : ColumnType) → isLawful 1 c ≡ true → isLawful 2 c ≡ true
+  pub same-reading : (c : ColumnType) (bs : List ℕ) → isLawful 1 c ≡ true → read.outcome 2 c bs ≡ read.outcome 1 c bs
+  pub same-order : (c : ColumnType) (a b : List ℕ) → isLawful 1 c ≡ true → order.outcome 2 c a b ≡ order.outcome 1 c a b
+  -- one that is lawful in 2 is not so in 1 exactly where it is a DECIMAL whose scale equals its precision
+  pub lawful-alone : (c : ColumnType) → isLawful 2 c ≡ true → (isLawful 1 c ≡ false) ↔ ((c .kind ≡ logical.DECIMAL) × (c .p1 ≡ c .p2))
+  -- "21, edition unknown, before all others, place 0": given exactly for an unknown edition, whatever else is offered
+  pub unknown-opening : (edition : ℕ) (sheet : List ℕ) → (openOf edition sheet ≡ Counted.Refused (refusal 21 0)) ↔ (isKnown edition ≡ false)
+  pub unknown-judging : (edition : ℕ) (sheet : List ℕ) → (judgementOf edition sheet ≡ Counted.Refused (refusal 21 0)) ↔ (isKnown edition ≡ false)
+  pub unknown-resolving : (edition : ℕ) (sheet : List ℕ) (lent : ℕ) → (outcome edition sheet lent ≡ Counted.Refused (refusal 21 0)) ↔ (isKnown edition ≡ false)
+  pub unknown-rewriting : (edition : ℕ) (sheet : List ℕ) (lent start : ℕ) → (rewriteOutcome edition sheet lent start ≡ Counted.Refused (refusal 21 0)) ↔ (isKnown edition ≡ false)
+  pub unknown-typing : (edition : ℕ) (c : ColumnType) → (typeJudgement edition c ≡ Verdict.Refused (refusal 21 0)) ↔ (isKnown edition ≡ false)
+  pub unknown-reading : (edition : ℕ) (c : ColumnType) (bs : List ℕ) → (read.outcome edition c bs ≡ refused (refusal 21 0)) ↔ (isKnown edition ≡ false)
+  pub unknown-ordering : (edition : ℕ) (c : ColumnType) (a b : List ℕ) → (order.outcome edition c a b ≡ sided.refused (fault 0 (refusal 21 0))) ↔ (isKnown edition ≡ false)
 
 -- R-6. "Say where the string went bad" --------------------------------------------------------------------------------------
 
@@ -91,16 +142,16 @@ pub record Request6 (edition : ℕ) : Type 1 where
   pub first : (c : ColumnType) (a b : List ℕ) (number place : ℕ) → (order.outcome edition c a b ≡ sided.refused (fault 1 (refusal number place))) ↔ ((isLawful edition c ≡ true) × (hasOrder c ≡ true) × (read.outcome edition c a ≡ refused (refusal number place)))
   -- "or 2": the first value is read, and it is reading's for the second
   pub second : (c : ColumnType) (a b : List ℕ) (number place : ℕ) → (order.outcome edition c a b ≡ sided.refused (fault 2 (refusal number place))) ↔ ((isLawful edition c ≡ true) × (hasOrder c ≡ true) × Valid edition c a × (read.outcome edition c b ≡ refused (refusal number place)))
-  -- "and 0 for neither": 20, or 17
-  pub neither : (c : ColumnType) (a b : List ℕ) (number place : ℕ) → (order.outcome edition c a b ≡ sided.refused (fault 0 (refusal number place))) ↔ (((isLawful edition c ≡ false) × (number ≡ 20) × (place ≡ 0)) ⊎ ((isLawful edition c ≡ true) × (hasOrder c ≡ false) × (number ≡ 17) × (place ≡ 0)))
+  -- "and 0 for neither": 21, 20, or 17
+  pub neither : (c : ColumnType) (a b : List ℕ) (number place : ℕ) → (order.outcome edition c a b ≡ sided.refused (fault 0 (refusal number place))) ↔ (((isKnown edition ≡ false) × (number ≡ 21) × (place ≡ 0)) ⊎ ((isKnown edition ≡ true) × (isLawful edition c ≡ false) × (number ≡ 20) × (place ≡ 0)) ⊎ ((isLawful edition c ≡ true) × (hasOrder c ≡ false) × (number ≡ 17) × (place ≡ 0)))
   -- and there is no other number of a value
   pub no-other : (c : ColumnType) (a b : List ℕ) (number place value : ℕ) → order.outcome edition c a b ≡ sided.refused (fault value (refusal number place)) → value ≤ 2
   -- `k`, e acute, and the beginning of a letter of three bytes: it goes bad where that begins
-  pub cut-off : read.outcome edition strings (0x6B ∷ 0xC3 ∷ 0xA9 ∷ 0xE2 ∷ 0x82 ∷ []) ≡ refused (refusal 16 3)
+  pub cut-off : isKnown edition ≡ true → read.outcome edition strings (0x6B ∷ 0xC3 ∷ 0xA9 ∷ 0xE2 ∷ 0x82 ∷ []) ≡ refused (refusal 16 3)
   -- the first value is good, and the second goes bad at its second byte
-  pub second-bad : order.outcome edition strings (0x6B ∷ []) (0x6B ∷ 0xFF ∷ []) ≡ sided.refused (fault 2 (refusal 16 1))
+  pub second-bad : isKnown edition ≡ true → order.outcome edition strings (0x6B ∷ []) (0x6B ∷ 0xFF ∷ []) ≡ sided.refused (fault 2 (refusal 16 1))
   -- both are bad: the first is at fault, at its own byte
-  pub both-bad : order.outcome edition strings (0x6B ∷ 0x6B ∷ 0x80 ∷ []) (0xFF ∷ []) ≡ sided.refused (fault 1 (refusal 16 2))
+  pub both-bad : isKnown edition ≡ true → order.outcome edition strings (0x6B ∷ 0x6B ∷ 0x80 ∷ []) (0xFF ∷ []) ≡ sided.refused (fault 1 (refusal 16 2))
 
 -- R-8. "Levels in the rows" ------------------------------------------------------------------------------------------------
 
@@ -148,4 +199,4 @@ pub record Request8 (edition : ℕ) : Type 1 where
   pub enough : (sheet : List ℕ) (lent : ℕ) → judgement edition sheet ≡ Verdict.Lawful → 11 * totalOf sheet ≤ lent → outcome edition sheet lent ≡ Counted.Count (totalOf sheet)
   -- "numbers beyond 11T stay"
   pub beyond : (sheet lent : List ℕ) → drop (11 * totalOf sheet) (left edition sheet lent) ≡ drop (11 * totalOf sheet) lent
-  pub example : left edition exampleSheet (replicate (rowWidth * 4) 0) ≡ exampleRows
+  pub example : isKnown edition ≡ true → left edition exampleSheet (replicate (rowWidth * 4) 0) ≡ exampleRows

@@ -33,6 +33,14 @@ one-of-known edition e = cases edition (leb-true FIRST edition (held .0)) (leb-t
     cases (suc (suc zero)) h m = second
     cases (suc (suc (suc n))) h m = absurd (omega arith)
 
+-- what holds of each of them holds of every known edition
+pub each-edition : (P : ℕ → Type 0) → P FIRST → P SECOND → (edition : ℕ) → isKnown edition ≡ true → P edition
+each-edition P p q edition known = each (one-of-known edition known)
+  where
+    each : {e : ℕ} → OneOf e → P e
+    each first = p
+    each second = q
+
 -- the first asks for a scale below the precision, the second does not
 pub first-below : scaleMayEqual FIRST ≡ false
 unfolding scaleMayEqual

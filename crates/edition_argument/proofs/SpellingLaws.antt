@@ -7,7 +7,7 @@ use mathlib.Core.List.{List, [], _∷_}
 use native.Mathlib.Omega.{arith}
 use lib.ListN.{length, getD}
 use Rattle.edition.specs.Editions.{isKnown}
-use Rattle.edition.proofs.EditionLaws.{OneOf, first, second, one-of-known}
+use Rattle.edition.proofs.EditionLaws.{each-edition}
 use Rattle.text.specs.Numbers.{enoughDigits, digitCount, decimalText}
 
 -- the character 0
@@ -16,11 +16,7 @@ ZERO = 48
 
 digit-text : (e : ℕ) → isKnown e ≡ true → decimalText e ≡ (ZERO + e) ∷ []
 unfolding decimalText digitCount enoughDigits
-digit-text e known = each (one-of-known e known)
-  where
-    each : {n : ℕ} → OneOf n → decimalText n ≡ (ZERO + n) ∷ []
-    each first = refl
-    each second = refl
+digit-text = each-edition _ refl refl
 
 single : (text : List ℕ) → length text ≡ 1 → getD text 0 0 ∷ [] ≡ text
 single [] e = absurd (omega arith)

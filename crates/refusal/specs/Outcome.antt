@@ -4,6 +4,8 @@ use Prim.Native.Nat.{ℕ}
 use Rattle.refusal.specs.declared.answers.Refusal.{Refusal}
 -- a type of the code: Count, with how many there are, or Refused, with a refusal
 use Rattle.refusal.specs.declared.answers.Counted.{Counted}
+-- a type of the code: Lawful, or Refused, with a refusal
+use Rattle.refusal.specs.declared.answers.Verdict.{Verdict}
 use Rattle.refusal.specs.Numbers.{SHORT-OUTPUT, UNKNOWN-EDITION}
 
 -- a refusal of its number and place
@@ -26,6 +28,11 @@ shortOutput = unplaced SHORT-OUTPUT
 -- "21, edition unknown, .. place 0"
 abbrev pub unknownEdition : Refusal
 unknownEdition = unplaced UNKNOWN-EDITION
+
+-- the outcome of a call that answers whether anything is refused
+abbrev pub judged : Verdict → Outcome (Unit {0})
+judged Verdict.Lawful = given tt
+judged (Verdict.Refused r) = refused r
 
 -- the outcome of a call that answers how many there are
 abbrev pub counted : Counted → Outcome ℕ

@@ -17,6 +17,7 @@ pub mod RewrittenLaws
 pub mod RewriteLaws
 pub mod RewriteDemandLaws
 pub mod AcceptedLaws
+pub mod EditionLaws
 pub mod NodeRowLaws
 pub mod RowRoleLaws
 pub mod WrittenBackLaws

@@ -33,7 +33,7 @@ no-list edition p s fs h r = by-test (isList p s) (λ l. absurd (true≢false (s
 pub no-map : (edition : ℕ) (p : Standing) (s : SlotBytes) (fs : Fields) → KeepsAt edition p s fs → repetition s ≡ REPEATED → isMap p s ≡ false
 no-map edition p s fs h r = by-test (isMap p s) (λ m. absurd (true≢false (sym (h .maps) ∙ repeated-map p s fs m r))) (λ m. m)
 
-module _ (edition : ℕ) (list layer s : SlotBytes) (fs : Fields) (g : isGroup (physical layer) ≡ true) (l : repetition layer ≡ REPEATED) where
+module _ (list layer s : SlotBytes) (fs : Fields) (g : isGroup (physical layer) ≡ true) (l : repetition layer ≡ REPEATED) where
   -- a field that is neither repeated, required nor optional is no element, where its layer is not so named
   pub no-element : (p : Standing) → isList p list ≡ true → namedElement list layer ≡ false → (repetition s ≡ REPEATED → ⊥) → isRequiredOrOptional (repetition s) ≡ false → rule12 p list (field (node layer (field (node s fs) empty)) empty) ≡ false
   unfolding rule12 listKept listRun listChild holdsElement
@@ -56,7 +56,7 @@ module _ (edition : ℕ) (list layer s : SlotBytes) (fs : Fields) (g : isGroup (
       unfolding role listRole
       layer-role gs = rw (list-parent gs, g, element-repeated list layer s fs (eq-eqb _ _ r))
 
-      module _ (h : KeepsAt edition Field layer (field (node s fs) empty)) (gs : Fields) where
+      module _ (edition : ℕ) (h : KeepsAt edition Field layer (field (node s fs) empty)) (gs : Fields) where
         layer-parent : parentOf (parentOf q above list gs) list layer (field (node s fs) empty) ≡ parent.Other
         unfolding parentOf parentBy isList isMap
         layer-parent =

@@ -12,6 +12,11 @@ fn main() {
     let length = io::read_full(STDIN_FILENO, &mut sheet);
     let mut rows = [0u32; MOST_NUMBERS];
     let mut text = [0u8; MOST_TEXT_BYTES];
-    let count = schema_text::sheet_text(edition_argument::given(), &sheet[..length], &mut rows, &mut text);
+    let count = schema_text::sheet_text(
+        edition_argument::given(),
+        &sheet[..length],
+        &mut rows,
+        &mut text,
+    );
     io::write_all(STDOUT_FILENO, &text[..count]);
 }

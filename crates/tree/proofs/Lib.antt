@@ -3,6 +3,7 @@ pub mod TreeLaws
 pub mod OpenPlacesLaws
 pub mod PlacesLaws
 pub mod FaultLaws
+pub mod EditionLaws
 pub mod TreeOfLaws
 pub mod StandingLaws
 pub mod JudgingLaws
