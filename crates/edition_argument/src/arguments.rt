@@ -1,9 +1,8 @@
 // A program's argument, and the edition that a text spells.
 ghost use Prim.Native.Nat.{ℕ};
 ghost use mathlib.Core.Path.{_≡_};
-ghost use mathlib.Core.Bool.{true};
-ghost use Rattle.edition.specs.Editions.{isKnown};
-ghost use Rattle.text.specs.Numbers.{decimalText};
+ghost use mathlib.Core.List.{List};
+ghost use Rattle.edition_argument.specs.Spelling.{Spelled, Given};
 use edition::FIRST;
 use edition::is_known;
 
@@ -19,19 +18,25 @@ const ROOM: usize = 2;
 const NONE: u32 = 0;
 
 // The edition of a program that is given one argument, the first edition where it is given none, and no edition where it is given more.
-pub fn given() -> u32 {
-    let count = os::arg_count();
-    if count <= ALONE {
+// What the arguments are, no contract tells.
+pub fn given() -> u32
+    ensures { λ r. ⌜ ((words : ℕ) × ((text : List ℕ) × Given words text r)) ⌝ }
+{
+    let words = os::arg_count();
+    let edition = at(1);
+    if words <= ALONE {
         return FIRST;
     }
-    if count > ONE_ARGUMENT {
+    if words > ONE_ARGUMENT {
         return NONE;
     }
-    at(1)
+    edition
 }
 
 // The edition that an argument spells.
-pub fn at(i: usize) -> u32 {
+pub fn at(i: usize) -> u32
+    ensures { λ r. ⌜ ((text : List ℕ) × Spelled text r) ⌝ }
+{
     let mut text = [0u8; ROOM];
     let length = os::arg(i, &mut text);
     edition_of(&text[..length])
@@ -39,8 +44,7 @@ pub fn at(i: usize) -> u32 {
 
 // The known edition that a text spells in decimal digits, without needless zeros; of any other text no edition.
 pub fn edition_of(text: &[u8]) -> u32
-    ensures { λ r. ⌜ (isKnown r ≡ true → decimalText r ≡ now (text .entry)) ⌝ }
-    ensures { λ r. ⌜ ((e : ℕ) → isKnown e ≡ true → decimalText e ≡ now (text .entry) → r ≡ e) ⌝ }
+    ensures { λ r. ⌜ Spelled (now (text .entry)) r ⌝ }
 {
     if text.len() != 1 {
         return NONE;
