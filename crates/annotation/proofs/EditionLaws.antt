@@ -9,7 +9,7 @@ use lib.Dec.{eqb, leb, ltb}
 use lib.IntN.{ℤ, pos, negsuc}
 use lib.Signed.{leZ}
 use borrow.Author.Tests.{eq-eqb, ne-eqb, eqb-true, eqb-false, le-leb, lt-ltb, le-ltb, leb-true, ltb-true}
-use Rattle.laws.proofs.BoolLaws.{and-left, and-right, and-both, both-and, by-test}
+use Rattle.laws.proofs.BoolLaws.{and-left, and-right, and-both, both-and, and-true, by-test}
 use Rattle.edition.specs.Editions.{FIRST, SECOND, scaleMayEqual}
 use Rattle.parquet.specs.Physical as physical
 use Rattle.parquet.specs.Logical as logical
@@ -100,10 +100,6 @@ unfolding decimalHolds
 holds-first n e =
     let both = and-both (ordered SECOND (n .precision) (n .scale)) (physicalHolds (n .physical) (natural (n .«type_length»)) (natural (n .precision))) e in
     rw (both .1, ordered-first (n .precision) (n .scale) (both .0)) (and-true (not (eqb (natural (n .precision)) (natural (n .scale)))))
-  where
-    and-true : (b : Bool) → (b && true) ≡ b
-    and-true true = refl
-    and-true false = refl
 
 -- and what keeps the second's keeps the first's but for these
 pub eleven-first : (n : Annotated) (underMap : Bool) → rule11 SECOND n underMap ≡ true → rule11 FIRST n underMap ≡ not (isEqual (kindOf n underMap))

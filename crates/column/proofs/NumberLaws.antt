@@ -13,6 +13,7 @@ use lib.Pow.{suc-ones}
 use lib.Seq.{drop-cons}
 use lib.Signed.{mag, leZ, ltZ}
 use borrow.Author.Tests.{lt-ltb, le-ltb, ltb-true, ltb-false, eq-eqb, ne-eqb}
+use Rattle.laws.proofs.BoolLaws.{and-true}
 use Rattle.laws.specs.Bytes.{little, twosComplement}
 use Rattle.laws.proofs.ByteLaws.{twos-below}
 use Rattle.laws.proofs.DifferenceLaws.{ltb-same}
@@ -56,10 +57,6 @@ doubled m zero = ltb-same (m * 2) 1 m 1 (λ h. omega arith) (λ h. omega arith)
 doubled m (suc k) =
     let e : suc k - 1 ≡ k = omega arith in
     rw e (ltb-same (m * 2) (2 ^ suc k) m (2 ^ k) (λ h. omega (arith, two-pow-succ k)) (λ h. omega (arith, two-pow-succ k)))
-
-and-true : (t : Bool) → (t && true) ≡ t
-and-true true = refl
-and-true false = refl
 
 around : (k : ℕ) (z : ℤ) → ltb (mag z) (suc k) ≡ (leZ (negℤ (pos (suc k))) z && ltZ z (pos (suc k)))
 around k (pos a) = refl

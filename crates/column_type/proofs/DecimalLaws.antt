@@ -7,7 +7,7 @@ use lib.Dec.{leb, ltb, eqb, leb·zero}
 use lib.IntN.{pos}
 use borrow.Author.Tests.{leb-true, ltb-true, le-leb, lt-ltb, eqb-true}
 use Rattle.edition.specs.Editions.{scaleMayEqual}
-use Rattle.laws.proofs.BoolLaws.{and-right}
+use Rattle.laws.proofs.BoolLaws.{and-right, and-true, and-assoc}
 use Rattle.decimal_bytes.specs.Precision.{isLength}
 use Rattle.decimal_bytes.proofs.PrecisionLaws.{isLength-bounds}
 use Rattle.parquet.specs.Logical as logical
@@ -22,14 +22,6 @@ use Rattle.column_type.specs.Lawful.{slotOf, byteNumbers, signedNumbers,
 use Rattle.column_type.specs.Steps.{standsOn}
 use Rattle.column_type.specs.declared.types.ColumnType.{ColumnType}
 use Rattle.column_type.proofs.FitsLaws.{isLeaf-upto}
-
-and-true : (b : Bool) → (b && true) ≡ b
-and-true true = refl
-and-true false = refl
-
-and-assoc : (a b c : Bool) → ((a && b) && c) ≡ (a && (b && c))
-and-assoc true b c = refl
-and-assoc false b c = refl
 
 swap : (a o h : Bool) → (a && (o && h)) ≡ (o && (a && h))
 swap true true h = refl

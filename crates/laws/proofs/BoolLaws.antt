@@ -22,6 +22,14 @@ pub both-and : (a b : Bool) → a ≡ true → b ≡ true → (a && b) ≡ true
 both-and true b p q = q
 both-and false b p q = p
 
+pub and-true : (b : Bool) → (b && true) ≡ b
+and-true true = refl
+and-true false = refl
+
+pub and-assoc : (a b c : Bool) → ((a && b) && c) ≡ (a && (b && c))
+and-assoc true b c = refl
+and-assoc false b c = refl
+
 -- where the first of two tests asks for the second, and holds, so does the second
 pub implied : (a b : Bool) → (not a || b) ≡ true → a ≡ true → b ≡ true
 implied true b e f = e
