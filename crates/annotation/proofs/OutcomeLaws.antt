@@ -52,19 +52,6 @@ pub with-outcome : (edition : ℕ) (n : Annotated) (underMap : Bool) (r : Resolu
 unfolding outcome
 with-outcome edition n underMap r e = (e, λ k. ap (outcomeOf k) e)
 
--- the refusals, each where its rule is the first to fail
-pub refused-nine : (edition : ℕ) (n : Annotated) (underMap : Bool) → rule9 n ≡ false → resolutionOf edition n underMap ≡ Resolution.Refused DISAGREEMENT
-unfolding resolutionOf
-refused-nine edition n underMap e = rw e
-
-pub refused-ten : (edition : ℕ) (n : Annotated) (underMap : Bool) → rule9 n ≡ true → rule10 n underMap ≡ false → resolutionOf edition n underMap ≡ Resolution.Refused MISPLACED
-unfolding resolutionOf
-refused-ten edition n underMap e f = rw (e, f)
-
-pub refused-eleven : (edition : ℕ) (n : Annotated) (underMap : Bool) → rule9 n ≡ true → rule10 n underMap ≡ true → rule11 edition n underMap ≡ false → resolutionOf edition n underMap ≡ Resolution.Refused BAD-DECIMAL
-unfolding resolutionOf
-refused-eleven edition n underMap e f g = rw (e, f, g)
-
 -- numbers that are not refused resolve to their kind
 pub resolved-of-refusal : (edition : ℕ) (n : Annotated) (underMap : Bool) → 0 ≡ refusalOf (resolutionOf edition n underMap) → resolutionOf edition n underMap ≡ Resolution.Resolved (kindOf n underMap)
 unfolding resolutionOf InOrder

@@ -7,7 +7,7 @@ use native.Mathlib.Omega.{arith}
 use borrow.Author.Tests.{ltb-true}
 use lib.Dec.{ltb, leb}
 use lib.ListN.{length, length-append, length-map}
-use Rattle.refusal.specs.Numbers.{SHEET-LENGTH, BLOCK-CHECK, BLOCK-HEADER, SLOT, GREATEST}
+use Rattle.refusal.specs.Numbers.{SHEET-LENGTH, BLOCK-CHECK, BLOCK-HEADER, SLOT, SHORT-OUTPUT, GREATEST}
 use Rattle.refusal.specs.Outcome.{refusal, unplaced, shortOutput}
 use Rattle.sheet.specs.Block.{mostBytes, mostNodes, slotsInBlock, blockCount, totalOf}
 use Rattle.sheet.specs.Check.{checkRight}
@@ -184,14 +184,14 @@ known-bounded edition sheet known = on (openOf edition sheet) refl (openOf-bound
         rw (judgement-nodes edition sheet t e) (treeRefusal-bounded edition (slots sheet) mostNodes (omega (arith, openOf-slots-length edition sheet t e, openOf-most edition sheet t e)))
     on (Counted.Refused r) e p = rw (judgement-refused edition sheet r e) p
 
--- and with 21
-widened : (v : Verdict) → VerdictBounded 13 mostNodes v → VerdictBounded GREATEST mostNodes v
-widened Lawful w = tt
-widened (Refused r) w = record { some-number = w .some-number; most-number = omega (arith, w .most-number); most-place = w .most-place }
+widened : (number : ℕ) (v : Verdict) → 13 ≤ number → VerdictBounded 13 mostNodes v → VerdictBounded number mostNodes v
+widened number Lawful h w = tt
+widened number (Refused r) h w = record { some-number = w .some-number; most-number = omega (arith, w .most-number); most-place = w .most-place }
 
-pub judgement-bounded : (edition : ℕ) (sheet : List ℕ) → VerdictBounded GREATEST mostNodes (judgement edition sheet)
+-- and with 21, in any
+judgement-bounded : (edition : ℕ) (sheet : List ℕ) → VerdictBounded GREATEST mostNodes (judgement edition sheet)
 judgement-bounded edition sheet =
-    by-test (isKnown edition) (λ k. widened (judgement edition sheet) (known-bounded edition sheet k))
+    by-test (isKnown edition) (λ k. widened GREATEST (judgement edition sheet) (omega arith) (known-bounded edition sheet k))
     (λ u. rw (judgement-refused edition sheet _ (openOf-unknown edition sheet u)) (record { some-number = omega arith; most-number = omega arith; most-place = omega arith }))
 
 module _ (edition : ℕ) (sheet : List ℕ) (lawful : judgement edition sheet ≡ Lawful) where
@@ -204,31 +204,49 @@ module _ (edition : ℕ) (sheet : List ℕ) (lawful : judgement edition sheet �
   lawful-length : length sheet ≤ mostBytes
   lawful-length = lengthRight-most (length sheet) (openOf-blocks edition sheet (opens .0) (opens .1) .length-right)
 
-short : Bounded GREATEST mostNodes shortOutput
-short = record { some-number = omega arith; most-number = omega arith; most-place = omega arith }
+-- 14 behind a verdict whose refusal has at most such a number
+module _ (number : ℕ) (last : SHORT-OUTPUT ≤ number) where
+  short : Bounded number mostNodes shortOutput
+  short = record { some-number = omega arith; most-number = last; most-place = omega arith }
 
-answer-bounded : (v : Verdict) (t lent : ℕ) → VerdictBounded GREATEST mostNodes v → (v ≡ Lawful → t ≤ mostNodes) → CountedBounded mostNodes GREATEST mostNodes (answer v t lent)
-unfolding answer
-answer-bounded (Refused r) t lent b most = b
-answer-bounded Lawful t lent b most = on (ltb lent (rowWidth * t))
-  where
-    on : (b : Bool) → CountedBounded mostNodes GREATEST mostNodes (cond b (Counted.Refused shortOutput) (Counted.Count t))
-    on true = short
-    on false = most refl
+  answer-bounded : (v : Verdict) (t lent : ℕ) → VerdictBounded number mostNodes v → (v ≡ Lawful → t ≤ mostNodes) → CountedBounded mostNodes number mostNodes (answer v t lent)
+  unfolding answer
+  answer-bounded (Refused r) t lent b most = b
+  answer-bounded Lawful t lent b most = on (ltb lent (rowWidth * t))
+    where
+      on : (b : Bool) → CountedBounded mostNodes number mostNodes (cond b (Counted.Refused shortOutput) (Counted.Count t))
+      on true = short
+      on false = most refl
 
+  rewriteAnswer-bounded : (v : Verdict) (enough : Bool) (n : ℕ) → VerdictBounded number mostNodes v → (v ≡ Lawful → n ≤ mostBytes) → CountedBounded mostBytes number mostNodes (rewriteAnswer v enough n)
+  unfolding rewriteAnswer
+  rewriteAnswer-bounded (Refused r) enough n b most = b
+  rewriteAnswer-bounded Lawful true n b most = most refl
+  rewriteAnswer-bounded Lawful false n b most = short
+
+  resolved-as : (edition : ℕ) (sheet : List ℕ) (lent : ℕ) → VerdictBounded number mostNodes (judgement edition sheet) → CountedBounded mostNodes number mostNodes (outcome edition sheet lent)
+  unfolding outcome
+  resolved-as edition sheet lent b = answer-bounded (judgement edition sheet) (totalOf sheet) lent b (lawful-total edition sheet)
+
+  rewritten-as : (edition : ℕ) (sheet : List ℕ) (lent start : ℕ) → VerdictBounded number mostNodes (judgement edition sheet) → CountedBounded mostBytes number mostNodes (rewriteOutcome edition sheet lent start)
+  unfolding rewriteOutcome
+  rewritten-as edition sheet lent start b = rewriteAnswer-bounded (judgement edition sheet) (fits sheet lent start) (length sheet) b (lawful-length edition sheet)
+
+-- in a known edition numbers end at 14
+pub resolved-known : (edition : ℕ) (sheet : List ℕ) (lent : ℕ) → isKnown edition ≡ true → CountedBounded mostNodes SHORT-OUTPUT mostNodes (outcome edition sheet lent)
+resolved-known edition sheet lent known =
+    resolved-as SHORT-OUTPUT (omega arith) edition sheet lent (widened SHORT-OUTPUT (judgement edition sheet) (omega arith) (known-bounded edition sheet known))
+
+pub rewritten-known : (edition : ℕ) (sheet : List ℕ) (lent start : ℕ) → isKnown edition ≡ true → CountedBounded mostBytes SHORT-OUTPUT mostNodes (rewriteOutcome edition sheet lent start)
+rewritten-known edition sheet lent start known =
+    rewritten-as SHORT-OUTPUT (omega arith) edition sheet lent start (widened SHORT-OUTPUT (judgement edition sheet) (omega arith) (known-bounded edition sheet known))
+
+-- in any at 21
 pub resolved-bounded : (edition : ℕ) (sheet : List ℕ) (lent : ℕ) → CountedBounded mostNodes GREATEST mostNodes (outcome edition sheet lent)
-unfolding outcome
-resolved-bounded edition sheet lent = answer-bounded (judgement edition sheet) (totalOf sheet) lent (judgement-bounded edition sheet) (lawful-total edition sheet)
-
-rewriteAnswer-bounded : (v : Verdict) (enough : Bool) (n : ℕ) → VerdictBounded GREATEST mostNodes v → (v ≡ Lawful → n ≤ mostBytes) → CountedBounded mostBytes GREATEST mostNodes (rewriteAnswer v enough n)
-unfolding rewriteAnswer
-rewriteAnswer-bounded (Refused r) enough n b most = b
-rewriteAnswer-bounded Lawful true n b most = most refl
-rewriteAnswer-bounded Lawful false n b most = short
+resolved-bounded edition sheet lent = resolved-as GREATEST (omega arith) edition sheet lent (judgement-bounded edition sheet)
 
 pub rewritten-bounded : (edition : ℕ) (sheet : List ℕ) (lent start : ℕ) → CountedBounded mostBytes GREATEST mostNodes (rewriteOutcome edition sheet lent start)
-unfolding rewriteOutcome
-rewritten-bounded edition sheet lent start = rewriteAnswer-bounded (judgement edition sheet) (fits sheet lent start) (length sheet) (judgement-bounded edition sheet) (lawful-length edition sheet)
+rewritten-bounded edition sheet lent start = rewritten-as GREATEST (omega arith) edition sheet lent start (judgement-bounded edition sheet)
 
 -- there are no more nodes than bytes
 nodes-bounded : (c : Counted) → CountedBounded mostNodes GREATEST mostNodes c → CountedBounded mostBytes GREATEST mostNodes c

@@ -1,22 +1,37 @@
 -- The promises of calls on sheets hold.
 use Prim.Native.Nat.{ℕ, _<_}
 use mathlib.Core.Path.{_≡_}
+use mathlib.Core.Bool.{false}
 use mathlib.Core.List.{List}
 use native.Mathlib.Omega.{arith}
 use lib.ListN.{length}
 use Rattle.schema.specs.Outcome.{outcome, written}
-use Rattle.schema.specs.Rewriting.{rewriteOutcome, rewriteWritten}
+use Rattle.edition.specs.Editions.{isKnown}
+use Rattle.refusal.specs.Outcome.{unknownEdition}
+use Rattle.refusal.specs.declared.answers.Counted.{Counted}
+use Rattle.sheet.proofs.OpeningLaws.{openOf-unknown}
+use Rattle.tree.proofs.JudgementLaws.{judgement-refused}
+use Rattle.schema.proofs.DemandLaws.{refused-resolving}
+use Rattle.schema.specs.Rewriting.{rewriteAnswer, rewriteOutcome, rewriteWritten}
 use Rattle.c_answer.specs.Answers.{RESULT, numberIn, countedAnswer}
 use Rattle.c_answer.specs.Packing.{PacksCounted}
 use Rattle.c_answer.proofs.PackingLaws.{counted-packs, counted-refused}
 use Rattle.c_sheets.specs.Promises.{Promises}
-use Rattle.c_sheets.proofs.BoundLaws.{resolved-bounded, rewritten-bounded}
+use Rattle.c_sheets.proofs.BoundLaws.{resolved-known, rewritten-known, resolved-bounded, rewritten-bounded}
 
 resolve-packs : (edition : ℕ) (sheet : List ℕ) (lent : ℕ) → PacksCounted (outcome edition sheet lent)
 resolve-packs edition sheet lent = counted-packs _ _ _ (omega arith) (omega arith) (omega arith) (outcome edition sheet lent) (resolved-bounded edition sheet lent)
 
 rewrite-packs : (edition : ℕ) (sheet : List ℕ) (lent start : ℕ) → PacksCounted (rewriteOutcome edition sheet lent start)
 rewrite-packs edition sheet lent start = counted-packs _ _ _ (omega arith) (omega arith) (omega arith) (rewriteOutcome edition sheet lent start) (rewritten-bounded edition sheet lent start)
+
+-- an unknown edition is refused whatever is lent
+pub resolve-unknown : (edition : ℕ) (sheet : List ℕ) (lent : ℕ) → isKnown edition ≡ false → outcome edition sheet lent ≡ Counted.Refused unknownEdition
+resolve-unknown edition sheet lent u = refused-resolving edition sheet lent unknownEdition (judgement-refused edition sheet _ (openOf-unknown edition sheet u))
+
+pub rewrite-unknown : (edition : ℕ) (sheet : List ℕ) (lent start : ℕ) → isKnown edition ≡ false → rewriteOutcome edition sheet lent start ≡ Counted.Refused unknownEdition
+unfolding rewriteOutcome rewriteAnswer
+rewrite-unknown edition sheet lent start u = rw (judgement-refused edition sheet _ (openOf-unknown edition sheet u))
 
 resolve-unchanged : (edition : ℕ) (sheet lent : List ℕ) → RESULT < numberIn (countedAnswer (outcome edition sheet (length lent))) → written (outcome edition sheet (length lent)) sheet lent ≡ lent
 unfolding written
@@ -29,8 +44,10 @@ rewrite-unchanged edition sheet lent start h = rw (counted-refused (rewriteOutco
 pub promised : (edition : ℕ) → Promises edition
 promised edition =
     record {
-      resolve-bounded = resolved-bounded edition;
-      rewrite-bounded = rewritten-bounded edition;
+      resolve-bounded = resolved-known edition;
+      rewrite-bounded = rewritten-known edition;
+      resolve-unknown = resolve-unknown edition;
+      rewrite-unknown = rewrite-unknown edition;
       resolve-packs = resolve-packs edition;
       rewrite-packs = rewrite-packs edition;
       resolve-unchanged = resolve-unchanged edition;

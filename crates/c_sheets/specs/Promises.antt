@@ -1,9 +1,13 @@
 -- What a C caller may rely on of calls on sheets, beyond each call's contract.
 use Prim.Native.Nat.{ℕ, _<_}
 use mathlib.Core.Path.{_≡_}
+use mathlib.Core.Bool.{true, false}
 use mathlib.Core.List.{List}
 use lib.ListN.{length}
-use Rattle.refusal.specs.Numbers.{GREATEST}
+use Rattle.refusal.specs.Numbers.{SHORT-OUTPUT}
+use Rattle.refusal.specs.Outcome.{unknownEdition}
+use Rattle.refusal.specs.declared.answers.Counted.{Counted}
+use Rattle.edition.specs.Editions.{isKnown}
 use Rattle.sheet.specs.Block.{mostBytes, mostNodes}
 use Rattle.schema.specs.Outcome.{outcome, written}
 use Rattle.schema.specs.Rewriting.{rewriteOutcome, rewriteWritten}
@@ -12,9 +16,12 @@ use Rattle.refusal.specs.Bounds.{CountedBounded}
 use Rattle.c_answer.specs.Packing.{PacksCounted}
 
 pub record Promises (edition : ℕ) : Type 0 where
-  -- T is at most 896, and at most 65,536 bytes are written; a refusal has a number of 1 to 14 or 21, and a place of at most 896
-  pub resolve-bounded : (sheet : List ℕ) (lent : ℕ) → CountedBounded mostNodes GREATEST mostNodes (outcome edition sheet lent)
-  pub rewrite-bounded : (sheet : List ℕ) (lent start : ℕ) → CountedBounded mostBytes GREATEST mostNodes (rewriteOutcome edition sheet lent start)
+  -- in a known edition T is at most 896, and at most 65,536 bytes are written; a refusal has a number of 1 to 14, and a place of at most 896
+  pub resolve-bounded : (sheet : List ℕ) (lent : ℕ) → isKnown edition ≡ true → CountedBounded mostNodes SHORT-OUTPUT mostNodes (outcome edition sheet lent)
+  pub rewrite-bounded : (sheet : List ℕ) (lent start : ℕ) → isKnown edition ≡ true → CountedBounded mostBytes SHORT-OUTPUT mostNodes (rewriteOutcome edition sheet lent start)
+  -- in any other there is no answer but 21 at 0
+  pub resolve-unknown : (sheet : List ℕ) (lent : ℕ) → isKnown edition ≡ false → outcome edition sheet lent ≡ Counted.Refused unknownEdition
+  pub rewrite-unknown : (sheet : List ℕ) (lent start : ℕ) → isKnown edition ≡ false → rewriteOutcome edition sheet lent start ≡ Counted.Refused unknownEdition
   -- every answer can be taken apart again
   pub resolve-packs : (sheet : List ℕ) (lent : ℕ) → PacksCounted (outcome edition sheet lent)
   pub rewrite-packs : (sheet : List ℕ) (lent start : ℕ) → PacksCounted (rewriteOutcome edition sheet lent start)

@@ -16,14 +16,11 @@ use lib.Pow.{pow-add}
 use lib.Seq.{drop-cons}
 use lib.Signed.{mag}
 use borrow.Author.Tests.{leb-true, leb-false, eqb-true, eqb-false, eq-eqb, ne-eqb}
-use Rattle.laws.proofs.DifferenceLaws.{sub-below, sub-above, sub-eq, below?}
+use Rattle.laws.proofs.DifferenceLaws.{sub-below, sub-above, sub-eq}
 use Rattle.decimal_bytes.specs.Number.{unsigned, isNegative, number}
 use Rattle.decimal_bytes.specs.Significant.{signByte, significant}
 use Rattle.laws.proofs.ByteLaws.{EachByte}
 use Rattle.decimal_bytes.proofs.UnsignedLaws.{pow-split, unsigned-<}
-
-pub lt-or-ge : (a b : ℕ) → (a < b) ⊎ (b ≤ a)
-lt-or-ge a b = below? a b inl inr
 
 -- ---- the number by its sign
 

@@ -20,7 +20,7 @@ use Rattle.parquet.specs.Logical.{DECIMAL}
 use Rattle.annotation.proofs.EditionLaws.{isEqual, first-ordered, second-ordered, ordered-precision, ordered-scale}
 use Rattle.sheet.specs.Block.{totalOf, mostNodes}
 use Rattle.sheet.specs.Opening.{openOf}
-use Rattle.sheet.proofs.OpeningLaws.{openOf-unknown}
+use Rattle.sheet.proofs.OpeningLaws.{openOf-unknown, openOf-edition}
 use Rattle.column_type.specs.Lawful.{isLawful, typeRefusal, judgementOf as typeJudgement}
 use Rattle.column_type.specs.declared.types.ColumnType.{ColumnType}
 use Rattle.column_type.proofs.RefusalLaws.{unknown-unlawful, refusal-known, refusal-unknown}
@@ -31,6 +31,7 @@ use Rattle.column.proofs.PromiseLaws.{refused-unknown}
 use Rattle.column_order.specs.Outcome as order
 use Rattle.column_order.specs.Order.{orderOf}
 use Rattle.c_sheets.proofs.BoundLaws.{VerdictBounded, known-bounded}
+use Rattle.c_sheets.proofs.PromiseLaws.{resolve-unknown, rewrite-unknown}
 use Rattle.tree.specs.Tree.{Tree, size}
 use Rattle.tree.specs.Judgement.{judgement, judgedNodes, judgementOf}
 use Rattle.tree.proofs.JudgementLaws.{judgement-refused, judged-refused}
@@ -42,7 +43,7 @@ use Rattle.schema.proofs.EditionLaws.{second-lawful, FirstIn, first-refused, fi
 use Rattle.schema.specs.Demand.{IsTreeOf, Sound, Accepted, kindIn}
 use Rattle.refusal.specs.declared.answers.Counted.{Counted}
 use Rattle.schema.proofs.AcceptedLaws.{accepted-rows}
-use Rattle.schema.proofs.DemandLaws.{no-refusal-rows, size-is, rows-length, refused-resolving, refused-unchanged}
+use Rattle.schema.proofs.DemandLaws.{no-refusal-rows, size-is, rows-length, refused-unchanged}
 use Rattle.schema.proofs.NodeLevelsLaws.{InRow, root-levels, field-levels}
 use Rattle.schema.proofs.RepeatedFieldLaws as repeated
 use Rattle.utf8.proofs.ValidLaws.{validUpTo-stops, stops-unique}
@@ -160,7 +161,7 @@ unknown-resolving : (edition : ℕ) (sheet : List ℕ) (lent : ℕ) → (outcome
 unfolding outcome
 unknown-resolving edition sheet lent = (
   (λ e. unknown-judgement edition sheet .0 (answered-refused (judgement edition sheet) (totalOf sheet) lent e)),
-  λ u. refused-resolving edition sheet lent _ (unknown-judgement edition sheet .1 u),
+  resolve-unknown edition sheet lent,
 )
 
 rewritten-refused : (v : Verdict) (enough : Bool) (n : ℕ) → rewriteAnswer v enough n ≡ Counted.Refused (refusal 21 0) → v ≡ Verdict.Refused (refusal 21 0)
@@ -170,10 +171,10 @@ rewritten-refused Verdict.Lawful true n e = absurd (let z : _≡_ {A = ℕ} 0 1 
 rewritten-refused Verdict.Lawful false n e = absurd (let z : shortOutput ≡ refusal 21 0 = cc in let n : _≡_ {A = ℕ} 14 21 = ap (λ (r : Refusal). r .number) z in omega arith)
 
 unknown-rewriting : (edition : ℕ) (sheet : List ℕ) (lent start : ℕ) → (rewriteOutcome edition sheet lent start ≡ Counted.Refused (refusal 21 0)) ↔ (isKnown edition ≡ false)
-unfolding rewriteOutcome rewriteAnswer
+unfolding rewriteOutcome
 unknown-rewriting edition sheet lent start = (
   (λ e. unknown-judgement edition sheet .0 (rewritten-refused (judgement edition sheet) (fits sheet lent start) (length sheet) e)),
-  λ u. rw (unknown-judgement edition sheet .1 u),
+  rewrite-unknown edition sheet lent start,
 )
 
 unknown-typing : (edition : ℕ) (c : ColumnType) → (typeJudgement edition c ≡ Verdict.Refused (refusal 21 0)) ↔ (isKnown edition ≡ false)
@@ -204,6 +205,7 @@ request4 =
       new-rule = second-ordered;
       no-precision = ordered-precision;
       no-scale = ordered-scale;
+      same-opening = λ sheet. openOf-edition 2 1 sheet (known-of second) (known-of first);
       accepted = second-lawful;
       same-rows = same-rows;
       same-rewritten = same-rewritten;

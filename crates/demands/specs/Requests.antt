@@ -97,6 +97,8 @@ pub record Request4 : Type 1 where
   pub new-rule : (p s : ℕ) → (ordered 2 (pos p) (pos s) ≡ true) ↔ ((1 ≤ p) × (s ≤ p))
   pub no-precision : (edition p : ℕ) (s : ℤ) → ordered edition (negsuc p) s ≡ false
   pub no-scale : (edition : ℕ) (p : ℤ) (s : ℕ) → ordered edition p (negsuc s) ≡ false
+  -- opening asks no rule of an edition
+  pub same-opening : (sheet : List ℕ) → openOf 2 sheet ≡ openOf 1 sheet
   -- "Whatever edition 1 accepts, edition 2 accepts"
   pub accepted : (sheet : List ℕ) → judgement 1 sheet ≡ Verdict.Lawful → judgement 2 sheet ≡ Verdict.Lawful
   -- "with the same rows", and the same rewritten sheet: the same answer, and the same in what was lent

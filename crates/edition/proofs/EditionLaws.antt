@@ -1,12 +1,12 @@
--- Which editions are known, and how they differ.
+-- Which editions are known.
 -- Assumes nothing.
 use Prim.Native.Nat.{ℕ, zero, suc, _≤_}
 use mathlib.Core.Path.{_≡_, refl}
-use mathlib.Core.Bool.{Bool, true, false}
+use mathlib.Core.Bool.{true}
 use native.Mathlib.Omega.{arith}
 use lib.Dec.{leb}
 use borrow.Author.Tests.{leb-true}
-use Rattle.edition.specs.Editions.{FIRST, SECOND, isKnown, scaleMayEqual}
+use Rattle.edition.specs.Editions.{FIRST, SECOND, isKnown}
 use Rattle.laws.proofs.BoolLaws.{and-both}
 
 -- the editions are 1 and 2
@@ -40,12 +40,3 @@ each-edition P p q edition known = each (one-of-known edition known)
     each : {e : ℕ} → OneOf e → P e
     each first = p
     each second = q
-
--- the first asks for a scale below the precision, the second does not
-pub first-below : scaleMayEqual FIRST ≡ false
-unfolding scaleMayEqual
-first-below = refl
-
-pub second-equal : scaleMayEqual SECOND ≡ true
-unfolding scaleMayEqual
-second-equal = refl

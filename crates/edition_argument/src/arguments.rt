@@ -17,20 +17,28 @@ const ROOM: usize = 2;
 // No edition: every entry refuses it with 21.
 const NONE: u32 = 0;
 
-// The edition of a program that is given one argument, the first edition where it is given none, and no edition where it is given more.
-// What the arguments are, no contract tells.
+// The edition of the program that runs. What its words are, no contract tells.
 pub fn given() -> u32
     ensures { λ r. ⌜ ((words : ℕ) × ((text : List ℕ) × Given words text r)) ⌝ }
 {
     let words = os::arg_count();
-    let edition = at(1);
+    let mut text = [0u8; ROOM];
+    let length = os::arg(1, &mut text);
+    given_by(words, &text[..length])
+}
+
+// The edition of a program that is run with so many words, its name the first of them, and this text as the second: the
+// first edition where there is no second word, and no edition where there is a third.
+pub fn given_by(words: usize, text: &[u8]) -> u32
+    ensures { λ r. ⌜ Given words (now (text .entry)) r ⌝ }
+{
     if words <= ALONE {
         return FIRST;
     }
     if words > ONE_ARGUMENT {
         return NONE;
     }
-    edition
+    edition_of(text)
 }
 
 // The edition that an argument spells.

@@ -10,7 +10,7 @@ use Rattle.edition_argument.proofs.arguments.edition_of.Statement.{stat
 use Rattle.edition_argument.proofs.arguments.edition_of.Tie as tie
 
 returns : tie.Need-returns
-returns c = record { no-other = λ k. absurd (none-unknown k); each-known = λ e k t. absurd (c .if1 .taken (spelt _ e k t .0)) }
+returns c = record { no-other = λ k. absurd (none-unknown k); each-known = λ e k t. absurd (omega (arith, spelt _ e k t .0)) }
 
 returns-2 : tie.Need-returns-2
 returns-2 c = record { no-other = λ k. absurd (none-unknown k); each-known = λ e k t. absurd (omega (arith, spelt _ e k t .1)) }
