@@ -40,6 +40,26 @@ static void rewrite(const uint8_t *sheet, size_t length)
         printf("rewritten: %" PRIu32 " bytes\n", griffeljol_value(answer));
 }
 
+/* What rewriting changes in a sheet: each entry of the comparison, by its node and its code. */
+static void compare(const uint8_t *sheet, size_t length)
+{
+    static uint8_t rewritten[GRIFFELJOL_MAX_SHEET], out[GRIFFELJOL_MAX_COMPARISON];
+    if (!accepted(griffeljol_rewrite(GRIFFELJOL_EDITION_1, sheet, length, rewritten, sizeof rewritten, 0)))
+        return;
+    uint64_t answer = griffeljol_compare(GRIFFELJOL_EDITION_1, sheet, length, rewritten, length, out, sizeof out);
+    if (!accepted(answer))
+        return;
+    printf("differences %" PRIu32 "\n", griffeljol_value(answer));
+    for (uint32_t i = 0; i < griffeljol_value(answer); i++) {
+        const uint8_t *entry = &out[i * GRIFFELJOL_ENTRY_WIDTH];
+        int node = entry[GRIFFELJOL_ENTRY_NODE] | entry[GRIFFELJOL_ENTRY_NODE + 1] << 8;
+        if (entry[GRIFFELJOL_ENTRY_CODE] == GRIFFELJOL_DIFFERENCE_LOGICAL)
+            printf("node %d: logical %d, was %d\n", node, entry[GRIFFELJOL_ENTRY_SECOND], entry[GRIFFELJOL_ENTRY_FIRST]);
+        else
+            printf("node %d: code %d\n", node, entry[GRIFFELJOL_ENTRY_CODE]);
+    }
+}
+
 /* A value of INT(8, false) on INT32: 255, little-endian. */
 static void read_value(void)
 {
@@ -90,6 +110,7 @@ int main(int argc, char **argv)
     fclose(file);
     resolve(sheet, length);
     rewrite(sheet, length);
+    compare(sheet, length);
     read_value();
     order_values();
     timestamp();

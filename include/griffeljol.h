@@ -2,13 +2,14 @@
  *
  * Link the archive libgriffeljol.a, which `rt staticlib griffeljol` proves and writes to target/staticlib; it links into x86-64 Linux
  * programs. "Document 01" is the paper that defines the sheet, the rows and the refusals, "document 02" the one that adds
- * editions.
+ * editions and comparison.
  *
  * Answers
  *   Each function answers one uint64_t. Bits 32 to 39 are the number of a refusal, 1 to 21, or 0 for a result. Bits 0 to 31
- *   are the place of the refusal, or for a result the value that the function names. Bits 40 to 47 are the value at fault in a
- *   refusal of griffeljol_order, and 0 in every other answer. Bits 48 to 63 are 0 and kept for later: take an answer apart by
- *   griffeljol_refusal, griffeljol_place, griffeljol_value and griffeljol_fault, and never compare it whole.
+ *   are the place of the refusal, or for a result the value that the function names. Bits 40 to 47 tell in a refusal of
+ *   griffeljol_order which value is at fault, in one of griffeljol_compare which sheet, and are 0 in every other answer. Bits 48
+ *   to 63 are 0 and kept for later: take an answer apart by griffeljol_refusal, griffeljol_place, griffeljol_value and
+ *   griffeljol_fault, and never compare it whole.
  *
  * Editions
  *   What reads or judges a sheet or a column type takes the number of an edition first. In edition 1 the scale of a DECIMAL is
@@ -65,6 +66,18 @@ extern "C" {
 #define GRIFFELJOL_ROW_DEFINITION_LEVEL 9
 #define GRIFFELJOL_ROW_REPETITION_LEVEL 10
 
+/* The bytes of an entry of a comparison, and where in it each part starts. The node's number has two bytes, little-endian; byte 1
+ * is 0. Each side has GRIFFELJOL_ENTRY_SIDE bytes, its content and then zeros. The entries of any two sheets fit into
+ * GRIFFELJOL_MAX_COMPARISON bytes: there are at most 13 for each node of the first sheet, and 1 for each of the second. */
+#define GRIFFELJOL_ENTRY_WIDTH 148
+#define GRIFFELJOL_ENTRY_CODE 0
+#define GRIFFELJOL_ENTRY_NODE 2
+#define GRIFFELJOL_ENTRY_FIRST 4
+#define GRIFFELJOL_ENTRY_SECOND 76
+#define GRIFFELJOL_ENTRY_SIDE 72
+#define GRIFFELJOL_MAX_ENTRIES (14 * GRIFFELJOL_MAX_NODES)
+#define GRIFFELJOL_MAX_COMPARISON (GRIFFELJOL_ENTRY_WIDTH * GRIFFELJOL_MAX_ENTRIES)
+
 /* The numbers that griffeljol_read writes. */
 #define GRIFFELJOL_READ_WIDTH 2
 
@@ -113,6 +126,51 @@ extern "C" {
 #define GRIFFELJOL_KIND_UUID 14
 #define GRIFFELJOL_KIND_INTERVAL 21
 #define GRIFFELJOL_KIND_PLAIN_GROUP 30
+
+/* Converted types, as a slot has them. */
+#define GRIFFELJOL_CONVERTED_UTF8 0
+#define GRIFFELJOL_CONVERTED_MAP 1
+#define GRIFFELJOL_CONVERTED_MAP_KEY_VALUE 2
+#define GRIFFELJOL_CONVERTED_LIST 3
+#define GRIFFELJOL_CONVERTED_ENUM 4
+#define GRIFFELJOL_CONVERTED_DECIMAL 5
+#define GRIFFELJOL_CONVERTED_DATE 6
+#define GRIFFELJOL_CONVERTED_TIME_MILLIS 7
+#define GRIFFELJOL_CONVERTED_TIME_MICROS 8
+#define GRIFFELJOL_CONVERTED_TIMESTAMP_MILLIS 9
+#define GRIFFELJOL_CONVERTED_TIMESTAMP_MICROS 10
+#define GRIFFELJOL_CONVERTED_UINT_8 11
+#define GRIFFELJOL_CONVERTED_UINT_16 12
+#define GRIFFELJOL_CONVERTED_UINT_32 13
+#define GRIFFELJOL_CONVERTED_UINT_64 14
+#define GRIFFELJOL_CONVERTED_INT_8 15
+#define GRIFFELJOL_CONVERTED_INT_16 16
+#define GRIFFELJOL_CONVERTED_INT_32 17
+#define GRIFFELJOL_CONVERTED_INT_64 18
+#define GRIFFELJOL_CONVERTED_JSON 19
+#define GRIFFELJOL_CONVERTED_BSON 20
+#define GRIFFELJOL_CONVERTED_INTERVAL 21
+#define GRIFFELJOL_CONVERTED_NONE 255
+
+/* Logical types, as a slot has them: none, or the number of the kind from GRIFFELJOL_KIND_STRING to _UUID. */
+#define GRIFFELJOL_LOGICAL_NONE 0
+
+/* Codes of a comparison's entries. That of a field is where its first byte stands in the slot. */
+#define GRIFFELJOL_DIFFERENCE_PHYSICAL 0
+#define GRIFFELJOL_DIFFERENCE_REPETITION 1
+#define GRIFFELJOL_DIFFERENCE_CONVERTED 2
+#define GRIFFELJOL_DIFFERENCE_LOGICAL 3
+#define GRIFFELJOL_DIFFERENCE_A 4
+#define GRIFFELJOL_DIFFERENCE_B 5
+#define GRIFFELJOL_DIFFERENCE_CHILD_COUNT 6 /* two bytes, little-endian */
+#define GRIFFELJOL_DIFFERENCE_TYPE_LENGTH 8 /* four bytes, signed, little-endian, as the next two */
+#define GRIFFELJOL_DIFFERENCE_SCALE 12
+#define GRIFFELJOL_DIFFERENCE_PRECISION 16
+#define GRIFFELJOL_DIFFERENCE_NAME_LENGTH 20 /* at the root alone, as the next: other matched nodes have one name */
+#define GRIFFELJOL_DIFFERENCE_NAME 24        /* 48 bytes */
+#define GRIFFELJOL_DIFFERENCE_PLACE 72       /* places among the siblings, from 0: two bytes, little-endian */
+#define GRIFFELJOL_DIFFERENCE_ONLY_FIRST 73  /* a node that the second sheet has not: its slot, 72 bytes */
+#define GRIFFELJOL_DIFFERENCE_ONLY_SECOND 74 /* a node that the first sheet has not, likewise */
 
 /* Roles. */
 #define GRIFFELJOL_ROLE_FIELD 0
@@ -188,7 +246,8 @@ static inline uint32_t griffeljol_value(uint64_t answer)
     return (uint32_t)(answer & 0xFFFFFFFF);
 }
 
-/* The value at fault in a refusal of griffeljol_order: 1 for a, 2 for b, and 0 for neither. */
+/* Which of two is at fault in a refusal: of griffeljol_order 1 for a, 2 for b; of griffeljol_compare 1 for first, 2 for second; 0
+ * for neither. */
 static inline uint32_t griffeljol_fault(uint64_t answer)
 {
     return (uint32_t)(answer >> 40) & 0xFF;
@@ -214,6 +273,25 @@ uint64_t griffeljol_resolve(uint32_t edition, const uint8_t *sheet, size_t sheet
  * stand from start on. out stays as it was. */
 uint64_t griffeljol_rewrite(uint32_t edition, const uint8_t *sheet, size_t sheet_len,
                             uint8_t *out, size_t out_len, size_t start);
+
+/* Compares two sheets: each field in which matched nodes differ, each matched node whose place among its siblings differs, and
+ * each node that only one of the sheets has. The roots match; children of matched nodes match by name, and where siblings share
+ * one, the first matches the first, and so on. Fields are the bytes of the slots, and not what they resolve to.
+ *   edition         GRIFFELJOL_EDITION_1 or _2, for both sheets
+ *   first, second   the bytes of the two sheets; they may be the same
+ *   out             where the entries go, GRIFFELJOL_ENTRY_WIDTH bytes each
+ * Result: the number of entries. They stand in out from its first byte on; the bytes behind them stay. There are none exactly
+ * where both sheets have the same paths in the same order with equal slots. They come
+ *   node by node of the first sheet, with its number there: of a matched node the fields that differ and then
+ *   GRIFFELJOL_DIFFERENCE_PLACE, by rising code, with the contents of both sides; of any other node
+ *   GRIFFELJOL_DIFFERENCE_ONLY_FIRST, with its slot on the first side and zeros on the second;
+ *   then node by node of the second sheet, with its number there, those that are not matched, as
+ *   GRIFFELJOL_DIFFERENCE_ONLY_SECOND, with zeros on the first side and the slot on the second.
+ * Refusals: 21; then 1 to 13 of first, as griffeljol_resolve judges it; then those of second; then 14, where out_len is below
+ * GRIFFELJOL_ENTRY_WIDTH times the number of entries. griffeljol_fault tells whose it is: 1 for first, 2 for second, and 0 for 21
+ * and 14. out stays as it was. */
+uint64_t griffeljol_compare(uint32_t edition, const uint8_t *first, size_t first_len, const uint8_t *second, size_t second_len,
+                            uint8_t *out, size_t out_len);
 
 /* Reads one value of a column.
  *   edition   GRIFFELJOL_EDITION_1 or _2

@@ -28,6 +28,12 @@ pub struct Case<'a> {
 pub enum Goal {
     /// Beside the independent reader, and beside sheets of other sizes.
     Sheet { shape: &'static str, nodes: usize },
+    /// Two equal sheets of a shape compared: the independent reader's speed, and three times the time of resolving one of them.
+    EqualSheets { shape: &'static str },
+    /// The independent reader's speed.
+    IndependentSpeed,
+    /// Less than a millisecond.
+    Millisecond,
     /// The time of each of some contenders.
     TimeOf(&'static [&'static str]),
     /// The same, and an eighth of the time of one more.

@@ -3,7 +3,7 @@
 #[path = "../../wrapper/src/boundary.rs"]
 mod boundary;
 
-pub use boundary::{decode, encode, order, read, resolve, rewrite};
+pub use boundary::{compare, decode, encode, order, read, resolve, rewrite};
 
 /// The edition that is measured.
 pub const EDITION: u32 = independent::edition::FIRST;
@@ -21,5 +21,13 @@ pub fn answer_of(result: Result<u32, independent::Refusal>) -> u64 {
     match result {
         Ok(value) => answer(0, value),
         Err(refusal) => answer(refusal.number, refusal.place),
+    }
+}
+
+/// The same for a comparison of two sheets, whose refusal tells the sheet at fault.
+pub fn pair_answer_of(result: Result<u32, independent::PairRefusal>) -> u64 {
+    match result {
+        Ok(value) => answer(0, value),
+        Err(refused) => u64::from(refused.at_fault) << 40 | answer_of(Err(refused.refusal)),
     }
 }

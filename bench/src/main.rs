@@ -3,6 +3,7 @@
 mod byte_loop;
 mod case;
 mod check_cases;
+mod comparison_cases;
 mod counting;
 mod decimal_cases;
 mod integers;
@@ -71,6 +72,7 @@ fn main() -> ExitCode {
 
 fn cases(word: &str) -> Vec<Case<'static>> {
     let mut cases = sheet_cases::cases();
+    cases.extend(comparison_cases::cases());
     cases.extend(check_cases::cases());
     cases.extend(timestamp_cases::cases());
     cases.extend(decimal_cases::cases());

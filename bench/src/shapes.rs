@@ -1,4 +1,4 @@
-//! Sheets of any number of nodes in four shapes.
+//! Sheets of any number of nodes in four shapes, and of columns in any order.
 
 use independent::codes::{converted, logical, physical, repetition};
 use independent::sheet::{self, Slot};
@@ -125,7 +125,7 @@ const COLUMNS: [Column; 18] = {
 };
 
 /// Names of several lengths.
-fn name(at: usize) -> String {
+pub fn name(at: usize) -> String {
     const WORDS: [&str; 7] =
         ["id", "name", "amount", "created_at", "quantity", "address_line", "a_rather_long_column_name"];
     format!("{}_{at}", WORDS[at % WORDS.len()])
@@ -133,10 +133,16 @@ fn name(at: usize) -> String {
 
 /// A root with columns.
 fn flat(nodes: usize) -> Vec<u8> {
+    columns(&(0..nodes - 1).collect::<Vec<_>>(), name)
+}
+
+/// A root with columns of these numbers, each of the name that its number has.
+pub fn columns(numbers: &[usize], name: fn(usize) -> String) -> Vec<u8> {
     let mut listing = Listing::new();
-    for at in 0..nodes - 1 {
+    for &at in numbers {
         listing.claim();
         listing.column(at, (at % 2) as u8);
+        listing.nodes.last_mut().expect("it was pushed").name = name(at);
     }
     listing.sheet()
 }

@@ -7,6 +7,10 @@ use crate::table::{number, print_lines};
 
 /// How much faster than the independent reader a sheet is to be read.
 const SPEED: f64 = 2.0;
+/// How often the time of resolving one of two equal sheets may go into that of comparing them.
+const RESOLVINGS: f64 = 3.0;
+/// The nanoseconds of a millisecond.
+const MILLISECOND: f64 = 1e6;
 /// The most instructions for a node.
 const INSTRUCTIONS: f64 = 400.0;
 /// How much dearer a node may be in one sheet than in another.
@@ -28,6 +32,12 @@ pub fn print(measured: &[Measured]) {
     for one in measured {
         match one.case.goal {
             Goal::Sheet { nodes: MOST_NODES, .. } => lines.extend(sheet(one)),
+            Goal::EqualSheets { shape } => {
+                lines.extend(beside_resolving(one, shape, measured));
+                lines.extend(independent_speed(one));
+            }
+            Goal::IndependentSpeed => lines.extend(independent_speed(one)),
+            Goal::Millisecond => lines.push(millisecond(one)),
             Goal::TimeOf(names) => lines.extend(names.iter().filter_map(|name| time_of(one, name))),
             Goal::EighthOf(name, names) => {
                 lines.extend(eighth_of(one, name));
@@ -60,6 +70,30 @@ fn sheet(one: &Measured) -> Vec<Line> {
         line(one, "twice the independent's speed", format!("{times:.2} times"), times >= SPEED),
         line(one, "at most 400 instructions a node", said, library.instructions <= INSTRUCTIONS),
     ]
+}
+
+/// Two equal sheets compared beside one of them resolved.
+fn beside_resolving(one: &Measured, shape: &str, measured: &[Measured]) -> Option<Line> {
+    let is_resolving = |other: &&Measured| match other.case.goal {
+        Goal::Sheet { shape: resolved, nodes } => {
+            other.case.entry == RESOLVE && resolved == shape && nodes == MOST_NODES
+        }
+        _ => false,
+    };
+    let resolving = measured.iter().find(is_resolving)?;
+    let times = one.library().times.over(&resolving.library().times);
+    let to_reach = "at most three times the time of resolving one";
+    Some(line(one, to_reach, format!("{times:.2} times"), times <= RESOLVINGS))
+}
+
+fn independent_speed(one: &Measured) -> Option<Line> {
+    let times = one.of(INDEPENDENT)?.times.over(&one.library().times);
+    Some(line(one, "the independent's speed", format!("{times:.2} times"), times >= 1.0))
+}
+
+fn millisecond(one: &Measured) -> Line {
+    let time = one.library().times.spread().median * one.case.items as f64;
+    line(one, "below a millisecond", format!("{} ms", number(time / MILLISECOND)), time < MILLISECOND)
 }
 
 fn time_of(one: &Measured, name: &str) -> Option<Line> {

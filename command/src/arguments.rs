@@ -10,6 +10,8 @@ use crate::failure::Failure;
 
 /// Answers as JSON.
 pub const JSON: &str = "--json";
+/// Answers as a page to sign.
+pub const REPORT: &str = "--report";
 /// Where the answer goes; takes a word.
 pub const OUTPUT: &str = "-o";
 /// A value in hexadecimal; takes a word.
@@ -44,7 +46,7 @@ impl Arguments {
                     return Err(Failure::arguments(format!("{option} is given twice")));
                 }
                 let operand = match *option {
-                    JSON => OsString::new(),
+                    JSON | REPORT => OsString::new(),
                     _ => given.next().ok_or_else(|| Failure::arguments(format!("{option} needs a word behind it")))?,
                 };
                 options.push((option, operand));

@@ -1,6 +1,6 @@
 //! What can go wrong, how it is told, and the exit status of each.
 
-use std::ffi::OsStr;
+use std::ffi::{OsStr, OsString};
 use std::fmt::Display;
 use std::io::{self, ErrorKind, Write};
 use std::process::ExitCode;
@@ -9,14 +9,26 @@ use griffeljol::Refusal;
 
 use crate::files::STANDARD;
 
-/// Why the command does not end with status 0.
+/// Why the command has no answer.
 pub enum Failure {
     /// The library refused: status 1.
-    Refused(Refusal),
+    Refused(Refused),
     /// The arguments are wrong, or a file cannot be read or written: status 2 and one line.
     Message(String),
     /// Whoever read standard output stopped reading: status 141, as of a command that SIGPIPE ended, and no word.
     ClosedPipe,
+}
+
+/// A refusal, and of two sheets the one at fault.
+pub struct Refused {
+    pub refusal: Refusal,
+    pub at_fault: Option<AtFault>,
+}
+
+/// The sheet at fault of two: what the arguments call it, and its file.
+pub struct AtFault {
+    pub sheet: &'static str,
+    pub file: OsString,
 }
 
 const REFUSED: u8 = 1;
@@ -31,7 +43,7 @@ impl Failure {
 
     /// A file that cannot be read.
     pub fn read(name: &OsStr, error: io::Error) -> Self {
-        Failure::Message(format!("cannot read {}: {error}", shown(name, "standard input")))
+        Failure::Message(format!("cannot read {}: {error}", input(name)))
     }
 
     /// A file that cannot be written.
@@ -43,9 +55,9 @@ impl Failure {
     }
 
     /// Tells it on standard error, and gives the exit status. A standard error that takes no word changes nothing.
-    pub fn report(&self) -> ExitCode {
+    pub fn tell(&self) -> ExitCode {
         let (text, status) = match self {
-            Failure::Refused(refusal) => (format!("{refusal}\n{}\n", explained(*refusal)), REFUSED),
+            Failure::Refused(refused) => (refused.told(), REFUSED),
             Failure::Message(message) => (format!("griffeljol: {message}\n"), MESSAGE),
             Failure::ClosedPipe => (String::new(), CLOSED_PIPE),
         };
@@ -56,7 +68,18 @@ impl Failure {
 
 impl From<Refusal> for Failure {
     fn from(refusal: Refusal) -> Self {
-        Failure::Refused(refusal)
+        Failure::Refused(Refused { refusal, at_fault: None })
+    }
+}
+
+impl Refused {
+    /// The line `refused N at P`, and one with its meaning, behind the sheet at fault.
+    fn told(&self) -> String {
+        let whose = match &self.at_fault {
+            None => String::new(),
+            Some(AtFault { sheet, file }) => format!("{sheet}, {}: ", input(file)),
+        };
+        format!("{}\n{whose}{}\n", self.refusal, explained(self.refusal))
     }
 }
 
@@ -66,6 +89,11 @@ fn explained(refusal: Refusal) -> String {
         None => refusal.meaning().to_owned(),
         Some(place) => format!("{}; place {} is {place}", refusal.meaning(), refusal.place),
     }
+}
+
+/// The name of a file that is read, as a message has it.
+pub fn input(name: &OsStr) -> String {
+    shown(name, "standard input")
 }
 
 /// A file's name as a message has it.

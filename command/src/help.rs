@@ -6,6 +6,8 @@ griffeljol reads Parquet schema sheets. Every answer is the proved library's.
   griffeljol rows FILE [--json]            the sheet's rows
   griffeljol tree FILE [--json]            the schema as an indented tree
   griffeljol rewrite FILE -o OUT           the sheet anew, with both annotations at every node
+  griffeljol compare A B [--json | --report]
+                                           what differs between two sheets, or a page to sign
   griffeljol value PHYSICAL LENGTH KIND P1 P2 (FILE | --hex HEX) [--json]
                                            one value of a column
   griffeljol timestamp decode UNIT COUNT [--json]
@@ -15,12 +17,14 @@ griffeljol reads Parquet schema sheets. Every answer is the proved library's.
 
 All but timestamp take --edition N, the edition that judges the sheet or the column type, which is 1 without it.
 
-FILE and OUT may be - for standard input and standard output. Behind -- every word is taken as it stands.
+FILE, one of A and B, and OUT may be - for standard input and standard output. Behind -- every word is taken as it
+stands.
 
 Exit status
-    0  done
+    0  done; of compare, the sheets do not differ
     1  refused: standard error has the line 'refused N at P', then its meaning in words
     2  wrong arguments, or a file that cannot be read or written: standard error has one line
+    3  of compare, the sheets differ
   141  whoever read standard output stopped reading; nothing is said
 ";
 
@@ -63,6 +67,37 @@ with escapes. Names are read from the accepted sheet's bytes; all else is the li
 
   --json   prints an object with the nodes in order, each with these and its row. A name that is no UTF-8 is null;
            name_hex has its bytes. A refusal is printed as an object, besides its words on standard error
+";
+
+pub const COMPARE: &str = "\
+griffeljol compare A B [--edition N] [--json | --report]
+
+Judges the sheets in the files A and B, one of which may be - for standard input, and prints a line for each difference
+from A to B, and then their number. It exits 0 where there is none, and 3 where there are some.
+
+  parts.list.element: repetition optional, was required     a field with another content in B
+  kvn: place 2, was 0                                       its place among its siblings, counted from 0
+  kcv: only in B, optional BYTE_ARRAY STRING                a node that A does not have
+
+The roots match, and children of matched nodes match by name; where siblings share one, the first matches the first, and
+so on. The fields are those of document 01's slot: physical, repetition, converted, logical, parameter a, parameter b,
+child count, type length, scale and precision, and of the root also name length and name. They are compared as they
+stand: an annotation that A has as a converted type alone and B as a logical type too is a difference.
+
+Nodes come in A's order, and those that are only in B last, in B's. A node goes by its path, the names from the root's
+children down with points between them; the root by 'the root'. Of siblings that share a name the first has it alone,
+the second has [1] behind it, the third [2], and so on. A name with a space, a point or a bracket, with characters that
+do not print by themselves or with bytes that are no UTF-8 stands in quotes, with escapes. Paths are read from the
+accepted sheets' bytes; every difference is the library's.
+
+A refusal's words begin with A or B and the file that is refused. Where both are, it is A's.
+
+  --json     prints an object with the count of the differences and their list, each with its node's number (that of A,
+             or of B for a node that is only there), path, code, field, and the contents in A and B: numbers, a name
+             with its bytes in hexadecimal, a whole slot, or null where there is no such node. A refusal is printed as
+             an object, besides its words on standard error, with the sheet and the file that are refused
+  --report   prints a page for two custodians to sign: both files with their length, the check of each block and the
+             number of nodes and of columns; the columns; the differences; and a line for each custodian
 ";
 
 pub const VALUE: &str = "\

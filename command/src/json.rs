@@ -2,7 +2,7 @@
 
 use std::fmt::{self, Display};
 
-use griffeljol::Refusal;
+use crate::failure::{AtFault, Refused};
 
 /// A JSON value.
 pub enum Json {
@@ -75,12 +75,16 @@ fn write_text(f: &mut fmt::Formatter<'_>, text: &str) -> fmt::Result {
     f.write_str("\"")
 }
 
-/// A refusal.
-pub fn refusal(refusal: Refusal) -> Json {
-    Json::Object(vec![
+/// A refusal, with the sheet at fault of two. The name of a file that is no UTF-8 is null.
+pub fn refusal(Refused { refusal, at_fault }: &Refused) -> Json {
+    let mut members = vec![
         ("refused", Json::number(refusal.number)),
         ("at", Json::number(refusal.place)),
         ("meaning", Json::text(refusal.meaning())),
         ("place", Json::maybe(refusal.place_meaning())),
-    ])
+    ];
+    if let Some(AtFault { sheet, file }) = at_fault {
+        members.extend([("sheet", Json::text(*sheet)), ("file", Json::maybe(file.to_str()))]);
+    }
+    Json::Object(members)
 }

@@ -1,16 +1,23 @@
-//! The command `griffeljol`: rows, rewriting, the tree, single values and timestamps, by the proved library.
+//! The command `griffeljol`: rows, rewriting, the tree, comparison, single values and timestamps, by the proved library.
 //!
-//! It judges nothing: every answer is the library's. Of an accepted sheet it reads one thing itself, the names of the nodes,
-//! by the layout of document 01 (`names`).
+//! It judges nothing: every answer is the library's. Of an accepted sheet it reads names, logical types and checks itself, by
+//! the layout of document 01 (`layout`), to say in words what the library answers.
 
+mod answer;
 mod arguments;
+mod compare;
+mod compared;
+mod differences;
 mod failure;
 mod files;
 mod help;
 mod json;
+mod layout;
 mod names;
+mod report;
 mod rewrite;
 mod rows;
+mod table;
 mod timestamp;
 mod tree;
 mod value;
@@ -20,7 +27,8 @@ use std::env;
 use std::ffi::OsString;
 use std::process::ExitCode;
 
-use arguments::{Arguments, EDITION, HEX, JSON, OUTPUT};
+use answer::Answer;
+use arguments::{Arguments, EDITION, HEX, JSON, OUTPUT, REPORT};
 use failure::Failure;
 
 /// What a command is called, which options it takes, its help, and what it prints.
@@ -28,28 +36,26 @@ struct Command {
     name: &'static str,
     options: &'static [&'static str],
     help: &'static str,
-    run: fn(Arguments) -> Result<Vec<u8>, Failure>,
+    run: fn(Arguments) -> Result<Answer, Failure>,
 }
 
-const COMMANDS: [Command; 5] = [
+const COMMANDS: [Command; 6] = [
     Command { name: "rows", options: &[EDITION, JSON], help: help::ROWS, run: rows::run },
     Command { name: "rewrite", options: &[EDITION, OUTPUT], help: help::REWRITE, run: rewrite::run },
     Command { name: "tree", options: &[EDITION, JSON], help: help::TREE, run: tree::run },
+    Command { name: "compare", options: &[EDITION, JSON, REPORT], help: help::COMPARE, run: compare::run },
     Command { name: "value", options: &[EDITION, HEX, JSON], help: help::VALUE, run: value::run },
     Command { name: "timestamp", options: &[JSON], help: help::TIMESTAMP, run: timestamp::run },
 ];
 
 fn main() -> ExitCode {
-    match run(env::args_os().skip(1)) {
-        Ok(()) => ExitCode::SUCCESS,
-        Err(failure) => failure.report(),
-    }
+    run(env::args_os().skip(1)).unwrap_or_else(|failure| failure.tell())
 }
 
-fn run(mut words: impl Iterator<Item = OsString>) -> Result<(), Failure> {
+fn run(mut words: impl Iterator<Item = OsString>) -> Result<ExitCode, Failure> {
     let name = words.next().ok_or_else(|| Failure::arguments("no command is given"))?;
     if arguments::is_help(&name) {
-        return files::print(help::ALL.as_bytes());
+        return print(help::ALL.to_owned().into());
     }
     let command = COMMANDS
         .iter()
@@ -57,15 +63,21 @@ fn run(mut words: impl Iterator<Item = OsString>) -> Result<(), Failure> {
         .ok_or_else(|| Failure::arguments(format!("there is no command {name:?}")))?;
     let Some(arguments) = Arguments::parse(words, command.options)? else {
         let of_edition = if command.options.contains(&EDITION) { help::EDITION } else { "" };
-        return files::print([command.help, of_edition].concat().as_bytes());
+        return print([command.help, of_edition].concat().into());
     };
     let wants_json = arguments.has(JSON);
     match (command.run)(arguments) {
-        Ok(text) => files::print(&text),
-        Err(Failure::Refused(refusal)) if wants_json => {
-            files::print(json::refusal(refusal).line().as_bytes())?;
-            Err(Failure::Refused(refusal))
+        Ok(answer) => print(answer),
+        Err(Failure::Refused(refused)) if wants_json => {
+            files::print(json::refusal(&refused).line().as_bytes())?;
+            Err(Failure::Refused(refused))
         }
         Err(failure) => Err(failure),
     }
+}
+
+/// Writes an answer, and gives its exit status.
+fn print(answer: Answer) -> Result<ExitCode, Failure> {
+    files::print(&answer.text)?;
+    Ok(answer.status)
 }

@@ -2,12 +2,13 @@
 
 use griffeljol::{Row, MAX_SHEET};
 
+use crate::answer::Answer;
 use crate::arguments::{Arguments, JSON};
 use crate::failure::Failure;
 use crate::files;
 use crate::json::Json;
 
-pub fn run(mut arguments: Arguments) -> Result<Vec<u8>, Failure> {
+pub fn run(mut arguments: Arguments) -> Result<Answer, Failure> {
     let file = arguments.word("FILE")?;
     let edition = arguments.edition()?;
     let wants_json = arguments.has(JSON);
@@ -20,7 +21,7 @@ pub fn run(mut arguments: Arguments) -> Result<Vec<u8>, Failure> {
     } else {
         lines(&rows)
     };
-    Ok(text.into_bytes())
+    Ok(text.into())
 }
 
 /// `nodes T`, then a line for each row.

@@ -3,6 +3,7 @@
 use griffeljol::codes::unit;
 use griffeljol::Fields;
 
+use crate::answer::Answer;
 use crate::arguments::{Arguments, JSON};
 use crate::failure::Failure;
 use crate::json::Json;
@@ -13,7 +14,7 @@ enum Request {
     Encode(u32, Fields),
 }
 
-pub fn run(mut arguments: Arguments) -> Result<Vec<u8>, Failure> {
+pub fn run(mut arguments: Arguments) -> Result<Answer, Failure> {
     let request = match arguments.text("decode or encode")?.as_str() {
         "decode" => {
             let unit = unit_of(&arguments.text("UNIT")?)?;
@@ -39,7 +40,7 @@ pub fn run(mut arguments: Arguments) -> Result<Vec<u8>, Failure> {
         }
     };
     let text = if wants_json { object(unit, count, &fields).line() } else { text + "\n" };
-    Ok(text.into_bytes())
+    Ok(text.into())
 }
 
 /// A unit by its name or its number. Which numbers are units is the library's to say.

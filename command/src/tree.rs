@@ -2,29 +2,30 @@
 
 use griffeljol::{Row, MAX_SHEET};
 
+use crate::answer::Answer;
 use crate::arguments::{Arguments, JSON};
 use crate::failure::Failure;
 use crate::json::Json;
-use crate::{files, names, rows, words};
+use crate::{files, layout, names, rows, table, words};
 
 const TITLES: [&str; 7] = ["node", "level", "name", "type", "annotation", "repetition", "role"];
 
-pub fn run(mut arguments: Arguments) -> Result<Vec<u8>, Failure> {
+pub fn run(mut arguments: Arguments) -> Result<Answer, Failure> {
     let file = arguments.word("FILE")?;
     let edition = arguments.edition()?;
     let wants_json = arguments.has(JSON);
     arguments.end()?;
     let sheet = files::read(&file, MAX_SHEET)?;
     let rows = griffeljol::rows(edition, &sheet)?;
-    let names: Vec<&[u8]> = (0..rows.len()).map(|node| names::name(&sheet, node)).collect();
+    let names: Vec<&[u8]> = (0..rows.len()).map(|node| layout::name(&sheet, node)).collect();
     let text = if wants_json {
         let levels = levels(&rows);
         let nodes = (0..rows.len()).map(|node| object(node, levels[node], names[node], &rows[node]));
         Json::Object(vec![("nodes", Json::List(nodes.collect()))]).line()
     } else {
-        table(&rows, &names)
+        drawn(&rows, &names)
     };
-    Ok(text.into_bytes())
+    Ok(text.into())
 }
 
 /// How many nodes stand above each node.
@@ -52,7 +53,7 @@ fn branches(rows: &[Row]) -> Vec<String> {
 }
 
 /// The tree with a line for each node, under a line of titles.
-fn table(rows: &[Row], names: &[&[u8]]) -> String {
+fn drawn(rows: &[Row], names: &[&[u8]]) -> String {
     let (levels, branches) = (levels(rows), branches(rows));
     let line = |node: usize| {
         let row = &rows[node];
@@ -62,17 +63,12 @@ fn table(rows: &[Row], names: &[&[u8]]) -> String {
             branches[node].clone() + &names::shown(names[node]),
             words::type_of(row),
             words::annotation(row).unwrap_or_default(),
-            words::repetition(row).unwrap_or_default().to_owned(),
+            words::repetition(row.repetition).unwrap_or_default().to_owned(),
             if node == 0 { String::new() } else { words::role(row).to_owned() },
         ]
     };
     let lines: Vec<[String; 7]> = [TITLES.map(str::to_owned)].into_iter().chain((0..rows.len()).map(line)).collect();
-    let mut widths = [0; 7];
-    for line in &lines {
-        for (width, cell) in widths.iter_mut().zip(line) {
-            *width = (*width).max(cell.chars().count());
-        }
-    }
+    let widths = table::widths(&lines);
     let mut text = String::new();
     for [node, level, rest @ ..] in &lines {
         let mut line = format!("{node:>0$}  {level:>1$}", widths[0], widths[1]);
@@ -85,17 +81,17 @@ fn table(rows: &[Row], names: &[&[u8]]) -> String {
     text
 }
 
-/// A node with its words and its row. A name that is no UTF-8 is null, and its bytes stand in hexadecimal.
+/// A node with its words and its row.
 fn object(node: usize, level: usize, name: &[u8], row: &Row) -> Json {
-    let hex: String = name.iter().map(|byte| format!("{byte:02x}")).collect();
+    let [name, name_hex] = names::members(name);
     Json::Object(vec![
         ("node", Json::number(node)),
         ("level", Json::number(level)),
-        ("name", Json::maybe(std::str::from_utf8(name).ok())),
-        ("name_hex", Json::text(hex)),
+        name,
+        name_hex,
         ("type", Json::text(words::type_of(row))),
         ("annotation", Json::maybe(words::annotation(row))),
-        ("repetition", Json::maybe(words::repetition(row))),
+        ("repetition", Json::maybe(words::repetition(row.repetition))),
         ("role", Json::text(words::role(row))),
         ("row", rows::object(row)),
     ])

@@ -4,12 +4,13 @@ use std::ffi::OsStr;
 
 use griffeljol::{ColumnType, Value, MAX_VALUE};
 
+use crate::answer::Answer;
 use crate::arguments::{Arguments, HEX, JSON};
 use crate::failure::Failure;
 use crate::files;
 use crate::json::Json;
 
-pub fn run(mut arguments: Arguments) -> Result<Vec<u8>, Failure> {
+pub fn run(mut arguments: Arguments) -> Result<Answer, Failure> {
     let column = ColumnType {
         physical: arguments.number("PHYSICAL")?,
         type_length: arguments.number("LENGTH")?,
@@ -28,7 +29,7 @@ pub fn run(mut arguments: Arguments) -> Result<Vec<u8>, Failure> {
     };
     let value = griffeljol::read(edition, column, &bytes)?;
     let text = if wants_json { object(value).line() } else { line(value) };
-    Ok(text.into_bytes())
+    Ok(text.into())
 }
 
 /// The bytes that pairs of hexadecimal digits stand for.

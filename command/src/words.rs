@@ -1,11 +1,23 @@
-//! The words for a row's numbers, by the names of document 01.
+//! The words for the numbers of rows and slots, by the names of document 01.
 
-use griffeljol::codes::{kind, physical, repetition, role, unit};
+use griffeljol::codes::{converted, kind, logical, physical, repetition, role, unit};
 use griffeljol::Row;
+
+/// What stands for an annotation, a parameter or a repetition that is not there.
+pub const NONE: &str = "none";
 
 /// A node's type, with its length if it has one.
 pub fn type_of(row: &Row) -> String {
-    let name = match row.physical {
+    let name = physical(row.physical);
+    match row.physical {
+        physical::FIXED_LEN_BYTE_ARRAY => format!("{name}({})", row.type_length),
+        _ => name.to_owned(),
+    }
+}
+
+/// A physical type, or group.
+pub fn physical(code: u32) -> &'static str {
+    match code {
         physical::BOOLEAN => "BOOLEAN",
         physical::INT32 => "INT32",
         physical::INT64 => "INT64",
@@ -13,34 +25,92 @@ pub fn type_of(row: &Row) -> String {
         physical::FLOAT => "FLOAT",
         physical::DOUBLE => "DOUBLE",
         physical::BYTE_ARRAY => "BYTE_ARRAY",
-        physical::FIXED_LEN_BYTE_ARRAY => return format!("FIXED_LEN_BYTE_ARRAY({})", row.type_length),
+        physical::FIXED_LEN_BYTE_ARRAY => "FIXED_LEN_BYTE_ARRAY",
         physical::GROUP => "group",
-        other => return format!("physical {other}"),
-    };
-    name.to_owned()
+        _ => "physical unknown",
+    }
 }
 
 /// A node's annotation with its parameters, if it has one.
 pub fn annotation(row: &Row) -> Option<String> {
-    let name = match row.kind {
+    Some(match row.kind {
         kind::PLAIN_LEAF | kind::PLAIN_GROUP => return None,
-        kind::STRING => "STRING",
-        kind::MAP => "MAP",
-        kind::LIST => "LIST",
-        kind::ENUM => "ENUM",
-        kind::DECIMAL => return Some(format!("DECIMAL(precision {}, scale {})", row.p1, row.p2)),
-        kind::DATE => "DATE",
-        kind::TIME => return Some(format!("TIME({}, {})", unit_name(row.p1), adjusted(row.p2))),
-        kind::TIMESTAMP => return Some(format!("TIMESTAMP({}, {})", unit_name(row.p1), adjusted(row.p2))),
-        kind::INTEGER => return Some(format!("INT({}, {})", row.p1, if row.p2 == 1 { "signed" } else { "unsigned" })),
-        kind::UNKNOWN => "UNKNOWN",
-        kind::JSON => "JSON",
-        kind::BSON => "BSON",
-        kind::UUID => "UUID",
-        kind::INTERVAL => "INTERVAL",
-        other => return Some(format!("kind {other}")),
-    };
-    Some(name.to_owned())
+        kind::DECIMAL => format!("DECIMAL(precision {}, scale {})", row.p1, row.p2),
+        kind::TIME | kind::TIMESTAMP => format!("{}({}, {})", logical(row.kind), unit_name(row.p1), adjusted(row.p2)),
+        kind::INTEGER => format!("INT({}, {})", row.p1, signed(row.p2)),
+        kind::INTERVAL => "INTERVAL".to_owned(),
+        // Every other kind has the code of its logical type.
+        code => logical(code).to_owned(),
+    })
+}
+
+/// A logical type.
+pub fn logical(code: u32) -> &'static str {
+    match code {
+        logical::NONE => NONE,
+        logical::STRING => "STRING",
+        logical::MAP => "MAP",
+        logical::LIST => "LIST",
+        logical::ENUM => "ENUM",
+        logical::DECIMAL => "DECIMAL",
+        logical::DATE => "DATE",
+        logical::TIME => "TIME",
+        logical::TIMESTAMP => "TIMESTAMP",
+        logical::INTEGER => "INTEGER",
+        logical::UNKNOWN => "UNKNOWN",
+        logical::JSON => "JSON",
+        logical::BSON => "BSON",
+        logical::UUID => "UUID",
+        _ => "logical unknown",
+    }
+}
+
+/// A converted type.
+pub fn converted(code: u32) -> &'static str {
+    match code {
+        converted::UTF8 => "UTF8",
+        converted::MAP => "MAP",
+        converted::MAP_KEY_VALUE => "MAP_KEY_VALUE",
+        converted::LIST => "LIST",
+        converted::ENUM => "ENUM",
+        converted::DECIMAL => "DECIMAL",
+        converted::DATE => "DATE",
+        converted::TIME_MILLIS => "TIME_MILLIS",
+        converted::TIME_MICROS => "TIME_MICROS",
+        converted::TIMESTAMP_MILLIS => "TIMESTAMP_MILLIS",
+        converted::TIMESTAMP_MICROS => "TIMESTAMP_MICROS",
+        converted::UINT_8 => "UINT_8",
+        converted::UINT_16 => "UINT_16",
+        converted::UINT_32 => "UINT_32",
+        converted::UINT_64 => "UINT_64",
+        converted::INT_8 => "INT_8",
+        converted::INT_16 => "INT_16",
+        converted::INT_32 => "INT_32",
+        converted::INT_64 => "INT_64",
+        converted::JSON => "JSON",
+        converted::BSON => "BSON",
+        converted::INTERVAL => "INTERVAL",
+        converted::NONE => NONE,
+        _ => "converted unknown",
+    }
+}
+
+/// Parameter a of a slot with this logical type, if the type takes one.
+pub fn parameter_a(logical: u32, a: u32) -> String {
+    match logical {
+        logical::INTEGER => format!("{a} bits"),
+        logical::TIME | logical::TIMESTAMP => unit_name(a).to_owned(),
+        _ => NONE.to_owned(),
+    }
+}
+
+/// Parameter b of a slot with this logical type, if the type takes one.
+pub fn parameter_b(logical: u32, b: u32) -> &'static str {
+    match logical {
+        logical::INTEGER => signed(b),
+        logical::TIME | logical::TIMESTAMP => adjusted(b),
+        _ => NONE,
+    }
 }
 
 /// A time unit.
@@ -62,9 +132,18 @@ fn adjusted(utc: u32) -> &'static str {
     }
 }
 
-/// A node's repetition, if it has one.
-pub fn repetition(row: &Row) -> Option<&'static str> {
-    match row.repetition {
+/// Whether an INTEGER is signed.
+fn signed(signed: u32) -> &'static str {
+    if signed == 1 {
+        "signed"
+    } else {
+        "unsigned"
+    }
+}
+
+/// A repetition, if it is one.
+pub fn repetition(code: u32) -> Option<&'static str> {
+    match code {
         repetition::REQUIRED => Some("required"),
         repetition::OPTIONAL => Some("optional"),
         repetition::REPEATED => Some("repeated"),

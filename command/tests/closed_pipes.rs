@@ -6,8 +6,9 @@
 use std::io::{Read, Write};
 use std::process::{Child, Command, Stdio};
 
-/// The sample sheet.
+/// The sample sheet, and its file.
 const SAMPLE: &[u8] = include_bytes!("../../crates/schema_rows/stdin");
+const FILE: &str = concat!(env!("CARGO_MANIFEST_DIR"), "/../crates/schema_rows/stdin");
 
 #[test]
 fn closed_pipes() {
@@ -37,6 +38,9 @@ fn nobody_reads_standard_output() {
         &["tree", "-"],
         &["tree", "--json", "-"],
         &["rewrite", "-", "-o", "-"],
+        &["compare", "-", FILE],
+        &["compare", FILE, "-", "--json"],
+        &["compare", FILE, "-", "--report"],
         &["value", "6", "0", "0", "0", "0", "-"],
     ];
     for words in lines {

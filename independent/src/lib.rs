@@ -14,9 +14,11 @@
 pub mod annotation;
 pub mod codes;
 pub mod column;
+pub mod compare;
 pub mod decimal;
 pub mod edition;
 pub mod order;
+pub mod rebuild;
 pub mod refusal;
 pub mod rewrite;
 pub mod rows;
@@ -28,8 +30,10 @@ pub mod utf8;
 pub mod value;
 
 pub use column::ColumnType;
+pub use compare::compare;
 pub use order::{order, Order};
-pub use refusal::{OrderRefusal, Refusal};
+pub use rebuild::rebuild;
+pub use refusal::{PairRefusal, Refusal};
 pub use rewrite::rewrite;
 pub use rows::{resolve, ROW_WIDTH};
 pub use timestamp::{decode, encode, Fields};

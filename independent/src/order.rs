@@ -6,7 +6,7 @@ use crate::annotation::Annotation;
 use crate::codes::physical;
 use crate::column::{Column, ColumnType};
 use crate::decimal;
-use crate::refusal::{self, OrderRefusal, Refusal};
+use crate::refusal::{self, PairRefusal, Refusal};
 use crate::value::{read_in, Value};
 
 /// How the first of two values stands to the second.
@@ -33,13 +33,13 @@ impl From<Ordering> for Order {
 }
 
 /// Orders two values of a column by an edition: refusal 21, then 20, then 17, then those of the first value, then those of the second.
-pub fn order(edition: u32, column: ColumnType, a: &[u8], b: &[u8]) -> Result<Order, OrderRefusal> {
-    let column = Column::of(edition, column).map_err(OrderRefusal::of_neither)?;
+pub fn order(edition: u32, column: ColumnType, a: &[u8], b: &[u8]) -> Result<Order, PairRefusal> {
+    let column = Column::of(edition, column).map_err(PairRefusal::of_neither)?;
     if column.physical == physical::INT96 || column.annotation == Annotation::Interval {
-        return Err(OrderRefusal::of_neither(Refusal::whole(refusal::NO_ORDER)));
+        return Err(PairRefusal::of_neither(Refusal::whole(refusal::NO_ORDER)));
     }
-    let first = read_in(&column, a).map_err(OrderRefusal::of_first)?;
-    let second = read_in(&column, b).map_err(OrderRefusal::of_second)?;
+    let first = read_in(&column, a).map_err(PairRefusal::of_first)?;
+    let second = read_in(&column, b).map_err(PairRefusal::of_second)?;
     let ordering = match (first, second) {
         (Value::Truth(a), Value::Truth(b)) => Some(a.cmp(&b)),
         (Value::Signed(a), Value::Signed(b)) => Some(a.cmp(&b)),

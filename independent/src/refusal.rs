@@ -1,4 +1,4 @@
-//! The numbered refusals of document 01, with what document 02's add.
+//! The numbered refusals of document 01, with what document 02's add.
 
 use std::fmt;
 
@@ -32,42 +32,48 @@ impl fmt::Display for Refusal {
 
 impl std::error::Error for Refusal {}
 
-/// The refusal of an order.
+/// The refusal of what is asked of two: the order of two values, or the comparison of two sheets.
 #[derive(Clone, Copy, Debug, PartialEq, Eq)]
-pub struct OrderRefusal {
+pub struct PairRefusal {
     /// Its number and place.
     pub refusal: Refusal,
-    /// The value at fault: 1 or 2, or 0 for neither.
-    pub value: u32,
+    /// The value or the sheet at fault: 1 or 2, or 0 for neither.
+    pub at_fault: u32,
 }
 
-impl OrderRefusal {
-    /// A refusal that is neither value's.
+impl PairRefusal {
+    /// A refusal of neither.
     pub fn of_neither(refusal: Refusal) -> Self {
-        OrderRefusal { refusal, value: 0 }
+        PairRefusal { refusal, at_fault: 0 }
     }
 
-    /// A refusal of the first value.
+    /// A refusal of the first.
     pub fn of_first(refusal: Refusal) -> Self {
-        OrderRefusal { refusal, value: 1 }
+        PairRefusal { refusal, at_fault: 1 }
     }
 
-    /// A refusal of the second value.
+    /// A refusal of the second.
     pub fn of_second(refusal: Refusal) -> Self {
-        OrderRefusal { refusal, value: 2 }
+        PairRefusal { refusal, at_fault: 2 }
     }
 }
 
-impl fmt::Display for OrderRefusal {
+impl fmt::Display for PairRefusal {
     fn fmt(&self, f: &mut fmt::Formatter<'_>) -> fmt::Result {
-        match self.value {
+        match self.at_fault {
             0 => self.refusal.fmt(f),
-            value => write!(f, "{} in value {value}", self.refusal),
+            at_fault if is_of_a_sheet(self.refusal.number) => write!(f, "{} in sheet {at_fault}", self.refusal),
+            at_fault => write!(f, "{} in value {at_fault}", self.refusal),
         }
     }
 }
 
-impl std::error::Error for OrderRefusal {}
+impl std::error::Error for PairRefusal {}
+
+/// Whether a number is a refusal of what a sheet holds.
+pub fn is_of_a_sheet(number: u32) -> bool {
+    (SHEET_LENGTH..=MAP).contains(&number)
+}
 
 /// Sheet length 0, not a multiple of 512, or over 65,536.
 pub const SHEET_LENGTH: u32 = 1;

@@ -1,5 +1,7 @@
 //! Blocks, checks, headers and slots of a sheet: refusal 21, and 1 to 4.
 
+use std::ops::Range;
+
 use crate::codes::{converted, logical, physical, repetition};
 use crate::edition::Edition;
 use crate::refusal::{self, Refusal};
@@ -23,9 +25,13 @@ const CHECK_MODULUS: u32 = 65_521;
 const VERSION: u8 = 1;
 
 /// Where a slot's converted type, logical type and parameters stand in it.
-pub const ANNOTATION: std::ops::Range<usize> = 2..6;
+pub const ANNOTATION: Range<usize> = 2..6;
 const NAME_LENGTH: usize = 20;
 const NAME: usize = 24;
+
+/// Where each field of a slot stands in it. The other bytes of a sound slot are zero.
+pub const FIELDS: [Range<usize>; 12] =
+    [0..1, 1..2, 2..3, 3..4, 4..5, 5..6, 6..8, 8..12, 12..16, 16..20, NAME_LENGTH..NAME_LENGTH + 1, NAME..SLOT];
 
 /// A sheet of sound blocks and slots, and the edition that it is read by.
 #[derive(Clone, Copy, Debug)]
@@ -79,6 +85,12 @@ impl<'a> Sheet<'a> {
     pub fn slot(&self, node: usize) -> Slot<'a> {
         assert!(node < self.nodes);
         slot_at(self.bytes, node).expect("a used slot").1
+    }
+
+    /// The bytes of a node's slot; the node must be below T.
+    pub fn slot_bytes(&self, node: usize) -> &'a [u8; SLOT] {
+        assert!(node < self.nodes);
+        self.bytes[slot_start(node)..].first_chunk().expect("a used slot")
     }
 
     /// Every used slot once, in order.
@@ -147,7 +159,7 @@ pub struct Slot<'a> {
 
 impl<'a> Slot<'a> {
     /// Reads a slot's 72 bytes, whatever they hold.
-    fn parse(slot: &'a [u8; SLOT]) -> Self {
+    pub fn parse(slot: &'a [u8; SLOT]) -> Self {
         let name_length = slot[NAME_LENGTH];
         Slot {
             physical: slot[0],
@@ -206,12 +218,17 @@ pub fn slot_at(bytes: &[u8], node: usize) -> Option<(usize, Slot<'_>)> {
 
 /// The sheet that lists these slots, with its headers and checks right for up to 896 of them.
 pub fn assemble(slots: &[Slot]) -> Vec<u8> {
+    assemble_bytes(&slots.iter().map(Slot::to_bytes).collect::<Vec<_>>())
+}
+
+/// The same of slots by their bytes.
+pub fn assemble_bytes(slots: &[[u8; SLOT]]) -> Vec<u8> {
     let mut sheet = vec![0; slots.len().div_ceil(SLOTS) * BLOCK];
     for (at, block) in sheet.chunks_exact_mut(BLOCK).enumerate() {
         Header::right(at, slots.len()).write(block);
     }
     for (node, slot) in slots.iter().enumerate() {
-        sheet[slot_start(node)..][..SLOT].copy_from_slice(&slot.to_bytes());
+        sheet[slot_start(node)..][..SLOT].copy_from_slice(slot);
     }
     renew_checks(&mut sheet);
     sheet

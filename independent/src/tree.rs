@@ -1,5 +1,7 @@
 //! The tree that a sheet lists: refusals 5 to 7.
 
+use std::iter;
+
 use crate::refusal::{self, Refusal};
 use crate::sheet::{Sheet, Slot};
 
@@ -67,6 +69,12 @@ impl<'a> Tree<'a> {
     /// The parent of a node; the root's is 0.
     pub fn parent(&self, node: usize) -> usize {
         usize::from(self.places[node].parent)
+    }
+
+    /// The children of a node, in order.
+    pub fn children(&self, node: usize) -> impl Iterator<Item = usize> + '_ {
+        let before_end = move |child: usize| (child < self.end(node)).then_some(child);
+        iter::successors(before_end(node + 1), move |&child| before_end(self.end(child)))
     }
 
     /// One past the last descendant of a node.

@@ -2,7 +2,7 @@
 
 use independent::edition::{FIRST, SECOND};
 use independent::sheet::{assemble, renew_checks, slot_start, Slot, BLOCK};
-use independent::{encode, order, read, resolve, rewrite, ColumnType, Fields, OrderRefusal, Refusal, ROW_WIDTH};
+use independent::{encode, order, read, resolve, rewrite, ColumnType, Fields, PairRefusal, Refusal, ROW_WIDTH};
 
 fn refused(number: u32, place: u32) -> Refusal {
     Refusal { number, place }
@@ -150,7 +150,7 @@ fn a_value_by_20_15_16_and_an_order_by_20_17_and_its_values() {
     assert_eq!(read(FIRST, column(6, 0, 0, 0, 0), &[0; 65_537]), Err(refused(15, 0)));
     assert!(read(FIRST, column(6, 0, 0, 0, 0), &[0; 65_536]).is_ok());
     assert_eq!(read(FIRST, column(7, 65_537, 0, 0, 0), &[0; 65_537]), Err(refused(15, 0)));
-    let order_refused = |number, place, value| Err(OrderRefusal { refusal: refused(number, place), value });
+    let order_refused = |number, place, at_fault| Err(PairRefusal { refusal: refused(number, place), at_fault });
     assert_eq!(order(FIRST, column(3, 1, 0, 0, 0), b"", b""), order_refused(20, 0, 0));
     assert_eq!(order(FIRST, column(3, 0, 0, 0, 0), b"", b""), order_refused(17, 0, 0));
     let text = column(6, 0, 1, 0, 0);
@@ -169,7 +169,7 @@ fn text_is_refused_at_its_byte_and_all_else_at_none() {
             [(&b"\x80"[..], 0), (b"ab\xFF", 2), (b"ab\xFFcd", 2), (b"a\xE2\x82", 1), (b"\xC3\xA9\xC3", 2)]
         {
             assert_eq!(read(FIRST, text, bytes), Err(refused(16, place)), "{bytes:02X?}");
-            let of_value = |value| Err(OrderRefusal { refusal: refused(16, place), value });
+            let of_value = |at_fault| Err(PairRefusal { refusal: refused(16, place), at_fault });
             assert_eq!(order(FIRST, text, bytes, b"a"), of_value(1));
             assert_eq!(order(FIRST, text, b"a", bytes), of_value(2));
             // Both: the first is at fault, at its own byte.
@@ -179,7 +179,7 @@ fn text_is_refused_at_its_byte_and_all_else_at_none() {
     assert_eq!(read(FIRST, column(6, 5, 2), b"\x64"), Err(refused(16, 0)));
     assert_eq!(read(FIRST, column(6, 11, 0), b"ab\xFF"), Err(refused(16, 0)));
     assert_eq!(read(FIRST, column(0, 0, 0), b"\xFF"), Err(refused(16, 0)));
-    let second = Err(OrderRefusal { refusal: refused(16, 0), value: 2 });
+    let second = Err(PairRefusal::of_second(refused(16, 0)));
     assert_eq!(order(FIRST, column(6, 5, 2), b"\x63", b"\x00\x64"), second);
 }
 
@@ -197,7 +197,7 @@ fn an_unknown_edition_comes_first() {
         }
         for (column, value) in [(int32, &[0; 4][..]), (int32, b""), (none, b"")] {
             assert_eq!(read(unknown, column, value), Err(refused(21, 0)));
-            assert_eq!(order(unknown, column, value, value), Err(OrderRefusal::of_neither(refused(21, 0))));
+            assert_eq!(order(unknown, column, value, value), Err(PairRefusal::of_neither(refused(21, 0))));
         }
     }
 }

@@ -21,10 +21,10 @@ static uint64_t refused(uint64_t number)
     return number << 32;
 }
 
-/* The whole answer of an order's refusal, so that bits 48 to 63 are seen to be 0. */
-static uint64_t refused_in(uint64_t value, uint64_t number, uint64_t place)
+/* The whole answer of a refusal of one of two, so that bits 48 to 63 are seen to be 0. */
+static uint64_t refused_in(uint64_t fault, uint64_t number, uint64_t place)
 {
-    return value << 40 | number << 32 | place;
+    return fault << 40 | number << 32 | place;
 }
 
 enum { SHEET = 512, NODES = 4, ROWS = NODES * GRIFFELJOL_ROW_WIDTH };
@@ -91,6 +91,122 @@ static void check_rewrite(uint32_t edition, const uint8_t *sheet)
     CHECK(memcmp(out + START, again, SHEET) == 0);
     CHECK(griffeljol_rewrite(edition, sheet, SHEET, out, OUT, START + BEHIND) == SHEET);
     CHECK(memcmp(out + START + BEHIND, again, SHEET) == 0);
+}
+
+/* Where the slot of a node starts in a sheet of one block. */
+static size_t slot(size_t node)
+{
+    return 6 + node * GRIFFELJOL_ENTRY_SIDE;
+}
+
+/* Stores the right check in a sheet of one block. */
+static void renew_check(uint8_t *sheet)
+{
+    uint32_t sum = 0;
+    for (uint32_t i = 0; i < SHEET - 2; i++)
+        sum += (i + 1) * sheet[i];
+    sheet[SHEET - 2] = (uint8_t)(sum % 65521 & 0xFF);
+    sheet[SHEET - 1] = (uint8_t)(sum % 65521 >> 8);
+}
+
+/* The sample with another byte at an index of a node's slot. */
+static void changed(uint8_t *out, const uint8_t *sheet, size_t node, size_t index, uint8_t byte)
+{
+    memcpy(out, sheet, SHEET);
+    out[slot(node) + index] = byte;
+    renew_check(out);
+}
+
+/* The root of the sample with two required leaves of INT32, each of a name of one letter. */
+static void two_leaves(uint8_t *out, const uint8_t *sheet, char first, char second)
+{
+    const char names[2] = {first, second};
+    memset(out, 0, SHEET);
+    memcpy(out, sheet, slot(1));
+    out[2] = out[4] = 3;
+    out[slot(0) + GRIFFELJOL_DIFFERENCE_CHILD_COUNT] = 2;
+    for (size_t node = 1; node <= 2; node++) {
+        uint8_t *leaf = &out[slot(node)];
+        leaf[GRIFFELJOL_DIFFERENCE_PHYSICAL] = GRIFFELJOL_PHYSICAL_INT32;
+        leaf[GRIFFELJOL_DIFFERENCE_CONVERTED] = GRIFFELJOL_CONVERTED_NONE;
+        leaf[GRIFFELJOL_DIFFERENCE_NAME_LENGTH] = 1;
+        leaf[GRIFFELJOL_DIFFERENCE_NAME] = (uint8_t)names[node - 1];
+    }
+    renew_check(out);
+}
+
+/* Whether an entry has this code, this node below 256, and on each side these bytes and then zeros. */
+static int entry_is(const uint8_t *entry, uint8_t code, uint8_t node, const uint8_t *first, size_t first_len,
+                    const uint8_t *second, size_t second_len)
+{
+    uint8_t expected[GRIFFELJOL_ENTRY_WIDTH] = {code, 0, node, 0};
+    if (first_len > 0)
+        memcpy(expected + GRIFFELJOL_ENTRY_FIRST, first, first_len);
+    if (second_len > 0)
+        memcpy(expected + GRIFFELJOL_ENTRY_SECOND, second, second_len);
+    return memcmp(entry, expected, sizeof expected) == 0;
+}
+
+static void check_compare(uint32_t edition, const uint8_t *sheet)
+{
+    enum { WIDTH = GRIFFELJOL_ENTRY_WIDTH, BEHIND = 3, OUT = 2 * WIDTH + BEHIND };
+    uint8_t out[OUT], before[OUT], other[SHEET], wrong[SHEET], refused_slot[SHEET], swapped[SHEET];
+    const uint8_t optional[1] = {GRIFFELJOL_REPETITION_OPTIONAL}, required[1] = {GRIFFELJOL_REPETITION_REQUIRED};
+    const uint8_t zero[2] = {0, 0}, one[2] = {1, 0};
+    CHECK(GRIFFELJOL_MAX_COMPARISON == 1856512);
+    memset(out, 0xA5, sizeof out);
+    memcpy(before, out, sizeof out);
+    /* The check of one differs; the other has a fault at its node 2. */
+    memcpy(wrong, sheet, SHEET);
+    wrong[30] ^= 1;
+    changed(refused_slot, sheet, 2, GRIFFELJOL_DIFFERENCE_PHYSICAL, 8);
+    CHECK(griffeljol_compare(edition, NULL, 0, NULL, 0, NULL, 0) == refused_in(1, 1, 0));
+    CHECK(griffeljol_compare(edition, sheet, SHEET, NULL, 0, NULL, 0) == refused_in(2, 1, 0));
+    CHECK(griffeljol_compare(edition, NULL, 0, sheet, SHEET, out, OUT) == refused_in(1, 1, 0));
+    CHECK(griffeljol_compare(edition, sheet, SHEET - 1, sheet, SHEET, out, OUT) == refused_in(1, 1, 0));
+    CHECK(griffeljol_compare(edition, sheet, SHEET, sheet, SHEET - 1, out, OUT) == refused_in(2, 1, 0));
+    CHECK(griffeljol_compare(edition, wrong, SHEET, sheet, SHEET, out, OUT) == refused_in(1, 2, 0));
+    CHECK(griffeljol_compare(edition, sheet, SHEET, wrong, SHEET, NULL, 0) == refused_in(2, 2, 0));
+    /* The first sheet's refusal comes first, whatever the second's number is. */
+    CHECK(griffeljol_compare(edition, refused_slot, SHEET, wrong, SHEET, out, OUT) == refused_in(1, 4, 2));
+    CHECK(griffeljol_compare(edition, wrong, SHEET, refused_slot, SHEET, out, OUT) == refused_in(1, 2, 0));
+    CHECK(griffeljol_compare(edition, sheet, SHEET, refused_slot, SHEET, out, OUT) == refused_in(2, 4, 2));
+    /* Sheets without a difference ask for no output, and write nothing. */
+    CHECK(griffeljol_compare(edition, sheet, SHEET, sheet, SHEET, NULL, 0) == 0);
+    CHECK(griffeljol_compare(edition, sheet, SHEET, sheet, SHEET, out, OUT) == 0);
+    /* One field. */
+    changed(other, sheet, 3, GRIFFELJOL_DIFFERENCE_REPETITION, GRIFFELJOL_REPETITION_REQUIRED);
+    CHECK(griffeljol_compare(edition, sheet, SHEET, other, SHEET, NULL, 0) == refused(14));
+    CHECK(griffeljol_compare(edition, sheet, SHEET, other, SHEET, out, WIDTH - 1) == refused(14));
+    CHECK(memcmp(out, before, sizeof out) == 0);
+    CHECK(griffeljol_compare(edition, sheet, SHEET, other, SHEET, out, WIDTH) == 1);
+    CHECK(entry_is(out, GRIFFELJOL_DIFFERENCE_REPETITION, 3, optional, 1, required, 1));
+    CHECK(memcmp(out + WIDTH, before + WIDTH, sizeof out - WIDTH) == 0);
+    CHECK(griffeljol_compare(edition, other, SHEET, sheet, SHEET, out, OUT) == 1);
+    CHECK(entry_is(out, GRIFFELJOL_DIFFERENCE_REPETITION, 3, required, 1, optional, 1));
+    CHECK(memcmp(out + WIDTH, before + WIDTH, sizeof out - WIDTH) == 0);
+    /* The roots match whatever their names are. */
+    changed(other, sheet, 0, GRIFFELJOL_DIFFERENCE_NAME, 's');
+    CHECK(griffeljol_compare(edition, sheet, SHEET, other, SHEET, out, OUT) == 1);
+    CHECK(entry_is(out, GRIFFELJOL_DIFFERENCE_NAME, 0, sheet + slot(0) + GRIFFELJOL_DIFFERENCE_NAME, 48,
+                   other + slot(0) + GRIFFELJOL_DIFFERENCE_NAME, 48));
+    /* A node of another name is only in the first, and one only in the second. */
+    changed(other, sheet, 3, GRIFFELJOL_DIFFERENCE_NAME, 'E');
+    memcpy(out, before, sizeof out);
+    CHECK(griffeljol_compare(edition, sheet, SHEET, other, SHEET, out, 2 * WIDTH - 1) == refused(14));
+    CHECK(memcmp(out, before, sizeof out) == 0);
+    CHECK(griffeljol_compare(edition, sheet, SHEET, other, SHEET, out, OUT) == 2);
+    CHECK(entry_is(out, GRIFFELJOL_DIFFERENCE_ONLY_FIRST, 3, sheet + slot(3), GRIFFELJOL_ENTRY_SIDE, NULL, 0));
+    CHECK(entry_is(out + WIDTH, GRIFFELJOL_DIFFERENCE_ONLY_SECOND, 3, NULL, 0, other + slot(3), GRIFFELJOL_ENTRY_SIDE));
+    CHECK(memcmp(out + 2 * WIDTH, before + 2 * WIDTH, BEHIND) == 0);
+    /* Siblings that have changed their places; of one name, the first matches the first. */
+    two_leaves(other, sheet, 'a', 'b');
+    two_leaves(swapped, sheet, 'b', 'a');
+    CHECK(griffeljol_compare(edition, other, SHEET, swapped, SHEET, out, 2 * WIDTH) == 2);
+    CHECK(entry_is(out, GRIFFELJOL_DIFFERENCE_PLACE, 1, zero, 2, one, 2));
+    CHECK(entry_is(out + WIDTH, GRIFFELJOL_DIFFERENCE_PLACE, 2, one, 2, zero, 2));
+    two_leaves(other, sheet, 'a', 'a');
+    CHECK(griffeljol_compare(edition, other, SHEET, other, SHEET, NULL, 0) == 0);
 }
 
 /* Reads a value into out, of three numbers, and says whether the answer is as it should be and the third stayed. */
@@ -188,6 +304,9 @@ static void check_unknown_edition(uint32_t edition, const uint8_t *sheet)
     CHECK(griffeljol_rewrite(edition, NULL, 0, NULL, 0, 1) == refused(21));
     CHECK(griffeljol_rewrite(edition, sheet, SHEET, out, SHEET, SIZE_MAX) == refused(21));
     CHECK(griffeljol_rewrite(edition, sheet, SHEET, out, SHEET, 0) == refused(21));
+    CHECK(griffeljol_compare(edition, NULL, 0, NULL, 0, NULL, 0) == refused(21));
+    CHECK(griffeljol_compare(edition, sheet, SHEET, sheet, SHEET - 1, out, SHEET) == refused(21));
+    CHECK(griffeljol_compare(edition, sheet, SHEET, sheet, SHEET, out, SHEET) == refused_in(0, 21, 0));
     CHECK(griffeljol_read(edition, GRIFFELJOL_PHYSICAL_GROUP, 0, 30, 0, 0, NULL, 0, NULL, 0) == refused(21));
     CHECK(griffeljol_read(edition, GRIFFELJOL_PHYSICAL_BOOLEAN, 0, 0, 0, 0, one, 1, words, 2) == refused(21));
     CHECK(griffeljol_order(edition, GRIFFELJOL_PHYSICAL_INT96, 0, 0, 0, 0, NULL, 0, NULL, 0) == refused(21));
@@ -241,6 +360,7 @@ int main(int argc, char **argv)
     for (uint32_t edition = GRIFFELJOL_EDITION_1; edition <= GRIFFELJOL_EDITION_2; edition++) {
         check_resolve(edition, sheet);
         check_rewrite(edition, sheet);
+        check_compare(edition, sheet);
         check_read(edition);
         check_order(edition);
     }

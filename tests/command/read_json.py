@@ -1,9 +1,13 @@
-"""Parses what the command prints with --json, and holds it to what it prints without. Arguments: the command, the sample sheet."""
+"""Parses what the command prints with --json, and holds it to what it prints without.
+
+Arguments: the command, the sample sheet, and the sample sheet rewritten.
+"""
 import json
 import subprocess
 import sys
 
-command, sample = sys.argv[1:]
+command, sample, rewritten = sys.argv[1:]
+DIFFERENT = 3
 
 
 def lines(*words, status=0):
@@ -29,6 +33,20 @@ for node, line in zip(nodes, lines("tree", sample)[1:]):
     assert bytes.fromhex(node["name_hex"]).decode() == node["name"]
     shown = [node[key] for key in ("name", "type", "annotation", "repetition")] + [node["role"] if node["node"] else None]
     assert all(word in line for word in shown if word), (shown, line)
+
+assert parsed("compare", sample, sample) == {"count": 0, "differences": []}
+compared = parsed("compare", sample, rewritten, status=DIFFERENT)
+*told, last = lines("compare", sample, rewritten, status=DIFFERENT)
+assert compared["count"] == len(compared["differences"]) == len(told)
+assert last == f"{compared['count']} differences"
+for difference, line in zip(compared["differences"], told):
+    assert line.startswith(f"{difference['path']}: {difference['field']} "), (difference, line)
+    assert difference["path"].split(".")[-1] == nodes[difference["node"]]["name"]
+assert [list(difference.values()) for difference in compared["differences"]] == [
+    [1, "parts", 3, "logical", 0, 3], [3, "parts.list.element", 3, "logical", 0, 1]]
+refusal = parsed("compare", sample, "/dev/null", status=1)
+assert (refusal["refused"], refusal["at"], refusal["sheet"], refusal["file"]) == (1, 0, "B", "/dev/null")
+assert "sheet" not in parsed("compare", sample, sample, "--edition", "3", status=1)
 
 for hexadecimal, value in (("0000c03f", 1.5), ("000080ff", None), ("00000080", -0.0)):
     words = ("value", "4", "0", "0", "0", "0", "--hex", hexadecimal)

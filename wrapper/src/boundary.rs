@@ -18,6 +18,16 @@ extern "C" {
         start: usize,
     ) -> u64;
 
+    fn griffeljol_compare(
+        edition: u32,
+        first: *const u8,
+        first_len: usize,
+        second: *const u8,
+        second_len: usize,
+        out: *mut u8,
+        out_len: usize,
+    ) -> u64;
+
     fn griffeljol_read(
         edition: u32,
         physical: u32,
@@ -58,6 +68,12 @@ pub fn resolve(edition: u32, sheet: &[u8], rows: &mut [u32]) -> u64 {
 
 pub fn rewrite(edition: u32, sheet: &[u8], out: &mut [u8], start: usize) -> u64 {
     unsafe { griffeljol_rewrite(edition, sheet.as_ptr(), sheet.len(), out.as_mut_ptr(), out.len(), start) }
+}
+
+pub fn compare(edition: u32, first: &[u8], second: &[u8], out: &mut [u8]) -> u64 {
+    let (first, first_len) = (first.as_ptr(), first.len());
+    let (second, second_len) = (second.as_ptr(), second.len());
+    unsafe { griffeljol_compare(edition, first, first_len, second, second_len, out.as_mut_ptr(), out.len()) }
 }
 
 /// The column is its physical type, type length, kind, p1 and p2.

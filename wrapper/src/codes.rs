@@ -1,4 +1,4 @@
-//! The numbers that rows, column types and answers are made of, under document 01's names.
+//! The numbers that rows, slots, column types and answers are made of, under document 01's names.
 #![allow(missing_docs)]
 
 /// Physical types.
@@ -41,6 +41,60 @@ pub mod kind {
     pub const UUID: u32 = 14;
     pub const INTERVAL: u32 = 21;
     pub const PLAIN_GROUP: u32 = 30;
+}
+
+/// Converted types, as a slot has them.
+pub mod converted {
+    pub const UTF8: u32 = 0;
+    pub const MAP: u32 = 1;
+    pub const MAP_KEY_VALUE: u32 = 2;
+    pub const LIST: u32 = 3;
+    pub const ENUM: u32 = 4;
+    pub const DECIMAL: u32 = 5;
+    pub const DATE: u32 = 6;
+    pub const TIME_MILLIS: u32 = 7;
+    pub const TIME_MICROS: u32 = 8;
+    pub const TIMESTAMP_MILLIS: u32 = 9;
+    pub const TIMESTAMP_MICROS: u32 = 10;
+    pub const UINT_8: u32 = 11;
+    pub const UINT_16: u32 = 12;
+    pub const UINT_32: u32 = 13;
+    pub const UINT_64: u32 = 14;
+    pub const INT_8: u32 = 15;
+    pub const INT_16: u32 = 16;
+    pub const INT_32: u32 = 17;
+    pub const INT_64: u32 = 18;
+    pub const JSON: u32 = 19;
+    pub const BSON: u32 = 20;
+    pub const INTERVAL: u32 = 21;
+    pub const NONE: u32 = 255;
+}
+
+/// Logical types, as a slot has them: none, or the number of their kind.
+pub mod logical {
+    pub use super::kind::{
+        BSON, DATE, DECIMAL, ENUM, INTEGER, JSON, LIST, MAP, STRING, TIME, TIMESTAMP, UNKNOWN, UUID,
+    };
+    pub const NONE: u32 = 0;
+}
+
+/// Codes of the entries of a comparison. That of a field is where its first byte stands in the slot.
+pub mod difference {
+    pub const PHYSICAL: u32 = 0;
+    pub const REPETITION: u32 = 1;
+    pub const CONVERTED: u32 = 2;
+    pub const LOGICAL: u32 = 3;
+    pub const A: u32 = 4;
+    pub const B: u32 = 5;
+    pub const CHILD_COUNT: u32 = 6;
+    pub const TYPE_LENGTH: u32 = 8;
+    pub const SCALE: u32 = 12;
+    pub const PRECISION: u32 = 16;
+    pub const NAME_LENGTH: u32 = 20;
+    pub const NAME: u32 = 24;
+    pub const PLACE: u32 = 72;
+    pub const ONLY_FIRST: u32 = 73;
+    pub const ONLY_SECOND: u32 = 74;
 }
 
 /// Roles.

@@ -91,6 +91,25 @@ pub struct OrderRefusal {
     pub value: u8,
 }
 
+/// The refusal of a comparison, and the sheet at fault.
+///
+/// ```
+/// use griffeljol::{differences, rows, Edition};
+///
+/// let sheet = std::fs::read("../crates/schema_rows/stdin")?;
+/// let refused = differences(Edition::FIRST, &sheet, &[255; 512]).unwrap_err();
+/// assert_eq!(refused.to_string(), "refused 2 at 0 in sheet 2");
+/// assert_eq!(Err(refused.refusal), rows(Edition::FIRST, &[255; 512]));
+/// # Ok::<(), std::io::Error>(())
+/// ```
+#[derive(Clone, Copy, Debug, PartialEq, Eq, Hash)]
+pub struct CompareRefusal {
+    /// What is refused: where a sheet is at fault, what [`crate::rows`] refuses it with.
+    pub refusal: Refusal,
+    /// The sheet at fault: 1 or 2, and 0 for neither.
+    pub sheet: u8,
+}
+
 /// Takes an answer of the boundary apart: bits 32 to 39 are a refusal's number, 0 for a result; bits 0 to 31 its place, or the
 /// result's value.
 pub(crate) fn result(answer: u64) -> Result<u32, Refusal> {
@@ -103,7 +122,17 @@ pub(crate) fn result(answer: u64) -> Result<u32, Refusal> {
 
 /// Takes the answer of an order apart: as every answer, and bits 40 to 47 are the value at fault.
 pub(crate) fn order_result(answer: u64) -> Result<u32, OrderRefusal> {
-    result(answer).map_err(|refusal| OrderRefusal { refusal, value: (answer >> 40) as u8 })
+    result(answer).map_err(|refusal| OrderRefusal { refusal, value: fault(answer) })
+}
+
+/// Takes the answer of a comparison apart: as every answer, and bits 40 to 47 are the sheet at fault.
+pub(crate) fn compare_result(answer: u64) -> Result<u32, CompareRefusal> {
+    result(answer).map_err(|refusal| CompareRefusal { refusal, sheet: fault(answer) })
+}
+
+/// Which of two is at fault in a refusal.
+fn fault(answer: u64) -> u8 {
+    (answer >> 40) as u8
 }
 
 impl fmt::Display for Refusal {
@@ -124,3 +153,14 @@ impl fmt::Display for OrderRefusal {
 }
 
 impl Error for OrderRefusal {}
+
+impl fmt::Display for CompareRefusal {
+    fn fmt(&self, f: &mut fmt::Formatter<'_>) -> fmt::Result {
+        match self.sheet {
+            0 => self.refusal.fmt(f),
+            sheet => write!(f, "{} in sheet {sheet}", self.refusal),
+        }
+    }
+}
+
+impl Error for CompareRefusal {}

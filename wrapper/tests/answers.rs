@@ -1,10 +1,13 @@
-//! Every kind of answer through the safe functions, and what a refusal leaves unchanged.
+//! Every kind of answer through the safe functions but comparison, and what a refusal leaves unchanged.
+
+mod sheets;
 
 use std::fs;
 
 use griffeljol::codes::{kind, physical, unit};
 use griffeljol::{decode, encode, order, read, resolve, rewrite, rows};
-use griffeljol::{ColumnType, Edition, Fields, Order, OrderRefusal, Refusal, Row, Value, ROW_WIDTH};
+use griffeljol::{ColumnType, Edition, Fields, Order, OrderRefusal, Refusal, Row, Slot, Value, ROW_WIDTH};
+use sheets::{leaf, root, sheet};
 
 fn sample() -> Vec<u8> {
     fs::read("../crates/schema_rows/stdin").expect("the sample sheet")
@@ -150,20 +153,8 @@ fn timestamps_there_and_back() {
 }
 
 /// A root with one required leaf, a DECIMAL of precision 3 and this scale on INT32.
-fn decimal_sheet(scale: u8) -> Vec<u8> {
-    const SLOTS: usize = 6;
-    let mut sheet = vec![0; 512];
-    sheet[2..5].copy_from_slice(&[2, 1, 2]);
-    sheet[SLOTS..][..7].copy_from_slice(&[255, 255, 255, 0, 0, 0, 1]);
-    sheet[SLOTS + 72..][..4].copy_from_slice(&[1, 0, 255, 5]);
-    sheet[SLOTS + 72 + 12] = scale;
-    sheet[SLOTS + 72 + 16] = 3;
-    for slot in [SLOTS, SLOTS + 72] {
-        (sheet[slot + 20], sheet[slot + 24]) = (1, b'n');
-    }
-    let sum: u32 = sheet[..510].iter().zip(1..).map(|(&byte, weight)| u32::from(byte) * weight).sum();
-    sheet[510..].copy_from_slice(&((sum % 65_521) as u16).to_le_bytes());
-    sheet
+fn decimal_sheet(scale: i32) -> Vec<u8> {
+    sheet(&[root("r", 1), Slot { logical: kind::DECIMAL, scale, precision: 3, ..leaf("n", physical::INT32) }])
 }
 
 #[test]

@@ -38,7 +38,8 @@ fn codes() -> BTreeMap<String, u64> {
 
 #[test]
 fn codes_are_those_of_the_header() {
-    let groups = ["PHYSICAL", "REPETITION", "KIND", "ROLE", "UNIT", "CASE", "ORDER"];
+    let groups =
+        ["PHYSICAL", "REPETITION", "KIND", "CONVERTED", "LOGICAL", "DIFFERENCE", "ROLE", "UNIT", "CASE", "ORDER"];
     let mut expected = header();
     expected.retain(|name, _| {
         groups.iter().any(|group| name.strip_prefix(group).is_some_and(|rest| rest.starts_with('_')))
@@ -54,6 +55,13 @@ fn widths_are_those_of_the_header() {
     assert_eq!(header["MAX_VALUE"], griffeljol::MAX_VALUE as u64);
     assert_eq!(header["MAX_NODES"], griffeljol::MAX_NODES as u64);
     assert_eq!(header["ROW_WIDTH"], griffeljol::ROW_WIDTH as u64);
+    assert_eq!(header["ENTRY_WIDTH"], griffeljol::ENTRY_WIDTH as u64);
+    assert_eq!(header["ENTRY_SIDE"], griffeljol::SLOT_WIDTH as u64);
+    assert_eq!(header["ENTRY_SECOND"] + header["ENTRY_SIDE"], header["ENTRY_WIDTH"]);
+    assert_eq!(header["ENTRY_FIRST"] + header["ENTRY_SIDE"], header["ENTRY_SECOND"]);
+    let text = fs::read_to_string("../include/griffeljol.h").expect("the header");
+    let entries_of_a_node = griffeljol::MAX_ENTRIES / griffeljol::MAX_NODES;
+    assert!(text.contains(&format!("GRIFFELJOL_MAX_ENTRIES ({entries_of_a_node} * GRIFFELJOL_MAX_NODES)\n")));
 }
 
 #[test]

@@ -170,7 +170,7 @@ fn timestamps() {
 fn help_of_each_part() {
     let all = run(["--help"]);
     assert_eq!(all.status.code(), Some(0));
-    for part in ["rows", "rewrite", "tree", "value", "timestamp"] {
+    for part in ["rows", "rewrite", "tree", "compare", "value", "timestamp"] {
         let output = run([part, "--help"]);
         assert!(text(&output.stdout).starts_with(&format!("griffeljol {part} ")), "{part}");
         assert_eq!(text(&output.stderr), "");

@@ -59,7 +59,7 @@ fn what_cannot_be_read() {
 fn a_file_that_may_not_be_read() {
     let file = folder("a_file_that_may_not_be_read").join("sheet");
     fs::write(&file, sample()).expect("a file");
-    fs::set_permissions(&file, Permissions::from_mode(0)).expect("permissions");
+    fs::set_permissions(&file, Permissions::from_mode(0o000)).expect("permissions");
     let output = run(["rows".as_ref(), file.as_os_str()]);
     // The superuser may read any file.
     if fs::read(&file).is_ok() {

@@ -2,6 +2,7 @@
 
 mod answers;
 mod arguments;
+mod compare;
 mod files;
 mod refusals;
 mod sheet;

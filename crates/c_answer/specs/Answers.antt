@@ -7,6 +7,7 @@ use lib.ListN.{length, drop}
 use Rattle.refusal.specs.Outcome.{Outcome, given, refused, shortOutput}
 use Rattle.refusal.specs.declared.answers.Counted.{Counted}
 use Rattle.refusal.specs.declared.answers.Refusal.{Refusal}
+use Rattle.refusal.specs.declared.answers.Fault.{Fault}
 
 -- an answer: "bits 32 to 39 the refusal's number (0 for a result), bits 0 to 31 its place, or for a result the value named"; the bits above are 0, but for those of a refusal of one of two
 abbrev pub packed : ℕ → ℕ → ℕ
@@ -23,7 +24,7 @@ numberIn answer = answer / 2 ^ 32 % 2 ^ 8
 abbrev pub lowIn : ℕ → ℕ
 lowIn answer = answer % 2 ^ 32
 
--- the answer of an order's refusal, which has in bits 40 to 47 "which value is at fault, 1 or 2, and 0 for neither" (document 02, R-6)
+-- the answer of a refusal of one of two, which has in bits 40 to 47 "which value is at fault, 1 or 2, and 0 for neither" (document 02, R-6); of comparing, which sheet is
 abbrev pub packedFault : ℕ → ℕ → ℕ → ℕ
 packedFault side number low = side * 2 ^ 40 + packed number low
 
@@ -34,6 +35,10 @@ sideIn answer = answer / 2 ^ 40 % 2 ^ 8
 -- the answer of a refusal
 abbrev pub refusalAnswer : Refusal → ℕ
 refusalAnswer r = packed (r .number) (r .place)
+
+-- of one with its side
+abbrev pub faultAnswer : Fault → ℕ
+faultAnswer f = packedFault (f .side) (f .refusal .number) (f .refusal .place)
 
 -- and of a call that answers how many there are
 abbrev pub countedAnswer : Counted → ℕ

@@ -1,13 +1,13 @@
--- Every refusal of a sheet has a number of 1 to 13 or 21, or 14 for an output, and a place of at most 896; T is at most 896, and a sheet has at most 65,536 bytes.
+-- Every refusal of a sheet has a number of 1 to 13 or 21, or 14 for an output, and a place of at most 896; T is at most 896, a sheet has at most 65,536 bytes, and two have at most 12,544 differences.
 use Prim.Native.Nat.{ℕ, zero, suc, _+_, _*_, _≤_, _<_}
-use mathlib.Core.Path.{_≡_, refl, ap}
-use mathlib.Core.Bool.{Bool, true, false, cond, not}
+use mathlib.Core.Path.{_≡_, refl, sym, ap, _∙_}
+use mathlib.Core.Bool.{Bool, true, false, true≢false, cond, not}
 use mathlib.Core.List.{List, [], _∷_, map}
 use native.Mathlib.Omega.{arith}
 use borrow.Author.Tests.{ltb-true}
 use lib.Dec.{ltb, leb}
 use lib.ListN.{length, length-append, length-map}
-use Rattle.refusal.specs.Numbers.{SHEET-LENGTH, BLOCK-CHECK, BLOCK-HEADER, SLOT, SHORT-OUTPUT, GREATEST}
+use Rattle.refusal.specs.Numbers.{SHEET-LENGTH, BLOCK-CHECK, BLOCK-HEADER, SLOT, SHORT-OUTPUT, UNKNOWN-EDITION, GREATEST}
 use Rattle.refusal.specs.Outcome.{refusal, unplaced, shortOutput}
 use Rattle.sheet.specs.Block.{mostBytes, mostNodes, slotsInBlock, blockCount, totalOf}
 use Rattle.sheet.specs.Check.{checkRight}
@@ -30,7 +30,6 @@ use Rattle.tree.specs.OpenPlaces.{openPlaces, isNoPlace}
 use Rattle.tree.specs.Judgement.{orElse, firstFault, deepness, leftOver, missing, tooDeep, unlawful, treeRefusal, judgement}
 use Rattle.tree.specs.declared.standing.Standing.{Standing}
 use Rattle.tree.specs.declared.standing.Standing.the-variants.{Root}
-use Rattle.refusal.specs.declared.answers.Refusal.{Refusal}
 use Rattle.refusal.specs.declared.answers.Verdict.{Verdict}
 use Rattle.refusal.specs.declared.answers.Verdict.the-variants.{Lawful, Refused}
 use Rattle.tree.proofs.TreeLaws.{listings-trees}
@@ -40,6 +39,11 @@ use Rattle.schema.specs.Rows.{rowWidth}
 use Rattle.schema.specs.Outcome.{answer, outcome}
 use Rattle.schema.specs.Rewriting.{fits, rewriteAnswer, rewriteOutcome}
 use Rattle.refusal.specs.Bounds.{Bounded, CountedBounded}
+use Rattle.differences.specs.Entry.{entrySize}
+use Rattle.differences.specs.Outcome.{listFor, compareOutcome}
+use Rattle.differences.proofs.OutcomeLaws.{comparedBy, compared-is}
+use Rattle.differences.proofs.OutputLaws.{entries-most}
+use Rattle.c_sheets.specs.Comparison.{ComparedBounded}
 use Rattle.laws.proofs.BoolLaws.{by-test}
 use Rattle.laws.proofs.MostLaws.{AtMost, atMost-append, atMost-map, cond-most}
 
@@ -255,3 +259,39 @@ nodes-bounded (Counted.Refused r) b = b
 
 pub resolved-answered : (edition : ℕ) (sheet : List ℕ) (lent : ℕ) → CountedBounded mostBytes GREATEST mostNodes (outcome edition sheet lent)
 resolved-answered edition sheet lent = nodes-bounded (outcome edition sheet lent) (resolved-bounded edition sheet lent)
+
+-- ---- what comparing answers
+
+module _ (edition : ℕ) (first second : List ℕ) (lent number : ℕ) (last : SHORT-OUTPUT ≤ number) where
+  -- of the entries of two accepted sheets
+  entries-few : judgement edition first ≡ Lawful → judgement edition second ≡ Lawful → length (listFor first second) ≤ 14 * mostNodes
+  entries-few one two =
+      omega (arith, entries-most edition first second one two, lawful-total edition first one, lawful-total edition second two)
+
+  compared-as : (isKnown edition ≡ false → UNKNOWN-EDITION ≤ number) → VerdictBounded number mostNodes (judgement edition first) → VerdictBounded number mostNodes (judgement edition second)
+      → ComparedBounded (14 * mostNodes) number mostNodes (compareOutcome edition first second lent)
+  compared-as unknown a b =
+      rw (compared-is edition first second lent)
+      (on (isKnown edition) refl (judgement edition first) refl a (judgement edition second) refl b (ltb lent (entrySize * length (listFor first second))))
+    where
+      on : (k : Bool) → isKnown edition ≡ k
+          → (v : Verdict) → judgement edition first ≡ v → VerdictBounded number mostNodes v
+          → (w : Verdict) → judgement edition second ≡ w → VerdictBounded number mostNodes w
+          → (short : Bool) → ComparedBounded (14 * mostNodes) number mostNodes (comparedBy k v w short (length (listFor first second)))
+      on false e v p a w q b s = record { side = omega arith; refusal = record { some-number = omega arith; most-number = omega (arith, unknown e); most-place = omega arith } }
+      on true e (Refused r) p a w q b s = record { side = omega arith; refusal = a }
+      on true e Lawful p a (Refused r) q b s = record { side = omega arith; refusal = b }
+      on true e Lawful p a Lawful q b true = record { side = omega arith; refusal = short number last }
+      on true e Lawful p a Lawful q b false = entries-few p q
+
+-- in a known edition numbers end at 14
+pub compared-known : (edition : ℕ) (first second : List ℕ) (lent : ℕ) → isKnown edition ≡ true → ComparedBounded (14 * mostNodes) SHORT-OUTPUT mostNodes (compareOutcome edition first second lent)
+compared-known edition first second lent known =
+    compared-as edition first second lent SHORT-OUTPUT (omega arith) (λ u. absurd (true≢false (sym known ∙ u)))
+    (widened SHORT-OUTPUT (judgement edition first) (omega arith) (known-bounded edition first known))
+    (widened SHORT-OUTPUT (judgement edition second) (omega arith) (known-bounded edition second known))
+
+-- in any at 21
+pub compared-bounded : (edition : ℕ) (first second : List ℕ) (lent : ℕ) → ComparedBounded (14 * mostNodes) GREATEST mostNodes (compareOutcome edition first second lent)
+compared-bounded edition first second lent =
+    compared-as edition first second lent GREATEST (omega arith) (λ u. omega arith) (judgement-bounded edition first) (judgement-bounded edition second)

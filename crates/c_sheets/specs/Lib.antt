@@ -1,2 +1,3 @@
 -- What calls on sheets promise.
+pub mod Comparison
 pub mod Promises

@@ -8,13 +8,12 @@ use Rattle.column_type.specs.declared.types.ColumnType.{ColumnType}
 use Rattle.refusal.specs.Faults as sided
 use Rattle.refusal.specs.Faults.{Sided}
 use Rattle.refusal.specs.Outcome.{Outcome, given, refused}
-use Rattle.refusal.specs.declared.answers.Fault.{Fault}
 use Rattle.float_order.specs.declared.relation.Relation.{Relation}
 use Rattle.column.specs.Outcome as column
 use Rattle.column.specs.declared.value.Value.{Value}
 use Rattle.column.specs.declared.value.Value.the-variants as value
 use Rattle.column_order.specs.Outcome as column_order
-use Rattle.c_answer.specs.Answers.{packed, packedFault, RESULT, Effect, result, within}
+use Rattle.c_answer.specs.Answers.{packed, faultAnswer, RESULT, Effect, result, within}
 
 -- a column type of its five numbers
 abbrev pub columnType : ℕ → ℕ → ℕ → ℕ → ℕ → ColumnType
@@ -67,10 +66,6 @@ relationNumber Relation.Less = 0
 relationNumber Relation.Equal = 1
 relationNumber Relation.Greater = 2
 relationNumber Relation.Unordered = 3
-
--- the answer of a refusal with its side
-abbrev pub faultAnswer : Fault → ℕ
-faultAnswer f = packedFault (f .side) (f .refusal .number) (f .refusal .place)
 
 -- the answer of each outcome of ordering, which writes nothing
 abbrev pub orderAnswer : Sided Relation → ℕ

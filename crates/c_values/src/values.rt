@@ -3,12 +3,11 @@ ghost use mathlib.Core.Path.{_≡_};
 ghost use mathlib.Core.List.{[], _∷_};
 ghost use lib.Ieee.{binary32, binary64};
 ghost use lib.ListN.{length};
-ghost use Rattle.refusal.specs.Bounds.{Bounded};
+ghost use Rattle.refusal.specs.Bounds.{Bounded, FaultBounded};
 ghost use Rattle.refusal.specs.Numbers as refusals;
 ghost use Rattle.column.specs.Lengths.{mostBytes};
-ghost use Rattle.column_order.proofs.FaultLaws.{FaultBounded};
-ghost use Rattle.c_answer.specs.Answers.{refusalAnswer, result, within, answer, left};
-ghost use Rattle.c_values.specs.Values.{columnType, caseOf, twosComplement64, floatBits, numbersOf, relationNumber, faultAnswer, reading, ordering};
+ghost use Rattle.c_answer.specs.Answers.{refusalAnswer, faultAnswer, result, within, answer, left};
+ghost use Rattle.c_values.specs.Values.{columnType, caseOf, twosComplement64, floatBits, numbersOf, relationNumber, reading, ordering};
 use c_answer::RESULT;
 use c_answer::packed;
 use c_answer::packed_fault;
@@ -147,7 +146,7 @@ fn refused(refusal: Refusal) -> u64
 
 // And of the refusal of one of two, or of neither.
 fn fault(fault: Fault) -> u64
-    requires { ⌜ FaultBounded fault ⌝ }
+    requires { ⌜ FaultBounded refusals.GREATEST mostBytes fault ⌝ }
     ensures { λ r. ⌜ r ≡ faultAnswer fault ⌝ }
 {
     let refusal = fault.refusal;

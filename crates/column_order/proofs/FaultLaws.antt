@@ -6,7 +6,7 @@ use mathlib.Core.Logic.{_↔_, _⊎_, inl, inr}
 use Prim.Native.Nat.{ℕ, _<_, _≤_}
 use native.Mathlib.Omega.{arith}
 use Rattle.refusal.specs.Faults.{FIRST, SECOND, NEITHER, fault, ofNeither, Sided, given, refused}
-use Rattle.refusal.specs.Bounds.{Bounded}
+use Rattle.refusal.specs.Bounds.{FaultBounded}
 use Rattle.refusal.specs.Numbers.{NO-ORDER, UNKNOWN-TYPE, UNKNOWN-EDITION, GREATEST}
 use Rattle.refusal.specs.Outcome.{refusal}
 use Rattle.refusal.specs.Outcome as reading
@@ -54,25 +54,21 @@ given-read edition c bs v = go (readOf edition c bs)
 
 -- ---- how great a refusal's side, number and place are
 
-pub record FaultBounded (f : Fault) : Type 0 where
-  pub side : f .side ≤ SECOND
-  pub refusal : Bounded GREATEST mostBytes (f .refusal)
-
-pub order-bounded : (edition : ℕ) (c : ColumnType) (a b : List ℕ) (f : Fault) → orderOf edition c a b ≡ Refused f → FaultBounded f
+pub order-bounded : (edition : ℕ) (c : ColumnType) (a b : List ℕ) (f : Fault) → orderOf edition c a b ≡ Refused f → FaultBounded GREATEST mostBytes f
 unfolding orderOf
 order-bounded edition c a b f = go (isLawful edition c) (hasOrder c) (readOf edition c a) refl (readOf edition c b) refl
   where
-    same : (g : Fault) → FaultBounded g → Refused g ≡ Refused f → FaultBounded f
-    same g h e = let i : g ≡ f = cc in subst FaultBounded i h
+    same : (g : Fault) → FaultBounded GREATEST mostBytes g → Refused g ≡ Refused f → FaultBounded GREATEST mostBytes f
+    same g h e = let i : g ≡ f = cc in subst (FaultBounded GREATEST mostBytes) i h
 
-    neither : (number : ℕ) → 0 < number → number ≤ GREATEST → FaultBounded (ofNeither number)
+    neither : (number : ℕ) → 0 < number → number ≤ GREATEST → FaultBounded GREATEST mostBytes (ofNeither number)
     neither number some h = record { side = omega arith; refusal = record { some-number = some; most-number = h; most-place = omega arith } }
 
     go : (l h : Bool) (x : Read) → readOf edition c a ≡ x → (y : Read) → readOf edition c b ≡ y
-        → cond l (cond h (unlessRefused FIRST x (unlessRefused SECOND y (Related (keyOrder (keyOf c a) (keyOf c b))))) (Refused (ofNeither NO-ORDER))) (Refused (fault NEITHER (typeRefusal edition))) ≡ Refused f → FaultBounded f
+        → cond l (cond h (unlessRefused FIRST x (unlessRefused SECOND y (Related (keyOrder (keyOf c a) (keyOf c b))))) (Refused (ofNeither NO-ORDER))) (Refused (fault NEITHER (typeRefusal edition))) ≡ Refused f → FaultBounded GREATEST mostBytes f
     go false h x p y q e =
         same (fault NEITHER (typeRefusal edition))
-        (refusal-either edition (λ r. FaultBounded (fault NEITHER r)) (neither UNKNOWN-TYPE (omega arith) (omega arith)) (neither UNKNOWN-EDITION (omega arith) (omega arith))) e
+        (refusal-either edition (λ r. FaultBounded GREATEST mostBytes (fault NEITHER r)) (neither UNKNOWN-TYPE (omega arith) (omega arith)) (neither UNKNOWN-EDITION (omega arith) (omega arith))) e
     go true false x p y q e = same (ofNeither NO-ORDER) (neither NO-ORDER (omega arith) (omega arith)) e
     go true true (read.Refused r) p y q e = same (fault FIRST r) (record { side = omega arith; refusal = refusal-bounded edition c a r p }) e
     go true true (read.Value v) p (read.Refused r) q e = same (fault SECOND r) (record { side = omega arith; refusal = refusal-bounded edition c b r q }) e

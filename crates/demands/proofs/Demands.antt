@@ -8,6 +8,7 @@ use Rattle.schema.proofs.RowKindLaws.{rows-kinds}
 use Rattle.schema.proofs.RewriteDemandLaws as rewriting
 use Rattle.schema.proofs.RowRoleLaws.{roles-exactly}
 use Rattle.schema.proofs.WrittenBackLaws.{written-back, key-value-bare}
+use Rattle.differences.proofs.OutputLaws as compared
 use Rattle.decimal_bytes.proofs.FitLaws.{fitOf-exactly}
 use Rattle.utf8.proofs.ValidLaws.{validUpTo-length}
 use Rattle.column.proofs.PromiseLaws as value
@@ -68,6 +69,7 @@ demand1 edition =
             judging = sheets.judging-first edition;
             resolving = sheets.resolving-first edition;
             rewriting = sheets.rewriting-first edition;
+            comparing = sheets.comparing-first edition;
             slot-resolving = sheets.slot-first edition;
             slot-rewriting = sheets.slot-rewriting-first edition;
             typing = values.typing-first edition;
@@ -88,6 +90,7 @@ demand1 edition =
           record {
             rows = demand.refused-unchanged edition;
             output = rewrite-kept edition;
+            differences = compared.refused-unchanged edition;
             text-buffer = sheets.text-left;
             c-value = λ c bs lent. values.refused-left (reading edition c bs (length lent)) lent;
             c-count = λ unit numbers lent. values.refused-left (encoding unit numbers (length lent)) lent;

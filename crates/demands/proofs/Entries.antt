@@ -5,6 +5,10 @@ use Rattle.sheet.proofs.«open».Statement as sheet-open-stated
 use Rattle.sheet.proofs.«open».Met as sheet-open-met
 use Rattle.sheet.proofs.slot_at.Statement as sheet-slot-at-stated
 use Rattle.sheet.proofs.slot_at.Met as sheet-slot-at-met
+use Rattle.sheet.proofs.slot_bytes.Statement as sheet-slot-bytes-stated
+use Rattle.sheet.proofs.slot_bytes.Met as sheet-slot-bytes-met
+use Rattle.sheet.proofs.name_of.Statement as sheet-name-of-stated
+use Rattle.sheet.proofs.name_of.Met as sheet-name-of-met
 use Rattle.sheet.proofs.name_stretch.Statement as sheet-name-stretch-stated
 use Rattle.sheet.proofs.name_stretch.Met as sheet-name-stretch-met
 use Rattle.sheet.proofs.name_is.Statement as sheet-name-is-stated
@@ -31,6 +35,10 @@ use Rattle.schema.proofs.resolve.Statement as schema-resolve-stated
 use Rattle.schema.proofs.resolve.Met as schema-resolve-met
 use Rattle.schema.proofs.rewrite.Statement as schema-rewrite-stated
 use Rattle.schema.proofs.rewrite.Met as schema-rewrite-met
+use Rattle.matching.proofs.match_sheets.Statement as matching-match-sheets-stated
+use Rattle.matching.proofs.match_sheets.Met as matching-match-sheets-met
+use Rattle.differences.proofs.compare.Statement as differences-compare-stated
+use Rattle.differences.proofs.compare.Met as differences-compare-met
 use Rattle.annotation.proofs.resolve.Statement as annotation-resolve-stated
 use Rattle.annotation.proofs.resolve.Met as annotation-resolve-met
 use Rattle.annotation.proofs.judge.Statement as annotation-judge-stated
@@ -87,6 +95,8 @@ use Rattle.griffeljol.proofs.griffeljol_resolve.Statement as griffeljol-resolve
 use Rattle.griffeljol.proofs.griffeljol_resolve.Met as griffeljol-resolve-met
 use Rattle.griffeljol.proofs.griffeljol_rewrite.Statement as griffeljol-rewrite-stated
 use Rattle.griffeljol.proofs.griffeljol_rewrite.Met as griffeljol-rewrite-met
+use Rattle.griffeljol.proofs.griffeljol_compare.Statement as griffeljol-compare-stated
+use Rattle.griffeljol.proofs.griffeljol_compare.Met as griffeljol-compare-met
 use Rattle.griffeljol.proofs.griffeljol_read.Statement as griffeljol-read-stated
 use Rattle.griffeljol.proofs.griffeljol_read.Met as griffeljol-read-met
 use Rattle.griffeljol.proofs.griffeljol_order.Statement as griffeljol-order-stated
@@ -103,6 +113,12 @@ sheet-open = sheet-open-met.met
 
 pub sheet-slot-at : {M : Type 1} → sheet-slot-at-stated.statement M
 sheet-slot-at = sheet-slot-at-met.met
+
+pub sheet-slot-bytes : {M : Type 1} → sheet-slot-bytes-stated.statement M
+sheet-slot-bytes = sheet-slot-bytes-met.met
+
+pub sheet-name-of : {M : Type 1} → sheet-name-of-stated.statement M
+sheet-name-of = sheet-name-of-met.met
 
 pub sheet-name-stretch : {M : Type 1} → sheet-name-stretch-stated.statement M
 sheet-name-stretch = sheet-name-stretch-met.met
@@ -146,6 +162,14 @@ schema-resolve = schema-resolve-met.met
 
 pub schema-rewrite : {M : Type 1} → schema-rewrite-stated.statement M
 schema-rewrite = schema-rewrite-met.met
+
+-- two sheets --------------------------------------------------------------------------------------------------------------------
+
+pub matching-match-sheets : {M : Type 1} → matching-match-sheets-stated.statement M
+matching-match-sheets = matching-match-sheets-met.met
+
+pub differences-compare : {M : Type 1} → differences-compare-stated.statement M
+differences-compare = differences-compare-met.met
 
 -- the annotations of a slot -------------------------------------------------------------------------------------------------------
 
@@ -242,6 +266,9 @@ griffeljol-resolve = griffeljol-resolve-met.met
 
 pub griffeljol-rewrite : {M : Type 1} → griffeljol-rewrite-stated.statement M
 griffeljol-rewrite = griffeljol-rewrite-met.met
+
+pub griffeljol-compare : {M : Type 1} → griffeljol-compare-stated.statement M
+griffeljol-compare = griffeljol-compare-met.met
 
 pub griffeljol-read : {M : Type 1} → griffeljol-read-stated.statement M
 griffeljol-read = griffeljol-read-met.met

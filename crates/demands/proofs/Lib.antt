@@ -7,4 +7,5 @@ pub mod TimePoints
 pub mod ColumnPoints
 pub mod SheetPoints
 pub mod Points
+pub mod ComparisonLaws
 pub mod Requests

@@ -1,6 +1,6 @@
 -- What a call for a sheet or a slot ends with is the first of the paper's refusals that holds, or its result.
 use Prim.Native.Nat.{ℕ, zero, suc, _+_, _*_}
-use mathlib.Core.Path.{_≡_, refl, sym, ap, _∙_}
+use mathlib.Core.Path.{_≡_, refl, sym, ap, ap₂, _∙_}
 use mathlib.Core.Bool.{Bool, true, false, cond, not, _&&_}
 use mathlib.Core.List.{List, [], _∷_, _++_, append-nil, append-assoc, map}
 use native.Mathlib.Nat.{add-zero, zero-add, add-suc, suc-add}
@@ -18,7 +18,7 @@ use Rattle.sheet.specs.Sound.{slotRight}
 use Rattle.sheet.specs.Slot.{slots}
 use Rattle.sheet.specs.Opening as opened
 use Rattle.sheet.specs.Opening.{atFirst, openOf}
-use Rattle.sheet.proofs.OpeningLaws.{refused-other}
+use Rattle.sheet.proofs.OpeningLaws.{refused-other, openOf-unknown}
 use Rattle.tree.specs.Annotated.{rule9, rule10, rule11}
 use Rattle.tree.specs.Tree.{SlotBytes, Tree, Fields, node, empty, field, size, depths, mostDepth}
 use Rattle.tree.specs.Rules.{underMap, standingBelow, rule8, rule12, rule13}
@@ -31,6 +31,10 @@ use Rattle.tree.specs.declared.standing.Standing.the-variants.{Root}
 use Rattle.refusal.specs.declared.answers.Verdict.{Verdict}
 use Rattle.tree.proofs.FaultLaws.{firstFault-append}
 use Rattle.tree.proofs.JudgingLaws.{length-faults}
+use Rattle.tree.proofs.JudgementLaws.{judgement-refused}
+use Rattle.differences.specs.Outcome.{listFor, compareOutcome, outcomeOf}
+use Rattle.differences.specs.declared.comparison.Compared.{Compared}
+use Rattle.differences.proofs.OutcomeLaws.{comparedBy, compared-is}
 use Rattle.laws.proofs.BoolLaws.{by-test}
 use Rattle.annotation.specs.Outcome as annotation
 use Rattle.annotation.specs.Kinds.{kindOf}
@@ -48,7 +52,7 @@ use Rattle.refusal.specs.declared.answers.Counted.{Counted}
 use Rattle.schema_text.specs.Rows.{rowsText, rowsTextOf, refusalLine, answerText}
 use Rattle.schema_text.specs.Making.{made, madeIn}
 use Rattle.refusal.specs.declared.answers.Refusal.{Refusal}
-use Rattle.demands.specs.Refusals.{Ground, ground, first, none as noneHolds, eachFrom, each, openingGrounds, leftOverGrounds, missingGround, deepGrounds, nodeGrounds, ruleGrounds, runGrounds, treeGrounds, judgingGrounds, resolvingGrounds, rewritingGrounds, slotGrounds, rowsTextGrounds, shortFor}
+use Rattle.demands.specs.Refusals.{unsided, Ground, ground, first, none as noneHolds, eachFrom, each, openingGrounds, leftOverGrounds, missingGround, deepGrounds, nodeGrounds, ruleGrounds, runGrounds, treeGrounds, judgingGrounds, resolvingGrounds, rewritingGrounds, comparingGrounds, slotGrounds, rowsTextGrounds, shortFor}
 
 -- lists of refusals ----------------------------------------------------------------------------------------------------------------
 
@@ -245,6 +249,20 @@ judgement-first edition sheet =
     behind (Counted.Count t) = tree-first edition (slots sheet) (totalOf sheet)
     behind (Counted.Refused r) = refl
 
+-- and so for any result: what is refused does not go by it
+other-result : (gs : List Ground) (m n : ℕ) (v : Verdict) → judgingEnd v m ≡ first gs m → judgingEnd v n ≡ first gs n
+unfolding first
+other-result [] m n Verdict.Lawful e = refl
+other-result [] m n (Verdict.Refused r) e = absurd (let z : _≡_ {A = ℕ} 0 1 = cc in omega arith)
+other-result (g ∷ gs) m n v e = by-test (g .holds) (λ h. held v h (rw h at e)) (λ h. rw h (other-result gs m n v (rw h at e)))
+  where
+    held : (v : Verdict) → g .holds ≡ true → judgingEnd v m ≡ refused (refusal (g .number) (g .place)) → judgingEnd v n ≡ cond (g .holds) (refused (refusal (g .number) (g .place))) (first gs n)
+    held Verdict.Lawful h f = absurd (let z : _≡_ {A = ℕ} 0 1 = cc in omega arith)
+    held (Verdict.Refused r) h f = rw h f
+
+judgement-end : (edition : ℕ) (sheet : List ℕ) (n : ℕ) → judgingEnd (judgement edition sheet) n ≡ first (judgingGrounds edition sheet) n
+judgement-end edition sheet n = other-result (judgingGrounds edition sheet) (totalOf sheet) n (judgement edition sheet) (judgement-first edition sheet)
+
 pub judging-first : (edition : ℕ) (sheet : List ℕ) → counted (judgementOf edition sheet) ≡ first (judgingGrounds edition sheet) (totalOf sheet)
 unfolding judgementOf judgedNodes
 judging-first edition sheet = by-verdict (judgement edition sheet) ∙ judgement-first edition sheet
@@ -270,7 +288,7 @@ pub rewriting-first : (edition : ℕ) (sheet : List ℕ) (lent start : ℕ) → 
 unfolding rewriteOutcome rewriteAnswer first
 rewriting-first edition sheet lent start =
     behind (judgement edition sheet)
-    ∙ ap (λ (e : Outcome ℕ). andThen e short) (sized (judgement edition sheet) (judgingGrounds edition sheet) (judgement-first edition sheet))
+    ∙ ap (λ (e : Outcome ℕ). andThen e short) (judgement-end edition sheet (length sheet))
     ∙ sym (first-append (judgingGrounds edition sheet) grounds (length sheet))
   where
     grounds : List Ground
@@ -290,18 +308,28 @@ rewriting-first edition sheet lent start =
     behind (Verdict.Refused r) = refl
     behind Verdict.Lawful = fits-or-not
 
-    -- what is refused does not go by the result
-    other-result : (gs : List Ground) (m n : ℕ) (v : Verdict) → judgingEnd v m ≡ first gs m → judgingEnd v n ≡ first gs n
-    other-result [] m n Verdict.Lawful e = refl
-    other-result [] m n (Verdict.Refused r) e = absurd (let z : _≡_ {A = ℕ} 0 1 = cc in omega arith)
-    other-result (g ∷ gs) m n v e = by-test (g .holds) (λ h. held v h (rw h at e)) (λ h. rw h (other-result gs m n v (rw h at e)))
-      where
-        held : (v : Verdict) → g .holds ≡ true → judgingEnd v m ≡ refused (refusal (g .number) (g .place)) → judgingEnd v n ≡ cond (g .holds) (refused (refusal (g .number) (g .place))) (first gs n)
-        held Verdict.Lawful h f = absurd (let z : _≡_ {A = ℕ} 0 1 = cc in omega arith)
-        held (Verdict.Refused r) h f = rw h f
+-- two sheets ---------------------------------------------------------------------------------------------------------------------------
 
-    sized : (v : Verdict) (gs : List Ground) → judgingEnd v (totalOf sheet) ≡ first gs (totalOf sheet) → judgingEnd v (length sheet) ≡ first gs (length sheet)
-    sized v gs e = other-result gs (totalOf sheet) (length sheet) v e
+-- the first sheet's, then the second's, then 14
+pub comparing-first : (edition : ℕ) (one two : List ℕ) (lent : ℕ) → unsided (outcomeOf (compareOutcome edition one two lent)) ≡ first (comparingGrounds edition one two lent) (length (listFor one two))
+comparing-first edition one two lent =
+    ap (λ (o : Compared). unsided (outcomeOf o)) (compared-is edition one two lent)
+    ∙ by-test (isKnown edition) (λ k. rw k (known (judgement edition one) (judgement edition two) (ltb lent (148 * n)))) (λ u. rw (u, judgement-refused edition one _ (openOf-unknown edition one u)))
+    ∙ ap₂ (λ (v w : Outcome ℕ). andThen (andThen v w) short) (judgement-end edition one n) (judgement-end edition two n)
+    ∙ ap (λ (o : Outcome ℕ). andThen o short) (sym (first-append (judgingGrounds edition one) (judgingGrounds edition two) n))
+    ∙ sym (first-append (judgingGrounds edition one ++ judgingGrounds edition two) (ground 14 0 (ltb lent (148 * n)) ∷ []) n)
+  where
+    n : ℕ
+    n = length (listFor one two)
+
+    short : Outcome ℕ
+    short = first (ground 14 0 (ltb lent (148 * n)) ∷ []) n
+
+    known : (v w : Verdict) (s : Bool) → unsided (outcomeOf (comparedBy true v w s n)) ≡ andThen (andThen (judgingEnd v n) (judgingEnd w n)) (first (ground 14 0 s ∷ []) n)
+    known (Verdict.Refused r) w s = refl
+    known Verdict.Lawful (Verdict.Refused r) s = refl
+    known Verdict.Lawful Verdict.Lawful true = unfold first in refl
+    known Verdict.Lawful Verdict.Lawful false = unfold first in refl
 
 -- slots --------------------------------------------------------------------------------------------------------------------------------
 

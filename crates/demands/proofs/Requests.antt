@@ -46,12 +46,68 @@ use Rattle.schema.proofs.AcceptedLaws.{accepted-rows}
 use Rattle.schema.proofs.DemandLaws.{no-refusal-rows, size-is, rows-length, refused-unchanged}
 use Rattle.schema.proofs.NodeLevelsLaws.{InRow, root-levels, field-levels}
 use Rattle.schema.proofs.RepeatedFieldLaws as repeated
+use Rattle.matching.proofs.NodeLaws.{node-at, node-once, node-slot}
+use Rattle.matching.proofs.MatchingLaws.{matching-sym}
+use Rattle.matching.proofs.MatchedLaws.{roots-match, fields-match, parents-match, unmatched-field, matched-or-not, matched-alone}
+use Rattle.differences.specs.Outcome.{compareOutcome, compareWritten}
+use Rattle.differences.specs.declared.comparison.Compared.{Compared}
+use Rattle.differences.proofs.ListedLaws.{listed-exactly}
+use Rattle.differences.proofs.OrderLaws.{rising-list, only-first-once, matched-first, only-second-once, matched-second, places-once, same-places}
+use Rattle.differences.proofs.EntryLaws.{sides-filled, field-codes, field-widths, field-contents}
+use Rattle.differences.proofs.PathLaws.{root-path, field-path}
+use Rattle.differences.proofs.OutcomeLaws as compared
 use Rattle.utf8.proofs.ValidLaws.{validUpTo-stops, stops-unique}
 use Rattle.column.proofs.PlaceLaws.{text-stops, other-place, text-refused}
 use Rattle.column_order.proofs.FaultLaws.{OfNeither, first-exactly, second-exactly, neither-exactly, fault-most}
-use Rattle.demands.specs.Requests.{one, Request2, EqualIn, FirstEqual, Request4, Request6, left, definitionIn, repetitionLevelIn, Request8}
+use Rattle.demands.specs.Requests.{output, Request1, one, Request2, EqualIn, FirstEqual, Request4, Request6, left, definitionIn, repetitionLevelIn, Request8}
+use Rattle.demands.proofs.ComparisonLaws as comparison
 use Rattle.demands.proofs.ColumnPoints.{cut-off, second-bad, both-bad}
 use Rattle.demands.proofs.SheetPoints.{repeated-rows, example-rows}
+
+-- R-1 ----------------------------------------------------------------------------------------------------------------------
+
+pub request1 : (edition : ℕ) → Request1 edition
+request1 edition =
+    record {
+      listed-exactly = listed-exactly;
+      in-order = rising-list;
+      numbered = node-at;
+      one-number = λ t c d. node-once;
+      node-slot = λ t c. node-slot t;
+      roots-match = roots-match;
+      fields-match = λ t u c d a b. fields-match t u;
+      parents-match = λ t u c d a b. parents-match t u;
+      fields-unmatched = λ t u c a. unmatched-field t u;
+      matched-or-not = λ t u c. matched-or-not t u;
+      matched-once = λ t u a c d. matched-alone t u d;
+      matched-back = λ t u c d. matching-sym t u (c .number);
+      only-first = only-first-once;
+      first-matched = matched-first;
+      only-second = only-second-once;
+      second-matched = matched-second;
+      places-listed = places-once;
+      same-places = same-places;
+      entry-written = comparison.entry-written edition;
+      sides-filled = sides-filled;
+      sides-whole = comparison.sides-whole edition;
+      field-codes = field-codes;
+      field-widths = field-widths;
+      field-contents = field-contents;
+      other-codes = (refl, refl, refl);
+      number-returned = comparison.number-returned edition;
+      rest-stays = comparison.rest-stays edition;
+      empty-exactly = comparison.empty-exactly edition;
+      root-path = root-path;
+      field-path = field-path;
+      empty-same = comparison.empty-same edition;
+      rebuilds = comparison.rebuilds edition;
+      first-refused = compared.first-exactly edition;
+      second-refused = compared.second-exactly edition;
+      neither-refused = comparison.neither-refused edition;
+      no-other = compared.side-most edition;
+    }
+
+-- R-2 ----------------------------------------------------------------------------------------------------------------------
 
 pub request2 : (edition : ℕ) → Request2 edition
 request2 edition =
@@ -85,6 +141,11 @@ same-rows sheet lent e = let f = second-lawful sheet e in (rw (e, f), rw (e, f))
 same-rewritten : (sheet lent : List ℕ) (start : ℕ) → judgement 1 sheet ≡ Verdict.Lawful → (rewriteOutcome 2 sheet (length lent) start ≡ rewriteOutcome 1 sheet (length lent) start) × (rewriteWritten (rewriteOutcome 2 sheet (length lent) start) sheet lent start ≡ rewriteWritten (rewriteOutcome 1 sheet (length lent) start) sheet lent start)
 unfolding rewriteOutcome
 same-rewritten sheet lent start e = let f = second-lawful sheet e in (rw (e, f), rw (e, f))
+
+same-comparison : (a b lent : List ℕ) → judgement 1 a ≡ Verdict.Lawful → judgement 1 b ≡ Verdict.Lawful → (compareOutcome 2 a b (length lent) ≡ compareOutcome 1 a b (length lent)) × (output 2 a b lent ≡ output 1 a b lent)
+same-comparison a b lent e d =
+    let same = compared.same-outcome 2 1 a b (length lent) (second-lawful a e) (second-lawful b d) e d in
+    (same, ap (λ (o : Compared). compareWritten o a b lent) same)
 
 -- the test of a kind, and what it says of a row
 equal-in : (numbers : List ℕ) (k : ℕ) → isEqual (kindIn numbers k) ≡ true → EqualIn numbers k
@@ -177,6 +238,13 @@ unknown-rewriting edition sheet lent start = (
   rewrite-unknown edition sheet lent start,
 )
 
+unknown-comparing : (edition : ℕ) (a b : List ℕ) (lent : ℕ) → (compareOutcome edition a b lent ≡ Compared.Refused (fault 0 (refusal 21 0))) ↔ (isKnown edition ≡ false)
+unknown-comparing edition a b lent = ((λ e. on (compared.neither-exactly edition a b lent 21 0 .0 e)), λ u. compared.neither-exactly edition a b lent 21 0 .1 (inl (u, refl, refl)))
+  where
+    on : compared.OfNeither edition a b lent 21 0 → isKnown edition ≡ false
+    on (inl h) = h .0
+    on (inr h) = absurd (omega (arith, h .3))
+
 unknown-typing : (edition : ℕ) (c : ColumnType) → (typeJudgement edition c ≡ Verdict.Refused (refusal 21 0)) ↔ (isKnown edition ≡ false)
 unfolding typeJudgement
 unknown-typing edition c = (
@@ -209,6 +277,7 @@ request4 =
       accepted = second-lawful;
       same-rows = same-rows;
       same-rewritten = same-rewritten;
+      same-comparison = same-comparison;
       refused-alone = refused-alone;
       not-accepted = not-accepted;
       lawful = lawful-second;
@@ -219,6 +288,7 @@ request4 =
       unknown-judging = unknown-judging;
       unknown-resolving = unknown-resolving;
       unknown-rewriting = unknown-rewriting;
+      unknown-comparing = unknown-comparing;
       unknown-typing = unknown-typing;
       unknown-reading = refused-unknown;
       unknown-ordering = unknown-ordering;

@@ -14,6 +14,7 @@ use lib.IntN.{ℤ}
 use lib.ListN.{length}
 use Rattle.refusal.specs.Outcome.{Outcome, refused, judged, counted}
 use Rattle.refusal.specs.declared.answers.Counted.{Counted}
+use Rattle.refusal.specs.declared.answers.Fault.{Fault}
 use Rattle.refusal.specs.declared.answers.Refusal.{Refusal}
 use Rattle.sheet.specs.Block.{totalOf}
 use Rattle.sheet.specs.Opening.{openOf}
@@ -26,6 +27,9 @@ use Rattle.tree.specs.Judgement.{judgementOf}
 use Rattle.schema.specs.Outcome as schema
 use Rattle.schema.specs.Outcome.{written}
 use Rattle.schema.specs.Rewriting.{rewriteOutcome, rewriteWritten}
+use Rattle.differences.specs.Outcome as differences
+use Rattle.differences.specs.Outcome.{listFor, compareOutcome, compareWritten}
+use Rattle.differences.specs.declared.comparison.Compared.{Compared}
 use Rattle.column_type.specs.Lawful.{judgementOf as typeJudgement}
 use Rattle.column_type.specs.declared.types.ColumnType.{ColumnType}
 use Rattle.column.specs.Outcome as column
@@ -45,7 +49,7 @@ use Rattle.c_values.specs.Values.{caseOf, numbersOf}
 use Rattle.c_timestamps.specs.Timestamps.{fieldNumbers, fieldsOf, decodeEffect, Decoding}
 use Rattle.c_timestamps.specs.Timestamps as c_timestamps
 use Rattle.griffeljol.specs.Promises.{Promises}
-use Rattle.demands.specs.Refusals.{unsided, first, openingGrounds, judgingGrounds, resolvingGrounds, rewritingGrounds, slotGrounds, typeGrounds, readingGrounds, orderingGrounds, unknownUnit, ticks, encodingGrounds, rowsTextGrounds, shortFor, cReadingGrounds, cDecodingGrounds, cEncodingGrounds}
+use Rattle.demands.specs.Refusals.{unsided, first, openingGrounds, judgingGrounds, resolvingGrounds, rewritingGrounds, comparingGrounds, slotGrounds, typeGrounds, readingGrounds, orderingGrounds, unknownUnit, ticks, encodingGrounds, rowsTextGrounds, shortFor, cReadingGrounds, cDecodingGrounds, cEncodingGrounds}
 
 -- "Each call ends with the result or one numbered refusal, chosen in the order document 01 states", in any edition: 21 before all others
 pub record Chosen (edition : ℕ) : Type 1 where
@@ -57,6 +61,8 @@ pub record Chosen (edition : ℕ) : Type 1 where
   pub resolving : (sheet : List ℕ) (lent : ℕ) → counted (schema.outcome edition sheet lent) ≡ first (resolvingGrounds edition sheet lent) (totalOf sheet)
   -- `schema::rewrite`, and in C
   pub rewriting : (sheet : List ℕ) (lent start : ℕ) → counted (rewriteOutcome edition sheet lent start) ≡ first (rewritingGrounds edition sheet lent start) (length sheet)
+  -- `differences::compare`, and in C: how many entries the list has
+  pub comparing : (one two : List ℕ) (lent : ℕ) → unsided (differences.outcomeOf (compareOutcome edition one two lent)) ≡ first (comparingGrounds edition one two lent) (length (listFor one two))
   -- `annotation::resolve` and `annotation::rewrite`, of a slot that is node k's
   pub slot-resolving : (k : ℕ) (n : Annotated) (under : Bool) → annotation.outcome edition k n under ≡ first (slotGrounds edition k n under) (kindOf n under)
   pub slot-rewriting : (k : ℕ) (n : Annotated) (under : Bool) → annotation_rewriting.outcome edition k n under ≡ first (slotGrounds edition k n under) (writtenOf n under)
@@ -88,6 +94,8 @@ pub record Unchanged (edition : ℕ) : Type 1 where
   pub rows : (sheet lent : List ℕ) (r : Refusal) → schema.outcome edition sheet (length lent) ≡ Counted.Refused r → written (schema.outcome edition sheet (length lent)) sheet lent ≡ lent
   -- the output of `schema::rewrite`, and in C
   pub output : (sheet lent : List ℕ) (start : ℕ) (r : Refusal) → rewriteOutcome edition sheet (length lent) start ≡ Counted.Refused r → rewriteWritten (rewriteOutcome edition sheet (length lent) start) sheet lent start ≡ lent
+  -- the output of `differences::compare`, and in C
+  pub differences : (one two lent : List ℕ) (f : Fault) → compareOutcome edition one two (length lent) ≡ Compared.Refused f → compareWritten (compareOutcome edition one two (length lent)) one two lent ≡ lent
   -- the buffer of a text
   pub text-buffer : (may : Option (List ℕ)) (lent : List ℕ) (r : Refusal) → made may (length lent) ≡ Counted.Refused r → madeIn may lent ≡ lent
   -- the outputs of `griffeljol_read` and `griffeljol_encode`

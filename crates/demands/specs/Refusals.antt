@@ -26,6 +26,7 @@ use Rattle.tree.specs.Reading.{treeOf}
 use Rattle.tree.specs.Rules.{underMap, standingBelow, rule8, rule12, rule13}
 use Rattle.tree.specs.declared.standing.Standing.{Standing}
 use Rattle.tree.specs.declared.standing.Standing.the-variants.{Root}
+use Rattle.differences.specs.Outcome.{listFor}
 use Rattle.column_type.specs.Lawful.{isLawful}
 use Rattle.column_type.specs.declared.types.ColumnType.{ColumnType}
 use Rattle.column.specs.Lengths as value
@@ -37,7 +38,7 @@ use Rattle.timestamp.specs.declared.fields.Fields.{Fields as DateTime}
 use Rattle.schema_text.specs.Rows.{rowsText}
 use Rattle.c_timestamps.specs.Timestamps.{areFields, fieldsOf}
 
--- an order's refusal by its number and place alone: which value it is laid on is said under document 02's R-6 (`Requests`)
+-- a refusal of one of two values or sheets by its number and place alone: which it is laid on is said under document 02's R-6 and R-1 (`Requests`)
 abbrev pub unsided : {A : Type 0} → Sided A → Outcome A
 unsided (sided.given a) = given a
 unsided (sided.refused f) = refused (f .refusal)
@@ -136,6 +137,11 @@ resolvingGrounds edition sheet lent = judgingGrounds edition sheet ++ (ground 14
 abbrev pub rewritingGrounds : ℕ → List ℕ → ℕ → ℕ → List Ground
 rewritingGrounds edition sheet lent start =
     judgingGrounds edition sheet ++ (ground 14 0 (ltb lent (start + length sheet)) ∷ ground 14 0 (ltb lent start) ∷ [])
+
+-- "the first sheet's, then the second's, then 14": "output too short", for 148 bytes an entry (document 02, R-1)
+abbrev pub comparingGrounds : ℕ → List ℕ → List ℕ → ℕ → List Ground
+comparingGrounds edition one two lent =
+    judgingGrounds edition one ++ judgingGrounds edition two ++ (ground 14 0 (ltb lent (148 * length (listFor one two))) ∷ [])
 
 -- 9 to 11 of the numbers of a slot, which is node k's
 abbrev pub slotGrounds : ℕ → ℕ → Annotated → Bool → List Ground

@@ -1,11 +1,13 @@
 -- What the requests of document 02 ask of the definitions.
-use Prim.Native.Nat.{ℕ, _+_, _*_, _≤_, _<_}
+use Prim.Native.Nat.{ℕ, _+_, _*_, _-_, _/_, _%_, _≤_, _<_}
 use mathlib.Core.Path.{_≡_}
 use mathlib.Core.Bool.{true, false}
-use mathlib.Core.List.{List, [], _∷_, _++_}
+use mathlib.Core.List.{List, [], _∷_, _++_, map}
 use mathlib.Core.Logic.{_⊎_, _↔_}
+use mathlib.Core.Option.{some}
 use lib.IntN.{ℤ, pos, negsuc}
-use lib.ListN.{length, drop, replicate}
+use lib.ListN.{length, getD, getElem?, take, drop, replicate}
+use Rattle.laws.specs.Bytes.{Bytes}
 use Rattle.refusal.specs.Faults as sided
 use Rattle.refusal.specs.Faults.{fault}
 use Rattle.refusal.specs.Outcome.{refused, refusal}
@@ -13,7 +15,7 @@ use Rattle.edition.specs.Editions.{isKnown}
 use Rattle.annotation.specs.Rule11.{ordered}
 use Rattle.sheet.specs.Block.{totalOf}
 use Rattle.sheet.specs.Opening.{openOf}
-use Rattle.sheet.specs.Slot.{physical, repetition}
+use Rattle.sheet.specs.Slot.{physical, repetition, slots}
 use Rattle.parquet.specs.Repetition.{REPEATED}
 use Rattle.parquet.specs.Logical as logical
 use Rattle.parquet.specs.Physical.{BYTE-ARRAY}
@@ -26,7 +28,7 @@ use Rattle.column_order.specs.Order.{hasOrder}
 use Rattle.column_order.specs.Comparison.{Valid}
 use Rattle.column_order.specs.Outcome as order
 use Rattle.tree.specs.Annotated.{kind}
-use Rattle.tree.specs.Tree.{SlotBytes, Tree, Fields, node, empty, field, size}
+use Rattle.tree.specs.Tree.{SlotBytes, Tree, Fields, node, empty, field, listing, size}
 use Rattle.tree.specs.Rules.{isGroup, isRequiredOrOptional, isList, namedElement, rule12, KeepsAt}
 use Rattle.tree.specs.declared.standing.Standing.{Standing}
 use Rattle.tree.specs.declared.standing.Standing.the-variants.{Field}
@@ -40,7 +42,90 @@ use Rattle.schema.specs.Outcome.{outcome, written}
 use Rattle.schema.specs.Rewriting.{rewriteOutcome, rewriteWritten}
 use Rattle.schema.specs.Demand.{IsTreeOf, Sound, Accepted}
 use Rattle.schema.specs.declared.roles.Parent.{Parent}
+use Rattle.matching.specs.Matching.{Sibling, nameOf}
+use Rattle.matching.specs.Nodes.{rootOf, slotOf, IsField, IsNode, ordinal, Matched, Unmatched}
+use Rattle.differences.specs.Entry.{SlotField, slotFields, Entry, entry, PLACES, ONLY-FIRST, ONLY-SECOND}
+use Rattle.differences.specs.Differences.{content, differences}
+use Rattle.differences.specs.Listed.{_∈_, Difference, timesListed, Rising}
+use Rattle.differences.specs.Paths.{paths}
+use Rattle.differences.specs.Outcome.{compareOutcome, compareWritten}
+use Rattle.differences.specs.Rebuilding.{rebuilt}
+use Rattle.differences.specs.declared.comparison.Compared.{Compared}
 use Rattle.demands.specs.Sheets.{exampleSheet, repeatedSheet}
+
+-- R-1. "Comparing the two custodians' sheets" ------------------------------------------------------------------------------
+
+-- an accepted sheet, with the tree that demand 3 gives it
+pub record IsSheetOf (edition : ℕ) (sheet : List ℕ) (t : Tree) : Type 0 where
+  pub sound : Sound edition sheet
+  pub tree : IsTreeOf edition sheet t
+
+-- what the output holds, once two sheets are compared
+abbrev pub output : ℕ → List ℕ → List ℕ → List ℕ → List ℕ
+output edition first second lent = compareWritten (compareOutcome edition first second (length lent)) first second lent
+
+-- `differences::compare` answers `compareOutcome` and leaves `output`. The first sheet's tree is t, the second's u; a node of a tree has its number, its place
+-- among its siblings, and the tree that stands there (`matching/specs/Nodes`)
+pub record Request1 (edition : ℕ) : Type 1 where
+  -- "a list .. of each node and each slot field in which two sheets differ, with both contents": it has each difference, and nothing else
+  pub listed-exactly : (t u : Tree) (e : Entry) → (e ∈ differences t u) ↔ Difference t u e
+  -- "in the first sheet's node order", "the second's last, in its order", "at one node codes rise": each entry precedes all behind it, so none stands twice
+  pub in-order : (t u : Tree) → Rising (differences t u)
+  -- nodes have the numbers of the listing, from 0, each one's slot standing there
+  pub numbered : (t : Tree) (k : ℕ) → k < size t → (c : Sibling) × IsNode t c × (c .number ≡ k)
+  pub one-number : (t : Tree) (c d : Sibling) → IsNode t c → IsNode t d → c .number ≡ d .number → c ≡ d
+  pub node-slot : (t : Tree) (c : Sibling) → IsNode t c → getD (listing t) (c .number) [] ≡ slotOf (c .tree)
+  -- "The roots match"
+  pub roots-match : (t u : Tree) → Matched t u (rootOf t) (rootOf u)
+  -- "children of matched nodes match by name; where siblings share one, the first matches the first, and so on"
+  pub fields-match : (t u : Tree) (c d a b : Sibling) → IsNode t c → IsNode u d → Matched t u c d → IsField c a → IsField d b → Matched t u a b ↔ ((nameOf (a .tree) ≡ nameOf (b .tree)) × (ordinal c a ≡ ordinal d b))
+  -- and no others: the parents of nodes that match, match, and the children of an unmatched node are unmatched
+  pub parents-match : (t u : Tree) (c d a b : Sibling) → IsNode t c → IsNode u d → IsField c a → IsField d b → Matched t u a b → Matched t u c d
+  pub fields-unmatched : (t u : Tree) (c a : Sibling) → IsNode t c → IsField c a → Unmatched t u c → Unmatched t u a
+  -- each node matches a node of the other tree or none, no two match one, and the matching of the trees exchanged is the same the other way round
+  pub matched-or-not : (t u : Tree) (c : Sibling) → IsNode t c → ((d : Sibling) × IsNode u d × Matched t u c d) ⊎ Unmatched t u c
+  pub matched-once : (t u : Tree) (a c d : Sibling) → IsNode t a → IsNode t c → Matched t u a d → Matched t u c d → a ≡ c
+  pub matched-back : (t u : Tree) (c d : Sibling) → Matched t u c d → Matched u t d c
+  -- "Unmatched nodes are listed": each of the first once, and each of the second; and no matched node is listed so
+  pub only-first : (t u : Tree) (c : Sibling) → IsNode t c → Unmatched t u c → timesListed 73 (c .number) (differences t u) ≡ 1
+  pub first-matched : (t u : Tree) (c d : Sibling) → Matched t u c d → timesListed 73 (c .number) (differences t u) ≡ 0
+  pub only-second : (t u : Tree) (d : Sibling) → IsNode u d → Unmatched u t d → timesListed 74 (d .number) (differences t u) ≡ 1
+  pub second-matched : (t u : Tree) (c d : Sibling) → Matched t u c d → timesListed 74 (d .number) (differences t u) ≡ 0
+  -- "Matched nodes whose places among their siblings differ are listed with both places", once, and no others
+  pub places-listed : (t u : Tree) (c d : Sibling) → IsNode t c → IsNode u d → Matched t u c d → (c .place ≡ d .place → ⊥) → timesListed 72 (c .number) (differences t u) ≡ 1
+  pub same-places : (t u : Tree) (c d : Sibling) → Matched t u c d → c .place ≡ d .place → timesListed 72 (c .number) (differences t u) ≡ 0
+  -- "An entry is 148 bytes: code, zero, node number in two bytes, each side's content": entry i stands behind i others
+  pub entry-written : (first second lent : List ℕ) (t u : Tree) → IsSheetOf edition first t → IsSheetOf edition second u → 148 * length (differences t u) ≤ length lent → (i : ℕ) (e : Entry) → getElem? (differences t u) i ≡ some e → take 148 (drop (148 * i) (output edition first second lent)) ≡ e .code ∷ 0 ∷ e .number % 256 ∷ e .number / 256 ∷ (e .first ++ e .second)
+  -- "zero-filled to 72"
+  pub sides-filled : (code number : ℕ) (a b : List ℕ) → entry code number a b ≡ record { code = code; number = number; first = a ++ replicate (72 - length a) 0; second = b ++ replicate (72 - length b) 0 }
+  pub sides-whole : (first second : List ℕ) (t u : Tree) → IsSheetOf edition first t → IsSheetOf edition second u → (i : ℕ) (e : Entry) → getElem? (differences t u) i ≡ some e → (length (e .first) ≡ 72) × (length (e .second) ≡ 72)
+  -- "The code is the field's first slot byte": of the fields of document 01's slot, with their widths; and a field's content is its bytes there
+  pub field-codes : map (λ f. f .code) slotFields ≡ 0 ∷ 1 ∷ 2 ∷ 3 ∷ 4 ∷ 5 ∷ 6 ∷ 8 ∷ 12 ∷ 16 ∷ 20 ∷ 24 ∷ []
+  pub field-widths : map (λ f. f .width) slotFields ≡ 1 ∷ 1 ∷ 1 ∷ 1 ∷ 1 ∷ 1 ∷ 2 ∷ 4 ∷ 4 ∷ 4 ∷ 1 ∷ 48 ∷ []
+  pub field-contents : (f : SlotField) (s : SlotBytes) → content f s ≡ take (f .width) (drop (f .code) s)
+  -- "72 for places .., 73 or 74 for a node only in the first or second"
+  pub other-codes : (PLACES ≡ 72) × (ONLY-FIRST ≡ 73) × (ONLY-SECOND ≡ 74)
+  -- "The number of entries .. is returned"
+  pub number-returned : (first second : List ℕ) (lent : ℕ) (t u : Tree) → IsSheetOf edition first t → IsSheetOf edition second u → 148 * length (differences t u) ≤ lent → compareOutcome edition first second lent ≡ Compared.Entries (length (differences t u))
+  -- "and the rest of the output stays"
+  pub rest-stays : (first second lent : List ℕ) (t u : Tree) → IsSheetOf edition first t → IsSheetOf edition second u → 148 * length (differences t u) ≤ length lent → drop (148 * length (differences t u)) (output edition first second lent) ≡ drop (148 * length (differences t u)) lent
+  -- "The list is empty exactly when both sheets have the same paths in the same order with equal slots"
+  pub empty-exactly : (first second : List ℕ) (t u : Tree) → IsSheetOf edition first t → IsSheetOf edition second u → (differences t u ≡ []) ↔ ((paths t ≡ paths u) × (slots first ≡ slots second))
+  -- a path is the names from the root down: a field's is its parent's and its own name
+  pub root-path : (t : Tree) → getD (paths t) 0 [] ≡ nameOf t ∷ []
+  pub field-path : (t : Tree) (c a : Sibling) → IsNode t c → IsField c a → getD (paths t) (a .number) [] ≡ getD (paths t) (c .number) [] ++ (nameOf (a .tree) ∷ [])
+  -- the list is empty exactly when both sheets are the same bytes
+  pub empty-same : (first second : List ℕ) (t u : Tree) → IsSheetOf edition first t → IsSheetOf edition second u → Bytes first → Bytes second → (differences t u ≡ []) ↔ (first ≡ second)
+  -- "From the list and the first sheet, the second can be rebuilt": from the bytes that are written of it
+  pub rebuilds : (first second lent : List ℕ) (t u : Tree) → IsSheetOf edition first t → IsSheetOf edition second u → Bytes second → 148 * length (differences t u) ≤ length lent → rebuilt (take (148 * length (differences t u)) (output edition first second lent)) first ≡ second
+  -- "Refusals: the first sheet's": as judging refuses it, and laid on sheet 1
+  pub first-refused : (first second : List ℕ) (lent number place : ℕ) → (compareOutcome edition first second lent ≡ Compared.Refused (fault 1 (refusal number place))) ↔ ((isKnown edition ≡ true) × (judgement edition first ≡ Verdict.Refused (refusal number place)))
+  -- "then the second's", laid on sheet 2
+  pub second-refused : (first second : List ℕ) (lent number place : ℕ) → (compareOutcome edition first second lent ≡ Compared.Refused (fault 2 (refusal number place))) ↔ ((judgement edition first ≡ Verdict.Lawful) × (judgement edition second ≡ Verdict.Refused (refusal number place)))
+  -- "then 14"; it and 21, which comes before all others, are laid on neither
+  pub neither-refused : (first second : List ℕ) (lent number place : ℕ) → (compareOutcome edition first second lent ≡ Compared.Refused (fault 0 (refusal number place))) ↔ (((isKnown edition ≡ false) × (number ≡ 21) × (place ≡ 0)) ⊎ ((t : Tree) × (u : Tree) × IsSheetOf edition first t × IsSheetOf edition second u × (lent < 148 * length (differences t u)) × (number ≡ 14) × (place ≡ 0)))
+  -- and there is no other number of a sheet
+  pub no-other : (first second : List ℕ) (lent number place sheet : ℕ) → compareOutcome edition first second lent ≡ Compared.Refused (fault sheet (refusal number place)) → sheet ≤ 2
 
 -- R-2. "A list whose one field repeats" ----------------------------------------------------------------------------------
 
@@ -104,6 +189,8 @@ pub record Request4 : Type 1 where
   -- "with the same rows", and the same rewritten sheet: the same answer, and the same in what was lent
   pub same-rows : (sheet lent : List ℕ) → judgement 1 sheet ≡ Verdict.Lawful → (outcome 2 sheet (length lent) ≡ outcome 1 sheet (length lent)) × (written (outcome 2 sheet (length lent)) sheet lent ≡ written (outcome 1 sheet (length lent)) sheet lent)
   pub same-rewritten : (sheet lent : List ℕ) (start : ℕ) → judgement 1 sheet ≡ Verdict.Lawful → (rewriteOutcome 2 sheet (length lent) start ≡ rewriteOutcome 1 sheet (length lent) start) × (rewriteWritten (rewriteOutcome 2 sheet (length lent) start) sheet lent start ≡ rewriteWritten (rewriteOutcome 1 sheet (length lent) start) sheet lent start)
+  -- and the same list of two sheets that edition 1 accepts
+  pub same-comparison : (first second lent : List ℕ) → judgement 1 first ≡ Verdict.Lawful → judgement 1 second ≡ Verdict.Lawful → (compareOutcome 2 first second (length lent) ≡ compareOutcome 1 first second (length lent)) × (output 2 first second lent ≡ output 1 first second lent)
   -- what 2 accepts and 1 refuses, 1 refuses with 11 at the first DECIMAL whose scale equals its precision
   pub refused-alone : (sheet : List ℕ) (t : Tree) (r : Refusal) → Sound 2 sheet → IsTreeOf 2 sheet t → judgement 1 sheet ≡ Verdict.Refused r → (r .number ≡ 11) × FirstEqual t (r .place)
   -- and a sheet that has one it does not accept
@@ -119,6 +206,7 @@ pub record Request4 : Type 1 where
   pub unknown-judging : (edition : ℕ) (sheet : List ℕ) → (judgementOf edition sheet ≡ Counted.Refused (refusal 21 0)) ↔ (isKnown edition ≡ false)
   pub unknown-resolving : (edition : ℕ) (sheet : List ℕ) (lent : ℕ) → (outcome edition sheet lent ≡ Counted.Refused (refusal 21 0)) ↔ (isKnown edition ≡ false)
   pub unknown-rewriting : (edition : ℕ) (sheet : List ℕ) (lent start : ℕ) → (rewriteOutcome edition sheet lent start ≡ Counted.Refused (refusal 21 0)) ↔ (isKnown edition ≡ false)
+  pub unknown-comparing : (edition : ℕ) (first second : List ℕ) (lent : ℕ) → (compareOutcome edition first second lent ≡ Compared.Refused (fault 0 (refusal 21 0))) ↔ (isKnown edition ≡ false)
   pub unknown-typing : (edition : ℕ) (c : ColumnType) → (typeJudgement edition c ≡ Verdict.Refused (refusal 21 0)) ↔ (isKnown edition ≡ false)
   pub unknown-reading : (edition : ℕ) (c : ColumnType) (bs : List ℕ) → (read.outcome edition c bs ≡ refused (refusal 21 0)) ↔ (isKnown edition ≡ false)
   pub unknown-ordering : (edition : ℕ) (c : ColumnType) (a b : List ℕ) → (order.outcome edition c a b ≡ sided.refused (fault 0 (refusal 21 0))) ↔ (isKnown edition ≡ false)

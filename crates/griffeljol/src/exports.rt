@@ -3,7 +3,9 @@ ghost use mathlib.Core.Path.{_≡_};
 ghost use lib.ListN.{length};
 ghost use Rattle.schema.specs.Outcome.{outcome, written};
 ghost use Rattle.schema.specs.Rewriting.{rewriteOutcome, rewriteWritten};
+ghost use Rattle.differences.specs.Outcome.{compareOutcome, compareWritten};
 ghost use Rattle.c_answer.specs.Answers.{countedAnswer, answer, left};
+ghost use Rattle.c_sheets.specs.Comparison.{comparedAnswer};
 ghost use Rattle.c_values.specs.Values.{columnType, reading, ordering};
 ghost use Rattle.c_timestamps.specs.Timestamps.{Decoding, encoding};
 
@@ -28,6 +30,21 @@ pub extern "C" fn griffeljol_rewrite(
     ensures { λ _. ⌜ now (out .exit) ≡ rewriteWritten (rewriteOutcome edition (now (sheet .entry)) (length (now (out .entry))) start) (now (sheet .entry)) (now (out .entry)) start ⌝ }
 {
     c_sheets::rewrite(edition, sheet, out, start)
+}
+
+// Compares two sheets and writes the list of their differences. The value is the number of its entries. A refusal has besides the sheet
+// at fault: 1 or 2, and 0 for neither.
+#[no_mangle]
+pub extern "C" fn griffeljol_compare(
+    edition: u32,
+    first: &[u8],
+    second: &[u8],
+    out: &mut [u8],
+) -> u64
+    ensures { λ r. ⌜ r ≡ comparedAnswer (compareOutcome edition (now (first .entry)) (now (second .entry)) (length (now (out .entry)))) ⌝ }
+    ensures { λ _. ⌜ now (out .exit) ≡ compareWritten (compareOutcome edition (now (first .entry)) (now (second .entry)) (length (now (out .entry)))) (now (first .entry)) (now (second .entry)) (now (out .entry)) ⌝ }
+{
+    c_sheets::compare(edition, first, second, out)
 }
 
 // Reads a value. The value of the answer is its case: 0 truth, 1 signed whole, 2 unsigned whole, 3 FLOAT, 4 DOUBLE, 5 bytes.

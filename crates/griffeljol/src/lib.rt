@@ -2,6 +2,7 @@
 // does stands in the crate of its family: `c_sheets`, `c_values`, `c_timestamps`.
 mod exports; // exports.rt: the entries
 
+pub use exports::griffeljol_compare;
 pub use exports::griffeljol_decode;
 pub use exports::griffeljol_encode;
 pub use exports::griffeljol_order;

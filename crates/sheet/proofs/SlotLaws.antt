@@ -1,7 +1,7 @@
 -- Laws of a sheet's slots.
 use mathlib.Core.Path.{_≡_, refl, sym, ap, _∙_}
 use mathlib.Core.Bool.{Bool, true, false, and-eq-true-iff}
-use mathlib.Core.List.{List, _∷_}
+use mathlib.Core.List.{List, [], _∷_}
 use Prim.Native.Nat.{ℕ, zero, suc, _+_, _-_, _*_, _/_, _%_, _≤_, _<_}
 use native.Mathlib.Nat.{add-zero, zero-add, add-suc, suc-add, mod-eq-of-lt, mul-add-mod-self-left}
 use native.Mathlib.Decide.{decLt}
@@ -11,7 +11,7 @@ use lib.ListN.{length, getD, take, drop, getD-replicate, List·getD-eq-default}
 use lib.Seq.{getD-take, getD-drop, drop-cons}
 use borrow.Author.Tests.{lt-ltb, le-ltb, le-leb, lt-leb, leb-true}
 use Rattle.sheet.specs.Block.{blockSize, firstSlotAt, checkAt, mostBytes, mostNodes, slotsInBlock, slotSize, blockCount, totalOf}
-use Rattle.sheet.specs.Slot.{slotStart, reaches, emptySlot, slotAt, slotsFrom, slots}
+use Rattle.sheet.specs.Slot.{slotStart, reaches, emptySlot, slotAt, slotBytesAt, slotsFrom, slots}
 use Rattle.laws.specs.Bytes.{Bytes}
 use Rattle.sheet.proofs.PartLaws.{take-to, length-part}
 
@@ -76,6 +76,15 @@ pub slotAt-slice : (sheet : List ℕ) (k start : ℕ) → start ≡ slotStart k 
     → take (start + slotSize - start) (drop start sheet) ≡ slotAt sheet k
 slotAt-slice sheet k start e r =
     take-to sheet start slotSize ∙ ap (λ (at : ℕ). take slotSize (drop at sheet)) e ∙ sym (slotAt-there sheet k r)
+
+-- a slot's bytes, where they are reached and where not
+pub slotBytesAt-there : (sheet : List ℕ) (k : ℕ) → reaches sheet k ≡ true → slotBytesAt sheet k ≡ slotAt sheet k
+unfolding slotBytesAt
+slotBytesAt-there sheet k e = rw e
+
+pub slotBytesAt-none : (sheet : List ℕ) (k : ℕ) → reaches sheet k ≡ false → slotBytesAt sheet k ≡ []
+unfolding slotBytesAt
+slotBytesAt-none sheet k e = rw e
 
 -- a byte of a slot is a byte of the sheet
 pub slotAt-byte : (sheet : List ℕ) (k i : ℕ) → reaches sheet k ≡ true → i < slotSize → getD (slotAt sheet k) i 0 ≡ getD sheet (slotStart k + i) 0

@@ -121,6 +121,10 @@ emptySlot = replicate slotSize 0
 unfoldable pub slotAt : List ℕ → ℕ → List ℕ
 slotAt sheet k = cond (reaches sheet k) (take slotSize (drop (slotStart k) sheet)) emptySlot
 
+-- the same, and no byte where the bytes do not reach
+unfoldable pub slotBytesAt : List ℕ → ℕ → List ℕ
+slotBytesAt sheet k = cond (reaches sheet k) (slotAt sheet k) []
+
 -- n slots from node k's on
 unfoldable pub slotsFrom : List ℕ → ℕ → ℕ → List (List ℕ)
 slotsFrom sheet k zero = []

@@ -3,12 +3,13 @@ pub(crate) const BLOCK_SIZE: usize = block_check::BLOCK_SIZE;
 
 pub(crate) const SLOTS_IN_BLOCK: usize = 7;
 
-pub(crate) const SLOT_SIZE: usize = 72;
+pub const SLOT_SIZE: usize = 72;
 
 // The most bytes that a sheet has.
 pub const MOST_BYTES: usize = 65536;
 
-pub(crate) const MOST_NODES: usize = 896;
+// The most nodes that a sheet has.
+pub const MOST_NODES: usize = 896;
 
 // A block.
 pub(crate) const BLOCK_NUMBER: usize = 0;

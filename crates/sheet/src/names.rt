@@ -63,7 +63,8 @@ pub fn name_is_with(sheet: &[u8], node: usize, other: usize, suffix: &[u8]) -> b
     same(&whole[n..], suffix)
 }
 
-fn name_of(sheet: &[u8], node: usize) -> &[u8]
+// The name of a node, of no byte where the bytes do not reach its slot.
+pub fn name_of(sheet: &[u8], node: usize) -> &[u8]
     ensures { λ r. ⌜ now r ≡ name (slotAt (now (sheet .entry)) node) ⌝ }
 {
     let stretch = name_stretch(sheet, node);

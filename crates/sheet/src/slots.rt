@@ -3,7 +3,7 @@ ghost use mathlib.Core.Path.{_≡_};
 ghost use Prim.Native.Nat.{_<_};
 ghost use lib.ListN.{length};
 ghost use Rattle.sheet.specs.Block.{slotSize, mostNodes};
-ghost use Rattle.sheet.specs.Slot.{numbersOf, slotAt, slotStart, emptySlot};
+ghost use Rattle.sheet.specs.Slot.{numbersOf, slotAt, slotBytesAt, slotStart, emptySlot};
 use crate::layout;
 use crate::number::number16;
 use crate::number::number32;
@@ -44,6 +44,20 @@ pub fn slot_at(sheet: &[u8], node: usize) -> Slot
         return empty_slot();
     }
     numbers_of(&sheet[start..start + layout::SLOT_SIZE])
+}
+
+// The bytes of a node's slot, and no byte where the bytes do not reach it.
+pub fn slot_bytes(sheet: &[u8], node: usize) -> &[u8]
+    ensures { λ r. ⌜ now r ≡ slotBytesAt (now (sheet .entry)) node ⌝ }
+{
+    if node >= layout::MOST_NODES {
+        return &sheet[0..0];
+    }
+    let start = slot_start(node);
+    if sheet.len() < start + layout::SLOT_SIZE {
+        return &sheet[0..0];
+    }
+    &sheet[start..start + layout::SLOT_SIZE]
 }
 
 // Where the slot of a node starts: behind the slots before it, and what else each whole block before it has.

@@ -5,7 +5,7 @@ mod tables;
 use independent::edition::FIRST;
 use independent::sheet::{assemble, Sheet, Slot, BLOCK};
 use independent::{
-    decimal, decode, encode, order, read, resolve, rewrite, utf8, ColumnType, Fields, OrderRefusal, Refusal, Value,
+    decimal, decode, encode, order, read, resolve, rewrite, utf8, ColumnType, Fields, PairRefusal, Refusal, Value,
     ROW_WIDTH,
 };
 use tables::*;
@@ -77,7 +77,7 @@ fn ordered_values() {
     for edition in editions() {
         for (given, a, b, expected) in orders(edition) {
             let found = order(edition, column(given), a, b).map(|order| order as u32);
-            let expected = expected.map_err(|number| OrderRefusal::of_neither(refused(number)));
+            let expected = expected.map_err(|number| PairRefusal::of_neither(refused(number)));
             assert_eq!(found, expected, "edition {edition}: {given:?} {a:02X?} {b:02X?}");
         }
     }

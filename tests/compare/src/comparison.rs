@@ -3,6 +3,9 @@
 use std::fmt;
 use std::hint::black_box;
 
+use independent::compare::{ENTRY, ONLY_IN_FIRST, ONLY_IN_SECOND, PLACES};
+use independent::refusal::{is_of_a_sheet, OUTPUT, UNKNOWN_EDITION};
+use independent::sheet::FIELDS;
 use independent::ROW_WIDTH;
 
 use crate::columns::Column;
@@ -23,9 +26,10 @@ pub struct Comparison<'a> {
 
 /// How many refusals there are.
 const REFUSALS: usize = 21;
+/// One past the greatest code of an entry of a list.
+const CODES: usize = ONLY_IN_SECOND as usize + 1;
 
 /// How often each thing was met.
-#[derive(Default)]
 pub struct Tally {
     /// Comparisons made.
     pub comparisons: u64,
@@ -41,6 +45,10 @@ pub struct Tally {
     pub orders: [u64; 4],
     /// Orders refused, by the value at fault.
     pub faults: [u64; 3],
+    /// Entries of lists, by code.
+    pub codes: [u64; CODES],
+    /// Comparisons of sheets refused, by the sheet at fault.
+    pub sheet_faults: [u64; 3],
 }
 
 /// Where the sides differ, or a promise is broken by both.
@@ -104,7 +112,7 @@ impl<'a> Comparison<'a> {
     /// A comparison of two sides.
     pub fn new(left: &'a dyn Side, right: &'a dyn Side) -> Self {
         let (rows, bytes, words, numbers) = Default::default();
-        Comparison { left, right, rows, bytes, words, numbers, tally: Tally::default() }
+        Comparison { left, right, rows, bytes, words, numbers, tally: Tally::new() }
     }
 
     fn count(&mut self, answer: u64) {
@@ -132,8 +140,7 @@ impl<'a> Comparison<'a> {
 
     /// Rewrites a sheet into so many lent bytes, from a start on, by an edition.
     pub fn rewrite(&mut self, edition: u32, sheet: &[u8], lent: usize, start: usize) -> Result<u64, Difference> {
-        let salt = sheet.len() as u8;
-        self.bytes.prepare(lent, |at| ((at as u32).wrapping_mul(0x9E37_79B9) >> 24) as u8 ^ salt);
+        self.bytes.prepare(lent, byte_marks(sheet.len()));
         let left = on_copies([sheet], |[sheet]| self.left.rewrite(edition, sheet, self.bytes.left(), start))?;
         let right = self.right.rewrite(edition, sheet, self.bytes.right(), start);
         let answers = Answers { entry: "rewrite", left, right };
@@ -147,6 +154,39 @@ impl<'a> Comparison<'a> {
     pub fn rewritten(&self, start: usize, answer: u64) -> Vec<u8> {
         match refusal_of(answer) {
             0 => self.bytes.held()[start..][..value_of(answer) as usize].to_vec(),
+            _ => Vec::new(),
+        }
+    }
+
+    /// Compares two sheets into so many lent bytes, by an edition, and holds each refusal to what rewriting answers.
+    pub fn compare(&mut self, edition: u32, first: &[u8], second: &[u8], lent: usize) -> Result<u64, Difference> {
+        self.bytes.prepare(lent, byte_marks(first.len() ^ second.len()));
+        let left =
+            on_copies([first, second], |[first, second]| self.left.compare(edition, first, second, self.bytes.left()))?;
+        let right = self.right.compare(edition, first, second, self.bytes.right());
+        let answers = Answers { entry: "compare", left, right };
+        let input = || format!("edition {edition}, {lent} lent, sheets {} and {}", hex(first), hex(second));
+        answers.check(Some((&self.bytes, 0, ENTRY * value_of(left) as usize)), input)?;
+        self.count(left);
+        let judged = [first, second].map(|sheet| self.left.rewrite(edition, sheet, &mut [], 0));
+        if !is_of_sheets(left, judged) {
+            let what = format!("{}, but the sheets are judged {:?}", shown(left), judged.map(shown));
+            return Err(Difference { entry: "compare", input: input(), what });
+        }
+        if refusal_of(left) != 0 {
+            self.tally.sheet_faults[fault_of(left) as usize % 3] += 1;
+            return Ok(left);
+        }
+        for entry in self.bytes.held()[..ENTRY * value_of(left) as usize].chunks_exact(ENTRY) {
+            self.tally.codes[usize::from(entry[0]) % CODES] += 1;
+        }
+        Ok(left)
+    }
+
+    /// The list that the last comparison of sheets wrote, which answered this; a refusal writes none.
+    pub fn list(&self, answer: u64) -> Vec<u8> {
+        match refusal_of(answer) {
+            0 => self.bytes.held()[..ENTRY * value_of(answer) as usize].to_vec(),
             _ => Vec::new(),
         }
     }
@@ -272,6 +312,20 @@ fn agrees(order: u64, [first, second]: [u64; 2]) -> bool {
     }
 }
 
+/// Whether a comparison is answered by what rewriting into nothing answers for its two sheets: the refusal of the first that is refused,
+/// with its number and place. An accepted sheet is answered 14 there.
+fn is_of_sheets(compared: u64, [first, second]: [u64; 2]) -> bool {
+    let is_accepted = |answer| answer == refused(OUTPUT, 0);
+    let is_refusal_of = |answer| refused(refusal_of(compared), value_of(compared)) == answer;
+    match (refusal_of(compared), fault_of(compared)) {
+        (0 | OUTPUT, 0) => is_accepted(first) && is_accepted(second),
+        (UNKNOWN_EDITION, 0) => is_refusal_of(first) && is_refusal_of(second),
+        (number, 1) if is_of_a_sheet(number) => is_refusal_of(first),
+        (number, 2) if is_of_a_sheet(number) => is_accepted(first) && is_refusal_of(second),
+        _ => false,
+    }
+}
+
 /// Calls a side on copies of inputs, with known bytes around them, and looks whether they are as they were.
 fn on_copies<const N: usize>(inputs: [&[u8]; N], call: impl FnOnce([&[u8]; N]) -> u64) -> Result<u64, Difference> {
     const AROUND: [u8; 16] = [0x5A; 16];
@@ -292,7 +346,33 @@ fn written_to(entry: &'static str) -> Difference {
     Difference { entry, input: "-".to_string(), what: "an input was written to".to_string() }
 }
 
+/// What lent bytes hold before, by their places.
+fn byte_marks(salt: usize) -> impl Fn(usize) -> u8 {
+    move |at| ((at as u32).wrapping_mul(0x9E37_79B9) >> 24) as u8 ^ salt as u8
+}
+
 impl Tally {
+    fn new() -> Self {
+        Tally {
+            comparisons: 0,
+            refusals: [0; REFUSALS + 1],
+            kinds: [0; 31],
+            roles: [0; 8],
+            cases: [0; 6],
+            orders: [0; 4],
+            faults: [0; 3],
+            codes: [0; CODES],
+            sheet_faults: [0; 3],
+        }
+    }
+
+    /// How often each code of an entry was met: those of fields, then the others.
+    fn codes(&self) -> Vec<(usize, u64)> {
+        let fields = FIELDS.into_iter().map(|field| field.start);
+        let others = [PLACES, ONLY_IN_FIRST, ONLY_IN_SECOND].map(usize::from);
+        fields.chain(others).map(|code| (code, self.codes[code])).collect()
+    }
+
     /// What was met less often than it must be.
     pub fn missing(&self, least: u64) -> Vec<String> {
         /// The kinds that rows have: plain leaf, logical types, INTERVAL, plain group.
@@ -304,6 +384,8 @@ impl Tally {
             ("case of a value", self.cases.iter().copied().enumerate().collect()),
             ("order", self.orders.iter().copied().enumerate().collect()),
             ("value at fault", self.faults.iter().copied().enumerate().collect()),
+            ("code of an entry", self.codes()),
+            ("sheet at fault", self.sheet_faults.iter().copied().enumerate().collect()),
         ];
         let mut missing = Vec::new();
         for (what, counts) in all {
@@ -328,7 +410,11 @@ impl fmt::Display for Tally {
         write!(f, "\norders")?;
         self.orders.iter().enumerate().try_for_each(|(n, count)| write!(f, " {n}:{count}"))?;
         write!(f, "; values at fault")?;
-        self.faults.iter().enumerate().try_for_each(|(n, count)| write!(f, " {n}:{count}"))
+        self.faults.iter().enumerate().try_for_each(|(n, count)| write!(f, " {n}:{count}"))?;
+        write!(f, "\ncodes of entries")?;
+        self.codes().iter().try_for_each(|(n, count)| write!(f, " {n}:{count}"))?;
+        write!(f, "; sheets at fault")?;
+        self.sheet_faults.iter().enumerate().try_for_each(|(n, count)| write!(f, " {n}:{count}"))
     }
 }
 

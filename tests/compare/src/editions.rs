@@ -7,7 +7,7 @@ use independent::sheet::slot_at;
 
 use crate::columns::Column;
 use crate::comparison::{broken, Comparison, Difference};
-use crate::side::{refusal_of, shown, value_of};
+use crate::side::{fault_of, refusal_of, shown, value_of};
 
 /// The editions that are asked: the known ones, and numbers beside them.
 pub const ALL: [u32; 5] = [0, 1, 2, 3, 4];
@@ -32,6 +32,19 @@ impl Comparison<'_> {
             Ok((answer, self.rewritten(start, answer)))
         })?;
         held("rewrite", &known, |first| is_only_of_the_second(sheet, first), || sheet.to_vec())
+    }
+
+    /// Compares two sheets into so many lent bytes by every edition.
+    pub fn compare_in_all(&mut self, first: &[u8], second: &[u8], lent: usize) -> Result<(), Difference> {
+        let known = in_all(|edition| {
+            let answer = self.compare(edition, first, second, lent)?;
+            Ok((answer, self.list(answer)))
+        })?;
+        let is_first_alone = |answer| match fault_of(answer) {
+            1 => is_only_of_the_second(first, answer),
+            _ => is_only_of_the_second(second, answer),
+        };
+        held("compare", &known, is_first_alone, || [first, second].concat())
     }
 
     /// Reads a value, with so many numbers lent, by every edition; answers what the first does.

@@ -1,4 +1,4 @@
-//! Every case of what has few: codes beside codes, lengths beside precisions, octets beside octets.
+//! Every case of what has few: codes beside codes, lengths beside precisions, small trees beside one another, octets beside octets.
 
 use independent::codes::physical::{BOOLEAN, BYTE_ARRAY, DOUBLE, FIXED, FLOAT, GROUP, INT32, INT64, INT96};
 use independent::codes::{converted, logical, repetition};
@@ -7,6 +7,7 @@ use independent::{refusal, sheet, ROW_WIDTH};
 
 use crate::columns::Column;
 use crate::comparison::{broken, Comparison, Difference};
+use crate::lists;
 use crate::sheets::assemble;
 use crate::side::{refusal_of, shown, value_of};
 use crate::trees::Slot;
@@ -58,6 +59,7 @@ pub fn run(comparison: &mut Comparison) -> Result<(), Difference> {
     lengths(comparison)?;
     digits(comparison)?;
     precisions(comparison)?;
+    small_trees(comparison)?;
     decimals(comparison)?;
     octets(comparison)?;
     plain_texts(comparison)
@@ -181,6 +183,46 @@ fn precisions(comparison: &mut Comparison) -> Result<(), Difference> {
         }
     }
     Ok(())
+}
+
+/// Every two trees of up to five nodes whose names are one of two, compared both ways round.
+fn small_trees(comparison: &mut Comparison) -> Result<(), Difference> {
+    const MOST_NODES: usize = 5;
+    let sheets: Vec<Vec<u8>> = (0..MOST_NODES).flat_map(runs).map(|run| assemble(&tree_of(run))).collect();
+    for (at, first) in sheets.iter().enumerate() {
+        for second in &sheets[..=at] {
+            lists::compare(comparison, [first, second], |needed| needed)?;
+        }
+    }
+    Ok(())
+}
+
+/// Every run of fields that has so many nodes in all: how many fields it has, and their listings.
+fn runs(nodes: usize) -> Vec<(u16, Vec<Slot>)> {
+    if nodes == 0 {
+        return vec![(0, Vec::new())];
+    }
+    let mut all = Vec::new();
+    for below in 0..nodes {
+        for (children, listing) in runs(below) {
+            for (fields, others) in runs(nodes - 1 - below) {
+                for name in [b'a', b'b'] {
+                    let physical = if children > 0 { GROUP } else { INT32 };
+                    let mut slot = Node { physical, children, ..PLAIN }.slot();
+                    slot[24] = name;
+                    all.push((fields + 1, [&[slot], &listing[..], &others].concat()));
+                }
+            }
+        }
+    }
+    all
+}
+
+/// The listing of a root with a run of fields. Nodes of other numbers have other repetitions, so that it is seen which ones match.
+fn tree_of((children, run): (u16, Vec<Slot>)) -> Vec<Slot> {
+    let mut slots = [&[Node { children, ..ROOT }.slot()], &run[..]].concat();
+    slots[1..].iter_mut().zip([0, 1, 2].into_iter().cycle()).for_each(|(slot, repetition)| slot[1] = repetition);
+    slots
 }
 
 /// For each length the numbers about its greatest power of ten, its greatest number, and -x and -x - 1 of each: read in precisions about the

@@ -10,6 +10,8 @@ pub mod instants;
 pub mod lent;
 #[cfg(linked)]
 pub mod linked;
+pub mod lists;
+pub mod near;
 pub mod published;
 pub mod random;
 pub mod rounds;

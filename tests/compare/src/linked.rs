@@ -18,6 +18,10 @@ impl Side for Linked {
         boundary::rewrite(edition, sheet, out, start)
     }
 
+    fn compare(&self, edition: u32, first: &[u8], second: &[u8], out: &mut [u8]) -> u64 {
+        boundary::compare(edition, first, second, out)
+    }
+
     fn read(&self, edition: u32, column: [u32; 5], value: &[u8], out: &mut [u64]) -> u64 {
         boundary::read(edition, column, value, out)
     }

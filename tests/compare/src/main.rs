@@ -1,7 +1,7 @@
 //! Compares the linked library with the independent reader.
 //!
 //! `compare [--seed N] [--rounds N] [--seconds N] [--round N] [--itself]`. It ends with status 1 at the first difference, where
-//! fewer than a million comparisons were made, or where a refusal was met fewer than a thousand times.
+//! fewer than a million comparisons were made, or where a refusal, or anything else that is counted, was met fewer than a thousand times.
 
 use std::process::ExitCode;
 use std::time::{Duration, Instant};
@@ -64,7 +64,10 @@ fn run(options: &Options) -> Result<(), String> {
     println!("every stored question in every edition: {} comparisons, no difference", comparison.tally.comparisons);
     let mut comparison = Comparison::new(left, &Independent);
     every::run(&mut comparison).map_err(|difference| difference.to_string())?;
-    println!("every case of codes, precisions and octets: {} comparisons, no difference", comparison.tally.comparisons);
+    println!(
+        "every case of codes, precisions, small trees and octets: {} comparisons, no difference",
+        comparison.tally.comparisons
+    );
     let mut comparison = Comparison::new(left, &Independent);
     let mut one = |round| {
         let told = |difference| format!("seed {}, round {round}: {difference}", options.seed);

@@ -3,7 +3,7 @@
 use independent::ROW_WIDTH;
 
 use crate::sheets::assemble;
-use crate::side::{order_refused, refused, Side};
+use crate::side::{pair_refused, refused, Side};
 
 #[path = "../../../independent/tests/published/tables.rs"]
 mod tables;
@@ -56,7 +56,7 @@ fn by_edition(
             answer == 5 && found == [0, text.len() as u64]
         } else {
             let in_order = |a, b| side.order(edition, [6, 0, 1, 0, 0], a, b);
-            let refused_as = |value| unless_unknown(order_refused(value, 16, stop as u32));
+            let refused_as = |value| unless_unknown(pair_refused(value, 16, stop as u32));
             answer == unless_unknown(refused(16, stop as u32))
                 && found == [9; 2]
                 && [in_order(text, b"a"), in_order(b"a", text), in_order(text, text)] == [1, 2, 1].map(refused_as)

@@ -2,6 +2,7 @@
 
 use std::iter;
 
+use independent::compare::ENTRY;
 use independent::edition::{FIRST, SECOND};
 use independent::refusal;
 use independent::sheet::{self, MAX_NODES};
@@ -12,6 +13,8 @@ use crate::changes::{change, change_nodes};
 use crate::columns::{column, is_text, second_value, value};
 use crate::comparison::{broken, Comparison, Difference};
 use crate::instants::{count, fields, unit};
+use crate::lists;
+use crate::near::near_trees;
 use crate::random::Random;
 use crate::sheets::{assemble, random_bytes, store_unreduced, total_of};
 use crate::side::{refusal_of, refused, shown, value_of};
@@ -29,6 +32,9 @@ pub fn run(comparison: &mut Comparison, seed: u64, round: u64) -> Result<(), Dif
     other_editions(comparison, random, &bytes)?;
     for _ in 0..8 {
         instants(comparison, random)?;
+    }
+    for _ in 0..2 {
+        pairs(comparison, random)?;
     }
     Ok(())
 }
@@ -71,6 +77,32 @@ fn sheets(comparison: &mut Comparison, random: &mut Random) -> Result<(), Differ
         }
     }
     Ok(())
+}
+
+/// Two sheets near one another, both lawful or one or both with a change, with enough lent or not.
+fn pairs(comparison: &mut Comparison, random: &mut Random) -> Result<(), Difference> {
+    let size = size(random);
+    let mut sheets = near_trees(random, size).map(|slots| assemble(&slots));
+    let changed: &[usize] = match random.below(20) {
+        0 => &[0],
+        1 => &[1],
+        2 => &[0, 1],
+        _ => &[],
+    };
+    for &at in changed {
+        change(random, &mut sheets[at]);
+        if random.percent(85) {
+            sheet::renew_checks(&mut sheets[at]);
+        }
+    }
+    lists::compare(comparison, [&sheets[0], &sheets[1]], |needed| match random.below(8) {
+        0 => needed.saturating_sub(1),
+        1 => needed.saturating_sub(ENTRY),
+        2 => random.below(needed + 1),
+        3 => needed + 1,
+        4 => needed + random.below(3 * ENTRY),
+        _ => needed,
+    })
 }
 
 /// How many nodes a tree has.
@@ -162,6 +194,7 @@ fn other_editions(comparison: &mut Comparison, random: &mut Random, sheet: &[u8]
     let edition = random.pick(&[257, 258, 1 << 16 | 1, 1 << 31 | 2, u32::MAX, any]);
     comparison.resolve(edition, sheet, ROW_WIDTH)?;
     comparison.rewrite(edition, sheet, sheet.len(), 0)?;
+    comparison.compare(edition, sheet, sheet, 0)?;
     let column = column(random);
     let value = value(random, column);
     comparison.read(edition, column, &value, 2)?;

@@ -1,14 +1,17 @@
-//! A side of the comparison: the six entries in the shape of the C interface.
+//! A side of the comparison: the seven entries in the shape of the C interface.
 
-use independent::Refusal;
+use independent::refusal::{is_of_a_sheet, Refusal};
 
-/// The entries of the C interface; all but timestamps take an edition first. An answer has a refusal's number in bits 32 to 39, 0 for a result, and its place or the
-/// result's value in bits 0 to 31. The refusal of an order has in bits 40 to 47 the value at fault.
+/// The entries of the C interface; all but timestamps take an edition first. An answer has a refusal's number in bits 32 to 39, 0 for a
+/// result, and its place or the result's value in bits 0 to 31. The refusal of an order has in bits 40 to 47 the value at fault, that of
+/// a comparison the sheet at fault.
 pub trait Side {
     /// T.
     fn resolve(&self, edition: u32, sheet: &[u8], rows: &mut [u32]) -> u64;
     /// Bytes written.
     fn rewrite(&self, edition: u32, sheet: &[u8], out: &mut [u8], start: usize) -> u64;
+    /// The number of entries of the list that is written.
+    fn compare(&self, edition: u32, first: &[u8], second: &[u8], out: &mut [u8]) -> u64;
     /// The case: 0 truth, 1 signed whole, 2 unsigned whole, 3 FLOAT, 4 DOUBLE, 5 bytes; two numbers are written.
     fn read(&self, edition: u32, column: [u32; 5], value: &[u8], out: &mut [u64]) -> u64;
     /// 0 less, 1 equal, 2 greater, 3 unordered.
@@ -24,7 +27,7 @@ pub fn refusal_of(answer: u64) -> u32 {
     (answer >> 32) as u32 & 0xFF
 }
 
-/// The value at fault in the refusal of an order: 1 or 2, and 0 for neither; what stands above it is kept, and is 0.
+/// The value or the sheet at fault in a refusal: 1 or 2, and 0 for neither; what stands above it is kept, and is 0.
 pub fn fault_of(answer: u64) -> u32 {
     (answer >> 40) as u32
 }
@@ -40,6 +43,7 @@ pub fn shown(answer: u64) -> String {
         0 => format!("{}", answer),
         number => match fault_of(answer) {
             0 => format!("refused {number} at {}", value_of(answer)),
+            sheet if is_of_a_sheet(number) => format!("refused {number} at {} in sheet {sheet}", value_of(answer)),
             value => format!("refused {number} at {} in value {value}", value_of(answer)),
         },
     }
@@ -50,9 +54,9 @@ pub fn refused(number: u32, place: u32) -> u64 {
     u64::from(number) << 32 | u64::from(place)
 }
 
-/// The answer of an order's refusal, with the value at fault.
-pub fn order_refused(value: u32, number: u32, place: u32) -> u64 {
-    u64::from(value) << 40 | refused(number, place)
+/// The answer of a refusal of an order or a comparison, with the value or the sheet at fault.
+pub fn pair_refused(at_fault: u32, number: u32, place: u32) -> u64 {
+    u64::from(at_fault) << 40 | refused(number, place)
 }
 
 /// The answer of a result or a refusal.
@@ -74,6 +78,10 @@ macro_rules! side {
 
             fn rewrite(&self, edition: u32, sheet: &[u8], out: &mut [u8], start: usize) -> u64 {
                 $crate::side!(@answer $library::rewrite(edition, sheet, out, start))
+            }
+
+            fn compare(&self, edition: u32, first: &[u8], second: &[u8], out: &mut [u8]) -> u64 {
+                $crate::side!(@pair $library, $library::compare(edition, first, second, out))
             }
 
             fn read(&self, edition: u32, column: [u32; 5], value: &[u8], out: &mut [u64]) -> u64 {
@@ -99,12 +107,7 @@ macro_rules! side {
             fn order(&self, edition: u32, column: [u32; 5], a: &[u8], b: &[u8]) -> u64 {
                 let [physical, type_length, kind, p1, p2] = column;
                 let column = $library::ColumnType { physical, type_length, kind, p1, p2 };
-                match $library::order(edition, column, a, b) {
-                    Ok(order) => order as u64,
-                    Err($library::OrderRefusal { refusal, value }) => {
-                        $crate::side::order_refused(value, refusal.number, refusal.place)
-                    }
-                }
+                $crate::side!(@pair $library, $library::order(edition, column, a, b))
             }
 
             fn decode(&self, unit: u32, count: i64, fields: &mut [i64]) -> u64 {
@@ -149,6 +152,14 @@ macro_rules! side {
         match $result {
             Ok(value) => u64::from(value),
             Err(refusal) => $crate::side::refused(refusal.number, refusal.place),
+        }
+    };
+    (@pair $library:ident, $result:expr) => {
+        match $result {
+            Ok(value) => value as u64,
+            Err($library::PairRefusal { refusal, at_fault }) => {
+                $crate::side::pair_refused(at_fault, refusal.number, refusal.place)
+            }
         }
     };
 }

@@ -100,7 +100,8 @@ fn version(name: &str, library: &str, sources: &Sources, copied: &BTreeSet<Strin
                 write!(text, "pub mod {module} {{\n{copy}}}\n")
             }
             Some(module) => writeln!(text, "pub use independent::{module}::{{self}};"),
-            None => writeln!(text, "{line}"),
+            // The comparison itself, a crate, has the name of a module.
+            None => writeln!(text, "{}", line.replace("pub use ", "pub use self::")),
         }
         .expect("a string takes any text");
     }

@@ -9,6 +9,7 @@
 mod bytes;
 mod column;
 mod column_editions;
+mod comparison;
 mod editions;
 mod nodes;
 mod plain_text;
@@ -73,13 +74,14 @@ const fn stored(name: &'static str, place: Place, questions: Option<fn() -> Vec<
     Stored { name, place, questions, answers }
 }
 
-const ALL: [Stored; 9] = [
+const ALL: [Stored; 10] = [
     stored("sheet_vectors", PROGRAM, Some(sheet_vectors::input), InEdition(sheet_vectors::answers)),
     stored("sheet_slots", PROGRAM, Some(sheet_slots::input), InEdition(sheet_slots::answers)),
     stored("schema_rows", PROGRAM, Some(schema_programs::input), InEdition(schema_programs::rows)),
     stored("schema_rewrite", PROGRAM, Some(schema_programs::input), InEdition(schema_programs::rewritten)),
     stored("schema", LIBRARY, Some(schema::input), AsAsked(schema::answers)),
     stored("schema_editions", LIBRARY, Some(schema_editions::input), AsAsked(schema_editions::answers)),
+    stored("comparison", LIBRARY, Some(comparison::input), AsAsked(comparison::answers)),
     stored("column", LIBRARY, Some(column::input), AsAsked(column::answers)),
     stored("column_editions", LIBRARY, Some(column_editions::input), AsAsked(column_editions::answers)),
     stored("timestamp", LIBRARY, None, AsAsked(timestamp::answers)),

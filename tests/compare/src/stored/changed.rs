@@ -41,7 +41,7 @@ fn question_places(stored: &Stored, files: &Files) -> Vec<usize> {
     match stored.name {
         "schema" => vec![first, last],
         "schema_editions" => vec![COUNT, first, last],
-        "column_editions" => vec![COUNT, first],
+        "column_editions" | "comparison" => vec![COUNT, first],
         _ => vec![first],
     }
 }

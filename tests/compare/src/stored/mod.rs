@@ -3,6 +3,7 @@
 
 mod changed;
 mod column;
+mod comparison;
 mod questions;
 mod schema;
 mod timestamp;
@@ -30,7 +31,7 @@ pub struct Stored {
 type Compare = fn(&mut Comparison, &[u8]) -> Result<(), String>;
 
 /// All that is stored.
-pub const ALL: [Stored; 5] = [
+pub const ALL: [Stored; 6] = [
     Stored {
         name: "schema",
         is_one_file: false,
@@ -43,6 +44,7 @@ pub const ALL: [Stored; 5] = [
         ask: |side, questions| schema::ask(side, questions, Editions::BeforeEach),
         compare: Some(|comparison, questions| schema::compare(comparison, questions, Editions::BeforeEach)),
     },
+    Stored { name: "comparison", is_one_file: false, ask: comparison::ask, compare: Some(comparison::compare) },
     Stored {
         name: "column",
         is_one_file: false,
