@@ -97,6 +97,21 @@ static void timestamp(void)
         printf("%" PRId64 " ms\n", count);
 }
 
+/* Noon of 1 January 2000 as an INT96 in nanoseconds since 1970, and back. */
+static void int96(void)
+{
+    const uint8_t noon[GRIFFELJOL_INT96_WIDTH] = {0x00, 0x80, 0xA7, 0x48, 0x4A, 0x27, 0x00, 0x00, 0x59, 0x68, 0x25, 0x00};
+    uint8_t value[GRIFFELJOL_INT96_WIDTH];
+    int64_t count = 0;
+    if (accepted(griffeljol_from_int96(noon, sizeof noon, &count, 1)))
+        printf("%" PRId64 " ns\n", count);
+    if (!accepted(griffeljol_to_int96(count, value, sizeof value)))
+        return;
+    for (int i = 0; i < GRIFFELJOL_INT96_WIDTH; i++)
+        printf("%02x", value[i]);
+    printf("\n");
+}
+
 int main(int argc, char **argv)
 {
     /* One byte more than the longest sheet, so that a longer file is refused. */
@@ -114,5 +129,6 @@ int main(int argc, char **argv)
     read_value();
     order_values();
     timestamp();
+    int96();
     return 0;
 }

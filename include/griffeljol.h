@@ -2,7 +2,7 @@
  *
  * Link the archive libgriffeljol.a, which `rt staticlib griffeljol` proves and writes to target/staticlib; it links into x86-64 Linux
  * programs. "Document 01" is the paper that defines the sheet, the rows and the refusals, "document 02" the one that adds
- * editions and comparison.
+ * editions, comparison and the turning of INT96 times.
  *
  * Answers
  *   Each function answers one uint64_t. Bits 32 to 39 are the number of a refusal, 1 to 21, or 0 for a result. Bits 0 to 31
@@ -14,7 +14,8 @@
  * Editions
  *   What reads or judges a sheet or a column type takes the number of an edition first. In edition 1 the scale of a DECIMAL is
  *   below its precision, as document 01 has it; in edition 2 it may also equal it. All else is the same in both: what edition 1
- *   accepts, edition 2 accepts with the same answer. Any other number is refused with 21, before every other refusal.
+ *   accepts, edition 2 accepts with the same answer. Edition 3 is edition 2 without INT96: such a leaf is refused with 10, whatever
+ *   its annotation, and such a column type with 20. Any other number is refused with 21, before every other refusal.
  *
  * Memory
  *   An array is a pointer and a length, which counts elements and not bytes. The pointer is aligned for its type; that many
@@ -43,6 +44,7 @@ extern "C" {
 /* Editions. */
 #define GRIFFELJOL_EDITION_1 1 /* a DECIMAL's scale is below its precision */
 #define GRIFFELJOL_EDITION_2 2 /* it is at most its precision */
+#define GRIFFELJOL_EDITION_3 3 /* likewise, and no leaf is INT96 */
 
 /* The most bytes of a sheet, its most nodes, and the most bytes of a value. */
 #define GRIFFELJOL_MAX_SHEET 65536
@@ -90,6 +92,13 @@ extern "C" {
 #define GRIFFELJOL_FIELD_MINUTE 4
 #define GRIFFELJOL_FIELD_SECOND 5
 #define GRIFFELJOL_FIELD_FRACTION 6 /* in ticks of the unit, below one second */
+
+/* The bytes of an INT96 time: 8 bytes of nanoseconds in the day, then 4 bytes of Julian day, both unsigned, little-endian. Julian day
+ * GRIFFELJOL_INT96_EPOCH is 1 January 1970. */
+#define GRIFFELJOL_INT96_WIDTH 12
+#define GRIFFELJOL_INT96_NANOS 0
+#define GRIFFELJOL_INT96_DAY 8
+#define GRIFFELJOL_INT96_EPOCH 2440588
 
 /* Physical types. */
 #define GRIFFELJOL_PHYSICAL_BOOLEAN 0
@@ -213,7 +222,8 @@ extern "C" {
 #define GRIFFELJOL_REFUSAL_DEPTH 7            /* a node deeper than 32: the first such node */
 #define GRIFFELJOL_REFUSAL_SHAPE 8            /* shape: the node */
 #define GRIFFELJOL_REFUSAL_DISAGREEMENT 9     /* converted and logical disagree: the node */
-#define GRIFFELJOL_REFUSAL_ANNOTATION 10      /* annotation on the wrong physical type, length or parameters: the node */
+#define GRIFFELJOL_REFUSAL_ANNOTATION 10      /* annotation on the wrong physical type, length or parameters, or INT96 in
+                                                 edition 3: the node */
 #define GRIFFELJOL_REFUSAL_DECIMAL 11         /* DECIMAL scale or precision: the node */
 #define GRIFFELJOL_REFUSAL_LIST 12            /* LIST structure: the LIST */
 #define GRIFFELJOL_REFUSAL_MAP 13             /* MAP structure: the MAP */
@@ -254,7 +264,7 @@ static inline uint32_t griffeljol_fault(uint64_t answer)
 }
 
 /* Judges a sheet and resolves it into rows.
- *   edition   GRIFFELJOL_EDITION_1 or _2
+ *   edition   GRIFFELJOL_EDITION_1, _2 or _3
  *   sheet     the sheet's bytes
  *   rows      where the rows go, GRIFFELJOL_ROW_WIDTH numbers for each node
  * Result: T, the number of nodes, 1 to GRIFFELJOL_MAX_NODES. The rows stand in the first GRIFFELJOL_ROW_WIDTH * T numbers of
@@ -264,7 +274,7 @@ static inline uint32_t griffeljol_fault(uint64_t answer)
 uint64_t griffeljol_resolve(uint32_t edition, const uint8_t *sheet, size_t sheet_len, uint32_t *rows, size_t rows_len);
 
 /* Judges a sheet and writes it anew with both annotations at every node.
- *   edition   GRIFFELJOL_EDITION_1 or _2
+ *   edition   GRIFFELJOL_EDITION_1, _2 or _3
  *   sheet     the sheet's bytes
  *   out       where the rewritten sheet goes
  *   start     the index in out of its first byte
@@ -277,7 +287,7 @@ uint64_t griffeljol_rewrite(uint32_t edition, const uint8_t *sheet, size_t sheet
 /* Compares two sheets: each field in which matched nodes differ, each matched node whose place among its siblings differs, and
  * each node that only one of the sheets has. The roots match; children of matched nodes match by name, and where siblings share
  * one, the first matches the first, and so on. Fields are the bytes of the slots, and not what they resolve to.
- *   edition         GRIFFELJOL_EDITION_1 or _2, for both sheets
+ *   edition         GRIFFELJOL_EDITION_1, _2 or _3, for both sheets
  *   first, second   the bytes of the two sheets; they may be the same
  *   out             where the entries go, GRIFFELJOL_ENTRY_WIDTH bytes each
  * Result: the number of entries. They stand in out from its first byte on; the bytes behind them stay. There are none exactly
@@ -294,7 +304,7 @@ uint64_t griffeljol_compare(uint32_t edition, const uint8_t *first, size_t first
                             uint8_t *out, size_t out_len);
 
 /* Reads one value of a column.
- *   edition   GRIFFELJOL_EDITION_1 or _2
+ *   edition   GRIFFELJOL_EDITION_1, _2 or _3
  *   physical, type_length, kind, p1, p2   the column type, five numbers as a row has them
  *   value     the value's bytes, as a page stores them, without a length in front
  *   out       where GRIFFELJOL_READ_WIDTH numbers go
@@ -313,7 +323,7 @@ uint64_t griffeljol_read(uint32_t edition, uint32_t physical, uint32_t type_leng
                          const uint8_t *value, size_t value_len, uint64_t *out, size_t out_len);
 
 /* Orders two values of a column.
- *   edition   GRIFFELJOL_EDITION_1 or _2
+ *   edition   GRIFFELJOL_EDITION_1, _2 or _3
  *   physical, type_length, kind, p1, p2   the column type, five numbers as a row has them
  *   a, b      the bytes of the two values; they may be the same
  * Result: how a stands to b, one of GRIFFELJOL_ORDER_LESS, _EQUAL, _GREATER and _UNORDERED. Nothing is written.
@@ -338,6 +348,21 @@ uint64_t griffeljol_decode(uint32_t unit, int64_t count, int64_t *fields, size_t
  * Refusals: 20 for the unit, then 18, also for fewer than GRIFFELJOL_FIELDS_WIDTH fields, then 19, then 14 where count_len is 0.
  * count stays as it was. */
 uint64_t griffeljol_encode(uint32_t unit, const int64_t *fields, size_t fields_len, int64_t *count, size_t count_len);
+
+/* Turns an INT96 time into a timestamp's count in nanoseconds. It takes no edition: it is what one needs to leave INT96.
+ *   value   the bytes of the INT96
+ *   count   where the count goes, nanoseconds since 1970-01-01 00:00:00
+ * Result: 1, the numbers written; those behind count[0] stay.
+ * Refusals: 15 where value_len is not GRIFFELJOL_INT96_WIDTH, then 16 for a full day of nanoseconds, 86,400,000,000,000, or more,
+ * then 19 where the count does not fit, then 14 where count_len is 0. count stays as it was. */
+uint64_t griffeljol_from_int96(const uint8_t *value, size_t value_len, int64_t *count, size_t count_len);
+
+/* Turns a timestamp's count in nanoseconds into its INT96 time, which griffeljol_from_int96 turns back into the count.
+ *   count   nanoseconds since 1970-01-01 00:00:00; every count has an INT96
+ *   value   where the bytes of the INT96 go
+ * Result: GRIFFELJOL_INT96_WIDTH, the bytes written; those behind them stay.
+ * Refusals: 14 where value_len is below GRIFFELJOL_INT96_WIDTH. value stays as it was. */
+uint64_t griffeljol_to_int96(int64_t count, uint8_t *value, size_t value_len);
 
 #ifdef __cplusplus
 }

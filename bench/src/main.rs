@@ -6,7 +6,9 @@ mod check_cases;
 mod comparison_cases;
 mod counting;
 mod decimal_cases;
+mod int96_cases;
 mod integers;
+mod julian;
 mod linked;
 mod measured;
 mod native;
@@ -75,6 +77,7 @@ fn cases(word: &str) -> Vec<Case<'static>> {
     cases.extend(comparison_cases::cases());
     cases.extend(check_cases::cases());
     cases.extend(timestamp_cases::cases());
+    cases.extend(int96_cases::cases());
     cases.extend(decimal_cases::cases());
     cases.extend(text_cases::cases());
     cases.retain(|case| case.entry.contains(word) || case.input.contains(word));

@@ -18,7 +18,7 @@ const HINNANT_CHECKED: &str = "Hinnant's date, fields checked";
 const NO_DATE: u32 = 18;
 
 /// Stretches of time that a count of nanoseconds reaches, in words, with their first and last second.
-const STRETCHES: [(&str, i64, i64); 2] =
+pub const STRETCHES: [(&str, i64, i64); 2] =
     [("1970 to 2038", 0, 2_147_483_648), ("1700 to 2260", -8_520_336_000, 9_151_488_000)];
 
 pub fn cases() -> Vec<Case<'static>> {

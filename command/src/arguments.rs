@@ -16,6 +16,8 @@ pub const REPORT: &str = "--report";
 pub const OUTPUT: &str = "-o";
 /// A value in hexadecimal; takes a word.
 pub const HEX: &str = "--hex";
+/// A file of many values; takes a word.
+pub const FILE: &str = "--file";
 /// The edition that judges a sheet or a column type; takes a word.
 pub const EDITION: &str = "--edition";
 

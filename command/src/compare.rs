@@ -28,7 +28,7 @@ pub fn run(mut arguments: Arguments) -> Result<Answer, Failure> {
             2 => Some(AtFault { sheet: LETTERS.second, file: files.second.clone() }),
             _ => None,
         };
-        Failure::Refused(Refused { refusal: refused.refusal, at_fault })
+        Failure::Refused(Refused { at_fault, ..refused.refusal.into() })
     })?;
     let sheets = Sides {
         first: Compared::new(edition, files.first, first)?,

@@ -13,15 +13,20 @@ use crate::files::STANDARD;
 pub enum Failure {
     /// The library refused: status 1.
     Refused(Refused),
+    /// The library refused so many of many values, whose lines tell it: status 1.
+    RefusedValues { refused: u64, count: u64 },
     /// The arguments are wrong, or a file cannot be read or written: status 2 and one line.
     Message(String),
     /// Whoever read standard output stopped reading: status 141, as of a command that SIGPIPE ended, and no word.
     ClosedPipe,
 }
 
-/// A refusal, and of two sheets the one at fault.
+/// A refusal with its meaning in words, and of two sheets the one at fault.
 pub struct Refused {
     pub refusal: Refusal,
+    pub meaning: &'static str,
+    /// What its place is; none where it is always 0.
+    pub place: Option<&'static str>,
     pub at_fault: Option<AtFault>,
 }
 
@@ -58,6 +63,7 @@ impl Failure {
     pub fn tell(&self) -> ExitCode {
         let (text, status) = match self {
             Failure::Refused(refused) => (refused.told(), REFUSED),
+            Failure::RefusedValues { refused, count } => (format!("refused {refused} of {count} values\n"), REFUSED),
             Failure::Message(message) => (format!("griffeljol: {message}\n"), MESSAGE),
             Failure::ClosedPipe => (String::new(), CLOSED_PIPE),
         };
@@ -66,9 +72,21 @@ impl Failure {
     }
 }
 
+impl From<Refused> for Failure {
+    fn from(refused: Refused) -> Self {
+        Failure::Refused(refused)
+    }
+}
+
 impl From<Refusal> for Failure {
     fn from(refusal: Refusal) -> Self {
-        Failure::Refused(Refused { refusal, at_fault: None })
+        Refused::from(refusal).into()
+    }
+}
+
+impl From<Refusal> for Refused {
+    fn from(refusal: Refusal) -> Self {
+        Refused { refusal, meaning: refusal.meaning(), place: refusal.place_meaning(), at_fault: None }
     }
 }
 
@@ -79,15 +97,15 @@ impl Refused {
             None => String::new(),
             Some(AtFault { sheet, file }) => format!("{sheet}, {}: ", input(file)),
         };
-        format!("{}\n{whose}{}\n", self.refusal, explained(self.refusal))
+        format!("{}\n{whose}{}\n", self.refusal, self.explained())
     }
-}
 
-/// A refusal's meaning in words, with that of its place if it has one.
-fn explained(refusal: Refusal) -> String {
-    match refusal.place_meaning() {
-        None => refusal.meaning().to_owned(),
-        Some(place) => format!("{}; place {} is {place}", refusal.meaning(), refusal.place),
+    /// Its meaning, with that of its place if it has one.
+    fn explained(&self) -> String {
+        match self.place {
+            None => self.meaning.to_owned(),
+            Some(place) => format!("{}; place {} is {place}", self.meaning, self.refusal.place),
+        }
     }
 }
 

@@ -15,12 +15,19 @@ pub const STANDARD: &str = "-";
 pub fn read(name: &OsStr, most: usize) -> Result<Vec<u8>, Failure> {
     let most = most as u64 + 1;
     let mut bytes = Vec::new();
-    let read = if name == STANDARD {
-        io::stdin().take(most).read_to_end(&mut bytes)
-    } else {
-        File::open(name).and_then(|file| file.take(most).read_to_end(&mut bytes))
-    };
+    let read = open(name)?.take(most).read_to_end(&mut bytes);
     read.map(|_| bytes).map_err(|error| Failure::read(name, error))
+}
+
+/// A file, or standard input, to read as it comes.
+pub fn open(name: &OsStr) -> Result<Box<dyn Read>, Failure> {
+    if name == STANDARD {
+        return Ok(Box::new(io::stdin()));
+    }
+    match File::open(name) {
+        Ok(file) => Ok(Box::new(file)),
+        Err(error) => Err(Failure::read(name, error)),
+    }
 }
 
 /// Writes all of a text to standard output.

@@ -13,16 +13,20 @@ griffeljol reads Parquet schema sheets. Every answer is the proved library's.
   griffeljol timestamp decode UNIT COUNT [--json]
   griffeljol timestamp encode UNIT DATE TIME [--json]
                                            a count as a date and time, and back
+  griffeljol int96 decode (HEX | --file FILE) [--json]
+  griffeljol int96 encode COUNT [--json]   an INT96 time as a count and its date and time, and back
   griffeljol COMMAND --help                more on one of them
 
-All but timestamp take --edition N, the edition that judges the sheet or the column type, which is 1 without it.
+All but timestamp and int96 take --edition N, the edition that judges the sheet or the column type, which is 1 without
+it.
 
 FILE, one of A and B, and OUT may be - for standard input and standard output. Behind -- every word is taken as it
 stands.
 
 Exit status
     0  done; of compare, the sheets do not differ
-    1  refused: standard error has the line 'refused N at P', then its meaning in words
+    1  refused: standard error has the line 'refused N at P', then its meaning in words; of int96 decode --file, how
+       many values were refused
     2  wrong arguments, or a file that cannot be read or written: standard error has one line
     3  of compare, the sheets differ
   141  whoever read standard output stopped reading; nothing is said
@@ -30,8 +34,9 @@ Exit status
 
 /// Stands behind the help of each part that takes it.
 pub const EDITION: &str = "
-  --edition N   judges by edition N, and by 1 without it. In edition 1 the scale of a DECIMAL is below its precision,
-                in 2 it may also equal it. A number that is no known edition is refused with 21
+  --edition N   judges by edition N, 1 to 3, and by 1 without it. In edition 1 the scale of a DECIMAL is below its
+                precision, in 2 and 3 it may also equal it. In 3 no leaf is INT96: one is refused with 10, and such a
+                column type with 20. A number that is no known edition is refused with 21
 ";
 
 pub const ROWS: &str = "\
@@ -105,11 +110,12 @@ griffeljol value PHYSICAL LENGTH KIND P1 P2 (FILE | --hex HEX) [--edition N] [--
 
 Reads one value of the column type of these five numbers, which a leaf's row has. The value's bytes are those of FILE,
 of standard input for -, or of HEX, pairs of hexadecimal digits. Prints true or false, a whole number, 'float' or
-'double' and its decimal, or for INT96 and all byte forms 'bytes', where they start and how many they are. A STRING,
-ENUM or JSON that is no UTF-8 is refused with 16 at the byte where its whole sequences, read from the start, stop.
+'double' and its decimal, or for INT96 and all byte forms 'bytes', where they start and how many they are; behind those
+of a plain INT96 its date and time, where it has one. A STRING, ENUM or JSON that is no UTF-8 is refused with 16 at the
+byte where its whole sequences, read from the start, stop.
 
-  --json   prints an object with the case and the value, for floats also the bits. A refusal is printed as an object,
-           besides its words on standard error
+  --json   prints an object with the case and the value, for floats also the bits, for a plain INT96 also the time, or
+           null where it has none. A refusal is printed as an object, besides its words on standard error
 
   PHYSICAL   0 BOOLEAN  1 INT32  2 INT64  3 INT96  4 FLOAT  5 DOUBLE  6 BYTE_ARRAY  7 FIXED_LEN_BYTE_ARRAY
   LENGTH     bytes of a FIXED_LEN_BYTE_ARRAY, else 0
@@ -135,4 +141,28 @@ with at most the unit's digits behind a point.
 For example:
   griffeljol timestamp decode millis -1
   griffeljol timestamp encode nanos 1677-09-21 00:12:43.145224192
+";
+
+pub const INT96: &str = "\
+griffeljol int96 decode HEX [--json]
+griffeljol int96 decode --file FILE [--json]
+griffeljol int96 encode COUNT [--json]
+
+Turns an INT96 time into its count of nanoseconds since 1970-01-01 00:00:00 and its date and time, and a count into its
+INT96. An INT96 is 12 bytes: 8 of nanoseconds in the day, then 4 of Julian day, both unsigned, little-endian; day
+2,440,588 is 1 January 1970. HEX is its bytes, pairs of hexadecimal digits, and encode prints them so. Another length is
+refused with 15, a full day of nanoseconds or more with 16, and a time that no count holds with 19.
+
+  --file FILE   turns the values of FILE, or of standard input for -, which stand behind one another, and prints a line
+                for each as it goes: its index from 0, its count, date and time, or 'refused N at 0' and its meaning. A
+                last value that is cut off is refused with 15. It exits 1 where some value was refused, and says on
+                standard error how many. While it works it tells there how far it has come, where standard error is a
+                terminal and standard output is not
+  --json        prints an object with the bytes, the count and the fields, the fraction in nanoseconds; of a file one
+                for each value, with its index, a refused one with its refusal. Any other refusal is printed as an
+                object, besides its words on standard error
+
+For example:
+  griffeljol int96 decode 0080A7484A27000059682500
+  griffeljol int96 encode 946728000000000000
 ";

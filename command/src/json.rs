@@ -75,16 +75,16 @@ fn write_text(f: &mut fmt::Formatter<'_>, text: &str) -> fmt::Result {
     f.write_str("\"")
 }
 
-/// A refusal, with the sheet at fault of two. The name of a file that is no UTF-8 is null.
-pub fn refusal(Refused { refusal, at_fault }: &Refused) -> Json {
+/// A refusal as members of an object, with the sheet at fault of two. The name of a file that is no UTF-8 is null.
+pub fn refusal_members(Refused { refusal, meaning, place, at_fault }: &Refused) -> Vec<(&'static str, Json)> {
     let mut members = vec![
         ("refused", Json::number(refusal.number)),
         ("at", Json::number(refusal.place)),
-        ("meaning", Json::text(refusal.meaning())),
-        ("place", Json::maybe(refusal.place_meaning())),
+        ("meaning", Json::text(*meaning)),
+        ("place", Json::maybe(*place)),
     ];
     if let Some(AtFault { sheet, file }) = at_fault {
         members.extend([("sheet", Json::text(*sheet)), ("file", Json::maybe(file.to_str()))]);
     }
-    Json::Object(members)
+    members
 }

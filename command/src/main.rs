@@ -1,4 +1,4 @@
-//! The command `griffeljol`: rows, rewriting, the tree, comparison, single values and timestamps, by the proved library.
+//! The command `griffeljol`: rows, rewriting, the tree, comparison, single values, timestamps and INT96 times, by the proved library.
 //!
 //! It judges nothing: every answer is the library's. Of an accepted sheet it reads names, logical types and checks itself, by
 //! the layout of document 01 (`layout`), to say in words what the library answers.
@@ -11,9 +11,12 @@ mod differences;
 mod failure;
 mod files;
 mod help;
+mod hex;
+mod int96;
 mod json;
 mod layout;
 mod names;
+mod progress;
 mod report;
 mod rewrite;
 mod rows;
@@ -28,8 +31,9 @@ use std::ffi::OsString;
 use std::process::ExitCode;
 
 use answer::Answer;
-use arguments::{Arguments, EDITION, HEX, JSON, OUTPUT, REPORT};
+use arguments::{Arguments, EDITION, FILE, HEX, JSON, OUTPUT, REPORT};
 use failure::Failure;
+use json::Json;
 
 /// What a command is called, which options it takes, its help, and what it prints.
 struct Command {
@@ -39,13 +43,14 @@ struct Command {
     run: fn(Arguments) -> Result<Answer, Failure>,
 }
 
-const COMMANDS: [Command; 6] = [
+const COMMANDS: [Command; 7] = [
     Command { name: "rows", options: &[EDITION, JSON], help: help::ROWS, run: rows::run },
     Command { name: "rewrite", options: &[EDITION, OUTPUT], help: help::REWRITE, run: rewrite::run },
     Command { name: "tree", options: &[EDITION, JSON], help: help::TREE, run: tree::run },
     Command { name: "compare", options: &[EDITION, JSON, REPORT], help: help::COMPARE, run: compare::run },
     Command { name: "value", options: &[EDITION, HEX, JSON], help: help::VALUE, run: value::run },
     Command { name: "timestamp", options: &[JSON], help: help::TIMESTAMP, run: timestamp::run },
+    Command { name: "int96", options: &[FILE, JSON], help: help::INT96, run: int96::run },
 ];
 
 fn main() -> ExitCode {
@@ -69,7 +74,7 @@ fn run(mut words: impl Iterator<Item = OsString>) -> Result<ExitCode, Failure> {
     match (command.run)(arguments) {
         Ok(answer) => print(answer),
         Err(Failure::Refused(refused)) if wants_json => {
-            files::print(json::refusal(&refused).line().as_bytes())?;
+            files::print(Json::Object(json::refusal_members(&refused)).line().as_bytes())?;
             Err(Failure::Refused(refused))
         }
         Err(failure) => Err(failure),

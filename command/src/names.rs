@@ -5,7 +5,7 @@ use std::collections::HashMap;
 use griffeljol::Row;
 
 use crate::json::Json;
-use crate::layout;
+use crate::{hex, layout};
 
 /// What stands for the path of the root. It has a space, so no name is shown so.
 const ROOT: &str = "the root";
@@ -41,8 +41,7 @@ pub fn paths(sheet: &[u8], rows: &[Row]) -> Vec<String> {
 
 /// A name as members of an object. One that is no UTF-8 is null, and its bytes stand in hexadecimal.
 pub fn members(name: &[u8]) -> [(&'static str, Json); 2] {
-    let hex: String = name.iter().map(|byte| format!("{byte:02x}")).collect();
-    [("name", Json::maybe(std::str::from_utf8(name).ok())), ("name_hex", Json::text(hex))]
+    [("name", Json::maybe(std::str::from_utf8(name).ok())), ("name_hex", Json::text(hex::shown(name)))]
 }
 
 /// A name on one line, in quotes where it has one of these marks or something is escaped.

@@ -39,7 +39,7 @@ pub fn run(mut arguments: Arguments) -> Result<Answer, Failure> {
             (unit, count, fields, count.to_string())
         }
     };
-    let text = if wants_json { object(unit, count, &fields).line() } else { text + "\n" };
+    let text = if wants_json { Json::Object(members(unit, count, &fields).into()).line() } else { text + "\n" };
     Ok(text.into())
 }
 
@@ -66,7 +66,7 @@ fn fraction_digits(unit: u32) -> usize {
 }
 
 /// A date and time, the fraction with every digit of its unit.
-fn shown(unit: u32, fields: &Fields) -> String {
+pub fn shown(unit: u32, fields: &Fields) -> String {
     let Fields { year, month, day, hour, minute, second, fraction } = *fields;
     let sign = if year < 0 { "-" } else { "" };
     let year = year.unsigned_abs();
@@ -116,10 +116,10 @@ fn number(text: &str) -> Option<i64> {
     text.bytes().all(|byte| byte.is_ascii_digit()).then(|| text.parse().ok())?
 }
 
-/// A count beside its fields.
-fn object(unit: u32, count: i64, fields: &Fields) -> Json {
+/// A count beside its fields, as members of an object.
+pub fn members(unit: u32, count: i64, fields: &Fields) -> [(&'static str, Json); 9] {
     let Fields { year, month, day, hour, minute, second, fraction } = *fields;
-    Json::Object(vec![
+    [
         ("unit", Json::number(unit)),
         ("count", Json::number(count)),
         ("year", Json::number(year)),
@@ -129,5 +129,5 @@ fn object(unit: u32, count: i64, fields: &Fields) -> Json {
         ("minute", Json::number(minute)),
         ("second", Json::number(second)),
         ("fraction", Json::number(fraction)),
-    ])
+    ]
 }

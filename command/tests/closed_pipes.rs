@@ -15,6 +15,8 @@ fn closed_pipes() {
     nobody_reads_standard_output();
     nobody_reads_standard_error();
     a_reader_that_stops_after_a_line();
+    a_reader_that_stops_in_a_file_without_end();
+    a_line_for_each_value_as_it_comes();
 }
 
 /// Starts the command with pipes at all three ends.
@@ -42,6 +44,8 @@ fn nobody_reads_standard_output() {
         &["compare", FILE, "-", "--json"],
         &["compare", FILE, "-", "--report"],
         &["value", "6", "0", "0", "0", "0", "-"],
+        &["int96", "decode", "--file", "-"],
+        &["int96", "decode", "--file", "-", "--json"],
     ];
     for words in lines {
         let mut child = start(words);
@@ -75,4 +79,30 @@ fn a_reader_that_stops_after_a_line() {
     assert!(output.stderr.is_empty());
     // What fits into the pipe is written before anyone stops reading.
     assert_eq!(output.status.code(), Some(0));
+}
+
+fn a_reader_that_stops_in_a_file_without_end() {
+    let mut child = start(&["int96", "decode", "--file", "/dev/zero"]);
+    let mut lines = [0; 100_000];
+    child.stdout.as_mut().expect("a pipe").read_exact(&mut lines).expect("output");
+    assert!(lines.starts_with(b"0 refused 19 at 0, "));
+    drop(child.stdout.take());
+    let output = child.wait_with_output().expect("the command ends");
+    assert!(output.stderr.is_empty());
+    assert_eq!(output.status.code(), Some(CLOSED_PIPE));
+}
+
+fn a_line_for_each_value_as_it_comes() {
+    let mut child = start(&["int96", "decode", "--file", "-"]);
+    let mut stdin = child.stdin.take().expect("a pipe");
+    let mut stdout = child.stdout.take().expect("a pipe");
+    for index in 0..3 {
+        stdin.write_all(b"\0\0\0\0\0\0\0\0\x8C\x3D\x25\0").expect("input");
+        let expected = format!("{index} 0 1970-01-01 00:00:00.000000000\n");
+        let mut line = vec![0; expected.len()];
+        stdout.read_exact(&mut line).expect("output");
+        assert_eq!(line, expected.into_bytes());
+    }
+    drop(stdin);
+    assert_eq!(child.wait().expect("the command ends").code(), Some(0));
 }

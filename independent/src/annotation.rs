@@ -169,8 +169,11 @@ pub enum Annotation {
 }
 
 impl Annotation {
-    /// Whether rule 10 lets it stand on a physical type of this type length.
-    pub fn may_stand_on(self, physical: u8, type_length: i32) -> bool {
+    /// Whether an edition's rule 10 lets it, or no annotation, stand on a physical type of this type length.
+    pub fn may_stand_on(self, edition: Edition, physical: u8, type_length: i32) -> bool {
+        if physical == physical::INT96 && !edition.has_int96() {
+            return false;
+        }
         let logical = match self {
             Annotation::None => return true,
             Annotation::Interval => return physical == physical::FIXED && type_length == 12,
@@ -221,7 +224,7 @@ impl Annotation {
 /// A slot is under a map where its parent is a resolved MAP.
 pub fn resolve(edition: Edition, slot: &Slot, under_map: bool) -> Result<Annotation, u32> {
     let annotation = meaning(slot, under_map)?;
-    if !annotation.may_stand_on(slot.physical, slot.type_length) {
+    if !annotation.may_stand_on(edition, slot.physical, slot.type_length) {
         return Err(refusal::ANNOTATION);
     }
     if annotation == Annotation::Logical(Logical::Decimal)

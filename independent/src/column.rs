@@ -51,7 +51,8 @@ impl Column {
         } else {
             0
         };
-        let is_lawful = rules::is_type_length(physical, type_length) && annotation.may_stand_on(physical, type_length);
+        let is_lawful =
+            rules::is_type_length(physical, type_length) && annotation.may_stand_on(edition, physical, type_length);
         is_lawful.then_some(Column { physical, type_length: type_length as usize, annotation, precision })
     }
 

@@ -1,4 +1,4 @@
-//! Editions, by document 02's R-4: which are known, and what each decides. No other module asks for the number of one.
+//! Editions, by document 02's: which are known, and what each decides. No other module asks for the number of one.
 
 use crate::refusal::{self, Refusal};
 
@@ -6,6 +6,8 @@ use crate::refusal::{self, Refusal};
 pub const FIRST: u32 = 1;
 /// The number of the second: a DECIMAL's scale may equal its precision.
 pub const SECOND: u32 = 2;
+/// The number of the third: no leaf is INT96.
+pub const THIRD: u32 = 3;
 
 /// A known edition.
 #[derive(Clone, Copy, Debug, PartialEq, Eq)]
@@ -15,7 +17,7 @@ impl Edition {
     /// The edition of a number: refusal 21 where it is none's.
     pub fn known(number: u32) -> Result<Self, Refusal> {
         match number {
-            FIRST | SECOND => Ok(Edition(number)),
+            FIRST | SECOND | THIRD => Ok(Edition(number)),
             _ => Err(Refusal::whole(refusal::UNKNOWN_EDITION)),
         }
     }
@@ -23,5 +25,10 @@ impl Edition {
     /// Whether the scale of a DECIMAL may equal its precision.
     pub fn scale_may_equal_precision(self) -> bool {
         self.0 >= SECOND
+    }
+
+    /// Whether a leaf may be INT96.
+    pub fn has_int96(self) -> bool {
+        self.0 < THIRD
     }
 }

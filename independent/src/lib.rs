@@ -17,6 +17,7 @@ pub mod column;
 pub mod compare;
 pub mod decimal;
 pub mod edition;
+pub mod int96;
 pub mod order;
 pub mod rebuild;
 pub mod refusal;
@@ -31,6 +32,7 @@ pub mod value;
 
 pub use column::ColumnType;
 pub use compare::compare;
+pub use int96::{from_int96, to_int96};
 pub use order::{order, Order};
 pub use rebuild::rebuild;
 pub use refusal::{PairRefusal, Refusal};

@@ -1,4 +1,4 @@
-//! The numbered refusals of document 01, with what document 02's add.
+//! The numbered refusals of document 01, with what document 02's add.
 
 use std::fmt;
 
@@ -93,7 +93,7 @@ pub const TOO_DEEP: u32 = 7;
 pub const SHAPE: u32 = 8;
 /// Converted and logical type disagree.
 pub const DISAGREEMENT: u32 = 9;
-/// An annotation on the wrong physical type, length or parameters.
+/// An annotation on the wrong physical type, length or parameters, or an INT96 leaf in the third edition.
 pub const ANNOTATION: u32 = 10;
 /// DECIMAL scale or precision.
 pub const DECIMAL: u32 = 11;
@@ -103,15 +103,15 @@ pub const LIST: u32 = 12;
 pub const MAP: u32 = 13;
 /// Output too short, or its start lies beyond its end.
 pub const OUTPUT: u32 = 14;
-/// A value of wrong length, or over 65,536 bytes.
+/// A value of wrong length, or over 65,536 bytes; an INT96 to convert of another length than 12.
 pub const VALUE_LENGTH: u32 = 15;
-/// A value breaks its annotation.
+/// A value breaks its annotation; an INT96 to convert has a full day of nanoseconds or more.
 pub const VALUE: u32 = 16;
 /// The column has no order.
 pub const NO_ORDER: u32 = 17;
 /// The fields form no date or time.
 pub const NO_DATE: u32 = 18;
-/// The fields are not representable in a signed 64-bit count.
+/// The fields, or an INT96 to convert, are not representable in a signed 64-bit count.
 pub const NO_COUNT: u32 = 19;
 /// No accepted sheet has a leaf of this column type, or a time unit is not 1 to 3.
 pub const COLUMN_TYPE: u32 = 20;

@@ -2,7 +2,7 @@
 //! refusals. Each list is held to its bytes, and each second sheet is rebuilt from the first and the list.
 
 use independent::compare::{differences, Entry, ENTRY};
-use independent::edition::{FIRST, SECOND};
+use independent::edition::{FIRST, SECOND, THIRD};
 use independent::sheet::{assemble, renew_checks, slot_start, Slot, MAX_NODES, SLOT};
 use independent::{compare, rebuild, PairRefusal, Refusal};
 
@@ -63,10 +63,10 @@ fn only_in_second(node: u16, slot: Slot) -> Entry {
     entry(74, node, &[], &slot.to_bytes())
 }
 
-/// Holds the list of two trees in both editions to its entries, with bytes lent that no entry needs, and rebuilds the second sheet.
+/// Holds the list of two trees in every edition to its entries, with bytes lent that no entry needs, and rebuilds the second sheet.
 fn holds(first: &[Slot], second: &[Slot], expected: &[Entry]) {
     let (first, second) = (assemble(first), assemble(second));
-    for edition in [FIRST, SECOND] {
+    for edition in [FIRST, SECOND, THIRD] {
         assert_eq!(differences(edition, &first, &second).unwrap(), expected);
         let bytes = expected.iter().flat_map(Entry::to_bytes).collect::<Vec<_>>();
         for beyond in [0, 1, ENTRY] {
@@ -267,13 +267,13 @@ fn refusals_in_their_order() {
             for (two, ..) in wrong {
                 assert_eq!(refusal_of(FIRST, one, two, lent), refused(number, place, 1));
             }
-            for unknown in [0, 3, 257, u32::MAX] {
+            for unknown in [0, 4, 257, u32::MAX] {
                 assert_eq!(refusal_of(unknown, one, &right, lent), refused(21, 0, 0));
                 assert_eq!(refusal_of(unknown, &right, one, lent), refused(21, 0, 0));
             }
         }
     }
-    assert_eq!(refusal_of(3, &right, &right, 0), refused(21, 0, 0));
+    assert_eq!(refusal_of(4, &right, &right, 0), refused(21, 0, 0));
     for lent in [0, 1, ENTRY, 2 * ENTRY - 1] {
         assert_eq!(refusal_of(FIRST, &right, &other, lent), refused(14, 0, 0));
     }
@@ -289,7 +289,14 @@ fn both_sheets_are_read_in_the_edition() {
     let fraction = assemble(&[root(1), Slot { logical: 5, scale: 3, precision: 3, ..LEAF }]);
     assert_eq!(refusal_of(FIRST, &fraction, &plain, 9 * ENTRY), refused(11, 1, 1));
     assert_eq!(refusal_of(FIRST, &plain, &fraction, 9 * ENTRY), refused(11, 1, 2));
-    assert_eq!(compare(SECOND, &plain, &fraction, &mut [0; 3 * ENTRY]), Ok(3));
+    for edition in [SECOND, THIRD] {
+        assert_eq!(compare(edition, &plain, &fraction, &mut [0; 3 * ENTRY]), Ok(3));
+    }
+    let int96 = assemble(&[root(1), Slot { physical: 3, ..LEAF }]);
+    assert_eq!(compare(SECOND, &plain, &int96, &mut [0; ENTRY]), Ok(1));
+    assert_eq!(refusal_of(THIRD, &int96, &plain, 0), refused(10, 1, 1));
+    assert_eq!(refusal_of(THIRD, &plain, &int96, 0), refused(10, 1, 2));
+    assert_eq!(refusal_of(THIRD, &int96, &int96, 0), refused(10, 1, 1));
 }
 
 #[test]

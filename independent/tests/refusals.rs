@@ -1,6 +1,6 @@
 //! The order of refusals, their places, and that a refused call leaves what it was lent.
 
-use independent::edition::{FIRST, SECOND};
+use independent::edition::{FIRST, SECOND, THIRD};
 use independent::sheet::{assemble, renew_checks, slot_start, Slot, BLOCK};
 use independent::{encode, order, read, resolve, rewrite, ColumnType, Fields, PairRefusal, Refusal, ROW_WIDTH};
 
@@ -34,15 +34,18 @@ fn flat(leaves: u16) -> Vec<u8> {
 /// Resolving and rewriting a sheet, which both refuse it alike in each edition and leave their outputs; an unknown edition comes first.
 fn refusal_of(sheet: &[u8]) -> Refusal {
     let refusal = refusal_in(FIRST, sheet);
-    assert_eq!(refusal_in(SECOND, sheet), refusal);
+    assert_eq!([SECOND, THIRD].map(|edition| refusal_in(edition, sheet)), [refusal; 2]);
     for unknown in UNKNOWN {
         assert_eq!(refusal_in(unknown, sheet), refused(21, 0));
     }
     refusal
 }
 
+/// The known editions.
+const EDITIONS: [u32; 3] = [FIRST, SECOND, THIRD];
+
 /// Numbers of no edition.
-const UNKNOWN: [u32; 5] = [0, 3, 4, 257, u32::MAX];
+const UNKNOWN: [u32; 5] = [0, 4, 5, 257, u32::MAX];
 
 fn refusal_in(edition: u32, sheet: &[u8]) -> Refusal {
     let (mut rows, mut out) = ([7; 20_000], vec![9; 140_000]);
@@ -203,21 +206,79 @@ fn an_unknown_edition_comes_first() {
 }
 
 #[test]
-fn the_second_edition_lets_the_scale_equal_the_precision_and_nothing_else() {
+fn the_later_editions_let_the_scale_equal_the_precision_and_nothing_else() {
     let decimal = |physical, type_length, precision, scale| {
         let leaf = Slot { physical, logical: 5, type_length, precision, scale, ..LEAF };
         let sheet = assemble(&[Slot { children: 1, ..ROOT }, leaf]);
-        [FIRST, SECOND].map(|edition| resolve(edition, &sheet, &mut [0; 2 * ROW_WIDTH]))
+        EDITIONS.map(|edition| resolve(edition, &sheet, &mut [0; 2 * ROW_WIDTH]))
     };
     for (physical, type_length, most) in [(1, 0, 9), (2, 0, 18), (6, 0, i32::MAX), (7, 1, 2), (7, 256, 616)] {
         for precision in [1, 2, most] {
-            assert_eq!(decimal(physical, type_length, precision, precision - 1), [Ok(2), Ok(2)]);
-            assert_eq!(decimal(physical, type_length, precision, precision), [Err(refused(11, 1)), Ok(2)]);
+            assert_eq!(decimal(physical, type_length, precision, precision - 1), [Ok(2); 3]);
+            assert_eq!(decimal(physical, type_length, precision, precision), [Err(refused(11, 1)), Ok(2), Ok(2)]);
         }
         for (precision, scale) in [(0, 0), (-1, -1), (1, 2), (2, -1), (i32::MIN, i32::MIN)] {
-            assert_eq!(decimal(physical, type_length, precision, scale), [Err(refused(11, 1)); 2]);
+            assert_eq!(decimal(physical, type_length, precision, scale), [Err(refused(11, 1)); 3]);
         }
     }
-    assert_eq!(decimal(1, 0, 10, 10), [Err(refused(11, 1)); 2]);
-    assert_eq!(decimal(7, 257, 1, 1), [Err(refused(11, 1)); 2]);
+    assert_eq!(decimal(1, 0, 10, 10), [Err(refused(11, 1)); 3]);
+    assert_eq!(decimal(7, 257, 1, 1), [Err(refused(11, 1)); 3]);
+}
+
+const INT96: Slot = Slot { physical: 3, ..LEAF };
+
+/// What the known editions answer to a root with leaves.
+fn in_editions(leaves: &[Slot]) -> [Result<u32, Refusal>; 3] {
+    let root = Slot { children: leaves.len() as u16, ..ROOT };
+    let sheet = assemble(&[&[root], leaves].concat());
+    EDITIONS.map(|edition| resolve(edition, &sheet, &mut [0; 20 * ROW_WIDTH]))
+}
+
+#[test]
+fn the_third_edition_refuses_an_int96_leaf_whatever_its_annotation() {
+    for leaf in [INT96, Slot { logical: 11, ..INT96 }, Slot { repetition: 2, ..INT96 }] {
+        assert_eq!(in_editions(&[LEAF, leaf, leaf]), [Ok(4), Ok(4), Err(refused(10, 2))]);
+    }
+    // An annotation that INT96 never had.
+    for logical in [1, 4, 5, 6, 12, 13, 14] {
+        assert_eq!(in_editions(&[Slot { logical, ..INT96 }]), [Err(refused(10, 1)); 3]);
+    }
+    assert_eq!(in_editions(&[Slot { a: 1, ..INT96 }]), [Err(refused(10, 1)); 3]);
+    assert_eq!(in_editions(&[Slot { converted: 21, ..INT96 }]), [Err(refused(10, 1)); 3]);
+}
+
+#[test]
+fn at_an_int96_leaf_8_and_9_come_first_and_at_other_nodes_the_first_does() {
+    let shapes = [Slot { type_length: 12, ..INT96 }, Slot { scale: 1, ..INT96 }, Slot { repetition: 255, ..INT96 }];
+    for shape in shapes {
+        assert_eq!(in_editions(&[shape]), [Err(refused(8, 1)); 3]);
+        assert_eq!(in_editions(&[Slot { converted: 0, logical: 4, ..shape }]), [Err(refused(8, 1)); 3]);
+        assert_eq!(in_editions(&[INT96, shape]), [Err(refused(8, 2)), Err(refused(8, 2)), Err(refused(10, 1))]);
+        assert_eq!(in_editions(&[shape, INT96]), [Err(refused(8, 1)); 3]);
+    }
+    for disagreement in [Slot { converted: 0, logical: 4, ..INT96 }, Slot { converted: 0, logical: 11, ..INT96 }] {
+        assert_eq!(in_editions(&[disagreement]), [Err(refused(9, 1)); 3]);
+        assert_eq!(in_editions(&[disagreement, INT96]), [Err(refused(9, 1)); 3]);
+    }
+    // Under 21, 1 to 7 and before 14.
+    let sheet = assemble(&[Slot { children: 1, ..ROOT }, INT96]);
+    assert_eq!(resolve(THIRD, &sheet, &mut []), Err(refused(10, 1)));
+    assert_eq!(rewrite(THIRD, &sheet, &mut [], 1), Err(refused(10, 1)));
+    assert_eq!(refusal_in(THIRD, &changed(&sheet, &[(slot_start(0) + 6, 2)])), refused(5, 2));
+}
+
+#[test]
+fn a_column_of_int96_is_none_of_the_third_edition() {
+    let column = |kind| ColumnType { physical: 3, type_length: 0, kind, p1: 0, p2: 0 };
+    for (kind, of_twelve) in [(0, Ok(())), (11, Err(refused(16, 0)))] {
+        for edition in [FIRST, SECOND] {
+            assert_eq!(read(edition, column(kind), &[0; 12]).map(drop), of_twelve);
+            assert_eq!(read(edition, column(kind), b""), Err(refused(15, 0)));
+            assert_eq!(order(edition, column(kind), b"", b""), Err(PairRefusal::of_neither(refused(17, 0))));
+        }
+        for value in [&[0; 12][..], b""] {
+            assert_eq!(read(THIRD, column(kind), value), Err(refused(20, 0)));
+            assert_eq!(order(THIRD, column(kind), value, b""), Err(PairRefusal::of_neither(refused(20, 0))));
+        }
+    }
 }

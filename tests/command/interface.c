@@ -265,7 +265,8 @@ static void check_order(uint32_t edition)
     CHECK(griffeljol_order(edition, GRIFFELJOL_PHYSICAL_FLOAT, 0, 0, 0, 0, zero, 4, minus_zero, 4) == GRIFFELJOL_ORDER_EQUAL);
     CHECK(griffeljol_order(edition, GRIFFELJOL_PHYSICAL_FLOAT, 0, 0, 0, 0, nan, 4, nan, 4) == GRIFFELJOL_ORDER_UNORDERED);
     CHECK(griffeljol_order(edition, bytes, 1, 0, 0, 0, NULL, 0, NULL, 0) == refused(20));
-    CHECK(griffeljol_order(edition, GRIFFELJOL_PHYSICAL_INT96, 0, 0, 0, 0, NULL, 0, NULL, 0) == refused(17));
+    CHECK(griffeljol_order(edition, GRIFFELJOL_PHYSICAL_FIXED_LEN_BYTE_ARRAY, 12, GRIFFELJOL_KIND_INTERVAL, 0, 0, NULL, 0, NULL, 0)
+          == refused(17));
     CHECK(griffeljol_order(edition, GRIFFELJOL_PHYSICAL_INT32, 0, 0, 0, 0, NULL, 0, zero, 4) == refused_in(1, 15, 0));
     CHECK(griffeljol_order(edition, bytes, 0, GRIFFELJOL_KIND_STRING, 0, 0, text, 3, text, 2) == refused_in(1, 16, 2));
     CHECK(griffeljol_order(edition, bytes, 0, GRIFFELJOL_KIND_STRING, 0, 0, text, 2, text, 3) == refused_in(2, 16, 2));
@@ -274,17 +275,62 @@ static void check_order(uint32_t edition)
     CHECK(griffeljol_order(edition, bytes, 0, GRIFFELJOL_KIND_DECIMAL, 1, 0, text, 1, NULL, 0) == refused_in(1, 16, 0));
 }
 
-/* What the second edition alone has: decimals whose scale equals their precision. */
-static void check_second_edition(void)
+/* What the first edition has not: decimals whose scale equals their precision. */
+static void check_fractions(void)
 {
     const uint32_t bytes = GRIFFELJOL_PHYSICAL_BYTE_ARRAY, decimal = GRIFFELJOL_KIND_DECIMAL;
     const uint8_t a[1] = {0x63}, b[1] = {0x9D};
-    CHECK(reads(GRIFFELJOL_EDITION_2, bytes, decimal, 2, 2, a, 1, GRIFFELJOL_CASE_BYTES, 0, 1));
+    for (uint32_t edition = GRIFFELJOL_EDITION_2; edition <= GRIFFELJOL_EDITION_3; edition++) {
+        CHECK(reads(edition, bytes, decimal, 2, 2, a, 1, GRIFFELJOL_CASE_BYTES, 0, 1));
+        CHECK(griffeljol_read(edition, bytes, 0, decimal, 0, 0, a, 1, NULL, 0) == refused(20));
+        CHECK(griffeljol_read(edition, bytes, 0, decimal, 2, 3, a, 1, NULL, 0) == refused(20));
+        CHECK(griffeljol_order(edition, bytes, 0, decimal, 2, 2, a, 1, b, 1) == GRIFFELJOL_ORDER_GREATER);
+    }
     CHECK(griffeljol_read(GRIFFELJOL_EDITION_1, bytes, 0, decimal, 2, 2, a, 1, NULL, 0) == refused(20));
-    CHECK(griffeljol_read(GRIFFELJOL_EDITION_2, bytes, 0, decimal, 0, 0, a, 1, NULL, 0) == refused(20));
-    CHECK(griffeljol_read(GRIFFELJOL_EDITION_2, bytes, 0, decimal, 2, 3, a, 1, NULL, 0) == refused(20));
-    CHECK(griffeljol_order(GRIFFELJOL_EDITION_2, bytes, 0, decimal, 2, 2, a, 1, b, 1) == GRIFFELJOL_ORDER_GREATER);
     CHECK(griffeljol_order(GRIFFELJOL_EDITION_1, bytes, 0, decimal, 2, 2, a, 1, b, 1) == refused(20));
+}
+
+/* A sheet with one leaf of INT96, its node 2, and with a logical type there. */
+static void int96_leaf(uint8_t *out, const uint8_t *sheet, uint8_t logical)
+{
+    uint8_t leaves[SHEET];
+    two_leaves(leaves, sheet, 'a', 'b');
+    changed(out, leaves, 2, GRIFFELJOL_DIFFERENCE_PHYSICAL, GRIFFELJOL_PHYSICAL_INT96);
+    changed(leaves, out, 2, GRIFFELJOL_DIFFERENCE_LOGICAL, logical);
+    memcpy(out, leaves, SHEET);
+}
+
+/* What the third edition has not: leaves and columns of INT96. */
+static void check_third_edition(const uint8_t *sheet)
+{
+    const uint32_t int96 = GRIFFELJOL_PHYSICAL_INT96;
+    const uint8_t value[GRIFFELJOL_INT96_WIDTH] = {0}, logicals[2] = {GRIFFELJOL_LOGICAL_NONE, GRIFFELJOL_KIND_UNKNOWN};
+    uint8_t leaf[SHEET], wrong[SHEET], out[SHEET], before[SHEET];
+    uint32_t rows[3 * GRIFFELJOL_ROW_WIDTH];
+    for (uint32_t edition = GRIFFELJOL_EDITION_1; edition <= GRIFFELJOL_EDITION_2; edition++) {
+        CHECK(reads(edition, int96, 0, 0, 0, value, sizeof value, GRIFFELJOL_CASE_BYTES, 0, sizeof value));
+        CHECK(griffeljol_read(edition, int96, 0, 0, 0, 0, NULL, 0, NULL, 0) == refused(15));
+        CHECK(griffeljol_order(edition, int96, 0, 0, 0, 0, NULL, 0, NULL, 0) == refused(17));
+    }
+    CHECK(griffeljol_read(GRIFFELJOL_EDITION_3, int96, 0, 0, 0, 0, value, sizeof value, NULL, 0) == refused(20));
+    CHECK(griffeljol_read(GRIFFELJOL_EDITION_3, int96, 0, GRIFFELJOL_KIND_UNKNOWN, 0, 0, NULL, 0, NULL, 0) == refused(20));
+    CHECK(griffeljol_order(GRIFFELJOL_EDITION_3, int96, 0, 0, 0, 0, NULL, 0, NULL, 0) == refused(20));
+    memset(out, 0xA5, sizeof out);
+    memcpy(before, out, sizeof out);
+    for (size_t i = 0; i < sizeof logicals; i++) {
+        int96_leaf(leaf, sheet, logicals[i]);
+        CHECK(griffeljol_resolve(GRIFFELJOL_EDITION_2, leaf, SHEET, rows, 3 * GRIFFELJOL_ROW_WIDTH) == 3);
+        CHECK(griffeljol_resolve(GRIFFELJOL_EDITION_3, leaf, SHEET, NULL, 0) == refused_in(0, 10, 2));
+        CHECK(griffeljol_rewrite(GRIFFELJOL_EDITION_3, leaf, SHEET, out, SHEET, 0) == refused_in(0, 10, 2));
+        CHECK(griffeljol_compare(GRIFFELJOL_EDITION_3, leaf, SHEET, sheet, SHEET, NULL, 0) == refused_in(1, 10, 2));
+        CHECK(griffeljol_compare(GRIFFELJOL_EDITION_3, sheet, SHEET, leaf, SHEET, out, SHEET) == refused_in(2, 10, 2));
+        /* At the leaf itself 8 comes first, and so does 9. */
+        changed(wrong, leaf, 2, GRIFFELJOL_DIFFERENCE_TYPE_LENGTH, GRIFFELJOL_INT96_WIDTH);
+        CHECK(griffeljol_resolve(GRIFFELJOL_EDITION_3, wrong, SHEET, NULL, 0) == refused_in(0, 8, 2));
+    }
+    changed(wrong, leaf, 2, GRIFFELJOL_DIFFERENCE_CONVERTED, GRIFFELJOL_CONVERTED_UTF8);
+    CHECK(griffeljol_resolve(GRIFFELJOL_EDITION_3, wrong, SHEET, NULL, 0) == refused_in(0, 9, 2));
+    CHECK(memcmp(out, before, sizeof out) == 0);
 }
 
 /* An edition that is unknown: 21 before every other refusal, and nothing written. */
@@ -347,6 +393,69 @@ static void check_timestamps(void)
     CHECK(count[0] == INT64_MIN && count[1] == 7);
 }
 
+/* The bytes of an INT96 of so many nanoseconds in a Julian day. */
+static void put_int96(uint8_t *value, uint64_t nanos, uint32_t day)
+{
+    for (int i = 0; i < 8; i++)
+        value[GRIFFELJOL_INT96_NANOS + i] = (uint8_t)(nanos >> 8 * i);
+    for (int i = 0; i < 4; i++)
+        value[GRIFFELJOL_INT96_DAY + i] = (uint8_t)(day >> 8 * i);
+}
+
+/* Whether an INT96 is turned into a count, and that back, with the rest of both outputs kept. */
+static int turns(uint64_t nanos, uint32_t day, int64_t expected)
+{
+    uint8_t value[GRIFFELJOL_INT96_WIDTH], back[GRIFFELJOL_INT96_WIDTH + 1];
+    int64_t count[2] = {7, 7};
+    put_int96(value, nanos, day);
+    memset(back, 0xA5, sizeof back);
+    return griffeljol_from_int96(value, sizeof value, count, 2) == 1 && count[0] == expected && count[1] == 7
+        && griffeljol_to_int96(expected, back, sizeof back) == GRIFFELJOL_INT96_WIDTH
+        && memcmp(back, value, sizeof value) == 0 && back[GRIFFELJOL_INT96_WIDTH] == 0xA5;
+}
+
+static void check_int96(void)
+{
+    enum { WIDTH = GRIFFELJOL_INT96_WIDTH, DAY = GRIFFELJOL_INT96_EPOCH };
+    const uint64_t full = UINT64_C(86400000000000);
+    uint8_t value[WIDTH + 1] = {0}, out[WIDTH], before[WIDTH];
+    int64_t count[1] = {7};
+    CHECK(turns(0, DAY, 0));
+    CHECK(turns(full - 1, DAY - 1, -1));
+    CHECK(turns(full - 1, DAY, (int64_t)full - 1));
+    /* The first day of all counts begins before the least of them. */
+    CHECK(turns(UINT64_C(763145224192), 2333836, INT64_MIN));
+    CHECK(turns(UINT64_C(85636854775807), 2547339, INT64_MAX));
+    CHECK(griffeljol_from_int96(NULL, 0, NULL, 0) == refused(15));
+    CHECK(griffeljol_from_int96(value, WIDTH - 1, NULL, 0) == refused(15));
+    CHECK(griffeljol_from_int96(value, WIDTH + 1, count, 1) == refused(15));
+    put_int96(value, full, 0);
+    CHECK(griffeljol_from_int96(value, WIDTH - 1, count, 1) == refused(15));
+    CHECK(griffeljol_from_int96(value, WIDTH, NULL, 0) == refused(16));
+    CHECK(griffeljol_from_int96(value, WIDTH, count, 1) == refused(16));
+    put_int96(value, UINT64_MAX, DAY);
+    CHECK(griffeljol_from_int96(value, WIDTH, count, 1) == refused(16));
+    put_int96(value, UINT64_C(763145224191), 2333836);
+    CHECK(griffeljol_from_int96(value, WIDTH, count, 1) == refused(19));
+    put_int96(value, UINT64_C(85636854775808), 2547339);
+    CHECK(griffeljol_from_int96(value, WIDTH, NULL, 0) == refused(19));
+    put_int96(value, 0, 0);
+    CHECK(griffeljol_from_int96(value, WIDTH, count, 1) == refused(19));
+    put_int96(value, full - 1, UINT32_MAX);
+    CHECK(griffeljol_from_int96(value, WIDTH, NULL, 0) == refused(19));
+    put_int96(value, 0, DAY);
+    CHECK(griffeljol_from_int96(value, WIDTH, NULL, 0) == refused(14));
+    CHECK(count[0] == 7);
+    memset(out, 0xA5, sizeof out);
+    memcpy(before, out, sizeof out);
+    CHECK(griffeljol_to_int96(0, NULL, 0) == refused(14));
+    for (size_t lent = 0; lent < WIDTH; lent++)
+        CHECK(griffeljol_to_int96(INT64_MIN, out, lent) == refused(14));
+    CHECK(memcmp(out, before, sizeof out) == 0);
+    CHECK(griffeljol_to_int96(0, out, WIDTH) == WIDTH);
+    CHECK(memcmp(out, value, WIDTH) == 0);
+}
+
 int main(int argc, char **argv)
 {
     uint8_t sheet[SHEET];
@@ -357,19 +466,21 @@ int main(int argc, char **argv)
     }
     fclose(file);
     check_helpers();
-    for (uint32_t edition = GRIFFELJOL_EDITION_1; edition <= GRIFFELJOL_EDITION_2; edition++) {
+    for (uint32_t edition = GRIFFELJOL_EDITION_1; edition <= GRIFFELJOL_EDITION_3; edition++) {
         check_resolve(edition, sheet);
         check_rewrite(edition, sheet);
         check_compare(edition, sheet);
         check_read(edition);
         check_order(edition);
     }
-    check_second_edition();
+    check_fractions();
+    check_third_edition(sheet);
     check_unknown_edition(0, sheet);
-    check_unknown_edition(3, sheet);
     check_unknown_edition(4, sheet);
+    check_unknown_edition(5, sheet);
     check_unknown_edition(257, sheet);
     check_unknown_edition(UINT32_MAX, sheet);
     check_timestamps();
+    check_int96();
     return failures == 0 ? 0 : 1;
 }

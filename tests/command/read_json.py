@@ -3,6 +3,7 @@
 Arguments: the command, the sample sheet, and the sample sheet rewritten.
 """
 import json
+import struct
 import subprocess
 import sys
 
@@ -10,8 +11,8 @@ command, sample, rewritten = sys.argv[1:]
 DIFFERENT = 3
 
 
-def lines(*words, status=0):
-    done = subprocess.run([command, *words], stdin=subprocess.DEVNULL, capture_output=True, check=False)
+def lines(*words, status=0, given=b""):
+    done = subprocess.run([command, *words], input=given, capture_output=True, check=False)
     assert done.returncode == status, (words, done)
     return done.stdout.decode().splitlines()
 
@@ -46,7 +47,7 @@ assert [list(difference.values()) for difference in compared["differences"]] == 
     [1, "parts", 3, "logical", 0, 3], [3, "parts.list.element", 3, "logical", 0, 1]]
 refusal = parsed("compare", sample, "/dev/null", status=1)
 assert (refusal["refused"], refusal["at"], refusal["sheet"], refusal["file"]) == (1, 0, "B", "/dev/null")
-assert "sheet" not in parsed("compare", sample, sample, "--edition", "3", status=1)
+assert "sheet" not in parsed("compare", sample, sample, "--edition", "4", status=1)
 
 for hexadecimal, value in (("0000c03f", 1.5), ("000080ff", None), ("00000080", -0.0)):
     words = ("value", "4", "0", "0", "0", "0", "--hex", hexadecimal)
@@ -60,11 +61,28 @@ decoded = parsed("timestamp", "decode", "nanos", str(-(2**63)))
 assert decoded == parsed("timestamp", "encode", "nanos", "1677-09-21", "00:12:43.145224192")
 assert (decoded["year"], decoded["fraction"], decoded["count"]) == (1677, 145224192, -(2**63))
 
+noon = struct.pack("<QI", 43200 * 10**9, 2451545)
+time = parsed("int96", "decode", noon.hex())
+assert time == parsed("int96", "encode", str(time["count"]))
+assert {**parsed("timestamp", "decode", "nanos", str(time["count"])), "int96": noon.hex()} == time
+(line,) = lines("int96", "decode", noon.hex())
+assert line == f"{time['count']} 2000-01-01 12:00:00.000000000"
+assert parsed("value", "3", "0", "0", "0", "0", "--hex", noon.hex())["time"] == line.split(" ", 1)[1]
+assert parsed("value", "3", "0", "0", "0", "0", "--hex", "ff" * 12)["time"] is None
+times = noon + struct.pack("<QI", 86400 * 10**9, 0) + noon[:11]
+told = lines("int96", "decode", "--file", "-", status=1, given=times)
+objects = [json.loads(line) for line in lines("int96", "decode", "--file", "-", "--json", status=1, given=times)]
+assert objects[0] == {"index": 0, **time} and told[0] == f"0 {line}"
+for index, number in ((1, 16), (2, 15)):
+    assert (objects[index]["index"], objects[index]["refused"], objects[index]["at"]) == (index, number, 0)
+    assert bytes.fromhex(objects[index]["int96"]) == times[12 * index:12 * index + 12]
+    assert told[index] == f"{index} refused {number} at 0, {objects[index]['meaning']}"
+
 refusal = parsed("rows", "/dev/null", status=1)
 assert (refusal["refused"], refusal["at"], refusal["place"]) == (1, 0, None)
-refusal = parsed("rows", sample, "--edition", "3", status=1)
+refusal = parsed("rows", sample, "--edition", "4", status=1)
 assert (refusal["refused"], refusal["at"], refusal["meaning"], refusal["place"]) == (21, 0, "edition unknown", None)
-assert parsed("rows", sample, "--edition", "2") == rows
+assert parsed("rows", sample, "--edition", "2") == parsed("rows", sample, "--edition", "3") == rows
 refusal = parsed("value", "6", "0", "4", "0", "0", "--hex", "6162ff", status=1)
 assert (refusal["refused"], refusal["at"]) == (16, 2)
 refusal = parsed("timestamp", "decode", "9", "0", status=1)

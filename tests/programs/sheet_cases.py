@@ -1,9 +1,10 @@
 """Sheets that are refused in every edition, each with the line that document 01's table gives, sheets that are accepted in every edition,
-and sheets that edition 2 accepts and edition 1 does not.
+and sheets that the editions answer otherwise than one another.
 
 Refusals 1 to 4 are those of opening, which every program makes; 5 to 13 are of the tree, which `sheet_slots` does not judge. 14 cannot
 occur: the programs hold output for the greatest sheet.
 """
+from editions import since_second, until_third
 from sheets import *
 
 EXAMPLE = sheet(root(list_of(layer(leaf(BYTE_ARRAY, repetition=OPTIONAL, converted=UTF8, name=b"element")))))
@@ -194,21 +195,55 @@ WHICH_COMES_FIRST = [
     ("8 before 12 at one node", behind(list_of(layer(leaf()), repetition=NO_REPETITION)), "refused 8 at 10"),
     ("9 before 12 at one node", behind(list_of(layer(leaf()), repetition=REPEATED, logical=MAP)), "refused 9 at 10"),
     ("10 before 13 at one node", behind(map_of(layer(leaf()), repetition=REPEATED, a=1)), "refused 10 at 10"),
+    ("8 before INT96's 10 at one node", behind(leaf(INT96, type_length=12)), "refused 8 at 10"),
+    ("9 before INT96's 10 at one node", behind(leaf(INT96, converted=UTF8, logical=UNKNOWN)), "refused 9 at 10"),
+    ("6 before INT96's 10", sheet(root(leaf(INT96), leaf(), claims=1)), "refused 6 at 2"),
+    ("8 at node 10 before INT96's 10 at node 11", behind(leaf(type_length=1), leaf(INT96)), "refused 8 at 10"),
 ]
 
 REFUSED = (LENGTH + BLOCK_CHECK + BLOCK_HEADER + SLOT_CODES + MISSING_NODES + NODES_LEFT_OVER + TOO_DEEP
            + SHAPE + DISAGREEMENT + MISPLACED + DIGITS + LIST_STRUCTURE + MAP_STRUCTURE + WHICH_COMES_FIRST)
 
-# Document 02, R-4: scale equal to precision, in each form of a DECIMAL. The line is that of edition 1; edition 2 accepts the sheet.
+# What the editions answer otherwise than one another: the line of each, or none where it accepts the sheet.
+ACCEPTS = None
+
+
+def fraction(line):
+    return since_second(line, ACCEPTS)
+
+
+def retired(line):
+    return until_third(ACCEPTS, line)
+
+
+# Document 02, R-4: scale equal to precision, in each form of a DECIMAL; R-10: INT96 leaves.
 FRACTION = dict(logical=DECIMAL, precision=5, scale=5)
-OF_SECOND_EDITION = [
-    ("scale equal to precision", behind(leaf(), leaf(**FRACTION)), "refused 11 at 11"),
-    ("scale equal to precision on INT64", behind(leaf(INT64, converted=C_DECIMAL, precision=18, scale=18)), "refused 11 at 10"),
-    ("scale equal to precision on FIXED", behind(leaf(FIXED, type_length=1, logical=DECIMAL, precision=2, scale=2)), "refused 11 at 10"),
+BY_EDITION = [
+    ("scale equal to precision", behind(leaf(), leaf(**FRACTION)), fraction("refused 11 at 11")),
+    ("scale equal to precision on INT64", behind(leaf(INT64, converted=C_DECIMAL, precision=18, scale=18)), fraction("refused 11 at 10")),
+    ("scale equal to precision on FIXED", behind(leaf(FIXED, type_length=1, logical=DECIMAL, precision=2, scale=2)),
+     fraction("refused 11 at 10")),
     ("scale equal to precision on BYTE_ARRAY",
-     behind(leaf(BYTE_ARRAY, converted=C_DECIMAL, logical=DECIMAL, precision=2**31 - 1, scale=2**31 - 1)), "refused 11 at 10"),
-    ("scale equal to precision twice", behind(group(leaf(**FRACTION)), leaf(**FRACTION)), "refused 11 at 11"),
-    ("one fraction", sheet(root(leaf(**FRACTION))), "refused 11 at 1"),
+     behind(leaf(BYTE_ARRAY, converted=C_DECIMAL, logical=DECIMAL, precision=2**31 - 1, scale=2**31 - 1)), fraction("refused 11 at 10")),
+    ("scale equal to precision twice", behind(group(leaf(**FRACTION)), leaf(**FRACTION)), fraction("refused 11 at 11")),
+    ("one fraction", sheet(root(leaf(**FRACTION))), fraction("refused 11 at 1")),
+    ("one INT96", sheet(root(leaf(INT96))), retired("refused 10 at 1")),
+    ("INT96 of each repetition", behind(leaf(), *[leaf(INT96, repetition=one) for one in (OPTIONAL, REPEATED, REQUIRED)]),
+     retired("refused 10 at 11")),
+    ("UNKNOWN on INT96", behind(leaf(INT96, logical=UNKNOWN)), retired("refused 10 at 10")),
+    ("INT96 as a list's layer", behind(list_of(leaf(INT96, repetition=REPEATED))), retired("refused 10 at 11")),
+    ("INT96 as a list's element", behind(list_of(layer(leaf(INT96)))), retired("refused 10 at 12")),
+    ("INT96 as a map's key", behind(map_of(layer(leaf(INT96), leaf()))), retired("refused 10 at 12")),
+    ("INT96 as a map's value", behind(map_of(layer(leaf(), leaf(INT96)))), retired("refused 10 at 13")),
+    ("INT96 at node 895", sheet(root(*[leaf()] * (MOST_NODES - 2), leaf(INT96))), retired("refused 10 at 895")),
+    ("INT96 behind scale equal to precision", behind(leaf(**FRACTION), leaf(INT96)),
+     ("refused 11 at 10", ACCEPTS, "refused 10 at 11")),
+    ("INT96 before scale equal to precision", behind(leaf(INT96), leaf(**FRACTION)),
+     ("refused 11 at 11", ACCEPTS, "refused 10 at 10")),
+    ("INT96 at node 10 before 8 at node 11", behind(leaf(INT96), leaf(type_length=1)),
+     until_third("refused 8 at 11", "refused 10 at 10")),
+    ("INT96 at node 10 before 12 at node 11", behind(leaf(INT96), list_of(leaf())), until_third("refused 12 at 11", "refused 10 at 10")),
+    ("INT96 before 8 at INT96", behind(leaf(INT96), leaf(INT96, type_length=12)), until_third("refused 8 at 11", "refused 10 at 10")),
 ]
 
 # A column, its annotation, and its annotation once rewritten.
@@ -295,7 +330,11 @@ BY_HAND = [
     ("schema_rewrite", "lists and maps, both annotations", lists_and_maps(alone=False)),
     ("schema_rewrite", "896 nodes in one run", GREATEST),
 ]
-BY_HAND_IN_SECOND_EDITION = [
+BY_HAND_SINCE_SECOND = [
     ("schema_rows", "one fraction", b"nodes 2\n255 0 255 30 0 0 0 2 0 0 0\n1 0 0 5 5 5 0 2 0 0 0\n"),
     ("schema_rewrite", "one fraction", sheet(root(leaf(converted=C_DECIMAL, **FRACTION)))),
+]
+BY_HAND_UNTIL_THIRD = [
+    ("schema_rows", "one INT96", b"nodes 2\n255 0 255 30 0 0 0 2 0 0 0\n3 0 0 0 0 0 0 2 0 0 0\n"),
+    ("schema_rewrite", "one INT96", sheet(root(leaf(INT96)))),
 ]

@@ -1,5 +1,5 @@
 """Values of columns: a column type's five numbers, the value, and the line that comes. Every line is written by hand from document 01, and
-from document 02's R-4 where a line depends on the edition."""
+from document 02's R-4 and R-10 where a line depends on the edition."""
 import editions
 from sheets import *
 
@@ -45,7 +45,6 @@ READ = [
     ("DOUBLE 1", PLAIN_DOUBLE, little(0x3FF0000000000000, 8), "double 3ff0000000000000"),
     ("DOUBLE, minus infinity", PLAIN_DOUBLE, little(0xFFF0000000000000, 8), "double fff0000000000000"),
     ("DOUBLE NaN", PLAIN_DOUBLE, b"\xff" * 8, "double NaN"),
-    ("INT96", PLAIN_INT96, b"\xff" * 12, "bytes 0 12"),
     ("no bytes in a BYTE_ARRAY", PLAIN_BYTES, b"", "bytes 0 0"),
     ("65,536 bytes", PLAIN_BYTES, b"\xff" * MOST_BYTES, "bytes 0 65536"),
     ("STRING", text(STRING), "a\u00fc\u20ac\U0010ffff".encode(), "bytes 0 10"),
@@ -71,6 +70,7 @@ NO_COLUMN = [  # 20
     ("precision 0", (BYTE_ARRAY, 0, DECIMAL, 0, 0), b"\0", "refused 20 at 0"),
     ("scale above precision", (INT32, 0, DECIMAL, 5, 6), bytes(4), "refused 20 at 0"),
     ("precision 3 on FIXED 1", (FIXED, 1, DECIMAL, 3, 0), b"\0", "refused 20 at 0"),
+    ("TIMESTAMP on INT96", (INT96, 0, TIMESTAMP, NANOS, 1), bytes(12), "refused 20 at 0"),
 ]
 
 WRONG_LENGTH = [  # 15
@@ -78,7 +78,6 @@ WRONG_LENGTH = [  # 15
     ("BOOLEAN of two bytes", PLAIN_BOOLEAN, b"\1\0", "refused 15 at 0"),
     ("INT32 of three bytes", PLAIN_INT32, bytes(3), "refused 15 at 0"),
     ("INT64 of nine bytes", PLAIN_INT64, bytes(9), "refused 15 at 0"),
-    ("INT96 of eleven bytes", PLAIN_INT96, bytes(11), "refused 15 at 0"),
     ("UUID of fifteen bytes", (FIXED, 16, UUID, 0, 0), bytes(15), "refused 15 at 0"),
     ("DECIMAL of no bytes", (BYTE_ARRAY, 0, DECIMAL, 2, 0), b"", "refused 15 at 0"),
     ("DECIMAL of 257 bytes", (BYTE_ARRAY, 0, DECIMAL, 2, 0), bytes(257), "refused 15 at 0"),
@@ -114,16 +113,31 @@ WHICH_COMES_FIRST = [
 
 VALUES = READ + NO_COLUMN + WRONG_LENGTH + BREAKS_ANNOTATION + WHICH_COMES_FIRST
 
-# Scale equal to precision: a column type, a value, and the line of edition 2. That of edition 1 is below.
-OF_SECOND_EDITION = [
-    ("DECIMAL(5, 5) on INT32", (INT32, 0, DECIMAL, 5, 5), little(-99999), "-99999"),
-    ("DECIMAL(18, 18) on INT64", (INT64, 0, DECIMAL, 18, 18), little(1, 8), "1"),
-    ("DECIMAL(2, 2) on FIXED 1", (FIXED, 1, DECIMAL, 2, 2), b"\x63", "bytes 0 1"),
-    ("DECIMAL(2, 2) on BYTE_ARRAY", (BYTE_ARRAY, 0, DECIMAL, 2, 2), b"\0\x63", "bytes 0 2"),
-    ("DECIMAL(2, 2) of 64 hex", (BYTE_ARRAY, 0, DECIMAL, 2, 2), b"\x64", "refused 16 at 0"),
-    ("DECIMAL(2, 2) of no bytes", (BYTE_ARRAY, 0, DECIMAL, 2, 2), b"", "refused 15 at 0"),
+# No accepted sheet has such a leaf.
+NO_LEAF = "refused 20 at 0"
+
+
+def fraction(line):
+    return editions.since_second(NO_LEAF, line)
+
+
+def retired(line):
+    return editions.until_third(line, NO_LEAF)
+
+
+# Scale equal to precision, and INT96: a column type, a value, and the line of each edition.
+BY_EDITION = [
+    ("DECIMAL(5, 5) on INT32", (INT32, 0, DECIMAL, 5, 5), little(-99999), fraction("-99999")),
+    ("DECIMAL(18, 18) on INT64", (INT64, 0, DECIMAL, 18, 18), little(1, 8), fraction("1")),
+    ("DECIMAL(2, 2) on FIXED 1", (FIXED, 1, DECIMAL, 2, 2), b"\x63", fraction("bytes 0 1")),
+    ("DECIMAL(2, 2) on BYTE_ARRAY", (BYTE_ARRAY, 0, DECIMAL, 2, 2), b"\0\x63", fraction("bytes 0 2")),
+    ("DECIMAL(2, 2) of 64 hex", (BYTE_ARRAY, 0, DECIMAL, 2, 2), b"\x64", fraction("refused 16 at 0")),
+    ("DECIMAL(2, 2) of no bytes", (BYTE_ARRAY, 0, DECIMAL, 2, 2), b"", fraction("refused 15 at 0")),
+    ("INT96", PLAIN_INT96, b"\xff" * 12, retired("bytes 0 12")),
+    ("INT96 of eleven bytes", PLAIN_INT96, bytes(11), retired("refused 15 at 0")),
+    ("UNKNOWN on INT96", (INT96, 0, UNKNOWN, 0, 0), bytes(12), retired("refused 16 at 0")),
+    ("UNKNOWN on INT96 of no bytes", (INT96, 0, UNKNOWN, 0, 0), b"", retired("refused 15 at 0")),
 ]
-IN_FIRST_EDITION = "refused 20 at 0"
 
 # An edition that is unknown comes before every other refusal, whatever the column type and the value are.
 UNKNOWN_EDITION = [

@@ -57,6 +57,10 @@ extern "C" {
     fn griffeljol_decode(unit: u32, count: i64, fields: *mut i64, fields_len: usize) -> u64;
 
     fn griffeljol_encode(unit: u32, fields: *const i64, fields_len: usize, count: *mut i64, count_len: usize) -> u64;
+
+    fn griffeljol_from_int96(value: *const u8, value_len: usize, count: *mut i64, count_len: usize) -> u64;
+
+    fn griffeljol_to_int96(count: i64, value: *mut u8, value_len: usize) -> u64;
 }
 
 // SAFETY of each call: the pointers and lengths are those of slices that live through it, those written to are borrowed alone, and
@@ -93,4 +97,12 @@ pub fn decode(unit: u32, count: i64, fields: &mut [i64]) -> u64 {
 
 pub fn encode(unit: u32, fields: &[i64], count: &mut [i64]) -> u64 {
     unsafe { griffeljol_encode(unit, fields.as_ptr(), fields.len(), count.as_mut_ptr(), count.len()) }
+}
+
+pub fn from_int96(value: &[u8], count: &mut [i64]) -> u64 {
+    unsafe { griffeljol_from_int96(value.as_ptr(), value.len(), count.as_mut_ptr(), count.len()) }
+}
+
+pub fn to_int96(count: i64, value: &mut [u8]) -> u64 {
+    unsafe { griffeljol_to_int96(count, value.as_mut_ptr(), value.len()) }
 }

@@ -10,7 +10,7 @@
 /// let column = ColumnType { physical: physical::BYTE_ARRAY, type_length: 0, kind: kind::DECIMAL, p1: 2, p2: 2 };
 /// assert_eq!(read(Edition::FIRST, column, &[0x63]).unwrap_err().number, 20);
 /// assert_eq!(read(Edition::SECOND, column, &[0x63]), Ok(Value::Bytes { start: 0, length: 1 }));
-/// let unknown = read(Edition::from(3), column, &[0x63]).unwrap_err();
+/// let unknown = read(Edition::from(4), column, &[0x63]).unwrap_err();
 /// assert_eq!(unknown.to_string(), "refused 21 at 0");
 /// assert_eq!(unknown.meaning(), "edition unknown");
 /// ```
@@ -23,6 +23,9 @@ impl Edition {
 
     /// The scale of a DECIMAL is at most its precision. What the first edition accepts this one accepts too, with the same answer.
     pub const SECOND: Self = Edition(2);
+
+    /// As the second, but no leaf is INT96: one is refused with 10, whatever its annotation, and such a column type with 20.
+    pub const THIRD: Self = Edition(3);
 
     /// Its number.
     pub fn number(self) -> u32 {

@@ -1,11 +1,11 @@
 //! Safe functions over the C interface of `griffeljol`, the proved reader of Parquet schema sheets.
 //!
 //! Every answer is the proved library's; nothing is judged here. What no prover sees is the boundary: the declarations of the
-//! seven C functions, and that each slice is handed over as its pointer and its length. All of it stands in one module.
+//! nine C functions, and that each slice is handed over as its pointer and its length. All of it stands in one module.
 //!
-//! "Document 01" is the paper that defines the sheet, the rows and the refusals, "document 02" the one that adds editions and
-//! comparison. What reads or judges a sheet or a column type takes an [`Edition`] first. Any bytes and any numbers may be offered; a
-//! refused call leaves what it was lent as it was.
+//! "Document 01" is the paper that defines the sheet, the rows and the refusals, "document 02" the one that adds editions,
+//! comparison and the turning of INT96 times. What reads or judges a sheet or a column type takes an [`Edition`] first. Any
+//! bytes and any numbers may be offered; a refused call leaves what it was lent as it was.
 //!
 //! ```
 //! use griffeljol::Edition;
@@ -24,6 +24,7 @@ mod boundary;
 pub mod codes;
 mod comparison;
 mod edition;
+mod int96;
 mod refusal;
 mod sheet;
 mod slot;
@@ -32,6 +33,7 @@ mod value;
 
 pub use comparison::{compare, differences, Difference, Field, Sides, ENTRY_WIDTH, MAX_ENTRIES};
 pub use edition::Edition;
+pub use int96::{from_int96, to_int96, INT96_WIDTH};
 pub use refusal::{CompareRefusal, OrderRefusal, Refusal};
 pub use sheet::{resolve, rewrite, rows, Row, MAX_NODES, MAX_SHEET, ROW_WIDTH};
 pub use slot::{Slot, MAX_NAME, SLOT_WIDTH};

@@ -26,6 +26,21 @@ impl Refusal {
         self.row().0
     }
 
+    /// What [`from_int96`](crate::from_int96) gives it for, where an INT96 has other words than a value of a column or fields have.
+    ///
+    /// ```
+    /// let refusal = griffeljol::from_int96(&[0xFF; 12]).unwrap_err();
+    /// assert_eq!((refusal.number, refusal.int96_meaning()), (16, "a full day of nanoseconds or more"));
+    /// ```
+    pub fn int96_meaning(&self) -> &'static str {
+        match self.number {
+            15 => "an INT96 has 12 bytes",
+            16 => "a full day of nanoseconds or more",
+            19 => "no signed 64-bit count of nanoseconds reaches this day and time",
+            _ => self.meaning(),
+        }
+    }
+
     /// What its place is; none where it is always 0.
     ///
     /// ```
@@ -54,7 +69,9 @@ impl Refusal {
             7 => ("a node deeper than 32", Some("the first such node")),
             8 => ("shape", Some("the node")),
             9 => ("converted and logical disagree", Some("the node")),
-            10 => ("annotation on the wrong physical type, length or parameters", Some("the node")),
+            10 => {
+                ("annotation on the wrong physical type, length or parameters, or INT96 in edition 3", Some("the node"))
+            }
             11 => ("DECIMAL scale or precision", Some("the node")),
             12 => ("LIST structure", Some("the LIST")),
             13 => ("MAP structure", Some("the MAP")),

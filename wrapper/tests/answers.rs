@@ -5,7 +5,7 @@ mod sheets;
 use std::fs;
 
 use griffeljol::codes::{kind, physical, unit};
-use griffeljol::{decode, encode, order, read, resolve, rewrite, rows};
+use griffeljol::{decode, encode, from_int96, order, read, resolve, rewrite, rows, to_int96};
 use griffeljol::{ColumnType, Edition, Fields, Order, OrderRefusal, Refusal, Row, Slot, Value, ROW_WIDTH};
 use sheets::{leaf, root, sheet};
 
@@ -158,7 +158,7 @@ fn decimal_sheet(scale: i32) -> Vec<u8> {
 }
 
 #[test]
-fn the_second_edition_lets_the_scale_equal_the_precision() {
+fn the_second_and_the_third_edition_let_the_scale_equal_the_precision() {
     let sheet = decimal_sheet(3);
     assert_eq!(rows(Edition::FIRST, &sheet), Err(Refusal { number: 11, place: 1 }));
     let accepted = rows(Edition::SECOND, &sheet).expect("the second edition accepts it");
@@ -167,23 +167,62 @@ fn the_second_edition_lets_the_scale_equal_the_precision() {
     assert_eq!(rewrite(Edition::FIRST, &sheet, &mut out, 0), Err(Refusal { number: 11, place: 1 }));
     assert_eq!(out, [7; 512]);
     assert_eq!(rewrite(Edition::SECOND, &sheet, &mut out, 0), Ok(512));
-    assert_eq!(rows(Edition::SECOND, &out), Ok(accepted));
+    assert_eq!(rows(Edition::SECOND, &out).as_ref(), Ok(&accepted));
+    assert_eq!(rows(Edition::THIRD, &sheet), Ok(accepted));
     let lower = decimal_sheet(2);
     assert_eq!(rows(Edition::SECOND, &lower), rows(Edition::FIRST, &lower));
-    for edition in [Edition::FIRST, Edition::SECOND] {
+    for edition in [Edition::FIRST, Edition::SECOND, Edition::THIRD] {
         assert_eq!(rows(edition, &decimal_sheet(4)), Err(Refusal { number: 11, place: 1 }));
     }
     let fraction = ColumnType { p1: 2, p2: 2, ..column(physical::INT32, kind::DECIMAL) };
     assert_eq!(read(Edition::FIRST, fraction, &[99, 0, 0, 0]), refused(20));
     assert_eq!(read(Edition::SECOND, fraction, &[99, 0, 0, 0]), Ok(Value::Signed(99)));
+    assert_eq!(read(Edition::THIRD, fraction, &[99, 0, 0, 0]), Ok(Value::Signed(99)));
     assert_eq!(read(Edition::SECOND, fraction, &[100, 0, 0, 0]), refused(16));
     assert_eq!(order(Edition::SECOND, fraction, &[99, 0, 0, 0], &[0; 4]), Ok(Order::Greater));
 }
 
 #[test]
+fn the_third_edition_has_no_int96() {
+    let refusal = Err(Refusal { number: 10, place: 1 });
+    for logical in [kind::PLAIN_LEAF, kind::UNKNOWN] {
+        let sheet = sheet(&[root("r", 1), Slot { logical, ..leaf("t", physical::INT96) }]);
+        assert_eq!(rows(Edition::SECOND, &sheet).map(|rows| rows[1].physical), Ok(physical::INT96));
+        assert_eq!(rows(Edition::THIRD, &sheet), refusal.map(|()| Vec::new()));
+        let mut out = [7; 512];
+        assert_eq!(rewrite(Edition::THIRD, &sheet, &mut out, 0), refusal.map(|()| 0));
+        assert_eq!(out, [7; 512]);
+        let int96 = column(physical::INT96, logical);
+        assert_eq!(read(Edition::THIRD, int96, &[0; 12]), refused(20));
+        assert_eq!(order(Edition::THIRD, int96, &[], &[]).map_err(|refused| refused.refusal), refused(20));
+    }
+}
+
+#[test]
+fn int96_times_there_and_back() {
+    for count in [i64::MIN, i64::MIN + 1, -86_400_000_000_001, -1, 0, 1, i64::MAX - 1, i64::MAX] {
+        assert_eq!(from_int96(&to_int96(count)), Ok(count));
+    }
+    let day = 86_400_000_000_000_u64.to_le_bytes();
+    for length in (0..12).chain(13..=24) {
+        assert_eq!(from_int96(&day.repeat(3)[..length]), refused(15));
+    }
+    assert_eq!(from_int96(&[&day[..], &[0; 4]].concat()), refused(16));
+    assert_eq!(from_int96(&[0xFF; 12]), refused(16));
+    assert_eq!(from_int96(&[0; 12]), refused(19));
+    // The nanosecond before the least count, in its day, and the one behind the greatest.
+    for (end, step) in [(i64::MIN, u64::wrapping_sub as fn(u64, u64) -> u64), (i64::MAX, u64::wrapping_add)] {
+        let (nanos, day) =
+            to_int96(end).split_first_chunk().map(|(nanos, day)| (*nanos, day.to_vec())).expect("12 bytes");
+        let beyond = step(u64::from_le_bytes(nanos), 1).to_le_bytes();
+        assert_eq!(from_int96(&[&beyond[..], &day].concat()), refused(19));
+    }
+}
+
+#[test]
 fn an_unknown_edition_comes_first_and_writes_nothing() {
     let sheet = sample();
-    for edition in [0, 3, 4, 257, u32::MAX].map(Edition::from) {
+    for edition in [0, 4, 5, 257, u32::MAX].map(Edition::from) {
         let mut numbers = [7; 4 * ROW_WIDTH];
         let mut out = [7; 512];
         for bytes in [&sheet[..], &[]] {
@@ -201,5 +240,5 @@ fn an_unknown_edition_comes_first_and_writes_nothing() {
             assert_eq!(unknown.to_string(), "refused 21 at 0");
         }
     }
-    assert_eq!(Edition::from(2), Edition::SECOND);
+    assert_eq!([2, 3].map(Edition::from), [Edition::SECOND, Edition::THIRD]);
 }

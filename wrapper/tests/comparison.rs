@@ -156,7 +156,7 @@ fn refused_comparisons_write_nothing() {
     assert_eq!(compare(Edition::FIRST, &one, &[], &mut out), refused(2, 1, 0));
     assert_eq!(differences(Edition::FIRST, &[], &[]), refused(1, 1, 0));
     assert_eq!(compare(Edition::FIRST, &one, &two, &mut out[..ENTRY_WIDTH - 1]), refused(0, 14, 0));
-    for edition in [0, 3, u32::MAX].map(Edition::from) {
+    for edition in [0, 4, u32::MAX].map(Edition::from) {
         assert_eq!(compare(edition, &[], &[], &mut out), refused(0, 21, 0));
         assert_eq!(differences(edition, &one, &wrong), refused(0, 21, 0));
     }
@@ -172,7 +172,7 @@ fn a_refusal_says_which_sheet() {
     assert_eq!(refused(&shapeless, &one).to_string(), "refused 8 at 1 in sheet 1");
     assert_eq!(refused(&one, &shapeless).to_string(), "refused 8 at 1 in sheet 2");
     assert_eq!(Err(refused(&one, &shapeless).refusal), rows(Edition::FIRST, &shapeless));
-    assert_eq!(differences(Edition::from(3), &one, &one).unwrap_err().to_string(), "refused 21 at 0");
+    assert_eq!(differences(Edition::from(4), &one, &one).unwrap_err().to_string(), "refused 21 at 0");
 }
 
 #[test]
@@ -184,4 +184,8 @@ fn one_edition_judges_both() {
     assert_eq!(differences(Edition::FIRST, &decimal(2), &decimal(3)), refused(2, 11, 1));
     let scale = Difference::Field { node: 1, field: Field::Scale(sides(2, 3)) };
     assert_eq!(differences(Edition::SECOND, &decimal(2), &decimal(3)), Ok(vec![scale]));
+    let int96 = sheet(&[root("r", 1), leaf("fee", physical::INT96)]);
+    assert_eq!(differences(Edition::SECOND, &int96, &int96), Ok(Vec::new()));
+    assert_eq!(differences(Edition::THIRD, &int96, &decimal(2)), refused(1, 10, 1));
+    assert_eq!(differences(Edition::THIRD, &decimal(2), &int96), refused(2, 10, 1));
 }

@@ -57,6 +57,8 @@ fn widths_are_those_of_the_header() {
     assert_eq!(header["ROW_WIDTH"], griffeljol::ROW_WIDTH as u64);
     assert_eq!(header["ENTRY_WIDTH"], griffeljol::ENTRY_WIDTH as u64);
     assert_eq!(header["ENTRY_SIDE"], griffeljol::SLOT_WIDTH as u64);
+    assert_eq!(header["INT96_WIDTH"], griffeljol::INT96_WIDTH as u64);
+    assert_eq!(header["INT96_EPOCH"].to_le_bytes()[..4], griffeljol::to_int96(0)[header["INT96_DAY"] as usize..]);
     assert_eq!(header["ENTRY_SECOND"] + header["ENTRY_SIDE"], header["ENTRY_WIDTH"]);
     assert_eq!(header["ENTRY_FIRST"] + header["ENTRY_SIDE"], header["ENTRY_SECOND"]);
     let text = fs::read_to_string("../include/griffeljol.h").expect("the header");
@@ -68,7 +70,7 @@ fn widths_are_those_of_the_header() {
 fn editions_are_those_of_the_header() {
     let mut header = header();
     header.retain(|name, _| name.starts_with("EDITION_"));
-    let editions = [("EDITION_1", Edition::FIRST), ("EDITION_2", Edition::SECOND)];
+    let editions = [("EDITION_1", Edition::FIRST), ("EDITION_2", Edition::SECOND), ("EDITION_3", Edition::THIRD)];
     assert_eq!(header, editions.map(|(name, edition)| (name.to_owned(), u64::from(edition.number()))).into());
 }
 

@@ -132,12 +132,15 @@ fn values() {
 
 #[test]
 fn editions() {
-    for edition in ["1", "2"] {
+    for edition in ["1", "2", "3"] {
         prints(&format!("rows - --edition {edition}"), &sample(), SAMPLE_ROWS);
         prints(&format!("value --edition {edition} 1 0 5 2 1 --hex 63000000"), b"", "99\n");
     }
     let fraction = sheet(&[Node::root(1), Node::leaf("fee", INT32, REQUIRED).decimal(3, 3)]);
-    prints("rows --edition 2 -", &fraction, "nodes 2\n255 0 255 30 0 0 0 2 0 0 0\n1 0 0 5 3 3 0 2 0 0 0\n");
+    for edition in ["2", "3"] {
+        let rows = "nodes 2\n255 0 255 30 0 0 0 2 0 0 0\n1 0 0 5 3 3 0 2 0 0 0\n";
+        prints(&format!("rows --edition {edition} -"), &fraction, rows);
+    }
     let tree = run_on(&["tree", "-", "--edition", "2"], &fraction);
     assert!(text(&tree.stdout).ends_with("└─ fee  INT32  DECIMAL(precision 3, scale 3)  required    field\n"));
     let rewritten = run_on(&["rewrite", "-", "-o", "-", "--edition", "2"], &fraction);
@@ -170,14 +173,15 @@ fn timestamps() {
 fn help_of_each_part() {
     let all = run(["--help"]);
     assert_eq!(all.status.code(), Some(0));
-    for part in ["rows", "rewrite", "tree", "compare", "value", "timestamp"] {
+    for part in ["rows", "rewrite", "tree", "compare", "value", "timestamp", "int96"] {
         let output = run([part, "--help"]);
         assert!(text(&output.stdout).starts_with(&format!("griffeljol {part} ")), "{part}");
         assert_eq!(text(&output.stderr), "");
         assert_eq!(output.status.code(), Some(0));
         assert_eq!(run([part, "wrong", "-h", "words"]).stdout, output.stdout);
         assert!(text(&all.stdout).contains(&format!("  griffeljol {part} ")), "{part}");
-        assert_eq!(text(&output.stdout).contains("\n  --edition N "), part != "timestamp", "{part}");
+        let takes_edition = !["timestamp", "int96"].contains(&part);
+        assert_eq!(text(&output.stdout).contains("\n  --edition N "), takes_edition, "{part}");
     }
     assert_eq!(run(["-h"]).stdout, all.stdout);
 }

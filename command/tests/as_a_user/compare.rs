@@ -315,12 +315,14 @@ fn editions_of_both_sheets() {
     let decimal = |scale| sheet(&root_of(&[Node::leaf("fee", INT32, REQUIRED).decimal(3, scale)]));
     let folder = files("editions_of_both_sheets", &decimal(2), &decimal(3));
     refused(&compare(&folder, &[]), "refused 11 at 1", "B, \"b\": DECIMAL scale or precision; place 1 is the node");
-    told(&compare(&folder, &["--edition", "2"]), "fee: scale 3, was 2\n1 difference\n");
-    for edition in ["0", "3", "4294967295"] {
+    for edition in ["2", "3"] {
+        told(&compare(&folder, &["--edition", edition]), "fee: scale 3, was 2\n1 difference\n");
+    }
+    for edition in ["0", "4", "4294967295"] {
         refused(&compare(&folder, &["--edition", edition]), "refused 21 at 0", "edition unknown");
     }
-    refused(&run(["compare", "/dev/null", "/dev/null", "--edition", "3"]), "refused 21 at 0", "edition unknown");
-    let output = compare(&folder, &["--edition", "3", "--json"]);
+    refused(&run(["compare", "/dev/null", "/dev/null", "--edition", "4"]), "refused 21 at 0", "edition unknown");
+    let output = compare(&folder, &["--edition", "4", "--json"]);
     let object = "{\"refused\": 21, \"at\": 0, \"meaning\": \"edition unknown\", \"place\": null}\n";
     assert_eq!(text(&output.stdout), object);
     assert_eq!(output.status.code(), Some(1));

@@ -105,7 +105,7 @@ fn a_refusal_leaves_the_output_as_it_was() {
     let before = fs::metadata(&out).expect("the file");
     let words = ["rewrite", "-", "-o", out.to_str().expect("text")];
     refused(&run_on(&words, b"x"), "refused 1 at 0", "sheet length 0, not a multiple of 512, or over 65,536");
-    let words = [&words[..], &["--edition", "3"]].concat();
+    let words = [&words[..], &["--edition", "4"]].concat();
     refused(&run_on(&words, &sample()), "refused 21 at 0", "edition unknown");
     let after = fs::metadata(&out).expect("the file");
     assert_eq!(fs::read(&out).expect("the file"), b"kept");

@@ -4,6 +4,7 @@ mod answers;
 mod arguments;
 mod compare;
 mod files;
+mod int96;
 mod refusals;
 mod sheet;
 

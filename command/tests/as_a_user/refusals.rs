@@ -59,7 +59,7 @@ fn each_refusal_of_a_sheet_has_its_words() {
         (
             one_field(leaf().logical(1, 0, 0)),
             "refused 10 at 1",
-            "annotation on the wrong physical type, length or parameters; place 1 is the node",
+            "annotation on the wrong physical type, length or parameters, or INT96 in edition 3; place 1 is the node",
         ),
         (one_field(leaf().decimal(3, 3)), "refused 11 at 1", "DECIMAL scale or precision; place 1 is the node"),
         (
@@ -126,7 +126,7 @@ fn each_refusal_of_a_value_or_a_timestamp_has_its_words() {
 #[test]
 fn an_unknown_edition_is_refused_before_all_else() {
     let meaning = "edition unknown";
-    for edition in ["0", "3", "4", "4294967295"] {
+    for edition in ["0", "4", "5", "4294967295"] {
         for sheet in [sample(), Vec::new()] {
             refused(&run_on(&["rows", "-", "--edition", edition], &sheet), "refused 21 at 0", meaning);
             refused(&run_on(&["tree", "--edition", edition, "-"], &sheet), "refused 21 at 0", meaning);
@@ -138,7 +138,7 @@ fn an_unknown_edition_is_refused_before_all_else() {
             refused(&run(words), "refused 21 at 0", meaning);
         }
     }
-    let output = run_on(&["rows", "-", "--json", "--edition", "3"], &sample());
+    let output = run_on(&["rows", "-", "--json", "--edition", "4"], &sample());
     let object = "{\"refused\": 21, \"at\": 0, \"meaning\": \"edition unknown\", \"place\": null}\n";
     assert_eq!(text(&output.stdout), object);
     assert_eq!(output.status.code(), Some(1));
@@ -146,11 +146,28 @@ fn an_unknown_edition_is_refused_before_all_else() {
 
 #[test]
 fn what_no_edition_accepts() {
-    for edition in ["1", "2"] {
+    for edition in ["1", "2", "3"] {
         for (precision, scale) in [(0, 0), (3, 4), (10, 10)] {
             let sheet = sheet(&[Node::root(1), Node::leaf("x", INT32, REQUIRED).decimal(precision, scale)]);
             let output = run_on(&["rows", "-", "--edition", edition], &sheet);
             refused(&output, "refused 11 at 1", "DECIMAL scale or precision; place 1 is the node");
         }
     }
+}
+
+#[test]
+fn what_the_third_edition_does_not_have() {
+    let meaning =
+        "annotation on the wrong physical type, length or parameters, or INT96 in edition 3; place 2 is the node";
+    for logical in [0, 11] {
+        let leaf = Node::leaf("t", 3, REQUIRED).logical(logical, 0, 0);
+        let sheet = sheet(&[Node::root(2), Node::leaf("x", INT32, REQUIRED), leaf]);
+        assert_eq!(run_on(&["rows", "-", "--edition", "2"], &sheet).status.code(), Some(0));
+        refused(&run_on(&["rows", "-", "--edition", "3"], &sheet), "refused 10 at 2", meaning);
+        refused(&run_on(&["tree", "-", "--edition", "3"], &sheet), "refused 10 at 2", meaning);
+        refused(&run_on(&["rewrite", "-", "-o", "-", "--edition", "3"], &sheet), "refused 10 at 2", meaning);
+    }
+    let meaning = "no accepted sheet has a leaf of this column type, or a time unit is not 1 to 3";
+    let words = ["value", "3", "0", "0", "0", "0", "-", "--edition", "3"];
+    refused(&run_on(&words, &[0; 12]), "refused 20 at 0", meaning);
 }

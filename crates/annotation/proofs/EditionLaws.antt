@@ -1,25 +1,26 @@
--- Rule 11 in the two editions: what keeps the first's keeps the second's, and what keeps the second's alone is a DECIMAL whose scale equals its precision.
+-- Rules 10 and 11 in the editions: what keeps the first's keeps the second's, and what keeps the second's alone is a DECIMAL whose scale equals its precision;
+-- what keeps the third's keeps the second's and is no INT96.
 -- Assumes nothing.
 use Prim.Native.Nat.{ℕ, _≤_, _<_}
-use mathlib.Core.Path.{_≡_, refl, sym, ap, _∙_}
+use mathlib.Core.Path.{_≡_, refl, sym, _∙_}
 use mathlib.Core.Logic.{_↔_}
 use mathlib.Core.Bool.{Bool, true, false, true≢false, not, cond, _&&_, _||_}
 use native.Mathlib.Omega.{arith}
 use lib.Dec.{eqb, leb, ltb}
 use lib.IntN.{ℤ, pos, negsuc}
 use lib.Signed.{leZ}
-use borrow.Author.Tests.{eq-eqb, ne-eqb, eqb-true, eqb-false, le-leb, lt-ltb, le-ltb, leb-true, ltb-true}
+use borrow.Author.Tests.{eqb-true, eqb-false, le-leb, lt-ltb, leb-true, ltb-true}
 use Rattle.laws.proofs.BoolLaws.{and-left, and-right, and-both, both-and, and-true, by-test}
-use Rattle.edition.specs.Editions.{FIRST, SECOND, scaleMayEqual}
+use Rattle.edition.specs.Editions.{FIRST, SECOND, THIRD, scaleMayEqual, int96Retired}
 use Rattle.parquet.specs.Physical as physical
 use Rattle.parquet.specs.Logical as logical
 use Rattle.logical_type.specs.Spelling.{codeOf}
 use Rattle.logical_type.specs.declared.types.Annotation.{Annotation}
-use Rattle.logical_type.specs.declared.types.LogicalType.{LogicalType}
 use Rattle.annotation.specs.Signed.{natural}
 use Rattle.annotation.specs.Meaning.{annotationOf}
+use Rattle.annotation.specs.Rule10.{isRetired, rule10}
 use Rattle.annotation.specs.Rule11.{scaleAllowed, ordered, physicalHolds, isDecimal, decimalHolds, digitsAllowed, rule11}
-use Rattle.annotation.specs.Kinds.{PLAIN-LEAF, PLAIN-GROUP, bareKind, plainKind, kindAs, kindOf}
+use Rattle.annotation.specs.Kinds.{PLAIN-LEAF, PLAIN-GROUP, bareKind, kindAs, kindOf}
 use Rattle.annotation.specs.declared.slot.Annotated.{Annotated}
 use Rattle.annotation.specs.declared.resolution.Kind.{Kind}
 
@@ -115,3 +116,20 @@ eleven-first n underMap e = on (annotationOf n underMap) e
     on (Annotation.Logical l) f = by-test (eqb (codeOf l) logical.DECIMAL) (λ d. rw d (holds-first n (rw d at f))) (λ d. rw (d, d))
     on Annotation.Interval f = refl
     on Annotation.Unreadable f = plain (eqb (n .physical) physical.GROUP)
+
+-- the third edition -------------------------------------------------------------------------------------------------------
+
+-- of rule 10 the first two editions ask the same
+pub ten-second : (n : Annotated) (underMap : Bool) → rule10 SECOND n underMap ≡ rule10 FIRST n underMap
+unfolding rule10 isRetired int96Retired
+ten-second n underMap = refl
+
+-- and the third besides that there is no INT96
+pub ten-third : (n : Annotated) (underMap : Bool) → rule10 THIRD n underMap ≡ (not (eqb (n .physical) physical.INT96) && rule10 SECOND n underMap)
+unfolding rule10 isRetired int96Retired
+ten-third n underMap = by-test (eqb (n .physical) physical.INT96) (λ t. rw t) (λ f. rw f)
+
+-- of rule 11 it asks what the second does
+pub eleven-third : (n : Annotated) (underMap : Bool) → rule11 THIRD n underMap ≡ rule11 SECOND n underMap
+unfolding rule11 decimalHolds ordered scaleAllowed scaleMayEqual
+eleven-third n underMap = refl

@@ -17,7 +17,7 @@ use Rattle.annotation.specs.declared.resolution.Resolution.{Resolution}
 -- rules 9, 10 and 11 all hold in an edition
 pub record Keeps (edition : ℕ) (n : Annotated) (underMap : Bool) : Type 0 where
   pub nine : rule9 n ≡ true
-  pub ten : rule10 n underMap ≡ true
+  pub ten : rule10 edition n underMap ≡ true
   pub eleven : rule11 edition n underMap ≡ true
 
 -- where they hold, the numbers resolve to their kind
@@ -40,12 +40,12 @@ all-held false ten eleven k k′ e = ((cc), (cc), (cc), (cc))
 pub keeps-of-resolved : (edition : ℕ) (n : Annotated) (underMap : Bool) (k : Kind) → resolutionOf edition n underMap ≡ Resolution.Resolved k → Keeps edition n underMap
 unfolding resolutionOf InOrder
 keeps-of-resolved edition n underMap k e =
-    let held = all-held (rule9 n) (rule10 n underMap) (rule11 edition n underMap) (kindOf n underMap) k e in
+    let held = all-held (rule9 n) (rule10 edition n underMap) (rule11 edition n underMap) (kindOf n underMap) k e in
     record { nine = held .0; ten = held .1; eleven = held .2 }
 
 pub kind-of-resolved : (edition : ℕ) (n : Annotated) (underMap : Bool) (k : Kind) → resolutionOf edition n underMap ≡ Resolution.Resolved k → kindOf n underMap ≡ k
 unfolding resolutionOf InOrder
-kind-of-resolved edition n underMap k e = all-held (rule9 n) (rule10 n underMap) (rule11 edition n underMap) (kindOf n underMap) k e .3
+kind-of-resolved edition n underMap k e = all-held (rule9 n) (rule10 edition n underMap) (rule11 edition n underMap) (kindOf n underMap) k e .3
 
 -- an answer that resolving gives has the outcome of the numbers
 pub with-outcome : (edition : ℕ) (n : Annotated) (underMap : Bool) (r : Resolution) → r ≡ resolutionOf edition n underMap → (r ≡ resolutionOf edition n underMap) × ((k : ℕ) → outcomeOf k r ≡ outcome edition k n underMap)
@@ -55,7 +55,7 @@ with-outcome edition n underMap r e = (e, λ k. ap (outcomeOf k) e)
 -- numbers that are not refused resolve to their kind
 pub resolved-of-refusal : (edition : ℕ) (n : Annotated) (underMap : Bool) → 0 ≡ refusalOf (resolutionOf edition n underMap) → resolutionOf edition n underMap ≡ Resolution.Resolved (kindOf n underMap)
 unfolding resolutionOf InOrder
-resolved-of-refusal edition n underMap e = cases (rule9 n) (rule10 n underMap) (rule11 edition n underMap) e
+resolved-of-refusal edition n underMap e = cases (rule9 n) (rule10 edition n underMap) (rule11 edition n underMap) e
   where
     cases : (nine ten eleven : Bool) → 0 ≡ refusalOf (InOrder nine ten eleven (kindOf n underMap)) → InOrder nine ten eleven (kindOf n underMap) ≡ Resolution.Resolved (kindOf n underMap)
     cases true true true z = refl

@@ -4,6 +4,8 @@ use Prim.Native.Nat.{ℕ, _^_, _<_}
 use mathlib.Core.Path.{_≡_, refl, _∙_}
 use mathlib.Core.Bool.{Bool, true, false}
 use native.Mathlib.Omega.{arith}
+use lib.Dec.{eqb}
+use Rattle.parquet.specs.Physical as physical
 use Rattle.logical_type.specs.Spelling.{statedOf}
 use Rattle.logical_type.specs.Forward.{forwardOf, imageOf}
 use Rattle.logical_type.specs.declared.types.TimeUnit.{TimeUnit}
@@ -94,3 +96,30 @@ read-image Annotation.Unreadable code a b s = refl
 pub stated-image : (code a b : ℕ) → convertedPart (packedOf (statedOf code a b)) ≡ imageOf (statedOf code a b)
 stated-image code a b =
     bytes true (statedOf code a b) .converted ∙ read-image (statedOf code a b) code a b (spelled-stated code a b)
+
+-- no annotation demands INT96
+logical-not-int96 : (l : LogicalType) → eqb physical.INT96 (logicalDemand l) ≡ false
+logical-not-int96 LogicalType.String = refl
+logical-not-int96 LogicalType.Map = refl
+logical-not-int96 LogicalType.List = refl
+logical-not-int96 LogicalType.Enum = refl
+logical-not-int96 LogicalType.Decimal = refl
+logical-not-int96 LogicalType.Date = refl
+logical-not-int96 (LogicalType.Time TimeUnit.Millis utc) = refl
+logical-not-int96 (LogicalType.Time TimeUnit.Micros utc) = refl
+logical-not-int96 (LogicalType.Time TimeUnit.Nanos utc) = refl
+logical-not-int96 (LogicalType.Timestamp unit utc) = refl
+logical-not-int96 (LogicalType.Integer BitWidth.Bits8 signed) = refl
+logical-not-int96 (LogicalType.Integer BitWidth.Bits16 signed) = refl
+logical-not-int96 (LogicalType.Integer BitWidth.Bits32 signed) = refl
+logical-not-int96 (LogicalType.Integer BitWidth.Bits64 signed) = refl
+logical-not-int96 LogicalType.Unknown = refl
+logical-not-int96 LogicalType.Json = refl
+logical-not-int96 LogicalType.Bson = refl
+logical-not-int96 LogicalType.Uuid = refl
+
+pub not-int96 : (says : Annotation) → eqb physical.INT96 (demandOf says) ≡ false
+not-int96 Annotation.Plain = refl
+not-int96 (Annotation.Logical l) = logical-not-int96 l
+not-int96 Annotation.Interval = refl
+not-int96 Annotation.Unreadable = refl

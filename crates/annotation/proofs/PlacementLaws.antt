@@ -2,14 +2,15 @@
 -- Assumes nothing.
 use Prim.Native.Nat.{ℕ}
 use mathlib.Core.Path.{_≡_, refl, sym, _∙_, subst}
-use mathlib.Core.Bool.{Bool, true, false, true≢false, cond, _||_}
+use mathlib.Core.Bool.{Bool, true, false, true≢false, not, cond, _||_}
 use lib.Dec.{eqb}
+use Rattle.laws.proofs.BoolLaws.{and-both}
 use Rattle.parquet.specs.Physical as physical
 use Rattle.parquet.specs.Logical as logical
 use Rattle.logical_type.specs.Spelling.{codeOf}
 use Rattle.annotation.specs.Signed.{natural}
 use Rattle.annotation.specs.Meaning.{annotationOf}
-use Rattle.annotation.specs.Rule10.{logicalOn, annotationOn, rule10}
+use Rattle.annotation.specs.Rule10.{logicalOn, annotationOn, isPlaced, isRetired, rule10}
 use Rattle.annotation.specs.Kinds.{PLAIN-GROUP, kindAs, kindOf}
 use Rattle.logical_type.specs.declared.types.TimeUnit.{TimeUnit}
 use Rattle.logical_type.specs.declared.types.BitWidth.{BitWidth}
@@ -107,15 +108,20 @@ pub readable : (valid : Bool) (says : Annotation) (code length : ℕ) → annota
 readable true says code length e = refl
 readable false says code length e = absurd (true≢false (sym e))
 
--- a group that keeps rule 10 is plain, LIST or MAP
-pub group-kind : (n : Annotated) (underMap : Bool) → rule10 n underMap ≡ true → n .physical ≡ physical.GROUP → groupKind (kindOf n underMap .kind) ≡ true
-unfolding rule10 kindOf
-group-kind n underMap ten group =
+-- rule 10 has two parts
+pub ten-parts : (edition : ℕ) (n : Annotated) (underMap : Bool) → rule10 edition n underMap ≡ true → (not (isRetired edition (n .physical)) ≡ true) × (isPlaced n underMap ≡ true)
+unfolding rule10
+ten-parts edition n underMap e = and-both (not (isRetired edition (n .physical))) (isPlaced n underMap) e
+
+-- a group whose annotation is placed as rule 10 asks is plain, LIST or MAP
+pub group-kind : (n : Annotated) (underMap : Bool) → isPlaced n underMap ≡ true → n .physical ≡ physical.GROUP → groupKind (kindOf n underMap .kind) ≡ true
+unfolding isPlaced kindOf
+group-kind n underMap placed group =
     let length = natural (n .«type_length») in
     kind-group (annotationOf n underMap) n length group
-    (subst (λ (code : ℕ). annotationOn (annotationOf n underMap) code length ≡ true) group ten)
+    (subst (λ (code : ℕ). annotationOn (annotationOf n underMap) code length ≡ true) group placed)
 
--- a leaf that keeps it is none of these
-pub leaf-kind : (n : Annotated) (underMap : Bool) → rule10 n underMap ≡ true → eqb (n .physical) physical.GROUP ≡ false → groupKind (kindOf n underMap .kind) ≡ false
-unfolding rule10 kindOf
-leaf-kind n underMap ten leaf = kind-leaf (annotationOf n underMap) n (natural (n .«type_length»)) leaf ten
+-- a leaf whose annotation is so is none of these
+pub leaf-kind : (n : Annotated) (underMap : Bool) → isPlaced n underMap ≡ true → eqb (n .physical) physical.GROUP ≡ false → groupKind (kindOf n underMap .kind) ≡ false
+unfolding isPlaced kindOf
+leaf-kind n underMap placed leaf = kind-leaf (annotationOf n underMap) n (natural (n .«type_length»)) leaf placed

@@ -15,7 +15,7 @@ use Rattle.logical_type.specs.Forward.{forwardOf, imageOf}
 use Rattle.logical_type.specs.Backward.{backwardOf}
 use Rattle.annotation.specs.Meaning.{annotationOf}
 use Rattle.annotation.specs.Rule9.{rule9}
-use Rattle.annotation.specs.Rule10.{annotationOn, rule10}
+use Rattle.annotation.specs.Rule10.{annotationOn, isPlaced, rule10}
 use Rattle.annotation.specs.Rule11.{isDecimal, decimalHolds, rule11}
 use Rattle.annotation.specs.Kinds.{PLAIN-LEAF, PLAIN-GROUP, bareKind, kindAs, kindOf}
 use Rattle.annotation.specs.Outcome.{refusalOf, resolutionOf}
@@ -29,7 +29,7 @@ use Rattle.annotation.specs.declared.rewriting.Written.{Written}
 use Rattle.annotation.specs.declared.rewriting.Rewriting.{Rewriting}
 use Rattle.logical_type.proofs.ConversionLaws.{forward-decimal}
 use Rattle.logical_type.proofs.SpellingLaws.{stated-spelled}
-use Rattle.annotation.proofs.PlacementLaws.{kind-logical, code-stands}
+use Rattle.annotation.proofs.PlacementLaws.{kind-logical, code-stands, ten-parts}
 use Rattle.annotation.proofs.OutcomeLaws.{resolved-of-keeps, keeps-of-resolved, kind-of-resolved, resolved-of-refusal, refused-of-number}
 
 -- an annotation as it is after rewriting: what cannot be read is written as none
@@ -63,9 +63,9 @@ settled-on (Annotation.Logical l) code length e = refl
 settled-on Annotation.Interval code length e = refl
 settled-on Annotation.Unreadable code length e = absurd (true≢false (sym e))
 
--- numbers that keep rule 10 say the same after rewriting
-pub annotation-rewritten : (n : Annotated) (underMap : Bool) → rule10 n underMap ≡ true → annotationOf (rewritten n underMap) underMap ≡ annotationOf n underMap
-unfolding rewritten writtenOf rule10
+-- numbers whose annotation is placed as rule 10 asks say the same after rewriting
+pub annotation-rewritten : (n : Annotated) (underMap : Bool) → isPlaced n underMap ≡ true → annotationOf (rewritten n underMap) underMap ≡ annotationOf n underMap
+unfolding rewritten writtenOf isPlaced
 annotation-rewritten n underMap e =
     annotation-written (annotationOf n underMap) n underMap ∙ settled-on (annotationOf n underMap) (n .physical) (natural (n .«type_length»)) e
 
@@ -78,10 +78,10 @@ kind-written Annotation.Unreadable n w = refl
 
 -- what rewriting writes is accepted, and resolves to the same kind, p1 and p2
 pub resolved-rewritten : (edition : ℕ) (n : Annotated) (underMap : Bool) (k : Kind) → resolutionOf edition n underMap ≡ Resolution.Resolved k → resolutionOf edition (rewritten n underMap) underMap ≡ Resolution.Resolved k
-unfolding rewritten writtenOf rule10 rule11 decimalHolds kindOf
+unfolding rewritten writtenOf isPlaced rule10 rule11 decimalHolds kindOf
 resolved-rewritten edition n underMap k e =
     let keeps = keeps-of-resolved edition n underMap k e in
-    let same = annotation-rewritten n underMap (keeps .ten) in
+    let same = annotation-rewritten n underMap (ten-parts edition n underMap (keeps .ten) .1) in
     resolved-of-keeps edition (rewritten n underMap) underMap
     (record {
       nine = nine-written (annotationOf n underMap) n;
@@ -145,21 +145,21 @@ written-decimal (Annotation.Logical l) e = eqb-true (codeOf l) logical.DECIMAL e
 written-decimal Annotation.Interval e = absurd (true≢false (sym e))
 written-decimal Annotation.Unreadable e = absurd (true≢false (sym e))
 
-module _ (n : Annotated) (underMap : Bool) (nine : rule9 n ≡ true) (ten : rule10 n underMap ≡ true) where
-  -- numbers that keep rules 9 and 10 say DECIMAL where their logical type is DECIMAL
+module _ (n : Annotated) (underMap : Bool) (nine : rule9 n ≡ true) (placed : isPlaced n underMap ≡ true) where
+  -- numbers that keep rule 9, and rule 10 as to their annotation, say DECIMAL where their logical type is DECIMAL
 
   decimal-by-logical : n .logical ≡ logical.DECIMAL → isDecimal (annotationOf n underMap) ≡ true
-  unfolding rule10 annotationOf statedOf namedOf
+  unfolding isPlaced annotationOf statedOf namedOf
   decimal-by-logical e =
       rw e
-      (decimal-read (validParameters logical.DECIMAL (n .a) (n .b)) (n .physical) (natural (n .«type_length»)) (rw e at ten))
+      (decimal-read (validParameters logical.DECIMAL (n .a) (n .b)) (n .physical) (natural (n .«type_length»)) (rw e at placed))
 
   -- and where their converted type is, alone or beside a logical type
   decimal-by-converted : n .converted ≡ converted.DECIMAL → (alone : Bool) → eqb (n .logical) logical.NONE ≡ alone → isDecimal (annotationOf n underMap) ≡ true
-  unfolding rule9 rule10 annotationOf backwardOf
+  unfolding rule9 isPlaced annotationOf backwardOf
   decimal-by-converted e true f =
       rw (f, e)
-      (decimal-read (validParameters logical.NONE (n .a) (n .b)) (n .physical) (natural (n .«type_length»)) (rw (f, e) at ten))
+      (decimal-read (validParameters logical.NONE (n .a) (n .b)) (n .physical) (natural (n .«type_length»)) (rw (f, e) at placed))
   decimal-by-converted e false f = rw f (image-decimal (statedOf (n .logical) (n .a) (n .b)) (rw (f, e) at nine))
 
   decimal-by-either : (named : Bool) → eqb (n .converted) converted.DECIMAL ≡ named → (named || eqb (n .logical) logical.DECIMAL) ≡ true → isDecimal (annotationOf n underMap) ≡ true

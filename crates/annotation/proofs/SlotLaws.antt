@@ -2,7 +2,7 @@
 -- Assumes nothing.
 use Prim.Native.Nat.{ℕ, _+_, _^_, _≤_, _<_}
 use mathlib.Core.Path.{_≡_, refl, sym, _∙_}
-use mathlib.Core.Bool.{Bool, true, false, cond, _&&_}
+use mathlib.Core.Bool.{Bool, true, false, not, cond, _&&_}
 use native.Mathlib.Omega.{arith}
 use lib.Dec.{eqb}
 use lib.IntN.{ℤ}
@@ -11,6 +11,8 @@ use mir.Syntax.{w32}
 use mir.Val.{SFits, toZ, ofZ}
 use borrow.Author.Tests.{eqb-true, eq-eqb, ne-eqb, le-leb, lt-leb}
 use Rattle.refusal.specs.Numbers.{DISAGREEMENT, MISPLACED, BAD-DECIMAL}
+use Rattle.edition.specs.Editions.{int96Retired}
+use Rattle.parquet.specs.Physical as physical
 use Rattle.parquet.specs.Converted as converted
 use Rattle.parquet.specs.Logical as logical
 use Rattle.logical_type.specs.Parameters.{UNUSED, validParameters}
@@ -18,13 +20,13 @@ use Rattle.logical_type.specs.Backward.{backwardOf}
 use Rattle.annotation.specs.Signed.{natural}
 use Rattle.annotation.specs.Meaning.{annotationOf}
 use Rattle.annotation.specs.Rule9.{rule9}
-use Rattle.annotation.specs.Rule10.{INTERVAL-LENGTH, isFixed, decimalOn, logicalOn, annotationOn, rule10}
+use Rattle.annotation.specs.Rule10.{INTERVAL-LENGTH, isFixed, decimalOn, logicalOn, annotationOn, isPlaced, isRetired, rule10}
 use Rattle.annotation.specs.Rule11.{decimalHolds, digitsAllowed, rule11}
 use Rattle.annotation.specs.Kinds.{plainKind, decimalKind, kindAs, kindOf}
 use Rattle.annotation.specs.Outcome.{refusalOf, resolutionOf}
 use Rattle.annotation.specs.Rewriting.{writtenAs, writtenOf}
 use Rattle.annotation.specs.Packed.{ANY-PHYSICAL, NO-PHYSICAL, OWN-RULE, DISAGREEMENT-MARK, demandOf, packedOf, demandPart}
-use Rattle.annotation.specs.Steps.{isPlain, annotatedBy, marked, readingOf, ownOn, digitsHold, ownFault, faultBy, standsBy, loneKind, kindBy, writtenBy}
+use Rattle.annotation.specs.Steps.{isPlain, annotatedBy, marked, readingOf, ownOn, digitsHold, ownFault, faultBy, plainFault, standsBy, loneKind, kindBy, writtenBy}
 use Rattle.logical_type.specs.declared.types.TimeUnit.{TimeUnit}
 use Rattle.logical_type.specs.declared.types.BitWidth.{BitWidth}
 use Rattle.logical_type.specs.declared.types.LogicalType.{LogicalType}
@@ -32,8 +34,8 @@ use Rattle.logical_type.specs.declared.types.Annotation.{Annotation}
 use Rattle.annotation.specs.declared.slot.Annotated.{Annotated}
 use Rattle.annotation.specs.declared.resolution.Kind.{Kind}
 use Rattle.annotation.specs.declared.resolution.Resolution.{Resolution}
-use Rattle.laws.proofs.BoolLaws.{and-both}
-use Rattle.annotation.proofs.PackedLaws.{bytes, demand, packed-bound}
+use Rattle.laws.proofs.BoolLaws.{and-both, and-left, by-test}
+use Rattle.annotation.proofs.PackedLaws.{bytes, demand, packed-bound, not-int96}
 use Rattle.annotation.proofs.PlacementLaws.{code-stands}
 
 -- only the annotations of a slot count in what they say
@@ -72,11 +74,11 @@ reading-written : (n : Annotated) (underMap : Bool) → writtenBy (readingOf n u
 unfolding readingOf writtenOf
 reading-written n underMap = written-by (rule9 n) (annotationOf n underMap)
 
--- the outcome of the numbers of a slot by whether its annotations agree and what they say
-resolutionAs : ℕ → Bool → Annotation → Annotated → Resolution
-resolutionAs edition agree says n =
+-- the outcome of the numbers of a slot by whether its annotations agree, whether its physical type is retired, and what the annotations say
+resolutionAs : ℕ → Bool → Bool → Annotation → Annotated → Resolution
+resolutionAs edition agree retired says n =
     cond agree
-    (cond (annotationOn says (n .physical) (natural (n .«type_length»)))
+    (cond (not retired && annotationOn says (n .physical) (natural (n .«type_length»)))
     (cond (digitsAllowed edition says n) (Resolution.Resolved (kindAs says n)) (Resolution.Refused BAD-DECIMAL))
     (Resolution.Refused MISPLACED))
     (Resolution.Refused DISAGREEMENT)
@@ -94,7 +96,7 @@ by-ten-eleven true true k = refl
 by-ten-eleven true false k = refl
 by-ten-eleven false eleven k = refl
 
--- rules 10 and 11 by what an annotation demands and the logical type that is written for it
+-- rules 10 and 11 of a physical type that is not retired, by what an annotation demands and the logical type that is written for it
 placedBy : ℕ → Annotation → Annotated → ℕ
 placedBy edition says n =
     cond (eqb (n .physical) (demandOf says)) 0
@@ -113,7 +115,7 @@ module _ (edition : ℕ) (n : Annotated) (byte : n .physical < 2 ^ 8) where
       cond on 0 MISPLACED ≡ refusalOf (cond on (Resolution.Resolved (kindAs (Annotation.Logical l) n)) (Resolution.Refused MISPLACED))
   kept l = by-ten (logicalOn l (n .physical) (natural (n .«type_length»))) (kindAs (Annotation.Logical l) n)
 
-  logical-placed : (l : LogicalType) → placedBy edition (Annotation.Logical l) n ≡ refusalOf (resolutionAs edition true (Annotation.Logical l) n)
+  logical-placed : (l : LogicalType) → placedBy edition (Annotation.Logical l) n ≡ refusalOf (resolutionAs edition true false (Annotation.Logical l) n)
   unfolding placedBy resolutionAs ownFault ownOn digitsHold decimalHolds
   logical-placed LogicalType.String = kept LogicalType.String
   logical-placed LogicalType.Map = kept LogicalType.Map
@@ -135,7 +137,7 @@ module _ (edition : ℕ) (n : Annotated) (byte : n .physical < 2 ^ 8) where
   logical-placed LogicalType.Bson = kept LogicalType.Bson
   logical-placed LogicalType.Uuid = rw (apart OWN-RULE (omega arith)) (kept LogicalType.Uuid)
 
-  placed : (says : Annotation) → placedBy edition says n ≡ refusalOf (resolutionAs edition true says n)
+  placed : (says : Annotation) → placedBy edition says n ≡ refusalOf (resolutionAs edition true false says n)
   unfolding placedBy resolutionAs ownFault ownOn
   placed Annotation.Plain = either (eqb (n .physical) ANY-PHYSICAL)
     where
@@ -147,17 +149,25 @@ module _ (edition : ℕ) (n : Annotated) (byte : n .physical < 2 ^ 8) where
       rw (apart OWN-RULE (omega arith)) (by-ten (isFixed INTERVAL-LENGTH (n .physical) (natural (n .«type_length»))) (kindAs Annotation.Interval n))
   placed Annotation.Unreadable = rw (apart NO-PHYSICAL (omega arith))
 
+  -- no annotation demands a physical type that is retired
+  not-demanded : (says : Annotation) → isRetired edition (n .physical) ≡ true → eqb (n .physical) (demandOf says) ≡ false
+  unfolding isRetired
+  not-demanded says r =
+      let int96 : n .physical ≡ physical.INT96 = eqb-true (n .physical) physical.INT96 (and-left (eqb (n .physical) physical.INT96) (int96Retired edition) r) in
+      rw int96 (not-int96 says)
+
   fault-by : (agree : Bool) (says : Annotation)
-      → faultBy edition (marked agree (packedOf says)) (n .physical) (n .«type_length») (n .precision) (n .scale) ≡ refusalOf (resolutionAs edition agree says n)
+      → faultBy edition (marked agree (packedOf says)) (n .physical) (n .«type_length») (n .precision) (n .scale) ≡ refusalOf (resolutionAs edition agree (isRetired edition (n .physical)) says n)
   unfolding faultBy resolutionAs placedBy
   fault-by false says = rw (le-leb DISAGREEMENT-MARK (packedOf says + DISAGREEMENT-MARK) (omega arith))
   fault-by true says =
-      rw (lt-leb DISAGREEMENT-MARK (packedOf says) (packed-bound says), demand says, bytes true says .logical) (placed says)
+      rw (lt-leb DISAGREEMENT-MARK (packedOf says) (packed-bound says), demand says, bytes true says .logical)
+      (by-test (isRetired edition (n .physical)) (λ r. rw (r, not-demanded says r)) (λ r. rw r (placed says)))
 
   -- the first rule that a slot breaks by its packed annotation
   reading-fault : (underMap : Bool)
       → faultBy edition (readingOf n underMap) (n .physical) (n .«type_length») (n .precision) (n .scale) ≡ refusalOf (resolutionOf edition n underMap)
-  unfolding readingOf resolutionOf resolutionAs rule10 rule11 kindOf
+  unfolding readingOf resolutionOf resolutionAs isPlaced rule10 rule11 kindOf
   reading-fault underMap = fault-by (rule9 n) (annotationOf n underMap)
 
 -- where a packed annotation tells at once that no rule is broken, none is
@@ -205,10 +215,11 @@ module _ (n : Annotated) (underMap : Bool) (plain : isPlain n ≡ true) where
   unfolding annotationOf validParameters backwardOf
   says-plain = rw (each .0, each .1, each .2, each .3)
 
-  -- no rule is broken, no logical type is written, and the kind is the plain one
-  pub plain-kept : (edition : ℕ) → 0 ≡ refusalOf (resolutionOf edition n underMap)
-  unfolding resolutionOf rule9 rule10 rule11
-  plain-kept edition = sym (rw (says-plain, eq-eqb (n .converted) converted.NONE (each .0)))
+  -- no rule is broken but by a physical type that is retired, no logical type is written, and the kind is the plain one
+  pub plain-fault : (edition : ℕ) → plainFault edition (n .physical) ≡ refusalOf (resolutionOf edition n underMap)
+  unfolding resolutionOf rule9 isPlaced rule10 rule11
+  plain-fault edition =
+      rw (says-plain, eq-eqb (n .converted) converted.NONE (each .0)) (by-test (isRetired edition (n .physical)) (λ r. rw r) (λ r. rw r))
 
   pub plain-logical : logical.NONE ≡ writtenOf n underMap .logical
   unfolding writtenOf

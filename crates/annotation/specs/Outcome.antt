@@ -16,7 +16,7 @@ use Rattle.annotation.specs.declared.resolution.Resolution.{Resolution}
 unfoldable pub resolutionOf : ℕ → Annotated → Bool → Resolution
 resolutionOf edition n underMap =
     cond (rule9 n)
-    (cond (rule10 n underMap)
+    (cond (rule10 edition n underMap)
     (cond (rule11 edition n underMap) (Resolution.Resolved (kindOf n underMap)) (Resolution.Refused BAD-DECIMAL))
     (Resolution.Refused MISPLACED))
     (Resolution.Refused DISAGREEMENT)

@@ -1,7 +1,8 @@
--- Rule 10: each annotation on its physical type and length.
+-- Rule 10: each annotation on its physical type and length, and no physical type that an edition has retired.
 use Prim.Native.Nat.{ℕ}
 use mathlib.Core.Bool.{Bool, true, false, not, _&&_, _||_}
 use lib.Dec.{eqb}
+use Rattle.edition.specs.Editions.{int96Retired}
 use Rattle.parquet.specs.Physical as physical
 use Rattle.annotation.specs.Signed.{natural}
 use Rattle.annotation.specs.Meaning.{annotationOf}
@@ -65,5 +66,12 @@ annotationOn Annotation.Interval code length = isFixed INTERVAL-LENGTH code leng
 annotationOn Annotation.Unreadable code length = false
 
 -- "annotation on the wrong physical type, length or parameters" is what it refuses (01, rule 10)
-unfoldable pub rule10 : Annotated → Bool → Bool
-rule10 n underMap = annotationOn (annotationOf n underMap) (n .physical) (natural (n .«type_length»))
+unfoldable pub isPlaced : Annotated → Bool → Bool
+isPlaced n underMap = annotationOn (annotationOf n underMap) (n .physical) (natural (n .«type_length»))
+
+-- and "10 for an INT96 leaf in edition 3", whatever its annotation (02, R-10)
+unfoldable pub isRetired : ℕ → ℕ → Bool
+isRetired edition code = eqb code physical.INT96 && int96Retired edition
+
+unfoldable pub rule10 : ℕ → Annotated → Bool → Bool
+rule10 edition n underMap = not (isRetired edition (n .physical)) && isPlaced n underMap

@@ -11,7 +11,7 @@ use Rattle.logical_type.specs.Parameters.{UNUSED}
 use Rattle.annotation.specs.Signed.{natural}
 use Rattle.annotation.specs.Meaning.{annotationOf}
 use Rattle.annotation.specs.Rule9.{rule9}
-use Rattle.annotation.specs.Rule10.{UUID-LENGTH, INTERVAL-LENGTH, isFixed, decimalOn}
+use Rattle.annotation.specs.Rule10.{UUID-LENGTH, INTERVAL-LENGTH, isFixed, decimalOn, isRetired}
 use Rattle.annotation.specs.Rule11.{ordered, physicalHolds}
 use Rattle.annotation.specs.Kinds.{bareKind, plainKind, decimalKind}
 use Rattle.annotation.specs.Packed.{ANY-PHYSICAL, OWN-RULE, DISAGREEMENT-MARK, packedOf, convertedPart, logicalPart, aPart, bPart, demandPart}
@@ -70,8 +70,13 @@ unfoldable pub faultBy : ℕ → ℕ → ℕ → ℤ → ℤ → ℤ → ℕ
 faultBy edition packed code length precision scale =
     cond (leb DISAGREEMENT-MARK packed) DISAGREEMENT
     (cond (eqb code (demandPart packed)) 0
+    (cond (isRetired edition code) MISPLACED
     (cond (eqb (demandPart packed) ANY-PHYSICAL) 0
-    (cond (eqb (demandPart packed) OWN-RULE) (ownFault edition (logicalPart packed) code (natural length) precision scale) MISPLACED)))
+    (cond (eqb (demandPart packed) OWN-RULE) (ownFault edition (logicalPart packed) code (natural length) precision scale) MISPLACED))))
+
+-- the same of a slot without annotations
+abbrev pub plainFault : ℕ → ℕ → ℕ
+plainFault edition code = cond (isRetired edition code) MISPLACED 0
 
 -- whether a packed annotation tells at once that none is broken: it demands this physical type
 abbrev pub standsBy : ℕ → ℕ → Bool

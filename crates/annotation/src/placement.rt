@@ -1,13 +1,22 @@
-// Rule 10 of the annotations that have a rule of their own. Any other, packed, has the one physical type that it demands.
+// Rule 10: the physical types that an edition has retired, and the annotations that have a rule of their own. Any other, packed, has the
+// one physical type that it demands.
 ghost use mathlib.Core.Path.{_≡_};
-ghost use Rattle.annotation.specs.Rule10.{decimalOn, isFixed};
+ghost use Rattle.annotation.specs.Rule10.{decimalOn, isFixed, isRetired};
 ghost use Rattle.annotation.specs.Steps.{ownOn};
+use edition::int96_retired;
 use parquet::logical;
 use parquet::physical;
 
 const UUID_LENGTH: u32 = 16;
 
 const INTERVAL_LENGTH: u32 = 12;
+
+// Whether no leaf may have a physical type.
+pub(crate) fn is_retired(edition: u32, physical: u8) -> bool
+    ensures { λ r. ⌜ r ≡ isRetired edition physical ⌝ }
+{
+    (physical == physical::INT96) & int96_retired(edition)
+}
 
 // Whether DECIMAL, UNKNOWN, UUID or, with no logical code, INTERVAL may stand on a physical type and length.
 pub(crate) fn own_on(logical: u8, physical: u8, length: u32) -> bool

@@ -8,6 +8,7 @@ ghost use Rattle.annotation.specs.Steps.{kindBy, loneKind, logicalKindBy
 use crate::packed;
 use crate::rules::NO_REFUSAL;
 use crate::rules::fault;
+use crate::rules::plain_fault;
 use crate::rules::stands;
 use crate::slot::Annotated;
 use crate::slot::annotation_of;
@@ -84,7 +85,7 @@ pub fn judge(edition: u32, n: Annotated, under_map: bool) -> Judged
 {
     if is_plain(n) {
         return Judged {
-            refusal: NO_REFUSAL,
+            refusal: plain_fault(edition, n.physical),
             logical: logical::NONE,
         };
     }

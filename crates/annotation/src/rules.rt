@@ -1,8 +1,9 @@
 // Rules 9, 10 and 11 in order.
 ghost use mathlib.Core.Path.{_≡_};
-ghost use Rattle.annotation.specs.Steps.{faultBy, ownFault, standsBy};
+ghost use Rattle.annotation.specs.Steps.{faultBy, plainFault, ownFault, standsBy};
 use crate::decimals::digits_hold;
 use crate::packed;
+use crate::placement::is_retired;
 use crate::placement::own_on;
 use crate::slot::natural;
 use parquet::logical;
@@ -43,6 +44,9 @@ pub(crate) fn fault(
     if physical as u64 == demand {
         return NO_REFUSAL;
     }
+    if is_retired(edition, physical) {
+        return MISPLACED;
+    }
     match demand {
         packed::ANY_PHYSICAL => NO_REFUSAL,
         packed::OWN_RULE => own_fault(
@@ -55,6 +59,16 @@ pub(crate) fn fault(
         ),
         _ => MISPLACED,
     }
+}
+
+// The same of a slot without annotations.
+pub(crate) fn plain_fault(edition: u32, physical: u8) -> u32
+    ensures { λ r. ⌜ r ≡ plainFault edition physical ⌝ }
+{
+    if is_retired(edition, physical) {
+        return MISPLACED;
+    }
+    NO_REFUSAL
 }
 
 // The same of rules 10 and 11 for an annotation that has a rule of its own.

@@ -73,7 +73,7 @@ unfolding broken
 broken-most edition p s fs =
     cond-most 13 (rule8 p s fs) _ 8
     (cond-most 13 (rule9 s) _ 9
-    (cond-most 13 (rule10 (underMap p) s) _ 10
+    (cond-most 13 (rule10 edition (underMap p) s) _ 10
     (cond-most 13 (rule11 edition (underMap p) s) _ 11
     (cond-most 13 (rule12 p s fs) _ 12
     (cond-most 13 (rule13 p s fs) 0 13 (omega arith) (omega arith))

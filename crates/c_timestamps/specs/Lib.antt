@@ -1,3 +1,4 @@
 -- What calls on timestamps answer and leave in lent memory.
 pub mod Timestamps
+pub mod Int96
 pub mod Promises

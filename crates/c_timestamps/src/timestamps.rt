@@ -88,7 +88,7 @@ fn write_fields(f: Fields, fields: &mut [i64]) -> u64
 }
 
 // Writes a count, where it fits.
-fn write_count(n: i64, count: &mut [i64]) -> u64
+pub(crate) fn write_count(n: i64, count: &mut [i64]) -> u64
     ensures { λ r. ⌜ r ≡ answer (within (length (now (count .entry))) (listed (n ∷ []))) ⌝ }
     ensures { λ _. ⌜ now (count .exit) ≡ left (within (length (now (count .entry))) (listed (n ∷ []))) (now (count .entry)) ⌝ }
 {
@@ -160,7 +160,7 @@ fn no_date_time(unit: u32) -> u64
 }
 
 // The answer of a refusal, which has no place.
-fn refused(refusal: Refusal) -> u64
+pub(crate) fn refused(refusal: Refusal) -> u64
     requires { ⌜ Bounded UNKNOWN-TYPE 0 refusal ⌝ }
     ensures { λ r. ⌜ r ≡ refusalAnswer refusal ⌝ }
 {

@@ -21,19 +21,7 @@ pub(crate) fn little(value: &[u8]) -> u64
     requires { ⌜ length (now value) ≤ 8 ⌝ }
     ensures { λ r. ⌜ (r ≡ little (now (value .entry))) × (r < 256 ^ length (now (value .entry))) ⌝ }
 {
-    let mut n: u64 = 0;
-    let mut at = value.len();
-    while at > 0 {
-        at -= 1;
-        n = n * 256 + wide(value[at]);
-    }
-    n
-}
-
-fn wide(byte: u8) -> u64
-    ensures { λ r. ⌜ r ≡ byte ⌝ }
-{
-    byte as u64
+    little_endian::number(value)
 }
 
 // The signed number of `n` in two's complement, where the first bit has this weight.

@@ -14,11 +14,11 @@ use borrow.Author.Tests.{eqb-true}
 use Rattle.laws.specs.Bytes.{little}
 use Rattle.annotation.specs.Meaning.{annotationOf}
 use Rattle.logical_type.specs.Parameters.{validParameters}
-use Rattle.annotation.specs.Rule10.{decimalOn, rule10}
+use Rattle.annotation.specs.Rule10.{decimalOn, isPlaced}
 use Rattle.logical_type.specs.Spelling.{namedOf, statedOf}
 use Rattle.column_type.specs.declared.types.ColumnType.{ColumnType}
 use Rattle.column_type.specs.Lawful.{slotOf, isLawful}
-use Rattle.column_type.proofs.LawfulLaws.{ten}
+use Rattle.column_type.proofs.LawfulLaws.{placed}
 use Rattle.parquet.specs.Physical.{BOOLEAN, INT32, INT64, FLOAT, DOUBLE, BYTE-ARRAY, FIXED-LEN-BYTE-ARRAY}
 use Rattle.parquet.specs.Logical.{DECIMAL}
 use Rattle.column.specs.Lengths.{isByteDecimal}
@@ -167,8 +167,8 @@ or-cases false b e = inr e
 
 -- rule 10 of a lawful DECIMAL
 lawful-on : (edition : ℕ) (c : ColumnType) → isLawful edition c ≡ true → c .kind ≡ DECIMAL → decimalOn (c .physical) ≡ true
-unfolding slotOf rule10 annotationOf statedOf namedOf validParameters
-lawful-on edition c l k = rw k at (ten edition c l .1)
+unfolding slotOf isPlaced annotationOf statedOf namedOf validParameters
+lawful-on edition c l k = rw k at (placed edition c l)
 
 pub takes-decimal : (edition : ℕ) (c : ColumnType) → isLawful edition c ≡ true → c .kind ≡ DECIMAL → TakesDecimal c
 takes-decimal edition c l k =

@@ -1,20 +1,21 @@
 -- What rules 9, 10 and 11 ask of the slot of a DECIMAL column. Assumes nothing.
 use Prim.Native.Nat.{ℕ, _≤_}
 use mathlib.Core.Path.{_≡_, refl, sym, ap, _∙_}
-use mathlib.Core.Bool.{Bool, true, false, true≢false, cond, _&&_}
+use mathlib.Core.Bool.{Bool, true, false, true≢false, not, cond, _&&_}
 use native.Mathlib.Omega.{arith}
 use lib.Dec.{leb, ltb, eqb, leb·zero}
 use lib.IntN.{pos}
 use borrow.Author.Tests.{leb-true, ltb-true, le-leb, lt-ltb, eqb-true}
-use Rattle.edition.specs.Editions.{scaleMayEqual}
-use Rattle.laws.proofs.BoolLaws.{and-right, and-true, and-assoc}
+use Rattle.edition.specs.Editions.{scaleMayEqual, int96Retired}
+use Rattle.laws.proofs.BoolLaws.{and-right, and-true, and-assoc, by-test}
 use Rattle.decimal_bytes.specs.Precision.{isLength}
 use Rattle.decimal_bytes.proofs.PrecisionLaws.{isLength-bounds}
+use Rattle.parquet.specs.Physical.{INT96}
 use Rattle.parquet.specs.Logical as logical
 use Rattle.annotation.specs.Signed.{natural}
 use Rattle.annotation.specs.Meaning.{annotationOf}
 use Rattle.annotation.specs.Rule9.{rule9}
-use Rattle.annotation.specs.Rule10.{decimalOn, rule10}
+use Rattle.annotation.specs.Rule10.{decimalOn, isPlaced, isRetired, rule10}
 use Rattle.annotation.specs.Rule11.{scaleAllowed, ordered, physicalHolds, decimalHolds, rule11}
 use Rattle.logical_type.specs.Parameters.{validParameters}
 use Rattle.logical_type.specs.Spelling.{namedOf, statedOf}
@@ -29,10 +30,19 @@ swap true false h = refl
 swap false true h = refl
 swap false false h = refl
 
+-- none that a DECIMAL may stand on is retired
+decimal-unretired : (edition code : ℕ) → (not (isRetired edition code) && decimalOn code) ≡ decimalOn code
+unfolding isRetired
+decimal-unretired edition code = by-test (eqb code INT96) (λ t. rw (eqb-true code INT96 t) (either (int96Retired edition))) (λ f. rw f)
+  where
+    either : (b : Bool) → (not b && false) ≡ false
+    either true = refl
+    either false = refl
+
 rules : (edition : ℕ) (c : ColumnType) → eqb (c .kind) logical.DECIMAL ≡ true
     → annotationRight edition (slotOf c) ≡ (decimalOn (c .physical) && (((leb 1 (c .p1) && leb 0 (c .p2)) && scaleAllowed edition (pos (c .p1)) (pos (c .p2))) && physicalHolds (c .physical) (c .«type_length») (c .p1)))
-unfolding slotOf rule9 rule10 rule11 annotationOf statedOf namedOf validParameters decimalHolds ordered natural
-rules edition c e = rw e
+unfolding slotOf rule9 isPlaced rule10 rule11 annotationOf statedOf namedOf validParameters decimalHolds ordered natural
+rules edition c e = rw (e, decimal-unretired edition (c .physical))
 
 -- its digits are in order: precision at least 1, and a scale that the edition allows
 abbrev inOrder : ℕ → ColumnType → Bool

@@ -1,11 +1,12 @@
 -- A leaf that keeps the rules has a lawful column type in its row.
 use Prim.Native.Nat.{ℕ, _<_}
-use mathlib.Core.Path.{_≡_, refl, sym}
-use mathlib.Core.Bool.{Bool, true, false, true≢false, cond, _&&_, and-eq-true-iff}
+use mathlib.Core.Path.{_≡_, refl, sym, subst}
+use mathlib.Core.Bool.{Bool, true, false, true≢false, not, cond, _&&_, and-eq-true-iff}
 use native.Mathlib.Omega.{arith}
 use lib.Dec.{eqb, leb}
 use lib.IntN.{ℤ, pos, negsuc}
 use lib.Signed.{mag}
+use Rattle.laws.proofs.BoolLaws.{both-and}
 use Rattle.parquet.specs.Physical as physical
 use Rattle.parquet.specs.Logical as logical
 use Rattle.logical_type.specs.Parameters.{validParameters}
@@ -13,12 +14,13 @@ use Rattle.logical_type.specs.Spelling.{namedOf, statedOf}
 use Rattle.annotation.specs.Signed.{natural}
 use Rattle.logical_type.specs.Backward.{backwardOf}
 use Rattle.annotation.specs.Meaning.{annotationOf}
-use Rattle.annotation.specs.Rule10.{annotationOn, rule10}
+use Rattle.annotation.specs.Rule10.{annotationOn, isPlaced, isRetired, rule10}
 use Rattle.annotation.specs.Rule11.{isDecimal, ordered, physicalHolds, decimalHolds, digitsAllowed, rule11}
 use Rattle.annotation.specs.Kinds.{PLAIN-LEAF, PLAIN-GROUP, bareKind, plainKind, decimalKind, kindAs, kindOf}
 use Rattle.logical_type.specs.declared.types.LogicalType.{LogicalType}
 use Rattle.logical_type.specs.declared.types.Annotation.{Annotation}
 use Rattle.annotation.specs.declared.slot.Annotated.{Annotated}
+use Rattle.annotation.proofs.PlacementLaws.{ten-parts}
 use Rattle.annotation.specs.declared.resolution.Kind.{Kind}
 use Rattle.logical_type.proofs.SpellingLaws.{stated-spelled}
 use Rattle.logical_type.proofs.ReadingLaws.{spelled-bytes}
@@ -160,17 +162,25 @@ digits-slot edition says n e = cases (isDecimal says) refl
     cases false q = rw q
 
 -- a leaf that keeps rules 8, 10 and 11, its numbers within a slot's, has a column type whose slot keeps them
-module _ (edition : ℕ) (n : Annotated) (under : Bool) (range : InRange n) (leaf : isLeaf (n .physical) ≡ true) (shaped : lengthShape (n .physical) (n .«type_length») ≡ true) (ten : rule10 n under ≡ true) (eleven : rule11 edition n under ≡ true) where
+module _ (edition : ℕ) (n : Annotated) (under : Bool) (range : InRange n) (leaf : isLeaf (n .physical) ≡ true) (shaped : lengthShape (n .physical) (n .«type_length») ≡ true) (ten : rule10 edition n under ≡ true) (eleven : rule11 edition n under ≡ true) where
   column : ColumnType
   column = columnWith n (kindOf n under)
 
-  says-same : annotationOf (slotOf column) false ≡ annotationOf n under
-  unfolding column kindOf rule10
-  says-same = says-slot (annotationOf n under) n (natural (n .«type_length»)) (isLeaf-not-group (n .physical) leaf) ten
+  parts : (not (isRetired edition (n .physical)) ≡ true) × (isPlaced n under ≡ true)
+  parts = ten-parts edition n under ten
 
-  ten-slot : rule10 (slotOf column) false ≡ true
-  unfolding column columnWith rule10 natural
-  ten-slot = rw (says-same, slotOf-physical column, slotOf-length column) ten
+  says-same : annotationOf (slotOf column) false ≡ annotationOf n under
+  unfolding column kindOf isPlaced
+  says-same = says-slot (annotationOf n under) n (natural (n .«type_length»)) (isLeaf-not-group (n .physical) leaf) (parts .1)
+
+  placed-slot : isPlaced (slotOf column) false ≡ true
+  unfolding column columnWith isPlaced natural
+  placed-slot = rw (says-same, slotOf-physical column, slotOf-length column) (parts .1)
+
+  ten-slot : rule10 edition (slotOf column) false ≡ true
+  unfolding column columnWith rule10
+  ten-slot =
+      both-and _ _ (subst (λ (code : ℕ). not (isRetired edition code) ≡ true) (sym (slotOf-physical column)) (parts .0)) placed-slot
 
   eleven-slot : rule11 edition (slotOf column) false ≡ true
   unfolding column kindOf rule11

@@ -12,10 +12,11 @@ use Rattle.logical_type.specs.Parameters.{validParameters}
 use Rattle.logical_type.specs.Backward.{backwardOf}
 use Rattle.annotation.specs.Meaning.{annotationOf}
 use Rattle.annotation.specs.Rule9.{rule9}
-use Rattle.annotation.specs.Rule10.{rule10}
+use Rattle.annotation.specs.Rule10.{isPlaced, rule10}
 use Rattle.annotation.specs.Rule11.{rule11}
 use Rattle.annotation.specs.Kinds.{kindOf}
 use Rattle.annotation.specs.declared.slot.Annotated.{Annotated}
+use Rattle.annotation.proofs.PlacementLaws.{ten-parts}
 use Rattle.sheet.specs.Block.{totalOf}
 use Rattle.sheet.specs.Slot as slot
 use Rattle.sheet.specs.Sound.{physicalListed}
@@ -56,17 +57,20 @@ module _ (edition : ℕ) (c : ColumnType) (lawful : isLawful edition c ≡ true)
   fitting : (fits c ≡ true) × (isLeaf (c .physical) ≡ true)
   fitting = and-eq-true-iff (fits c) (isLeaf (c .physical)) .0 (shaped .0)
 
-  eleven : ((rule9 (slotOf c) && rule10 (slotOf c) false) ≡ true) × (rule11 edition (slotOf c) false ≡ true)
-  eleven = and-eq-true-iff (rule9 (slotOf c) && rule10 (slotOf c) false) (rule11 edition (slotOf c) false) .0 (right .1)
+  eleven : ((rule9 (slotOf c) && rule10 edition (slotOf c) false) ≡ true) × (rule11 edition (slotOf c) false ≡ true)
+  eleven = and-eq-true-iff (rule9 (slotOf c) && rule10 edition (slotOf c) false) (rule11 edition (slotOf c) false) .0 (right .1)
 
-  pub ten : (rule9 (slotOf c) ≡ true) × (rule10 (slotOf c) false ≡ true)
-  ten = and-eq-true-iff (rule9 (slotOf c)) (rule10 (slotOf c) false) .0 (eleven .0)
+  pub ten : (rule9 (slotOf c) ≡ true) × (rule10 edition (slotOf c) false ≡ true)
+  ten = and-eq-true-iff (rule9 (slotOf c)) (rule10 edition (slotOf c) false) .0 (eleven .0)
+
+  pub placed : isPlaced (slotOf c) false ≡ true
+  placed = ten-parts edition (slotOf c) false (ten .1) .1
 
   leaf : isGroup (c .physical) ≡ false
   leaf = isLeaf-not-group (c .physical) (fitting .1)
 
   pub spelt : Spelt c (slotOf c)
-  spelt = slotOf-spelt c (fits-parts c (fitting .0)) leaf (ten .1)
+  spelt = slotOf-spelt c (fits-parts c (fitting .0)) leaf placed
 
   leaf-slot : LeafSlot (slotOf c)
   unfolding isLeaf

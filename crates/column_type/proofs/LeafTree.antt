@@ -17,7 +17,7 @@ use Rattle.annotation.specs.Rule10 as ten
 use Rattle.annotation.specs.Rule11 as eleven
 use Rattle.annotation.specs.Kinds.{PLAIN-GROUP, kindOf}
 use Rattle.annotation.specs.declared.slot.Annotated.{Annotated}
-use Rattle.annotation.proofs.PlacementLaws.{leaf-kind}
+use Rattle.annotation.proofs.PlacementLaws.{ten-parts, leaf-kind}
 use Rattle.sheet.specs.Number.{numberAt, signed32}
 use Rattle.sheet.specs.Slot as slot
 use Rattle.sheet.specs.Slot.{numbersOf}
@@ -46,7 +46,7 @@ unfolding leafTree Claims count rootSlot leafSlot slot.childCount numberAt littl
 tree-claims n = (refl, ((refl, tt), tt))
 
 root-keeps : (edition : ℕ) (fs : Fields) → KeepsAt edition Root rootSlot fs
-unfolding rule8 shape lengthShape decimalShape isNought rule9 rule10 rule11 rule12 rule13 isList isMap kind kindOf annotated annotationOf backwardOf validParameters natural nine.rule9 ten.rule10 eleven.rule11 numbersOf slot.physical slot.repetition slot.converted slot.logical slot.parameterA slot.parameterB slot.typeLength slot.scale slot.precision numberAt little bytesOf twosComplement rootSlot
+unfolding rule8 shape lengthShape decimalShape isNought rule9 rule10 rule11 rule12 rule13 isList isMap kind kindOf annotated annotationOf backwardOf validParameters natural nine.rule9 ten.isPlaced ten.isRetired ten.rule10 eleven.rule11 numbersOf slot.physical slot.repetition slot.converted slot.logical slot.parameterA slot.parameterB slot.typeLength slot.scale slot.precision numberAt little bytesOf twosComplement rootSlot
 root-keeps edition fs = record { shape = refl; agreement = refl; placement = refl; decimals = refl; lists = refl; maps = refl }
 
 root-place : standingBelow Root rootSlot ≡ Field
@@ -60,7 +60,7 @@ pub record LeafKept (edition : ℕ) (n : Annotated) : Type 0 where
   pub length : lengthShape (n .physical) (n .«type_length») ≡ true
   pub digits : decimalShape (n .converted) (n .logical) (n .scale) (n .precision) ≡ true
   pub nine : nine.rule9 n ≡ true
-  pub ten : ten.rule10 n false ≡ true
+  pub ten : ten.rule10 edition n false ≡ true
   pub eleven : eleven.rule11 edition n false ≡ true
 
 module _ (edition : ℕ) (n : Annotated) (k : LeafKept edition n) where
@@ -77,7 +77,7 @@ module _ (edition : ℕ) (n : Annotated) (k : LeafKept edition n) where
   unfolding kind
   leaf-is =
       at-slot (λ m. (eqb (kindOf m false .kind) logical.LIST ≡ false) × (eqb (kindOf m false .kind) logical.MAP ≡ false))
-      (none-of (eqb (kindOf n false .kind) PLAIN-GROUP) _ _ (leaf-kind n false (k .ten) (k .leaf)))
+      (none-of (eqb (kindOf n false .kind) PLAIN-GROUP) _ _ (leaf-kind n false (ten-parts edition n false (k .ten) .1) (k .leaf)))
     where
       none-of : (a b c : Bool) → a || b || c ≡ false → (b ≡ false) × (c ≡ false)
       none-of false false false e = (refl, refl)
@@ -91,7 +91,7 @@ module _ (edition : ℕ) (n : Annotated) (k : LeafKept edition n) where
       record {
         shape = leaf-shape;
         agreement = at-slot (λ m. nine.rule9 m ≡ true) (k .nine);
-        placement = at-slot (λ m. ten.rule10 m false ≡ true) (k .ten);
+        placement = at-slot (λ m. ten.rule10 edition m false ≡ true) (k .ten);
         decimals = at-slot (λ m. eleven.rule11 edition m false ≡ true) (k .eleven);
         lists = rw (leaf-is .0);
         maps = rw (leaf-is .1);

@@ -10,7 +10,7 @@ use Rattle.laws.proofs.BoolLaws.{by-test, and-left}
 use Rattle.parquet.specs.Physical.{INT32, INT64, BYTE-ARRAY}
 use Rattle.parquet.specs.Logical as logical
 use Rattle.annotation.specs.Meaning.{annotationOf}
-use Rattle.annotation.specs.Rule10.{logicalOn, annotationOn, integerPhysical, timePhysical, rule10}
+use Rattle.annotation.specs.Rule10.{logicalOn, annotationOn, integerPhysical, timePhysical, isPlaced}
 use Rattle.logical_type.specs.Parameters.{unitOf, bitWidthOf, flagOf, validUnit, validFlag, validParameters}
 use Rattle.logical_type.specs.Spelling.{namedOf, statedOf}
 use Rattle.logical_type.specs.declared.types.Annotation.{Annotation}
@@ -19,7 +19,7 @@ use Rattle.logical_type.specs.declared.types.LogicalType.{LogicalType}
 use Rattle.logical_type.specs.declared.types.TimeUnit.{TimeUnit}
 use Rattle.column_type.specs.Lawful.{slotOf, isLawful}
 use Rattle.column_type.specs.declared.types.ColumnType.{ColumnType}
-use Rattle.column_type.proofs.LawfulLaws.{ten}
+use Rattle.column_type.proofs.LawfulLaws.{placed}
 
 -- a logical type that stands on a physical type has parameters that it takes
 stands-valid : (l : LogicalType) (valid : Bool) (code length : ℕ) → annotationOn (cond valid (Annotation.Logical l) Annotation.Unreadable) code length ≡ true → (valid ≡ true) × (logicalOn l code length ≡ true)
@@ -43,15 +43,15 @@ unit-numbers a e =
 
 module _ (edition : ℕ) (c : ColumnType) (lawful : isLawful edition c ≡ true) where
   pub integer-whole : c .kind ≡ logical.INTEGER → (c .physical ≡ INT32) ⊎ (c .physical ≡ INT64)
-  unfolding rule10 slotOf annotationOf statedOf namedOf
+  unfolding isPlaced slotOf annotationOf statedOf namedOf
   integer-whole k =
       width-physical (bitWidthOf (c .p1)) (c .physical)
-      (stands-valid (LogicalType.Integer (bitWidthOf (c .p1)) (flagOf (c .p2))) (validParameters logical.INTEGER (c .p1) (c .p2)) (c .physical) _ (rw k at (ten edition c lawful .1)) .1)
+      (stands-valid (LogicalType.Integer (bitWidthOf (c .p1)) (flagOf (c .p2))) (validParameters logical.INTEGER (c .p1) (c .p2)) (c .physical) _ (rw k at (placed edition c lawful)) .1)
 
   time-stands : c .kind ≡ logical.TIME → (validParameters logical.TIME (c .p1) (c .p2) ≡ true) × (eqb (c .physical) (timePhysical (unitOf (c .p1))) ≡ true)
-  unfolding rule10 slotOf annotationOf statedOf namedOf
+  unfolding isPlaced slotOf annotationOf statedOf namedOf
   time-stands k =
-      stands-valid (LogicalType.Time (unitOf (c .p1)) (flagOf (c .p2))) (validParameters logical.TIME (c .p1) (c .p2)) (c .physical) _ (rw k at (ten edition c lawful .1))
+      stands-valid (LogicalType.Time (unitOf (c .p1)) (flagOf (c .p2))) (validParameters logical.TIME (c .p1) (c .p2)) (c .physical) _ (rw k at (placed edition c lawful))
 
   pub time-whole : c .kind ≡ logical.TIME → (c .physical ≡ INT32) ⊎ (c .physical ≡ INT64)
   time-whole k = unit-physical (unitOf (c .p1)) (c .physical) (time-stands k .1)
@@ -61,16 +61,16 @@ module _ (edition : ℕ) (c : ColumnType) (lawful : isLawful edition c ≡ true)
   time-unit k = unit-numbers (c .p1) (and-left (validUnit (c .p1)) (validFlag (c .p2)) (time-stands k .0))
 
   pub string-bytes : c .kind ≡ logical.STRING → c .physical ≡ BYTE-ARRAY
-  unfolding rule10 slotOf annotationOf statedOf namedOf
+  unfolding isPlaced slotOf annotationOf statedOf namedOf
   string-bytes k =
-      eqb-true (c .physical) BYTE-ARRAY (stands-valid LogicalType.String (validParameters logical.STRING (c .p1) (c .p2)) (c .physical) _ (rw k at (ten edition c lawful .1)) .1)
+      eqb-true (c .physical) BYTE-ARRAY (stands-valid LogicalType.String (validParameters logical.STRING (c .p1) (c .p2)) (c .physical) _ (rw k at (placed edition c lawful)) .1)
 
   pub enum-bytes : c .kind ≡ logical.ENUM → c .physical ≡ BYTE-ARRAY
-  unfolding rule10 slotOf annotationOf statedOf namedOf
+  unfolding isPlaced slotOf annotationOf statedOf namedOf
   enum-bytes k =
-      eqb-true (c .physical) BYTE-ARRAY (stands-valid LogicalType.Enum (validParameters logical.ENUM (c .p1) (c .p2)) (c .physical) _ (rw k at (ten edition c lawful .1)) .1)
+      eqb-true (c .physical) BYTE-ARRAY (stands-valid LogicalType.Enum (validParameters logical.ENUM (c .p1) (c .p2)) (c .physical) _ (rw k at (placed edition c lawful)) .1)
 
   pub json-bytes : c .kind ≡ logical.JSON → c .physical ≡ BYTE-ARRAY
-  unfolding rule10 slotOf annotationOf statedOf namedOf
+  unfolding isPlaced slotOf annotationOf statedOf namedOf
   json-bytes k =
-      eqb-true (c .physical) BYTE-ARRAY (stands-valid LogicalType.Json (validParameters logical.JSON (c .p1) (c .p2)) (c .physical) _ (rw k at (ten edition c lawful .1)) .1)
+      eqb-true (c .physical) BYTE-ARRAY (stands-valid LogicalType.Json (validParameters logical.JSON (c .p1) (c .p2)) (c .physical) _ (rw k at (placed edition c lawful)) .1)

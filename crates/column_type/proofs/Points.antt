@@ -13,12 +13,12 @@ use Rattle.annotation.specs.Signed.{natural}
 use Rattle.logical_type.specs.Backward.{backwardOf}
 use Rattle.annotation.specs.Meaning.{annotationOf}
 use Rattle.annotation.specs.Rule9.{rule9}
-use Rattle.annotation.specs.Rule10.{rule10, INTERVAL-LENGTH, UUID-LENGTH}
+use Rattle.annotation.specs.Rule10.{isPlaced, isRetired, rule10, INTERVAL-LENGTH, UUID-LENGTH}
 use Rattle.annotation.specs.Rule11.{scaleAllowed, ordered, physicalHolds, decimalHolds, rule11}
 use Rattle.annotation.specs.Kinds.{PLAIN-LEAF, PLAIN-GROUP}
 use Rattle.logical_type.specs.declared.types.TimeUnit.{TimeUnit}
 use Rattle.logical_type.specs.declared.types.BitWidth.{BitWidth}
-use Rattle.edition.specs.Editions.{FIRST, SECOND, isKnown, scaleMayEqual}
+use Rattle.edition.specs.Editions.{FIRST, SECOND, THIRD, isKnown, scaleMayEqual, int96Retired}
 use Rattle.edition.proofs.EditionLaws.{each-edition}
 use Rattle.sheet.specs.Sound.{listed, physicalListed}
 use Rattle.tree.specs.Rules.{isNought, lengthShape}
@@ -51,7 +51,6 @@ lawfulPoints =
     ∷ column FIXED-LEN-BYTE-ARRAY INTERVAL-LENGTH converted.INTERVAL 0 0
     ∷ column FIXED-LEN-BYTE-ARRAY UUID-LENGTH logical.UUID 0 0
     -- "UNKNOWN: any leaf"
-    ∷ column INT96 0 logical.UNKNOWN 0 0
     ∷ column FIXED-LEN-BYTE-ARRAY 17 logical.UNKNOWN 0 0
     ∷ []
 
@@ -101,18 +100,22 @@ equalPoints =
     ∷ column BYTE-ARRAY 0 logical.DECIMAL (2 ^ 31 - 1) (2 ^ 31 - 1)
     ∷ []
 
+-- "INT96 is retired": as document 02's R-10 has it, by edition, "UNKNOWN: any leaf" too
+abbrev int96Points : List ColumnType
+int96Points = column INT96 0 PLAIN-LEAF 0 0 ∷ column INT96 0 logical.UNKNOWN 0 0 ∷ []
+
 -- `isLawful`, with all that it is made of open
 opened : ℕ → ColumnType → Bool
-unfolding isLawful slotKeeps isKnown scaleMayEqual fits isLeaf physicalListed listed lengthShape isNought slotOf rule9 rule10 rule11 decimalHolds ordered scaleAllowed physicalHolds greatestPrecision greatest annotationOf backwardOf statedOf namedOf validParameters unitOf bitWidthOf natural
+unfolding isLawful slotKeeps isKnown scaleMayEqual int96Retired fits isLeaf physicalListed listed lengthShape isNought slotOf rule9 isPlaced isRetired rule10 rule11 decimalHolds ordered scaleAllowed physicalHolds greatestPrecision greatest annotationOf backwardOf statedOf namedOf validParameters unitOf bitWidthOf natural
 opened edition = isLawful edition
 
 pub points-lawful : (edition : ℕ) → isKnown edition ≡ true → map (isLawful edition) lawfulPoints ≡ map (λ c. true) lawfulPoints
 unfolding opened
-points-lawful = each-edition _ refl refl
+points-lawful = each-edition _ refl refl refl
 
 pub points-unlawful : (edition : ℕ) → isKnown edition ≡ true → map (isLawful edition) unlawfulPoints ≡ map (λ c. false) unlawfulPoints
 unfolding opened
-points-unlawful = each-edition _ refl refl
+points-unlawful = each-edition _ refl refl refl
 
 pub points-equal-first : map (isLawful FIRST) equalPoints ≡ map (λ c. false) equalPoints
 unfolding opened
@@ -121,3 +124,19 @@ points-equal-first = refl
 pub points-equal-second : map (isLawful SECOND) equalPoints ≡ map (λ c. true) equalPoints
 unfolding opened
 points-equal-second = refl
+
+pub points-equal-third : map (isLawful THIRD) equalPoints ≡ map (λ c. true) equalPoints
+unfolding opened
+points-equal-third = refl
+
+pub points-int96-first : map (isLawful FIRST) int96Points ≡ map (λ c. true) int96Points
+unfolding opened
+points-int96-first = refl
+
+pub points-int96-second : map (isLawful SECOND) int96Points ≡ map (λ c. true) int96Points
+unfolding opened
+points-int96-second = refl
+
+pub points-int96-third : map (isLawful THIRD) int96Points ≡ map (λ c. false) int96Points
+unfolding opened
+points-int96-third = refl

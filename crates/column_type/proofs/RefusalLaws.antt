@@ -21,7 +21,7 @@ use Rattle.column_type.specs.declared.types.ColumnType.{ColumnType}
 
 pub annotationRight-unrefused : (edition : ℕ) (n : Annotated) → eqb (refusalOf (resolutionOf edition n false)) 0 ≡ annotationRight edition n
 unfolding resolutionOf
-annotationRight-unrefused edition n = cases (rule9 n) (rule10 n false) (rule11 edition n false) (kindOf n false)
+annotationRight-unrefused edition n = cases (rule9 n) (rule10 edition n false) (rule11 edition n false) (kindOf n false)
   where
     cases : (nine ten eleven : Bool) (k : Kind) → eqb (refusalOf (cond nine (cond ten (cond eleven (Resolution.Resolved k) (Resolution.Refused BAD-DECIMAL)) (Resolution.Refused MISPLACED)) (Resolution.Refused DISAGREEMENT))) 0 ≡ nine && ten && eleven
     cases true true true k = refl

@@ -14,7 +14,7 @@ use Rattle.annotation.proofs.PlacementLaws.{readable}
 use Rattle.annotation.specs.Signed.{natural}
 use Rattle.logical_type.specs.Backward.{backwardOf}
 use Rattle.annotation.specs.Meaning.{annotationOf}
-use Rattle.annotation.specs.Rule10.{annotationOn, rule10}
+use Rattle.annotation.specs.Rule10.{annotationOn, isPlaced}
 use Rattle.annotation.specs.Kinds.{kindAs, kindOf}
 use Rattle.logical_type.specs.declared.types.LogicalType.{LogicalType}
 use Rattle.logical_type.specs.declared.types.Annotation.{Annotation}
@@ -104,11 +104,11 @@ module _ (c : ColumnType) (f : Fits c) (leaf : isGroup (c .physical) ≡ false) 
         (eqb-true (c .p1) UNUSED (both .0), eqb-true (c .p2) UNUSED (both .1))
 
     -- INTERVAL
-    spelt-interval : c .kind ≡ converted.INTERVAL → rule10 (slotWith c converted.INTERVAL logical.NONE (c .p1) (c .p2) 0 0) false ≡ true → Spelt c (slotWith c converted.INTERVAL logical.NONE (c .p1) (c .p2) 0 0)
-    unfolding convertedListed logicalListed listed decimalShape isNought kindOf rule10 annotationOf backwardOf validParameters natural
-    spelt-interval e ten =
+    spelt-interval : c .kind ≡ converted.INTERVAL → isPlaced (slotWith c converted.INTERVAL logical.NONE (c .p1) (c .p2) 0 0) false ≡ true → Spelt c (slotWith c converted.INTERVAL logical.NONE (c .p1) (c .p2) 0 0)
+    unfolding convertedListed logicalListed listed decimalShape isNought kindOf isPlaced annotationOf backwardOf validParameters natural
+    spelt-interval e placed =
         let p = fits-other c f other in
-        let zero = none-stated Annotation.Interval (c .«type_length») ten in
+        let zero = none-stated Annotation.Interval (c .«type_length») placed in
         record {
           holds = holds-with c converted.INTERVAL logical.NONE (c .p1) (c .p2) 0 0 f (omega arith) (omega arith) (p .0) (p .1) (omega arith) (omega arith);
           converted = refl;
@@ -119,10 +119,10 @@ module _ (c : ColumnType) (f : Fits c) (leaf : isGroup (c .physical) ≡ false) 
 
     module _ (converted-not : c .kind ≡ converted.INTERVAL → ⊥) where
       -- no annotation
-      kind-plain : c .kind ≡ logical.NONE → rule10 (slotWith c converted.NONE (c .kind) (c .p1) (c .p2) 0 0) false ≡ true → kindOf (slotWith c converted.NONE (c .kind) (c .p1) (c .p2) 0 0) false ≡ kindIn c
-      unfolding kindOf rule10 annotationOf backwardOf validParameters natural
-      kind-plain e ten =
-          let zero = none-stated Annotation.Plain (c .«type_length») (rw e at ten) in
+      kind-plain : c .kind ≡ logical.NONE → isPlaced (slotWith c converted.NONE (c .kind) (c .p1) (c .p2) 0 0) false ≡ true → kindOf (slotWith c converted.NONE (c .kind) (c .p1) (c .p2) 0 0) false ≡ kindIn c
+      unfolding kindOf isPlaced annotationOf backwardOf validParameters natural
+      kind-plain e placed =
+          let zero = none-stated Annotation.Plain (c .«type_length») (rw e at placed) in
           rw (e, zero .0, zero .1, leaf)
 
       -- a logical type that its code and parameters say
@@ -134,16 +134,16 @@ module _ (c : ColumnType) (f : Fits c) (leaf : isGroup (c .physical) ≡ false) 
       stated-kind Annotation.Interval n length s e = absurd s
       stated-kind Annotation.Unreadable n length s e = absurd (true≢false (sym e))
 
-      kind-logical : (c .kind ≡ logical.NONE → ⊥) → rule10 (slotWith c converted.NONE (c .kind) (c .p1) (c .p2) 0 0) false ≡ true → (logicalListed (c .kind) ≡ true) × (kindOf (slotWith c converted.NONE (c .kind) (c .p1) (c .p2) 0 0) false ≡ kindIn c)
-      unfolding kindOf rule10 annotationOf natural
-      kind-logical n ten =
+      kind-logical : (c .kind ≡ logical.NONE → ⊥) → isPlaced (slotWith c converted.NONE (c .kind) (c .p1) (c .p2) 0 0) false ≡ true → (logicalListed (c .kind) ≡ true) × (kindOf (slotWith c converted.NONE (c .kind) (c .p1) (c .p2) 0 0) false ≡ kindIn c)
+      unfolding kindOf isPlaced annotationOf natural
+      kind-logical n placed =
           let stands = ne-eqb (c .kind) logical.NONE n in
-          rw stands (stated-kind (statedOf (c .kind) (c .p1) (c .p2)) _ (c .«type_length») (spelled-stated (c .kind) (c .p1) (c .p2)) (rw stands at ten))
+          rw stands (stated-kind (statedOf (c .kind) (c .p1) (c .p2)) _ (c .«type_length») (spelled-stated (c .kind) (c .p1) (c .p2)) (rw stands at placed))
 
       -- a plain leaf or a logical type
-      spelt-logical : rule10 (slotWith c converted.NONE (c .kind) (c .p1) (c .p2) 0 0) false ≡ true → Spelt c (slotWith c converted.NONE (c .kind) (c .p1) (c .p2) 0 0)
+      spelt-logical : isPlaced (slotWith c converted.NONE (c .kind) (c .p1) (c .p2) 0 0) false ≡ true → Spelt c (slotWith c converted.NONE (c .kind) (c .p1) (c .p2) 0 0)
       unfolding convertedListed listed decimalShape isNought
-      spelt-logical ten =
+      spelt-logical placed =
           let p = fits-other c f other in
           let by : (logicalListed (c .kind) ≡ true) × (kindOf (slotWith c converted.NONE (c .kind) (c .p1) (c .p2) 0 0) false ≡ kindIn c) = cases (ℕ-discrete (c .kind) logical.NONE) in
           record {
@@ -155,16 +155,16 @@ module _ (c : ColumnType) (f : Fits c) (leaf : isGroup (c .physical) ≡ false) 
           }
         where
           cases : Dec (c .kind ≡ logical.NONE) → (logicalListed (c .kind) ≡ true) × (kindOf (slotWith c converted.NONE (c .kind) (c .p1) (c .p2) 0 0) false ≡ kindIn c)
-          cases (yes e) = (none-listed (c .kind) e, kind-plain e ten)
-          cases (no n) = kind-logical n ten
+          cases (yes e) = (none-listed (c .kind) e, kind-plain e placed)
+          cases (no n) = kind-logical n placed
 
--- the slot of a column type that keeps rule 10 has its numbers
-pub slotOf-spelt : (c : ColumnType) → Fits c → isGroup (c .physical) ≡ false → rule10 (slotOf c) false ≡ true → Spelt c (slotOf c)
-slotOf-spelt c f leaf ten = decimal (ℕ-discrete (c .kind) logical.DECIMAL)
+-- the slot of a column type whose annotation is placed as rule 10 asks has its numbers
+pub slotOf-spelt : (c : ColumnType) → Fits c → isGroup (c .physical) ≡ false → isPlaced (slotOf c) false ≡ true → Spelt c (slotOf c)
+slotOf-spelt c f leaf placed = decimal (ℕ-discrete (c .kind) logical.DECIMAL)
   where
     interval : (c .kind ≡ logical.DECIMAL → ⊥) → Dec (c .kind ≡ converted.INTERVAL) → Spelt c (slotOf c)
-    interval n (yes e) = let is = slotOf-interval c n e in rw is (spelt-interval c f leaf n e (rw is at ten))
-    interval n (no m) = let is = slotOf-logical c n m in rw is (spelt-logical c f leaf n m (rw is at ten))
+    interval n (yes e) = let is = slotOf-interval c n e in rw is (spelt-interval c f leaf n e (rw is at placed))
+    interval n (no m) = let is = slotOf-logical c n m in rw is (spelt-logical c f leaf n m (rw is at placed))
 
     decimal : Dec (c .kind ≡ logical.DECIMAL) → Spelt c (slotOf c)
     decimal (yes e) = rw (slotOf-decimal c e) (spelt-decimal c f leaf e)

@@ -67,7 +67,7 @@ isLeaf code = physicalListed code && not (isGroup code)
 
 -- a slot whose parent is no MAP keeps rules 9, 10 and 11
 abbrev pub annotationRight : ℕ → Annotated → Bool
-annotationRight edition n = rule9 n && rule10 n false && rule11 edition n false
+annotationRight edition n = rule9 n && rule10 edition n false && rule11 edition n false
 
 -- the slot of a column type can stand in a sheet, is a leaf's, has the type length that rule 8 asks for, and keeps rules 9, 10 and 11
 unfoldable pub slotKeeps : ℕ → ColumnType → Bool

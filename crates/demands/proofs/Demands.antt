@@ -38,7 +38,9 @@ use Rattle.timestamp.specs.Outcomes.{Decodes}
 use Rattle.timestamp.specs.declared.fields.Fields.{Fields}
 use Rattle.timestamp.specs.Units.{unitOf}
 use Rattle.c_values.specs.Values.{reading}
+use Rattle.int96.proofs.ValueLaws as int96
 use Rattle.c_timestamps.specs.Timestamps.{encoding}
+use Rattle.c_timestamps.specs.Int96.{fromInt96}
 use Rattle.griffeljol.proofs.PromiseLaws.{promised}
 use Rattle.demands.proofs.RefusalLaws as sheets
 use Rattle.demands.proofs.ValueRefusalLaws as values
@@ -79,21 +81,26 @@ demand1 edition =
             decoding-one = λ unit count o o′. decodes-one (unitOf unit) count o o′;
             encoding = values.encoding-first;
             in-day = values.in-day-first;
+            from-int96 = values.from-int96-first;
+            to-int96 = values.to-int96-first;
             rows-text = sheets.rows-text-first;
             answer-rows = sheets.answer-rows-first;
             answer-refusal = sheets.answer-refusal-first;
             c-reading = values.c-reading-first edition;
             c-decoding = values.c-decoding-first;
             c-encoding = values.c-encoding-first;
+            c-from-int96 = values.c-from-int96-first;
           };
       unchanged =
           record {
             rows = demand.refused-unchanged edition;
             output = rewrite-kept edition;
             differences = compared.refused-unchanged edition;
+            int96-value = int96.refused-unchanged;
             text-buffer = sheets.text-left;
             c-value = λ c bs lent. values.refused-left (reading edition c bs (length lent)) lent;
             c-count = λ unit numbers lent. values.refused-left (encoding unit numbers (length lent)) lent;
+            c-int96-count = λ value lent. values.refused-left (fromInt96 value (length lent)) lent;
             c-fields = values.fields-left;
             c-interface = promised;
           };

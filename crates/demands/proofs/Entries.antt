@@ -71,6 +71,12 @@ use Rattle.timestamp.proofs.units.Nanos.divide.Statement as timestamp-Nanos-div
 use Rattle.timestamp.proofs.units.Nanos.divide.Met as timestamp-Nanos-divide-met
 use Rattle.timestamp.proofs.units.Nanos.has_tick.Statement as timestamp-Nanos-has-tick-stated
 use Rattle.timestamp.proofs.units.Nanos.has_tick.Met as timestamp-Nanos-has-tick-met
+use Rattle.timestamp.proofs.units.Nanos.join.Statement as timestamp-Nanos-join-stated
+use Rattle.timestamp.proofs.units.Nanos.join.Met as timestamp-Nanos-join-met
+use Rattle.int96.proofs.decode.Statement as int96-decode-stated
+use Rattle.int96.proofs.decode.Met as int96-decode-met
+use Rattle.int96.proofs.encode.Statement as int96-encode-stated
+use Rattle.int96.proofs.encode.Met as int96-encode-met
 use Rattle.utf8.proofs.valid_up_to.Statement as utf8-valid-up-to-stated
 use Rattle.utf8.proofs.valid_up_to.Met as utf8-valid-up-to-met
 use Rattle.decimal_bytes.proofs.is_length.Statement as decimal-is-length-stated
@@ -105,6 +111,10 @@ use Rattle.griffeljol.proofs.griffeljol_decode.Statement as griffeljol-decode-s
 use Rattle.griffeljol.proofs.griffeljol_decode.Met as griffeljol-decode-met
 use Rattle.griffeljol.proofs.griffeljol_encode.Statement as griffeljol-encode-stated
 use Rattle.griffeljol.proofs.griffeljol_encode.Met as griffeljol-encode-met
+use Rattle.griffeljol.proofs.griffeljol_from_int96.Statement as griffeljol-from-int96-stated
+use Rattle.griffeljol.proofs.griffeljol_from_int96.Met as griffeljol-from-int96-met
+use Rattle.griffeljol.proofs.griffeljol_to_int96.Statement as griffeljol-to-int96-stated
+use Rattle.griffeljol.proofs.griffeljol_to_int96.Met as griffeljol-to-int96-met
 
 -- a sheet's blocks, slots and names -----------------------------------------------------------------------------------------------
 
@@ -196,7 +206,7 @@ column-read-both = column-read-both-met.met
 pub column-order-order : {M : Type 1} → column-order-order-stated.statement M
 column-order-order = column-order-order-met.met
 
--- timestamps, and the unit types' own functions -----------------------------------------------------------------------------------
+-- timestamps, the unit types' own functions, and INT96 values ------------------------------------------------------------------------
 
 pub timestamp-decode : {M : Type 1} → timestamp-decode-stated.statement M
 timestamp-decode = timestamp-decode-met.met
@@ -224,6 +234,15 @@ timestamp-Nanos-divide = timestamp-Nanos-divide-met.met
 
 pub timestamp-Nanos-has-tick : {M : Type 1} → timestamp-Nanos-has-tick-stated.statement M
 timestamp-Nanos-has-tick = timestamp-Nanos-has-tick-met.met
+
+pub timestamp-Nanos-join : {M : Type 1} → timestamp-Nanos-join-stated.statement M
+timestamp-Nanos-join = timestamp-Nanos-join-met.met
+
+pub int96-decode : {M : Type 1} → int96-decode-stated.statement M
+int96-decode = int96-decode-met.met
+
+pub int96-encode : {M : Type 1} → int96-encode-stated.statement M
+int96-encode = int96-encode-met.met
 
 -- text and decimals ---------------------------------------------------------------------------------------------------------------
 
@@ -281,3 +300,9 @@ griffeljol-decode = griffeljol-decode-met.met
 
 pub griffeljol-encode : {M : Type 1} → griffeljol-encode-stated.statement M
 griffeljol-encode = griffeljol-encode-met.met
+
+pub griffeljol-from-int96 : {M : Type 1} → griffeljol-from-int96-stated.statement M
+griffeljol-from-int96 = griffeljol-from-int96-met.met
+
+pub griffeljol-to-int96 : {M : Type 1} → griffeljol-to-int96-stated.statement M
+griffeljol-to-int96 = griffeljol-to-int96-met.met

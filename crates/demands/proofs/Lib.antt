@@ -8,4 +8,6 @@ pub mod ColumnPoints
 pub mod SheetPoints
 pub mod Points
 pub mod ComparisonLaws
+pub mod RetiredLaws
+pub mod ConversionLaws
 pub mod Requests

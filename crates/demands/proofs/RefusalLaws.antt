@@ -182,7 +182,7 @@ unfolding firstFault broken first
 node-first edition k p s fs ns gs a rest =
     by-test (rule8 p s fs)
     (λ e. by-test (rule9 s)
-    (λ f. by-test (rule10 (underMap p) s)
+    (λ f. by-test (rule10 edition (underMap p) s)
     (λ g. by-test (rule11 edition (underMap p) s)
     (λ h. by-test (rule12 p s fs)
     (λ i. by-test (rule13 p s fs) (λ j. rw (e, f, g, h, i, j) rest) (λ j. rw (e, f, g, h, i, j)))
@@ -337,14 +337,14 @@ pub slot-first : (edition : ℕ) (k : ℕ) (n : Annotated) (under : Bool) → an
 unfolding annotation.outcome annotation.resolutionOf first
 slot-first edition k n under =
     by-test (nine.rule9 n)
-    (λ e. by-test (ten.rule10 n under) (λ f. by-test (eleven.rule11 edition n under) (λ g. rw (e, f, g)) (λ g. rw (e, f, g))) (λ f. rw (e, f)))
+    (λ e. by-test (ten.rule10 edition n under) (λ f. by-test (eleven.rule11 edition n under) (λ g. rw (e, f, g)) (λ g. rw (e, f, g))) (λ f. rw (e, f)))
     (λ e. rw e)
 
 pub slot-rewriting-first : (edition : ℕ) (k : ℕ) (n : Annotated) (under : Bool) → slot_rewriting.outcome edition k n under ≡ first (slotGrounds edition k n under) (writtenOf n under)
 unfolding slot_rewriting.outcome slot_rewriting.rewritingOf annotation.resolutionOf first
 slot-rewriting-first edition k n under =
     by-test (nine.rule9 n)
-    (λ e. by-test (ten.rule10 n under) (λ f. by-test (eleven.rule11 edition n under) (λ g. rw (e, f, g)) (λ g. rw (e, f, g))) (λ f. rw (e, f)))
+    (λ e. by-test (ten.rule10 edition n under) (λ f. by-test (eleven.rule11 edition n under) (λ g. rw (e, f, g)) (λ g. rw (e, f, g))) (λ f. rw (e, f)))
     (λ e. rw e)
 
 -- texts ------------------------------------------------------------------------------------------------------------------------------

@@ -1,7 +1,7 @@
 -- What the requests of document 02 ask holds.
 use Prim.Native.Nat.{ℕ, zero, suc, _*_, _≤_, _<_}
 use mathlib.Core.Path.{_≡_, refl, sym, ap, subst, _∙_}
-use mathlib.Core.Bool.{Bool, true, false, true≢false, not, cond, _&&_}
+use mathlib.Core.Bool.{Bool, true, false, true≢false, not, cond}
 use mathlib.Core.Logic.{_⊎_, inl, inr, _↔_}
 use mathlib.Core.List.{List, _++_}
 use native.Mathlib.Omega.{arith}
@@ -15,9 +15,9 @@ use Rattle.refusal.specs.Faults.{fault}
 use Rattle.refusal.specs.declared.answers.Refusal.{Refusal}
 use Rattle.laws.proofs.BoolLaws.{and-both, both-and, by-test}
 use Rattle.edition.specs.Editions.{isKnown}
-use Rattle.edition.proofs.EditionLaws.{OneOf, first, second, known-of, one-of-known}
+use Rattle.edition.proofs.EditionLaws.{OneOf, first, second, third, known-of, one-of-known}
 use Rattle.parquet.specs.Logical.{DECIMAL}
-use Rattle.annotation.proofs.EditionLaws.{isEqual, first-ordered, second-ordered, ordered-precision, ordered-scale}
+use Rattle.annotation.proofs.EditionLaws.{isEqual, first-ordered, second-ordered, ordered-precision, ordered-scale, eleven-third}
 use Rattle.sheet.specs.Block.{totalOf, mostNodes}
 use Rattle.sheet.specs.Opening.{openOf}
 use Rattle.sheet.proofs.OpeningLaws.{openOf-unknown, openOf-edition}
@@ -39,7 +39,7 @@ use Rattle.refusal.specs.declared.answers.Verdict.{Verdict}
 use Rattle.schema.specs.Rows.{rowWidth, rows, numberIn}
 use Rattle.schema.specs.Outcome.{answer, outcome, written}
 use Rattle.schema.specs.Rewriting.{fits, rewriteAnswer, rewriteOutcome, rewriteWritten}
-use Rattle.schema.proofs.EditionLaws.{second-lawful, FirstIn, first-refused, first-lawful}
+use Rattle.schema.proofs.EditionLaws.{second-lawful, first-refused, first-lawful}
 use Rattle.schema.specs.Demand.{IsTreeOf, Sound, Accepted, kindIn}
 use Rattle.refusal.specs.declared.answers.Counted.{Counted}
 use Rattle.schema.proofs.AcceptedLaws.{accepted-rows}
@@ -59,9 +59,12 @@ use Rattle.differences.proofs.OutcomeLaws as compared
 use Rattle.utf8.proofs.ValidLaws.{validUpTo-stops, stops-unique}
 use Rattle.column.proofs.PlaceLaws.{text-stops, other-place, text-refused}
 use Rattle.column_order.proofs.FaultLaws.{OfNeither, first-exactly, second-exactly, neither-exactly, fault-most}
-use Rattle.demands.specs.Requests.{output, Request1, one, Request2, EqualIn, FirstEqual, Request4, Request6, left, definitionIn, repetitionLevelIn, Request8}
+use Rattle.demands.specs.Requests.{output, Request1, one, Request2, EqualIn, FirstEqual, Request4, Request6, left, definitionIn, repetitionLevelIn, Request8, Request10}
 use Rattle.demands.proofs.ComparisonLaws as comparison
 use Rattle.demands.proofs.ColumnPoints.{cut-off, second-bad, both-bad}
+use Rattle.demands.proofs.RetiredLaws as retired
+use Rattle.demands.proofs.ConversionLaws.{conversion}
+use Rattle.demands.proofs.SheetPoints as sheet
 use Rattle.demands.proofs.SheetPoints.{repeated-rows, example-rows}
 
 -- R-1 ----------------------------------------------------------------------------------------------------------------------
@@ -122,16 +125,18 @@ request2 edition =
 
 -- R-4 ----------------------------------------------------------------------------------------------------------------------
 
-editions : (edition : ℕ) → (isKnown edition ≡ true) ↔ ((edition ≡ 1) ⊎ (edition ≡ 2))
+editions : (edition : ℕ) → (isKnown edition ≡ true) ↔ ((edition ≡ 1) ⊎ ((edition ≡ 2) ⊎ (edition ≡ 3)))
 editions edition = ((λ k. each (one-of-known edition k)), λ h. on h)
   where
-    each : {e : ℕ} → OneOf e → (e ≡ 1) ⊎ (e ≡ 2)
+    each : {e : ℕ} → OneOf e → (e ≡ 1) ⊎ ((e ≡ 2) ⊎ (e ≡ 3))
     each first = inl refl
-    each second = inr refl
+    each second = inr (inl refl)
+    each third = inr (inr refl)
 
-    on : (edition ≡ 1) ⊎ (edition ≡ 2) → isKnown edition ≡ true
+    on : (edition ≡ 1) ⊎ ((edition ≡ 2) ⊎ (edition ≡ 3)) → isKnown edition ≡ true
     on (inl e) = rw e (known-of first)
-    on (inr e) = rw e (known-of second)
+    on (inr (inl e)) = rw e (known-of second)
+    on (inr (inr e)) = rw e (known-of third)
 
 -- both are lawful, so both give the same
 same-rows : (sheet lent : List ℕ) → judgement 1 sheet ≡ Verdict.Lawful → (outcome 2 sheet (length lent) ≡ outcome 1 sheet (length lent)) × (written (outcome 2 sheet (length lent)) sheet lent ≡ written (outcome 1 sheet (length lent)) sheet lent)
@@ -372,4 +377,37 @@ request8 edition =
       enough = enough-output edition;
       beyond = past-left edition;
       example = example-rows edition;
+    }
+
+-- R-10 ---------------------------------------------------------------------------------------------------------------------
+
+pub request10 : Request10
+request10 =
+    record {
+      int96-breaks = retired.int96-breaks;
+      in-turn = retired.in-turn;
+      others-alike = retired.others-alike;
+      decimals-alike = eleven-third;
+      first-alike = retired.first-alike;
+      second-alike = retired.second-alike;
+      same-opening = λ sheet. openOf-edition 3 2 sheet (known-of third) (known-of second);
+      accepted = retired.accepted;
+      refused-alone = retired.refused-alone;
+      same-judgement = retired.same-judgement;
+      same-rows = λ sheet lent none. retired.same-rows sheet none lent;
+      same-rewritten = λ sheet lent start none. retired.same-rewritten sheet none lent start;
+      same-comparison = retired.same-comparison;
+      lawful = retired.lawful;
+      same-reading = λ c bs other. retired.same-reading c other bs;
+      same-order = λ c a b other. retired.same-order c other a b;
+      int96-type = retired.int96-type;
+      int96-read = λ c bs int96. retired.int96-read c int96 bs;
+      int96-ordered = λ c a b int96. retired.int96-ordered c int96 a b;
+      plain-refused = sheet.plain-refused;
+      plain-accepted = sheet.plain-accepted;
+      unknown-refused = sheet.unknown-refused;
+      unknown-accepted = sheet.unknown-accepted;
+      nine-first = sheet.nine-first;
+      eight-first = sheet.eight-first;
+      conversion = conversion;
     }

@@ -4,7 +4,7 @@ use mathlib.Core.Path.{_≡_, refl}
 use mathlib.Core.Bool.{Bool, true}
 use mathlib.Core.List.{List, [], _∷_}
 use lib.ListN.{replicate}
-use Rattle.edition.specs.Editions.{FIRST, SECOND, isKnown, scaleMayEqual}
+use Rattle.edition.specs.Editions.{FIRST, SECOND, THIRD, isKnown, scaleMayEqual, int96Retired}
 use Rattle.edition.proofs.EditionLaws.{each-edition}
 use Rattle.laws.specs.Bytes.{little, twosComplement, bytesOf}
 use Rattle.block_check.specs.Check.{sumBelow, weighted, check}
@@ -48,7 +48,7 @@ use Rattle.tree.specs.OpenPlaces.{sum, openPlaces, isNoPlace}
 use Rattle.tree.specs.Judgement.{orElse, leftOver, missing, firstFault, deepness, tooDeep, unlawful, treeRefusal, judgedAs, judgement}
 use Rattle.schema.specs.Outcome.{answer, outcome, written}
 use Rattle.refusal.specs.declared.answers.Counted.{Counted}
-use Rattle.demands.specs.Sheets.{rootSlot, leafSheet, exampleSheet, repeatedSheet}
+use Rattle.demands.specs.Sheets.{rootSlot, leafSheet, int96Sheet, exampleSheet, repeatedSheet}
 use Rattle.demands.specs.Points.{equalSheet}
 use Rattle.demands.specs.Requests.{repeatedRows, exampleRows}
 
@@ -76,7 +76,7 @@ annotation-layer = kind
 
 -- the rules of a node
 rule-layer : (edition : ℕ) → Standing → SlotBytes → Fields → ℕ
-unfolding broken rule8 shape lengthShape decimalShape isNought rule9 rule10 rule11 rule12 rule13 isList isMap standingBelow listKept listRun listChild isElementGroup namedElement isRepeated holdsElement nine.rule9 ten.rule10 eleven.rule11 eleven.decimalHolds eleven.ordered eleven.scaleAllowed scaleMayEqual eleven.physicalHolds annotation-layer
+unfolding broken rule8 shape lengthShape decimalShape isNought rule9 rule10 rule11 rule12 rule13 isList isMap standingBelow listKept listRun listChild isElementGroup namedElement isRepeated holdsElement nine.rule9 ten.isPlaced ten.isRetired ten.rule10 eleven.rule11 eleven.decimalHolds eleven.ordered eleven.scaleAllowed scaleMayEqual int96Retired eleven.physicalHolds annotation-layer
 rule-layer edition = broken edition
 
 -- the tree that the slots spell, and its judgement
@@ -91,7 +91,7 @@ opened edition = outcome edition
 -- "One root alone: accepted"
 pub root-alone : (edition : ℕ) → isKnown edition ≡ true → outcome edition (sheetOf (rootSlot 0 ∷ [])) rowWidth ≡ Counted.Count 1
 unfolding opened
-root-alone = each-edition _ refl refl
+root-alone = each-edition _ refl refl refl
 
 -- "Scale = precision: 11", in edition 1, and accepted in edition 2
 pub equal-refused : outcome FIRST equalSheet (rowWidth * 2) ≡ Counted.Refused (refusal 11 1)
@@ -102,26 +102,55 @@ pub equal-accepted : outcome SECOND equalSheet (rowWidth * 2) ≡ Counted.Count 
 unfolding opened
 equal-accepted = refl
 
+pub equal-third : outcome THIRD equalSheet (rowWidth * 2) ≡ Counted.Count 2
+unfolding opened
+equal-third = refl
+
 -- "TIME_MILLIS with TIME(NANOS): 9"
 pub time-millis-with-nanos : (edition : ℕ) → isKnown edition ≡ true → outcome edition (leafSheet physical.INT64 converted.TIME-MILLIS logical.TIME (unitCode TimeUnit.Nanos) (flagCode true) 0 0 0) (rowWidth * 2) ≡ Counted.Refused (refusal 9 1)
 unfolding opened
-time-millis-with-nanos = each-edition _ refl refl
+time-millis-with-nanos = each-edition _ refl refl refl
 
 pub example-accepted : (edition : ℕ) → isKnown edition ≡ true → outcome edition exampleSheet (rowWidth * 4) ≡ Counted.Count 4
 unfolding opened
-example-accepted = each-edition _ refl refl
+example-accepted = each-edition _ refl refl refl
 
 -- with the levels of document 02's R-8
 pub example-rows : (edition : ℕ) → isKnown edition ≡ true → written (outcome edition exampleSheet (rowWidth * 4)) exampleSheet (replicate (rowWidth * 4) 0) ≡ exampleRows
 unfolding opened written rows rowsFrom row parentOf parentBy role listRole howMany size listing
-example-rows = each-edition _ refl refl
+example-rows = each-edition _ refl refl refl
 
 -- document 02, R-2
 pub repeated-rows : (edition : ℕ) → isKnown edition ≡ true → written (outcome edition repeatedSheet (rowWidth * 4)) repeatedSheet (replicate (rowWidth * 4) 0) ≡ repeatedRows
 unfolding opened written rows rowsFrom row parentOf parentBy role listRole howMany size listing
-repeated-rows = each-edition _ refl refl
+repeated-rows = each-edition _ refl refl refl
 
 -- "FIXED 1 precision 3: 11"
 pub fixed-1-precision-3 : (edition : ℕ) → isKnown edition ≡ true → outcome edition (leafSheet physical.FIXED-LEN-BYTE-ARRAY converted.NONE logical.DECIMAL UNUSED UNUSED 1 0 3) (rowWidth * 2) ≡ Counted.Refused (refusal 11 1)
 unfolding opened greatestPrecision greatest
-fixed-1-precision-3 = each-edition _ refl refl
+fixed-1-precision-3 = each-edition _ refl refl refl
+
+-- document 02, R-10
+pub plain-refused : outcome THIRD (int96Sheet converted.NONE logical.NONE 0) (rowWidth * 2) ≡ Counted.Refused (refusal 10 1)
+unfolding opened
+plain-refused = refl
+
+pub plain-accepted : outcome SECOND (int96Sheet converted.NONE logical.NONE 0) (rowWidth * 2) ≡ Counted.Count 2
+unfolding opened
+plain-accepted = refl
+
+pub unknown-refused : outcome THIRD (int96Sheet converted.NONE logical.UNKNOWN 0) (rowWidth * 2) ≡ Counted.Refused (refusal 10 1)
+unfolding opened
+unknown-refused = refl
+
+pub unknown-accepted : outcome SECOND (int96Sheet converted.NONE logical.UNKNOWN 0) (rowWidth * 2) ≡ Counted.Count 2
+unfolding opened
+unknown-accepted = refl
+
+pub nine-first : outcome THIRD (int96Sheet converted.UTF8 logical.UNKNOWN 0) (rowWidth * 2) ≡ Counted.Refused (refusal 9 1)
+unfolding opened
+nine-first = refl
+
+pub eight-first : outcome THIRD (int96Sheet converted.UTF8 logical.UNKNOWN 12) (rowWidth * 2) ≡ Counted.Refused (refusal 8 1)
+unfolding opened
+eight-first = refl

@@ -5,12 +5,13 @@ use mathlib.Core.Bool.{Bool, true, false, cond, not, _&&_}
 use mathlib.Core.List.{List, [], _∷_}
 use mathlib.Core.Option.{Option, none, some}
 use native.Mathlib.Omega.{arith}
-use borrow.Author.Tests.{eqb-true, eqb-false, leb-true}
+use borrow.Author.Tests.{eqb-true, eqb-false, leb-true, le-leb, lt-leb, le-ltb, lt-ltb}
 use lib.Dec.{eqb, leb, ltb}
 use lib.IntN.{ℤ, pos}
 use lib.ListN.{length}
 use Rattle.laws.proofs.BoolLaws.{by-test}
-use Rattle.refusal.specs.Outcome.{Outcome, given, refused, refusal, judged}
+use Rattle.laws.proofs.DifferenceLaws.{below?}
+use Rattle.refusal.specs.Outcome.{Outcome, refused, judged, counted}
 use Rattle.refusal.specs.declared.answers.Refusal.{Refusal}
 use Rattle.column_type.specs.Lawful.{isLawful, judgementOf}
 use Rattle.column_type.proofs.RefusalLaws.{lawful-known, refusal-known, refusal-unknown}
@@ -29,13 +30,16 @@ use Rattle.timestamp.specs.Count.{isDateTime, countOf}
 use Rattle.timestamp.specs.Outcomes as timestamp
 use Rattle.timestamp.specs.Outcomes.{Decodes, isSigned64, encodingIn}
 use Rattle.timestamp.specs.declared.fields.Fields.{Fields}
+use Rattle.int96.specs.Value as int96
+use Rattle.int96.specs.Outcomes as conversion
 use Rattle.c_answer.specs.Answers.{Effect, Result, result, within, left}
 use Rattle.c_values.specs.Values as c_values
 use Rattle.c_values.specs.Values.{caseOf, numbersOf}
 use Rattle.c_values.proofs.ValueLaws.{numbersOf-length}
 use Rattle.c_timestamps.specs.Timestamps as c_timestamps
 use Rattle.c_timestamps.specs.Timestamps.{fieldNumbers, areFields, fieldsOf, decodeEffect, encodeEffect, Decoding}
-use Rattle.demands.specs.Refusals.{unsided, ground, first, typeGrounds, readingGrounds, orderingGrounds, unknownUnit, ticks, encodingGrounds, cReadingGrounds, cDecodingGrounds, cEncodingGrounds}
+use Rattle.c_timestamps.specs.Int96.{fromInt96}
+use Rattle.demands.specs.Refusals.{unsided, ground, first, typeGrounds, readingGrounds, orderingGrounds, unknownUnit, ticks, encodingGrounds, int96Grounds, shortFor, cReadingGrounds, cDecodingGrounds, cEncodingGrounds, cFromInt96Grounds}
 
 -- values ---------------------------------------------------------------------------------------------------------------------------
 
@@ -117,6 +121,21 @@ unfolding first
 in-day-first unit tick =
     by-unit (λ (u : ℕ). timestamp.dayHas (unitOf u) tick ≡ first (unknownUnit u ∷ []) (ltb tick (86400 * ticks u))) refl refl refl (λ u e k. rw (e, k)) unit
 
+-- INT96 values -------------------------------------------------------------------------------------------------------------------------
+
+pub from-int96-first : (value : List ℕ) → conversion.decoding value ≡ first (int96Grounds value) (int96.countOf value)
+unfolding conversion.decoding first
+from-int96-first value =
+    by-test (eqb (length value) 12)
+    (λ e. below? (int96.nanosIn value) 86400000000000
+    (λ h. by-test (isSigned64 (int96.countOf value)) (λ g. rw (e, lt-ltb _ _ h, lt-leb _ _ h, g)) (λ g. rw (e, lt-ltb _ _ h, lt-leb _ _ h, g)))
+    (λ h. rw (e, le-ltb _ _ h, le-leb _ _ h)))
+    (λ e. rw e)
+
+pub to-int96-first : (lent : ℕ) → counted (conversion.encoding lent) ≡ first (shortFor 12 lent ∷ []) 12
+unfolding conversion.encoding first
+to-int96-first lent = by-test (ltb lent 12) (λ e. rw e) (λ e. rw e)
+
 -- the C interface ----------------------------------------------------------------------------------------------------------------------
 
 -- what is given
@@ -166,6 +185,16 @@ c-encoding-first unit numbers lent =
     (numbers-first 1000000000 (areFields numbers) (fieldsOf numbers) lent)
     (λ u e k. rw (e, k))
     unit
+
+pub c-from-int96-first : (value : List ℕ) (lent : ℕ) → fromInt96 value lent ≡ first (cFromInt96Grounds value lent) (written 1 (int96.countOf value ∷ []))
+unfolding fromInt96 first
+c-from-int96-first value lent = rw (from-int96-first value) (behind (not (eqb (length value) 12)) (leb 86400000000000 (int96.nanosIn value)) (not (isSigned64 (int96.countOf value))))
+  where
+    behind : (a b c : Bool) → within lent (encodeEffect (first (ground 15 0 a ∷ ground 16 0 b ∷ ground 19 0 c ∷ []) (int96.countOf value))) ≡ first (ground 15 0 a ∷ ground 16 0 b ∷ ground 19 0 c ∷ ground 14 0 (ltb lent 1) ∷ []) (written 1 (int96.countOf value ∷ []))
+    behind true b c = refl
+    behind false true c = refl
+    behind false false true = refl
+    behind false false false = within-first lent 1 (int96.countOf value ∷ [])
 
 -- a refusal leaves what was lent
 pub refused-left : {A : Type 0} (e : Effect A) (lent : List A) (r : Refusal) → e ≡ refused r → left e lent ≡ lent

@@ -41,6 +41,8 @@ use Rattle.timestamp.specs.Count.{countOf}
 use Rattle.timestamp.specs.Outcomes as timestamp
 use Rattle.timestamp.specs.Outcomes.{Decodes}
 use Rattle.timestamp.specs.declared.fields.Fields.{Fields}
+use Rattle.int96.specs.Value as int96
+use Rattle.int96.specs.Outcomes as conversion
 use Rattle.schema_text.specs.Rows.{rowsText, rowsTextOf, refusalLine, answerText}
 use Rattle.schema_text.specs.Making.{made, madeIn}
 use Rattle.c_answer.specs.Answers.{within, left}
@@ -48,8 +50,9 @@ use Rattle.c_values.specs.Values as c_values
 use Rattle.c_values.specs.Values.{caseOf, numbersOf}
 use Rattle.c_timestamps.specs.Timestamps.{fieldNumbers, fieldsOf, decodeEffect, Decoding}
 use Rattle.c_timestamps.specs.Timestamps as c_timestamps
+use Rattle.c_timestamps.specs.Int96.{fromInt96}
 use Rattle.griffeljol.specs.Promises.{Promises}
-use Rattle.demands.specs.Refusals.{unsided, first, openingGrounds, judgingGrounds, resolvingGrounds, rewritingGrounds, comparingGrounds, slotGrounds, typeGrounds, readingGrounds, orderingGrounds, unknownUnit, ticks, encodingGrounds, rowsTextGrounds, shortFor, cReadingGrounds, cDecodingGrounds, cEncodingGrounds}
+use Rattle.demands.specs.Refusals.{unsided, first, openingGrounds, judgingGrounds, resolvingGrounds, rewritingGrounds, comparingGrounds, slotGrounds, typeGrounds, readingGrounds, orderingGrounds, unknownUnit, ticks, encodingGrounds, int96Grounds, rowsTextGrounds, shortFor, cReadingGrounds, cDecodingGrounds, cEncodingGrounds, cFromInt96Grounds}
 
 -- "Each call ends with the result or one numbered refusal, chosen in the order document 01 states", in any edition: 21 before all others
 pub record Chosen (edition : ℕ) : Type 1 where
@@ -79,14 +82,18 @@ pub record Chosen (edition : ℕ) : Type 1 where
   pub encoding : (unit : ℕ) (f : Fields) → timestamp.encoding (unitOf unit) f ≡ first (encodingGrounds unit f) (countOf (ticks unit) f)
   -- `timestamp::in_day`, by which TIME is held to its day
   pub in-day : (unit tick : ℕ) → timestamp.dayHas (unitOf unit) tick ≡ first (unknownUnit unit ∷ []) (ltb tick (86400 * ticks unit))
+  -- `int96::decode`, and `int96::encode`, in C too: twelve bytes of any count
+  pub from-int96 : (value : List ℕ) → conversion.decoding value ≡ first (int96Grounds value) (int96.countOf value)
+  pub to-int96 : (lent : ℕ) → counted (conversion.encoding lent) ≡ first (shortFor 12 lent ∷ []) 12
   -- `schema_text::rows_text`, and `schema_text::answer_text` of rows and of a refusal
   pub rows-text : (total : ℕ) (numbers : List ℕ) (room : ℕ) → counted (made (rowsTextOf total numbers) room) ≡ first (rowsTextGrounds total numbers room) (length (rowsText total numbers))
   pub answer-rows : (total : ℕ) (numbers : List ℕ) (room : ℕ) → counted (made (answerText (Counted.Count total) numbers) room) ≡ first (rowsTextGrounds total numbers room) (length (rowsText total numbers))
   pub answer-refusal : (r : Refusal) (numbers : List ℕ) (room : ℕ) → counted (made (answerText (Counted.Refused r) numbers) room) ≡ first (shortFor (length (refusalLine r)) room ∷ []) (length (refusalLine r))
-  -- `griffeljol_read`, `griffeljol_decode` and `griffeljol_encode`
+  -- `griffeljol_read`, `griffeljol_decode`, `griffeljol_encode` and `griffeljol_from_int96`
   pub c-reading : (c : ColumnType) (bs : List ℕ) (lent : ℕ) → c_values.reading edition c bs lent ≡ first (cReadingGrounds edition c bs lent) (record { value = caseOf (valueOf c bs); numbers = numbersOf (valueOf c bs) })
   pub c-decoding : (unit : ℕ) (count : ℤ) (lent : ℕ) (o : Outcome Fields) → Decodes (unitOf unit) count o → (f : Fields) × (o ≡ first (unknownUnit unit ∷ []) f) × (within lent (decodeEffect o) ≡ first (cDecodingGrounds unit lent) (record { value = 7; numbers = fieldNumbers f }))
   pub c-encoding : (unit : ℕ) (numbers : List ℤ) (lent : ℕ) → c_timestamps.encoding unit numbers lent ≡ first (cEncodingGrounds unit numbers lent) (record { value = 1; numbers = countOf (ticks unit) (fieldsOf numbers) ∷ [] })
+  pub c-from-int96 : (value : List ℕ) (lent : ℕ) → fromInt96 value lent ≡ first (cFromInt96Grounds value lent) (record { value = 1; numbers = int96.countOf value ∷ [] })
 
 -- "A refusal changes no lent buffer"
 pub record Unchanged (edition : ℕ) : Type 1 where
@@ -96,11 +103,14 @@ pub record Unchanged (edition : ℕ) : Type 1 where
   pub output : (sheet lent : List ℕ) (start : ℕ) (r : Refusal) → rewriteOutcome edition sheet (length lent) start ≡ Counted.Refused r → rewriteWritten (rewriteOutcome edition sheet (length lent) start) sheet lent start ≡ lent
   -- the output of `differences::compare`, and in C
   pub differences : (one two lent : List ℕ) (f : Fault) → compareOutcome edition one two (length lent) ≡ Compared.Refused f → compareWritten (compareOutcome edition one two (length lent)) one two lent ≡ lent
+  -- the output of `int96::encode`, and in C
+  pub int96-value : (count : ℤ) (lent : List ℕ) (r : Refusal) → conversion.encoding (length lent) ≡ Counted.Refused r → conversion.encoded count lent ≡ lent
   -- the buffer of a text
   pub text-buffer : (may : Option (List ℕ)) (lent : List ℕ) (r : Refusal) → made may (length lent) ≡ Counted.Refused r → madeIn may lent ≡ lent
-  -- the outputs of `griffeljol_read` and `griffeljol_encode`
+  -- the outputs of `griffeljol_read`, `griffeljol_encode` and `griffeljol_from_int96`
   pub c-value : (c : ColumnType) (bs lent : List ℕ) (r : Refusal) → c_values.reading edition c bs (length lent) ≡ refused r → left (c_values.reading edition c bs (length lent)) lent ≡ lent
   pub c-count : (unit : ℕ) (numbers lent : List ℤ) (r : Refusal) → c_timestamps.encoding unit numbers (length lent) ≡ refused r → left (c_timestamps.encoding unit numbers (length lent)) lent ≡ lent
+  pub c-int96-count : (value : List ℕ) (lent : List ℤ) (r : Refusal) → fromInt96 value (length lent) ≡ refused r → left (fromInt96 value (length lent)) lent ≡ lent
   -- the output of `griffeljol_decode`, whatever meets its contract
   pub c-fields : (unit : ℕ) (count : ℤ) (lent held : List ℤ) (answered : ℕ) (o : Outcome Fields) (r : Refusal) → Decoding unit count lent answered held → Decodes (unitOf unit) count o → within (length lent) (decodeEffect o) ≡ refused r → held ≡ lent
   -- every C answer tells whether it is a refusal, and which

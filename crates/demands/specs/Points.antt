@@ -13,7 +13,7 @@ use Rattle.logical_type.specs.declared.types.TimeUnit.{TimeUnit}
 use Rattle.refusal.specs.Faults as sided
 use Rattle.refusal.specs.Outcome.{given, refused, refusal}
 use Rattle.refusal.specs.declared.answers.Counted.{Counted}
-use Rattle.edition.specs.Editions.{FIRST, SECOND}
+use Rattle.edition.specs.Editions.{FIRST, SECOND, THIRD}
 use Rattle.sheet.specs.Sheet.{sheetOf}
 use Rattle.schema.specs.Rows.{rowWidth}
 use Rattle.schema.specs.Outcome as schema
@@ -87,13 +87,14 @@ points edition =
 abbrev pub equalSheet : List ℕ
 equalSheet = leafSheet physical.INT32 converted.NONE logical.DECIMAL UNUSED UNUSED 0 3 3
 
--- the one point that editions decide
+-- the one point of document 01 that editions decide
 abbrev pub editionPoints : List (Type 0)
 editionPoints =
     -- "*Scale = precision: 11", in edition 1
     (schema.outcome FIRST equalSheet (rowWidth * 2) ≡ Counted.Refused (refusal 11 1))
-    -- and in edition 2 it is accepted
+    -- and from edition 2 on it is accepted
     ∷ (schema.outcome SECOND equalSheet (rowWidth * 2) ≡ Counted.Count 2)
+    ∷ (schema.outcome THIRD equalSheet (rowWidth * 2) ≡ Counted.Count 2)
     ∷ []
 
 -- all claims of a list hold

@@ -3,7 +3,7 @@
 use Prim.Native.Nat.{ℕ, zero, suc, _+_, _*_, _^_}
 use mathlib.Core.Bool.{Bool, true, cond, not, _&&_}
 use mathlib.Core.List.{List, [], _∷_, _++_}
-use lib.Dec.{leb, ltb}
+use lib.Dec.{eqb, leb, ltb}
 use lib.IntN.{ℤ}
 use lib.ListN.{length}
 use Rattle.refusal.specs.Outcome.{Outcome, given, refused, refusal}
@@ -35,6 +35,7 @@ use Rattle.column_order.specs.Order.{hasOrder}
 use Rattle.timestamp.specs.Count.{isDateTime, countOf}
 use Rattle.timestamp.specs.Outcomes.{isSigned64}
 use Rattle.timestamp.specs.declared.fields.Fields.{Fields as DateTime}
+use Rattle.int96.specs.Value as int96
 use Rattle.schema_text.specs.Rows.{rowsText}
 use Rattle.c_timestamps.specs.Timestamps.{areFields, fieldsOf}
 
@@ -102,7 +103,7 @@ abbrev pub nodeGrounds : ℕ → ℕ → Standing → SlotBytes → Fields → L
 nodeGrounds edition k p s fs =
     ground 8 k (not (rule8 p s fs))
     ∷ ground 9 k (not (rule9 s))
-    ∷ ground 10 k (not (rule10 (underMap p) s))
+    ∷ ground 10 k (not (rule10 edition (underMap p) s))
     ∷ ground 11 k (not (rule11 edition (underMap p) s))
     ∷ ground 12 k (not (rule12 p s fs))
     ∷ ground 13 k (not (rule13 p s fs))
@@ -146,7 +147,7 @@ comparingGrounds edition one two lent =
 -- 9 to 11 of the numbers of a slot, which is node k's
 abbrev pub slotGrounds : ℕ → ℕ → Annotated → Bool → List Ground
 slotGrounds edition k n under =
-    ground 9 k (not (nine.rule9 n)) ∷ ground 10 k (not (ten.rule10 n under)) ∷ ground 11 k (not (eleven.rule11 edition n under)) ∷ []
+    ground 9 k (not (nine.rule9 n)) ∷ ground 10 k (not (ten.rule10 edition n under)) ∷ ground 11 k (not (eleven.rule11 edition n under)) ∷ []
 
 -- a value ------------------------------------------------------------------------------------------------------------------------
 
@@ -188,6 +189,16 @@ fieldGrounds unit f = ground 18 0 (not (isDateTime (ticks unit) f)) ∷ ground 1
 abbrev pub encodingGrounds : ℕ → DateTime → List Ground
 encodingGrounds unit f = unknownUnit unit ∷ fieldGrounds unit f
 
+-- an INT96 value ------------------------------------------------------------------------------------------------------------------
+
+-- "15 for a length other than 12, 16 for a full day of nanoseconds or more, 19 where the count doesn't fit" (document 02, R-10)
+abbrev pub int96Grounds : List ℕ → List Ground
+int96Grounds value =
+    ground 15 0 (not (eqb (length value) 12))
+    ∷ ground 16 0 (leb 86400000000000 (int96.nanosIn value))
+    ∷ ground 19 0 (not (isSigned64 (int96.countOf value)))
+    ∷ []
+
 -- a text -------------------------------------------------------------------------------------------------------------------------
 
 -- "output too short": of rows, the numbers that were lent for them, and the buffer for their text
@@ -201,7 +212,7 @@ rowsTextGrounds total numbers room =
 abbrev pub shortFor : ℕ → ℕ → Ground
 shortFor numbers lent = ground 14 0 (ltb lent numbers)
 
--- two numbers for a value, seven for fields, one for a count; numbers that can be no fields form no date or time
+-- two numbers for a value, seven for fields, one for a count, twelve bytes for an INT96 value; numbers that can be no fields form no date or time
 abbrev pub cReadingGrounds : ℕ → ColumnType → List ℕ → ℕ → List Ground
 cReadingGrounds edition c bs lent = readingGrounds edition c bs ++ (shortFor 2 lent ∷ [])
 
@@ -211,3 +222,6 @@ cDecodingGrounds unit lent = unknownUnit unit ∷ shortFor 7 lent ∷ []
 abbrev pub cEncodingGrounds : ℕ → List ℤ → ℕ → List Ground
 cEncodingGrounds unit numbers lent =
     unknownUnit unit ∷ ground 18 0 (not (areFields numbers)) ∷ (fieldGrounds unit (fieldsOf numbers) ++ (shortFor 1 lent ∷ []))
+
+abbrev pub cFromInt96Grounds : List ℕ → ℕ → List Ground
+cFromInt96Grounds value lent = int96Grounds value ++ (shortFor 1 lent ∷ [])

@@ -1,24 +1,34 @@
 -- What the requests of document 02 ask of the definitions.
-use Prim.Native.Nat.{ℕ, _+_, _*_, _-_, _/_, _%_, _≤_, _<_}
+use Prim.Native.Nat.{ℕ, _+_, _*_, _-_, _/_, _%_, _^_, _≤_, _<_}
 use mathlib.Core.Path.{_≡_}
-use mathlib.Core.Bool.{true, false}
+use mathlib.Core.Bool.{Bool, true, false, cond}
 use mathlib.Core.List.{List, [], _∷_, _++_, map}
 use mathlib.Core.Logic.{_⊎_, _↔_}
 use mathlib.Core.Option.{some}
-use lib.IntN.{ℤ, pos, negsuc}
+use lib.IntN.{ℤ, pos, negsuc, _+ℤ_, _-ℤ_, _*ℤ_}
 use lib.ListN.{length, getD, getElem?, take, drop, replicate}
-use Rattle.laws.specs.Bytes.{Bytes}
+use Rattle.laws.specs.Bytes.{Bytes, little}
 use Rattle.refusal.specs.Faults as sided
 use Rattle.refusal.specs.Faults.{fault}
-use Rattle.refusal.specs.Outcome.{refused, refusal}
+use Rattle.refusal.specs.Outcome.{given, refused, refusal}
 use Rattle.edition.specs.Editions.{isKnown}
-use Rattle.annotation.specs.Rule11.{ordered}
+use Rattle.annotation.specs.Rule10.{isPlaced, rule10}
+use Rattle.annotation.specs.Rule11.{ordered, rule11}
+use Rattle.annotation.specs.declared.slot.Annotated.{Annotated}
 use Rattle.sheet.specs.Block.{totalOf}
 use Rattle.sheet.specs.Opening.{openOf}
-use Rattle.sheet.specs.Slot.{physical, repetition, slots}
+use Rattle.sheet.specs.Slot.{physical, repetition, slotAt, slots}
 use Rattle.parquet.specs.Repetition.{REPEATED}
+use Rattle.parquet.specs.Converted as converted
 use Rattle.parquet.specs.Logical as logical
-use Rattle.parquet.specs.Physical.{BYTE-ARRAY}
+use Rattle.parquet.specs.Physical.{INT96, BYTE-ARRAY}
+use Rattle.timestamp.specs.Calendar.{dayNumber}
+use Rattle.timestamp.specs.Clock.{tickOfDay}
+use Rattle.timestamp.specs.Units.{unitOf}
+use Rattle.timestamp.specs.Outcomes.{isSigned64, Decodes}
+use Rattle.timestamp.specs.declared.fields.Fields.{Fields as DateTime}
+use Rattle.int96.specs.Value.{nanosIn, dayIn, countOf, ValueOf, valueOf}
+use Rattle.int96.specs.Outcomes.{decoding, encoding, encoded}
 use Rattle.utf8.specs.Valid.{validUpTo, Stops}
 use Rattle.column_type.specs.Lawful.{isLawful, judgementOf as typeJudgement}
 use Rattle.column_type.specs.declared.types.ColumnType.{ColumnType}
@@ -27,9 +37,10 @@ use Rattle.column.specs.Outcome as read
 use Rattle.column_order.specs.Order.{hasOrder}
 use Rattle.column_order.specs.Comparison.{Valid}
 use Rattle.column_order.specs.Outcome as order
-use Rattle.tree.specs.Annotated.{kind}
+use Rattle.tree.specs.Annotated.{kind, rule9}
 use Rattle.tree.specs.Tree.{SlotBytes, Tree, Fields, node, empty, field, listing, size}
-use Rattle.tree.specs.Rules.{isGroup, isRequiredOrOptional, isList, namedElement, rule12, KeepsAt}
+use Rattle.tree.specs.Rules.{isGroup, isRequiredOrOptional, isList, namedElement, rule8, rule12, KeepsAt}
+use Rattle.tree.specs.Faults.{broken}
 use Rattle.tree.specs.declared.standing.Standing.{Standing}
 use Rattle.tree.specs.declared.standing.Standing.the-variants.{Field}
 use Rattle.tree.specs.Judgement.{judgement, judgementOf}
@@ -51,7 +62,7 @@ use Rattle.differences.specs.Paths.{paths}
 use Rattle.differences.specs.Outcome.{compareOutcome, compareWritten}
 use Rattle.differences.specs.Rebuilding.{rebuilt}
 use Rattle.differences.specs.declared.comparison.Compared.{Compared}
-use Rattle.demands.specs.Sheets.{exampleSheet, repeatedSheet}
+use Rattle.demands.specs.Sheets.{exampleSheet, repeatedSheet, int96Sheet}
 
 -- R-1. "Comparing the two custodians' sheets" ------------------------------------------------------------------------------
 
@@ -175,8 +186,8 @@ pub record FirstEqual (t : Tree) (k : ℕ) : Type 0 where
   pub earlier : (j : ℕ) → j < k → EqualIn (rows t) j → ⊥
 
 pub record Request4 : Type 1 where
-  -- there are two editions
-  pub editions : (edition : ℕ) → (isKnown edition ≡ true) ↔ ((edition ≡ 1) ⊎ (edition ≡ 2))
+  -- there are its two editions, and R-10's
+  pub editions : (edition : ℕ) → (isKnown edition ≡ true) ↔ ((edition ≡ 1) ⊎ ((edition ≡ 2) ⊎ (edition ≡ 3)))
   -- "1 keeps the old rule, 2 has the new one": precision and scale of a DECIMAL; neither is negative in any edition
   pub old-rule : (p s : ℕ) → (ordered 1 (pos p) (pos s) ≡ true) ↔ ((1 ≤ p) × (s < p))
   pub new-rule : (p s : ℕ) → (ordered 2 (pos p) (pos s) ≡ true) ↔ ((1 ≤ p) × (s ≤ p))
@@ -290,3 +301,100 @@ pub record Request8 (edition : ℕ) : Type 1 where
   -- "numbers beyond 11T stay"
   pub beyond : (sheet lent : List ℕ) → drop (11 * totalOf sheet) (left edition sheet lent) ≡ drop (11 * totalOf sheet) lent
   pub example : isKnown edition ≡ true → left edition exampleSheet (replicate (rowWidth * 4) 0) ≡ exampleRows
+
+-- R-10. "INT96 is retired" ---------------------------------------------------------------------------------------------------
+
+-- node k of a sheet is an INT96 leaf
+pub record Int96At (sheet : List ℕ) (k : ℕ) : Type 0 where
+  pub below : k < totalOf sheet
+  pub is-int96 : physical (slotAt sheet k) ≡ INT96
+
+-- and the first that is one
+pub record FirstInt96 (sheet : List ℕ) (k : ℕ) : Type 0 where
+  pub here : Int96At sheet k
+  pub earlier : (j : ℕ) → j < k → Int96At sheet j → ⊥
+
+-- no node is one
+abbrev pub NoInt96 : List ℕ → Type 0
+NoInt96 sheet = (k : ℕ) → Int96At sheet k → ⊥
+
+-- "A converter turns one such value into a TIMESTAMP count in nanoseconds and back": `int96::decode` answers what `decoding` gives; `int96::encode` writes the
+-- value that `valueOf` gives, and answers 12. No edition is asked
+pub record Conversion : Type 1 where
+  -- "8 bytes of nanoseconds in the day, then 4 bytes of Julian day, both unsigned little-endian"
+  pub nanos-are : (value : List ℕ) → nanosIn value ≡ little (take 8 value)
+  pub day-is : (value : List ℕ) → dayIn value ≡ little (drop 8 value)
+  -- "day 2,440,588 being 1 January 1970": the count, over the integers
+  pub count-is : (value : List ℕ) → countOf value ≡ (pos (dayIn value) -ℤ pos 2440588) *ℤ pos 86400000000000 +ℤ pos (nanosIn value)
+  -- "15 for a length other than 12"
+  pub wrong-length : (value : List ℕ) → (decoding value ≡ refused (refusal 15 0)) ↔ (length value ≡ 12 → ⊥)
+  -- "16 for a full day of nanoseconds or more"
+  pub full-day : (value : List ℕ) → (decoding value ≡ refused (refusal 16 0)) ↔ ((length value ≡ 12) × (86400000000000 ≤ nanosIn value))
+  -- "19 where the count doesn't fit"
+  pub not-fitting : (value : List ℕ) → (decoding value ≡ refused (refusal 19 0)) ↔ ((length value ≡ 12) × (nanosIn value < 86400000000000) × (isSigned64 (countOf value) ≡ false))
+  -- any other value has its count
+  pub accepted : (value : List ℕ) (z : ℤ) → (decoding value ≡ given z) ↔ ((length value ≡ 12) × (nanosIn value < 86400000000000) × (countOf value ≡ z) × (isSigned64 z ≡ true))
+  -- which decodes, as a TIMESTAMP in nanoseconds, to the value's day and its time of day
+  pub date-and-time : (value : List ℕ) (z : ℤ) (f : DateTime) → decoding value ≡ given z → Decodes (unitOf 3) z (given f) → (dayNumber (f .year) (f .month) (f .day) ≡ pos (dayIn value) -ℤ pos 2440588) × (tickOfDay 1000000000 (f .hour) (f .minute) (f .second) (f .fraction) ≡ nanosIn value)
+  -- every count has a value, and one
+  pub value : (z : ℤ) → isSigned64 z ≡ true → ValueOf z (valueOf z)
+  pub one-value : (z : ℤ) (value : List ℕ) → ValueOf z value → value ≡ valueOf z
+  -- "each count returns to itself", as it was written
+  pub count-returns : (z : ℤ) → isSigned64 z ≡ true → decoding (valueOf z) ≡ given z
+  pub written-returns : (z : ℤ) (lent : List ℕ) → isSigned64 z ≡ true → 12 ≤ length lent → decoding (take 12 (encoded z lent)) ≡ given z
+  -- "and so does each value it accepts"
+  pub value-returns : (value : List ℕ) (z : ℤ) → Bytes value → decoding value ≡ given z → (valueOf z ≡ value) × (isSigned64 z ≡ true)
+  -- 14 for a short output; the rest of the output stays
+  pub short : (lent : ℕ) → lent < 12 → encoding lent ≡ Counted.Refused (refusal 14 0)
+  pub enough : (lent : ℕ) → 12 ≤ lent → encoding lent ≡ Counted.Count 12
+  pub rest-stays : (z : ℤ) (lent : List ℕ) → drop 12 (encoded z lent) ≡ drop 12 lent
+  -- the start of 1 January 1970, and the nanosecond before it
+  pub epoch : decoding (0 ∷ 0 ∷ 0 ∷ 0 ∷ 0 ∷ 0 ∷ 0 ∷ 0 ∷ 0x8C ∷ 0x3D ∷ 0x25 ∷ 0 ∷ []) ≡ given (pos 0)
+  pub before : decoding (0xFF ∷ 0xFF ∷ 0x4E ∷ 0x91 ∷ 0x94 ∷ 0x4E ∷ 0 ∷ 0 ∷ 0x8B ∷ 0x3D ∷ 0x25 ∷ 0 ∷ []) ≡ given (negsuc 0)
+  -- the least count, for which the product of the days alone does not fit, and the nanosecond before it
+  pub least : decoding (0 ∷ 0 ∷ 0 ∷ 0xAF ∷ 0xB1 ∷ 0 ∷ 0 ∷ 0 ∷ 0x8C ∷ 0x9C ∷ 0x23 ∷ 0 ∷ []) ≡ given (negsuc (2 ^ 63 - 1))
+  pub below-least : decoding (0xFF ∷ 0xFF ∷ 0xFF ∷ 0xAE ∷ 0xB1 ∷ 0 ∷ 0 ∷ 0 ∷ 0x8C ∷ 0x9C ∷ 0x23 ∷ 0 ∷ []) ≡ refused (refusal 19 0)
+  -- twelve zeros are of Julian day 0, which no count reaches
+  pub day-0 : decoding (replicate 12 0) ≡ refused (refusal 19 0)
+
+pub record Request10 : Type 1 where
+  -- "10 for an INT96 leaf in edition 3", whatever its annotation
+  pub int96-breaks : (n : Annotated) (under : Bool) → n .physical ≡ INT96 → rule10 3 n under ≡ false
+  -- 8 and 9 come first at that node
+  pub in-turn : (p : Standing) (s : SlotBytes) (fs : Fields) → physical s ≡ INT96 → broken 3 p s fs ≡ cond (rule8 p s fs) (cond (rule9 s) 10 9) 8
+  -- "Edition 3 equals edition 2 but": of any other node rule 10 asks what it does there, and rule 11 of every node
+  pub others-alike : (n : Annotated) (under : Bool) → (n .physical ≡ INT96 → ⊥) → rule10 3 n under ≡ rule10 2 n under
+  pub decimals-alike : (n : Annotated) (under : Bool) → rule11 3 n under ≡ rule11 2 n under
+  -- where editions 1 and 2 ask what document 01 does, of INT96 too
+  pub first-alike : (n : Annotated) (under : Bool) → rule10 1 n under ≡ isPlaced n under
+  pub second-alike : (n : Annotated) (under : Bool) → rule10 2 n under ≡ isPlaced n under
+  -- opening asks no rule of an edition
+  pub same-opening : (sheet : List ℕ) → openOf 3 sheet ≡ openOf 2 sheet
+  -- edition 3 accepts exactly the sheets that edition 2 accepts and that have no INT96 leaf
+  pub accepted : (sheet : List ℕ) → (judgement 3 sheet ≡ Verdict.Lawful) ↔ ((judgement 2 sheet ≡ Verdict.Lawful) × NoInt96 sheet)
+  -- of those that 2 accepts, it refuses the others with 10 at the first INT96 leaf
+  pub refused-alone : (sheet : List ℕ) (r : Refusal) → judgement 2 sheet ≡ Verdict.Lawful → judgement 3 sheet ≡ Verdict.Refused r → (r .number ≡ 10) × FirstInt96 sheet (r .place)
+  -- a sheet without one is judged alike, whatever else is wrong with it
+  pub same-judgement : (sheet : List ℕ) → NoInt96 sheet → judgementOf 3 sheet ≡ judgementOf 2 sheet
+  -- with the same rows, the same rewritten sheet and the same list: the same answer, and the same in what was lent
+  pub same-rows : (sheet lent : List ℕ) → NoInt96 sheet → (outcome 3 sheet (length lent) ≡ outcome 2 sheet (length lent)) × (written (outcome 3 sheet (length lent)) sheet lent ≡ written (outcome 2 sheet (length lent)) sheet lent)
+  pub same-rewritten : (sheet lent : List ℕ) (start : ℕ) → NoInt96 sheet → (rewriteOutcome 3 sheet (length lent) start ≡ rewriteOutcome 2 sheet (length lent) start) × (rewriteWritten (rewriteOutcome 3 sheet (length lent) start) sheet lent start ≡ rewriteWritten (rewriteOutcome 2 sheet (length lent) start) sheet lent start)
+  pub same-comparison : (first second lent : List ℕ) → NoInt96 first → NoInt96 second → (compareOutcome 3 first second (length lent) ≡ compareOutcome 2 first second (length lent)) × (output 3 first second lent ≡ output 2 first second lent)
+  -- a column type is lawful in 3 exactly where it is lawful in 2 and no INT96
+  pub lawful : (c : ColumnType) → (isLawful 3 c ≡ true) ↔ ((isLawful 2 c ≡ true) × (c .physical ≡ INT96 → ⊥))
+  -- any other is read and ordered alike
+  pub same-reading : (c : ColumnType) (bs : List ℕ) → (c .physical ≡ INT96 → ⊥) → read.outcome 3 c bs ≡ read.outcome 2 c bs
+  pub same-order : (c : ColumnType) (a b : List ℕ) → (c .physical ≡ INT96 → ⊥) → order.outcome 3 c a b ≡ order.outcome 2 c a b
+  -- one of INT96 is 20, before 17
+  pub int96-type : (c : ColumnType) → c .physical ≡ INT96 → typeJudgement 3 c ≡ Verdict.Refused (refusal 20 0)
+  pub int96-read : (c : ColumnType) (bs : List ℕ) → c .physical ≡ INT96 → read.outcome 3 c bs ≡ refused (refusal 20 0)
+  pub int96-ordered : (c : ColumnType) (a b : List ℕ) → c .physical ≡ INT96 → order.outcome 3 c a b ≡ sided.refused (fault 0 (refusal 20 0))
+  -- a leaf without annotation, and one of UNKNOWN: 10 in edition 3, and rows in edition 2
+  pub plain-refused : outcome 3 (int96Sheet converted.NONE logical.NONE 0) (rowWidth * 2) ≡ Counted.Refused (refusal 10 1)
+  pub plain-accepted : outcome 2 (int96Sheet converted.NONE logical.NONE 0) (rowWidth * 2) ≡ Counted.Count 2
+  pub unknown-refused : outcome 3 (int96Sheet converted.NONE logical.UNKNOWN 0) (rowWidth * 2) ≡ Counted.Refused (refusal 10 1)
+  pub unknown-accepted : outcome 2 (int96Sheet converted.NONE logical.UNKNOWN 0) (rowWidth * 2) ≡ Counted.Count 2
+  -- annotations that disagree are 9 there too, and a type length 8
+  pub nine-first : outcome 3 (int96Sheet converted.UTF8 logical.UNKNOWN 0) (rowWidth * 2) ≡ Counted.Refused (refusal 9 1)
+  pub eight-first : outcome 3 (int96Sheet converted.UTF8 logical.UNKNOWN 12) (rowWidth * 2) ≡ Counted.Refused (refusal 8 1)
+  pub conversion : Conversion

@@ -18,6 +18,10 @@ abbrev pub leafSheet : ℕ → ℕ → ℕ → ℕ → ℕ → ℕ → ℕ → �
 leafSheet ph conv log a b len sc pr =
     sheetOf (rootSlot 1 ∷ slotOf (ph ∷ repetition.REQUIRED ∷ conv ∷ log ∷ a ∷ b ∷ []) 0 len sc pr (120 ∷ []) ∷ [])
 
+-- one of INT96 with such annotations and type length
+abbrev pub int96Sheet : ℕ → ℕ → ℕ → List ℕ
+int96Sheet conv log len = leafSheet physical.INT96 conv log UNUSED UNUSED len 0 0
+
 -- "Root `r`; required LIST `parts`; repeated `list`", and the slot of the layer's one field
 abbrev pub listSheet : List ℕ → List ℕ
 listSheet one =

@@ -11,10 +11,18 @@ FIRST = 1
 abbrev pub SECOND : ℕ
 SECOND = 2
 
+-- "Edition 3 equals edition 2 but refuses INT96 leaves" (document 02, R-10)
+abbrev pub THIRD : ℕ
+THIRD = 3
+
 -- any other number is "21, edition unknown"
 unfoldable pub isKnown : ℕ → Bool
-isKnown edition = leb FIRST edition && leb edition SECOND
+isKnown edition = leb FIRST edition && leb edition THIRD
 
 -- may a DECIMAL's scale equal its precision? "Format 2.6.0 asks scale below precision; the present text allows equal"
 unfoldable pub scaleMayEqual : ℕ → Bool
 scaleMayEqual edition = leb SECOND edition
+
+-- is INT96 retired, so that no leaf may have it?
+unfoldable pub int96Retired : ℕ → Bool
+int96Retired edition = leb THIRD edition

@@ -16,7 +16,7 @@ ZERO = 48
 
 digit-text : (e : ℕ) → isKnown e ≡ true → decimalText e ≡ (ZERO + e) ∷ []
 unfolding decimalText digitCount enoughDigits
-digit-text = each-edition _ refl refl
+digit-text = each-edition _ refl refl refl
 
 single : (text : List ℕ) → length text ≡ 1 → getD text 0 0 ∷ [] ≡ text
 single [] e = absurd (omega arith)

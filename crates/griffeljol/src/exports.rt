@@ -8,6 +8,8 @@ ghost use Rattle.c_answer.specs.Answers.{countedAnswer, answer, left};
 ghost use Rattle.c_sheets.specs.Comparison.{comparedAnswer};
 ghost use Rattle.c_values.specs.Values.{columnType, reading, ordering};
 ghost use Rattle.c_timestamps.specs.Timestamps.{Decoding, encoding};
+ghost use Rattle.c_timestamps.specs.Int96.{fromInt96};
+ghost use Rattle.int96.specs.Outcomes as int96;
 
 // Resolves a sheet into rows. The value is T, the number of its nodes.
 #[no_mangle]
@@ -99,4 +101,22 @@ pub extern "C" fn griffeljol_encode(unit: u32, fields: &[i64], count: &mut [i64]
     ensures { λ _. ⌜ now (count .exit) ≡ left (encoding unit (now (fields .entry)) (length (now (count .entry)))) (now (count .entry)) ⌝ }
 {
     c_timestamps::encode(unit, fields, count)
+}
+
+// Writes the count of an INT96 value. The value is 1.
+#[no_mangle]
+pub extern "C" fn griffeljol_from_int96(value: &[u8], count: &mut [i64]) -> u64
+    ensures { λ r. ⌜ r ≡ answer (fromInt96 (now (value .entry)) (length (now (count .entry)))) ⌝ }
+    ensures { λ _. ⌜ now (count .exit) ≡ left (fromInt96 (now (value .entry)) (length (now (count .entry)))) (now (count .entry)) ⌝ }
+{
+    c_timestamps::from_int96(value, count)
+}
+
+// Writes the INT96 value of a count. The value is 12.
+#[no_mangle]
+pub extern "C" fn griffeljol_to_int96(count: i64, value: &mut [u8]) -> u64
+    ensures { λ r. ⌜ r ≡ countedAnswer (int96.encoding (length (now (value .entry)))) ⌝ }
+    ensures { λ _. ⌜ now (value .exit) ≡ int96.encoded count (now (value .entry)) ⌝ }
+{
+    c_timestamps::to_int96(count, value)
 }

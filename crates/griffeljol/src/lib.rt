@@ -5,7 +5,9 @@ mod exports; // exports.rt: the entries
 pub use exports::griffeljol_compare;
 pub use exports::griffeljol_decode;
 pub use exports::griffeljol_encode;
+pub use exports::griffeljol_from_int96;
 pub use exports::griffeljol_order;
 pub use exports::griffeljol_read;
 pub use exports::griffeljol_resolve;
 pub use exports::griffeljol_rewrite;
+pub use exports::griffeljol_to_int96;

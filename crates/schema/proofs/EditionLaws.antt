@@ -1,30 +1,34 @@
--- Sheets in the two editions: what the first accepts the second accepts; what the second accepts and the first refuses, it refuses with 11 at the first DECIMAL
--- whose scale equals its precision.
+-- Sheets in the editions: what the first or the third accepts the second accepts; what the second accepts and the first refuses, it refuses with 11 at the first
+-- DECIMAL whose scale equals its precision, and the third with 10 at the first INT96; of a sheet without INT96 the third answers what the second does.
 use Prim.Native.Nat.{ℕ, zero, suc, _+_, _*_, _<_}
 use mathlib.Core.Path.{_≡_, refl, sym, ap, _∙_}
-use mathlib.Core.Bool.{true, false, true≢false}
-use mathlib.Core.List.{List, [], _∷_, map}
+use mathlib.Core.Bool.{true, false}
+use mathlib.Core.List.{List, [], map}
 use native.Mathlib.Omega.{arith}
 use lib.ListN.{length, getD, drop}
 use lib.Seq.{drop-drop}
-use Rattle.edition.specs.Editions.{FIRST, SECOND}
-use Rattle.edition.proofs.EditionLaws.{first, second, known-of}
-use Rattle.refusal.specs.Numbers.{BAD-DECIMAL}
+use Rattle.edition.specs.Editions.{FIRST, SECOND, THIRD, isKnown}
+use Rattle.edition.proofs.EditionLaws.{first, second, third, known-of}
+use Rattle.refusal.specs.Numbers.{MISPLACED, BAD-DECIMAL}
 use Rattle.refusal.specs.Outcome.{refusal}
 use Rattle.refusal.specs.declared.answers.Refusal.{Refusal}
 use Rattle.refusal.specs.declared.answers.Verdict.{Verdict}
 use Rattle.annotation.specs.declared.resolution.Kind.{Kind}
 use Rattle.annotation.proofs.EditionLaws.{isEqual}
-use Rattle.sheet.specs.Slot.{slots}
+use Rattle.sheet.specs.Block.{totalOf}
+use Rattle.sheet.specs.Slot.{slotAt, slots}
 use Rattle.sheet.proofs.OpeningLaws.{openOf-known, openOf-blocks, openOf-slots}
+use Rattle.sheet.proofs.SlotLaws.{slots-at, slots-length}
 use Rattle.tree.specs.Tree.{Tree, size}
-use Rattle.tree.specs.Rules.{judgedKinds}
+use Rattle.tree.specs.Rules.{Keeps}
+use Rattle.tree.specs.Faults.{faults}
+use Rattle.tree.specs.Reading.{treeOf}
 use Rattle.tree.specs.Judgement.{orElse, unlawful, firstFault, judgement}
 use Rattle.tree.specs.declared.standing.Standing.the-variants.{Root}
 use Rattle.tree.proofs.FaultLaws.{atMostDeep-none}
 use Rattle.tree.proofs.TreeOfLaws.{treeRefusal-tree}
 use Rattle.tree.proofs.JudgementLaws.{lawful-opened}
-use Rattle.tree.proofs.EditionLaws.{keeps-second, mark, faults-first, FirstMarked, marked-first, unmarked}
+use Rattle.tree.proofs.EditionLaws.{keeps-second, keeps-third, FirstMarked, marked-first, unmarked, none-marked, markEqual, faults-first, isInt96, markInt96, faults-third, without-each, judgement-same}
 use Rattle.schema.specs.Rows.{rowWidth, rows, numberIn, kindsIn}
 use Rattle.schema.specs.Demand.{IsTreeOf, Sound, kindIn}
 use Rattle.schema.proofs.DemandLaws.{tree-accepted, accepted-tree, sound-judgement}
@@ -36,13 +40,21 @@ lawful-sound edition bytes e =
     let o = lawful-opened edition bytes e in
     record { known = openOf-known edition bytes (o .0) (o .1); blocks = openOf-blocks edition bytes (o .0) (o .1); slots = openOf-slots edition bytes (o .0) (o .1) }
 
+-- where the second edition's rules are kept with another's, it accepts what that accepts
+accepts-too : (other : ℕ) → ((t : Tree) → Keeps other Root t → Keeps SECOND Root t) → (bytes : List ℕ) → judgement other bytes ≡ Verdict.Lawful → judgement SECOND bytes ≡ Verdict.Lawful
+accepts-too other keeps bytes e =
+    let s = lawful-sound other bytes e in
+    let tree = accepted-tree other bytes (sym (sound-judgement other bytes s) ∙ e) in
+    sound-judgement SECOND bytes (record { known = known-of second; blocks = s .blocks; slots = s .slots })
+    ∙ tree-accepted SECOND bytes _ (record { deep = tree .deep; keeps = keeps _ (tree .keeps); claims = tree .claims; lists = tree .lists })
+
 -- what the first edition accepts, the second accepts
 pub second-lawful : (bytes : List ℕ) → judgement FIRST bytes ≡ Verdict.Lawful → judgement SECOND bytes ≡ Verdict.Lawful
-second-lawful bytes e =
-    let s = lawful-sound FIRST bytes e in
-    let tree = accepted-tree FIRST bytes (sym (sound-judgement FIRST bytes s) ∙ e) in
-    sound-judgement SECOND bytes (record { known = known-of second; blocks = s .blocks; slots = s .slots })
-    ∙ tree-accepted SECOND bytes _ (record { deep = tree .deep; keeps = keeps-second _ Root (tree .keeps); claims = tree .claims; lists = tree .lists })
+second-lawful = accepts-too FIRST (λ t. keeps-second t Root)
+
+-- and what the third accepts
+pub third-second : (bytes : List ℕ) → judgement THIRD bytes ≡ Verdict.Lawful → judgement SECOND bytes ≡ Verdict.Lawful
+third-second = accepts-too THIRD (λ t. keeps-third t Root)
 
 -- the kind in a row
 kindsIn-at : (numbers : List ℕ) (n k : ℕ) (other : Kind) → k < n → getD (kindsIn numbers n) k other ≡ kindIn numbers k
@@ -66,14 +78,18 @@ pub record FirstIn (t : Tree) (k : ℕ) : Type 0 where
   pub earlier : (j : ℕ) → j < k → isEqual (kindIn (rows t) j) ≡ false
 
 module _ (bytes : List ℕ) (t : Tree) (sound : Sound SECOND bytes) (tree : IsTreeOf SECOND bytes t) where
-  -- what the first edition answers for a sheet that the second accepts
-  verdict : judgement FIRST bytes ≡ firstFault 0 (map mark (kindsIn (rows t) (size t)))
+  -- what another edition answers for a sheet that the second accepts: the first fault of its tree
+  verdict : (other : ℕ) → isKnown other ≡ true → judgement other bytes ≡ firstFault 0 (faults other Root t)
   unfolding orElse unlawful
-  verdict =
-      sound-judgement FIRST bytes (record { known = known-of first; blocks = sound .blocks; slots = sound .slots })
-      ∙ treeRefusal-tree FIRST (slots bytes) t (tree .claims) (tree .lists)
-      ∙ ap (λ (v : Verdict). orElse v (unlawful FIRST t)) (atMostDeep-none t (tree .deep))
-      ∙ ap (firstFault 0) (faults-first t Root (tree .keeps) ∙ ap (map mark) (sym (rows-kinds t)))
+  verdict other known =
+      sound-judgement other bytes (record { known = known; blocks = sound .blocks; slots = sound .slots })
+      ∙ treeRefusal-tree other (slots bytes) t (tree .claims) (tree .lists)
+      ∙ ap (λ (v : Verdict). orElse v (unlawful other t)) (atMostDeep-none t (tree .deep))
+
+  -- the first edition
+
+  verdict-first : judgement FIRST bytes ≡ firstFault 0 (map markEqual (kindsIn (rows t) (size t)))
+  verdict-first = verdict FIRST (known-of first) ∙ ap (firstFault 0) (faults-first t Root (tree .keeps) ∙ ap (map markEqual) (sym (rows-kinds t)))
 
   abbrev none : Kind
   none = record { kind = 0; p1 = 0; p2 = 0 }
@@ -83,7 +99,7 @@ module _ (bytes : List ℕ) (t : Tree) (sound : Sound SECOND bytes) (tree : IsTr
 
   pub first-refused : (r : Refusal) → judgement FIRST bytes ≡ Verdict.Refused r → (k : ℕ) × (r ≡ refusal BAD-DECIMAL k) × FirstIn t k
   first-refused r e =
-      let found = marked-first none (kindsIn (rows t) (size t)) 0 r (sym verdict ∙ e) in
+      let found = marked-first isEqual 10 none (kindsIn (rows t) (size t)) 0 r (sym verdict-first ∙ e) in
       let k = found .0 in
       let m = found .2 in
       let low : k < size t = omega (arith, m .below, kindsIn-length (rows t) (size t)) in
@@ -91,4 +107,65 @@ module _ (bytes : List ℕ) (t : Tree) (sound : Sound SECOND bytes) (tree : IsTr
 
   pub first-lawful : judgement FIRST bytes ≡ Verdict.Lawful → (k : ℕ) → k < size t → isEqual (kindIn (rows t) k) ≡ false
   first-lawful e k h =
-      sym (ap isEqual (at-row k h)) ∙ unmarked none (kindsIn (rows t) (size t)) 0 (sym verdict ∙ e) k (omega (arith, h, kindsIn-length (rows t) (size t)))
+      sym (ap isEqual (at-row k h)) ∙ unmarked isEqual 10 none (kindsIn (rows t) (size t)) 0 (sym verdict-first ∙ e) k (omega (arith, h, kindsIn-length (rows t) (size t)))
+
+  -- the third
+
+  verdict-third : judgement THIRD bytes ≡ firstFault 0 (map markInt96 (slots bytes))
+  verdict-third = verdict THIRD (known-of third) ∙ ap (firstFault 0) (faults-third t Root (tree .keeps) ∙ ap (map markInt96) (tree .lists))
+
+  third-marked : (r : Refusal) → judgement THIRD bytes ≡ Verdict.Refused r → (k : ℕ) × (r ≡ refusal MISPLACED k) × FirstMarked isInt96 9 [] (slots bytes) k
+  third-marked r e =
+      let found = marked-first isInt96 9 [] (slots bytes) 0 r (sym verdict-third ∙ e) in
+      (found .0, found .1 ∙ ap (refusal MISPLACED) (omega arith), found .2)
+
+  third-unmarked : judgement THIRD bytes ≡ Verdict.Lawful → (k : ℕ) → k < length (slots bytes) → isInt96 (getD (slots bytes) k []) ≡ false
+  third-unmarked e k h = unmarked isInt96 9 [] (slots bytes) 0 (sym verdict-third ∙ e) k h
+
+  third-kept : ((k : ℕ) → k < length (slots bytes) → isInt96 (getD (slots bytes) k []) ≡ false) → judgement THIRD bytes ≡ Verdict.Lawful
+  third-kept h = verdict-third ∙ none-marked isInt96 9 [] (slots bytes) 0 h
+
+-- the first INT96 of a sheet
+pub record FirstInt96 (bytes : List ℕ) (k : ℕ) : Type 0 where
+  pub below : k < totalOf bytes
+  pub here : isInt96 (slotAt bytes k) ≡ true
+  pub earlier : (j : ℕ) → j < k → isInt96 (slotAt bytes j) ≡ false
+
+-- a sheet without one
+abbrev pub NoInt96 : List ℕ → Type 0
+NoInt96 bytes = (k : ℕ) → k < totalOf bytes → isInt96 (slotAt bytes k) ≡ false
+
+module _ (bytes : List ℕ) where
+  at-slot : (k : ℕ) → k < totalOf bytes → isInt96 (getD (slots bytes) k []) ≡ isInt96 (slotAt bytes k)
+  at-slot k h = ap isInt96 (slots-at bytes k [] h)
+
+  -- slot by slot
+  none-listed : NoInt96 bytes → (k : ℕ) → k < length (slots bytes) → isInt96 (getD (slots bytes) k []) ≡ false
+  none-listed none k h = let low : k < totalOf bytes = omega (arith, h, slots-length bytes) in at-slot k low ∙ none k low
+
+  module _ (lawful : judgement SECOND bytes ≡ Verdict.Lawful) where
+    sound : Sound SECOND bytes
+    sound = lawful-sound SECOND bytes lawful
+
+    tree : IsTreeOf SECOND bytes (treeOf (slots bytes))
+    tree = accepted-tree SECOND bytes (sym (sound-judgement SECOND bytes sound) ∙ lawful)
+
+    -- of what the second edition accepts, the third refuses what has an INT96, at the first
+    pub third-refused : (r : Refusal) → judgement THIRD bytes ≡ Verdict.Refused r → (k : ℕ) × (r ≡ refusal MISPLACED k) × FirstInt96 bytes k
+    third-refused r e =
+        let found = third-marked bytes (treeOf (slots bytes)) sound tree r e in
+        let k = found .0 in
+        let m = found .2 in
+        let low : k < totalOf bytes = omega (arith, m .below, slots-length bytes) in
+        (k, found .1, record { below = low; here = sym (at-slot k low) ∙ m .here; earlier = λ j h. sym (at-slot j (omega (arith, low, h))) ∙ m .earlier j h })
+
+    -- and accepts what has none
+    pub third-lawful : NoInt96 bytes → judgement THIRD bytes ≡ Verdict.Lawful
+    third-lawful none = third-kept bytes (treeOf (slots bytes)) sound tree (none-listed none)
+
+    pub third-none : judgement THIRD bytes ≡ Verdict.Lawful → NoInt96 bytes
+    third-none e k h = sym (at-slot k h) ∙ third-unmarked bytes (treeOf (slots bytes)) sound tree e k (omega (arith, h, slots-length bytes))
+
+  -- of a sheet without INT96 the third answers what the second does, refusals too
+  pub third-same : NoInt96 bytes → judgement THIRD bytes ≡ judgement SECOND bytes
+  third-same none = judgement-same bytes (without-each [] (slots bytes) (none-listed none))

@@ -26,7 +26,7 @@ use Rattle.annotation.specs.Rule11.{ordered, isDecimal, decimalHolds}
 use Rattle.annotation.specs.Rule11 as eleven
 use Rattle.annotation.specs.declared.slot.Annotated.{Annotated}
 use Rattle.annotation.specs.declared.resolution.Kind.{Kind}
-use Rattle.annotation.proofs.PlacementLaws.{kind-logical, readable}
+use Rattle.annotation.proofs.PlacementLaws.{kind-logical, readable, ten-parts}
 use Rattle.sheet.specs.Slot.{physical, scale, precision, numbersOf}
 use Rattle.tree.specs.Annotated.{annotated, kind, rule10, rule11}
 use Rattle.tree.specs.Tree.{SlotBytes, Tree, listing, size}
@@ -72,19 +72,19 @@ decimal-numbers (Annotation.Logical l) n e = rw e (refl, refl)
 decimal-numbers Annotation.Interval n e = absurd (true≢false (sym e))
 decimal-numbers Annotation.Unreadable n e = absurd (true≢false (sym e))
 
-module _ (edition : ℕ) (n : Annotated) (under : Bool) (kept10 : ten.rule10 n under ≡ true) (kept11 : eleven.rule11 edition n under ≡ true) where
+module _ (edition : ℕ) (n : Annotated) (under : Bool) (kept10 : ten.isPlaced n under ≡ true) (kept11 : eleven.rule11 edition n under ≡ true) where
   stated : (n .logical ≡ logical.NONE → ⊥) → annotationOf n under ≡ statedOf (n .logical) (n .a) (n .b)
   unfolding annotationOf
   stated h = rw (ne-eqb (n .logical) logical.NONE h)
 
   stated-kind : (n .logical ≡ logical.NONE → ⊥) → (kindOf n under .kind ≡ n .logical) × ((n .logical ≡ logical.DECIMAL → ⊥) → (kindOf n under .p1 ≡ n .a) × (kindOf n under .p2 ≡ n .b))
-  unfolding kindOf ten.rule10
+  unfolding kindOf ten.isPlaced
   stated-kind h =
       rw (stated h)
       (spelled-kind (statedOf (n .logical) (n .a) (n .b)) n (n .logical) (n .a) (n .b) (natural (n .«type_length»)) (spelled-stated (n .logical) (n .a) (n .b)) (rw (stated h) at kept10))
 
   alone : n .logical ≡ logical.NONE → annotationOf n under ≡ backwardOf (n .converted) under
-  unfolding annotationOf ten.rule10
+  unfolding annotationOf ten.isPlaced
   alone e =
       let valid = readable (validParameters logical.NONE (n .a) (n .b)) (backwardOf (n .converted) under) (n .physical) (natural (n .«type_length»)) (rw e at kept10) in
       rw (e, valid)
@@ -106,10 +106,11 @@ module _ (edition : ℕ) (n : Annotated) (under : Bool) (kept10 : ten.rule10 n u
       let both = ordered-natural edition (n .precision) (n .scale) ordered-is in
       (ap pos (numbers .0) ∙ both .0, ap pos (numbers .1) ∙ both .1)
 
-resolves-to : (edition : ℕ) (under : Bool) (s : SlotBytes) → rule10 under s ≡ true → rule11 edition under s ≡ true → ResolvesTo under s (kind under s)
+resolves-to : (edition : ℕ) (under : Bool) (s : SlotBytes) → rule10 edition under s ≡ true → rule11 edition under s ≡ true → ResolvesTo under s (kind under s)
 unfolding kind rule10 rule11 annotated numbersOf
-resolves-to edition under s t e =
+resolves-to edition under s kept e =
     let n = annotated s in
+    let t = ten-parts edition n under kept .1 in
     record {
       logical-kind = λ h. stated-kind edition n under t e h .0;
       logical-p1 = λ h d. stated-kind edition n under t e h .1 d .0;

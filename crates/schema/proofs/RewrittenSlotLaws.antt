@@ -107,7 +107,7 @@ written-listed Annotation.Unreadable = (refl, refl)
 pub record Resolves (edition : ℕ) (under : Bool) (s : SlotBytes) : Type 0 where
   pub long : childCountAt ≤ length s
   pub nine : rule9 s ≡ true
-  pub ten : rule10 under s ≡ true
+  pub ten : rule10 edition under s ≡ true
   pub eleven : rule11 edition under s ≡ true
 
 module _ (edition : ℕ) (under : Bool) (s : SlotBytes) (h : Resolves edition under s) where

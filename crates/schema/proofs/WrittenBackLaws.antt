@@ -22,7 +22,7 @@ use Rattle.annotation.specs.Kinds.{PLAIN-LEAF, PLAIN-GROUP, bareKind, kindAs, k
 use Rattle.annotation.specs.Rewriting.{writtenAs, writtenOf}
 use Rattle.annotation.specs.declared.slot.Annotated.{Annotated}
 use Rattle.annotation.specs.declared.resolution.Kind.{Kind}
-use Rattle.annotation.proofs.PlacementLaws.{kind-logical, code-stands, groupKind, group-kind}
+use Rattle.annotation.proofs.PlacementLaws.{kind-logical, code-stands, groupKind, ten-parts, group-kind}
 use Rattle.sheet.specs.Block.{totalOf}
 use Rattle.sheet.specs.Slot.{childCountAt, physical, converted as convertedOf, logical as logicalOf, parameterA, parameterB, numbersOf, slotAt, slots}
 use Rattle.sheet.proofs.SlotLaws.{slotAt-length, slots-at}
@@ -206,7 +206,7 @@ module _ (edition : ℕ) (b : List ℕ) (t : Tree) (sound : Sound edition b) (tr
   layer-kind h =
       let layer = own .map-child (subst IsKeyValueLayer (own .stands) h) in
       let code = kind under s .kind in
-      let some-kind : groupKind code ≡ true = group-kind (annotated s) under (own .keeps .placement) (layer .1) in
+      let some-kind : groupKind code ≡ true = group-kind (annotated s) under (ten-parts edition (annotated s) under (own .keeps .placement) .1) (layer .1) in
       by-test (eqb code PLAIN-GROUP) (λ e. eqb-true code PLAIN-GROUP e)
       (λ e. absurd (true≢false (sym (rw (e, no-list edition (own .standing) s (own .fields) (own .keeps) (layer .0)) at some-kind) ∙ no-map edition (own .standing) s (own .fields) (own .keeps) (layer .0))))
 

@@ -1,4 +1,5 @@
--- What encoding answers, by the moment of the fields and their fraction. Here t is the ticks in a second.
+-- What encoding answers, by the moment of the fields and their fraction, here t being the ticks in a second; and what joining a day and a tick of it answers, t
+-- being those in a day.
 use Prim.Native.Nat.{ℕ, _+_, _*_, _<_, _≤_}
 use mathlib.Core.Path.{_≡_, refl, sym, ap, ap₂, subst, _∙_}
 use mathlib.Core.Bool.{Bool, true, false, cond, _&&_, false≢true}
@@ -19,8 +20,8 @@ use Rattle.timestamp.specs.Clock.{minutesPerHour, secondsPerMinute, seco
 use Rattle.timestamp.specs.Count.{isDateTime, countOf}
 use Rattle.logical_type.specs.declared.types.TimeUnit.{TimeUnit}
 use Rattle.timestamp.specs.Units.{ticksPerSecond}
-use Rattle.timestamp.specs.Outcomes.{noDateTime, notRepresentable, encodingIn, encoding}
-use Rattle.timestamp.specs.Steps.{isClock, isFormed, secondOf, IsMoment, counting, encodingAt, encodingFor}
+use Rattle.timestamp.specs.Outcomes.{noDateTime, notRepresentable, counting, encodingIn, encoding, joining}
+use Rattle.timestamp.specs.Steps.{isClock, isFormed, secondOf, IsMoment, encodingAt, encodingFor}
 use Rattle.laws.proofs.BoolLaws.{by-test, and-both, both-and}
 use Rattle.timestamp.proofs.CountLaws.{date-time-parts, encoding-none, encoding-far}
 use Rattle.timestamp.proofs.FloorLaws.{joined, joined-told, joined-twice}
@@ -88,3 +89,18 @@ second-asked {s} {n} h p = subst (λ (z : ℤ). mag z < n) (sym (toZ-ofZ w64 s h
 
 pub second-answered : (s : ℤ) (t fraction : ℕ) (o : Outcome ℤ) → SFits w64 s → o ≡ encodingAt t (Moment.Second (toZ w64 (ofZ w64 s))) fraction → o ≡ encodingAt t (Moment.Second s) fraction
 second-answered s t fraction o h p = p ∙ ap (λ (z : ℤ). encodingAt t (Moment.Second z) fraction) (toZ-ofZ w64 s h)
+
+-- ---- a day and a tick of it
+
+-- they are joined as a second and a fraction of it are: a tick that the day has not is 18
+pub tick-beyond : (t : ℕ) (day : ℤ) (tick : ℕ) → t ≤ tick → noDateTime ≡ joining t day tick
+tick-beyond t day tick h = fraction-beyond t (Moment.Second day) tick h
+
+-- and else the count decides
+pub tick-within : (t : ℕ) (day : ℤ) (tick : ℕ) (o : Outcome ℤ) → SFits w64 day → tick < t → o ≡ counting (joined (toZ w64 (ofZ w64 day)) t tick) → o ≡ joining t day tick
+tick-within t day tick o h k p =
+    second-answered day t tick o h (fraction-within t (Moment.Second (toZ w64 (ofZ w64 day))) (toZ w64 (ofZ w64 day)) tick o k refl p)
+
+-- and answered of the day that the machine reads back as of the day
+pub day-answered : (t : ℕ) (day : ℤ) (tick : ℕ) (o : Outcome ℤ) → SFits w64 day → o ≡ joining t (toZ w64 (ofZ w64 day)) tick → o ≡ joining t day tick
+day-answered t day tick o h p = second-answered day t tick o h p

@@ -16,12 +16,12 @@ use Rattle.laws.proofs.BoolLaws.{by-test}
 use Rattle.timestamp.proofs.CountLaws.{encoding-none, encoding-beyond, encoding-good}
 
 -- the number of a refusal, and 0 of what is given
-abbrev number : Outcome ℤ → ℕ
+abbrev pub number : Outcome ℤ → ℕ
 number (refused r) = r .number
 number (given count) = 0
 
 -- one answer has one number
-other : {X : Type 0} {o : Outcome ℤ} (a b : Outcome ℤ) → o ≡ a → o ≡ b → (number a ≡ number b → ⊥) → X
+pub other : {X : Type 0} {o : Outcome ℤ} (a b : Outcome ℤ) → o ≡ a → o ≡ b → (number a ≡ number b → ⊥) → X
 other a b p q h = absurd (h (ap number (sym p ∙ q)))
 
 -- what encoding answers in a unit: three answers, each with what it takes

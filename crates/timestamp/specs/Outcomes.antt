@@ -4,7 +4,7 @@ use mathlib.Core.Path.{_≡_}
 use mathlib.Core.Bool.{Bool, true, false, cond, _&&_}
 use mathlib.Core.Option.{Option, none, some}
 use lib.Dec.{ltb}
-use lib.IntN.{ℤ, pos, negsuc}
+use lib.IntN.{ℤ, pos, negsuc, _+ℤ_, _*ℤ_}
 use lib.Signed.{leZ}
 use Rattle.refusal.specs.Numbers.{NO-DATE-TIME, NOT-REPRESENTABLE, UNKNOWN-TYPE}
 use Rattle.refusal.specs.Outcome.{Outcome, given, refused, unplaced}
@@ -75,12 +75,19 @@ abbrev pub Decodes : Option TimeUnit → ℤ → Outcome Fields → Type 0
 Decodes none count o = o ≡ unknownUnit
 Decodes (some unit) count o = DecodesIn (ticksPerSecond unit) count o
 
+-- what is answered where there is a count: 19, else the count
+abbrev pub counting : ℤ → Outcome ℤ
+counting count = cond (isSigned64 count) (given count) notRepresentable
+
 -- what encoding answers in a unit with so many ticks in a second: 18, then 19, else the count of the fields
 unfoldable pub encodingIn : ℕ → Fields → Outcome ℤ
-encodingIn perSecond f =
-    cond (isDateTime perSecond f) (cond (isSigned64 (countOf perSecond f)) (given (countOf perSecond f)) notRepresentable) noDateTime
+encodingIn perSecond f = cond (isDateTime perSecond f) (counting (countOf perSecond f)) noDateTime
 
 -- what encoding answers: 20 where no unit is named, else as in that unit
 abbrev pub encoding : Option TimeUnit → Fields → Outcome ℤ
 encoding none f = unknownUnit
 encoding (some unit) f = encodingIn (ticksPerSecond unit) f
+
+-- what joining a day and a tick of it answers in a unit with so many ticks in a day: 18 where the day has no such tick, then 19, else the count
+abbrev pub joining : ℕ → ℤ → ℕ → Outcome ℤ
+joining perDay day tick = cond (ltb tick perDay) (counting (day *ℤ pos perDay +ℤ pos tick)) noDateTime

@@ -8,7 +8,7 @@ use lib.Dec.{ltb}
 use lib.IntN.{ℤ, pos, subℕ, _+ℤ_, _*ℤ_}
 use lib.ListN.{getD}
 use lib.Signed.{mag}
-use Rattle.refusal.specs.Outcome.{Outcome, given}
+use Rattle.refusal.specs.Outcome.{Outcome}
 -- types of the code: a month's `days`, an unsigned 32-bit number, and its `offset`, a signed 64-bit one
 use Rattle.timestamp.specs.declared.calendar.Month.{Month}
 -- near fields' `Second`, which holds a signed 64-bit number, or `Other`; a moment's `Second`, which holds one, `Far` or `NoDateTime`
@@ -22,7 +22,7 @@ use Rattle.timestamp.specs.declared.units.FoundUnit.{FoundUnit}
 use Rattle.timestamp.specs.declared.fields.Fields.{Fields}
 use Rattle.timestamp.specs.Calendar.{months, isDate, dayNumber}
 use Rattle.timestamp.specs.Clock.{hoursPerDay, minutesPerHour, secondsPerMinute, secondsPerDay}
-use Rattle.timestamp.specs.Outcomes.{isSigned64, noDateTime, notRepresentable, unknownUnit}
+use Rattle.timestamp.specs.Outcomes.{noDateTime, notRepresentable, unknownUnit, counting}
 use Rattle.logical_type.specs.declared.types.TimeUnit.{TimeUnit}
 use Rattle.timestamp.specs.Units.{ticksPerSecond}
 
@@ -70,10 +70,6 @@ IsMoment f Moment.NoDateTime = isFormed f ≡ false
 abbrev pub IsNear : Fields → Near → Type 0
 IsNear f (Near.Second s) = IsMoment f (Moment.Second s) × (mag s < secondsReached)
 IsNear f Near.Other = Unit {0}
-
--- what encoding answers where fields have a count: 19, else the count
-abbrev pub counting : ℤ → Outcome ℤ
-counting count = cond (isSigned64 count) (given count) notRepresentable
 
 -- what it answers of a moment and a fraction, in a unit with so many ticks in a second
 abbrev pub encodingAt : ℕ → Moment → ℕ → Outcome ℤ

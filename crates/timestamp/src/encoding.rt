@@ -6,8 +6,8 @@ ghost use lib.IntN.{pos, _+ℤ_, _*ℤ_};
 ghost use lib.Signed.{mag};
 ghost use Rattle.logical_type.specs.declared.types.TimeUnit.{TimeUnit};
 ghost use Rattle.timestamp.specs.Units.{ticksPerSecond, unitOf};
-ghost use Rattle.timestamp.specs.Outcomes.{encoded, encoding};
-ghost use Rattle.timestamp.specs.Steps.{secondsReached, counting, encodingAt, encodingFor};
+ghost use Rattle.timestamp.specs.Outcomes.{encoded, counting, encoding, joining};
+ghost use Rattle.timestamp.specs.Steps.{secondsReached, encodingAt, encodingFor};
 ghost use Rattle.timestamp.specs.declared.moment.Moment;
 use crate::division::joined;
 use crate::division::turned;
@@ -104,7 +104,18 @@ pub(crate) fn encode_at(moment: Moment, fraction: u32, ticks_per_second: u64) ->
     }
 }
 
-// The count at a fraction of any second, by the number that the count folds onto.
+// The count of a day and a tick of it, at so many ticks in a day.
+pub(crate) fn join_at(day: i64, tick: u64, ticks_per_day: u64) -> Encoded
+    requires { ⌜ «ticks_per_day» < 2 ^ 63 ⌝ }
+    ensures { λ r. ⌜ encoded r ≡ joining «ticks_per_day» day tick ⌝ }
+{
+    if ticks_per_day <= tick {
+        return Encoded::NoDateTime;
+    }
+    count_of(day, tick, ticks_per_day)
+}
+
+// The count at a fraction of any second, by the number that the count folds onto; or in the same way at a tick of a day.
 fn count_of(second: i64, fraction: u64, ticks_per_second: u64) -> Encoded
     requires { ⌜ (fraction < «ticks_per_second») × («ticks_per_second» < 2 ^ 63) ⌝ }
     ensures { λ r. ⌜ encoded r ≡ counting (second *ℤ pos «ticks_per_second» +ℤ pos fraction) ⌝ }

@@ -10,7 +10,7 @@ ghost use Rattle.logical_type.specs.declared.types.TimeUnit.{TimeUnit};
 ghost use Rattle.timestamp.specs.Units.{ticksPerSecond, ticksPerDay, unitOf};
 ghost use Rattle.timestamp.specs.FloorDivision.{FloorDivision};
 ghost use Rattle.timestamp.specs.declared.division.Division.{Division};
-ghost use Rattle.timestamp.specs.Outcomes.{encoded, dayAnswer, dayHas};
+ghost use Rattle.timestamp.specs.Outcomes.{encoded, joining, dayAnswer, dayHas};
 ghost use Rattle.timestamp.specs.Steps.{secondsReached, encodingAt, unitFound};
 ghost use Rattle.timestamp.specs.declared.moment.Moment;
 use crate::division::Division;
@@ -18,6 +18,7 @@ use crate::division::floor_divide;
 use crate::encoding::Encoded;
 use crate::encoding::encode_at;
 use crate::encoding::encode_near_at;
+use crate::encoding::join_at;
 use crate::moment::Moment;
 use crate::refusals::unknown_unit;
 use refusal::Refusal;
@@ -126,6 +127,13 @@ impl Nanos {
         ensures { λ r. ⌜ ((d : Division) → FloorDivision count (ticksPerDay (ticksPerSecond TimeUnit.Nanos)) d → d ≡ r) ⌝ }
     {
         floor_divide(count, Self::TICKS_PER_DAY)
+    }
+
+    // The count of a day and a tick of it, as divide parts it. A tick that no day has is told as fields that form no time are.
+    pub fn join(day: i64, tick: u64) -> Encoded
+        ensures { λ r. ⌜ encoded r ≡ joining (ticksPerDay (ticksPerSecond TimeUnit.Nanos)) day tick ⌝ }
+    {
+        join_at(day, tick, Self::TICKS_PER_DAY)
     }
 
     // The count at a fraction of a moment's second.

@@ -64,7 +64,7 @@ unfolding broken
 broken-keepsAt edition p s fs e =
     let r8 = cond-zero (rule8 p s fs) _ 7 e in
     let r9 = cond-zero (rule9 s) _ 8 (r8 .1) in
-    let r10 = cond-zero (rule10 (underMap p) s) _ 9 (r9 .1) in
+    let r10 = cond-zero (rule10 edition (underMap p) s) _ 9 (r9 .1) in
     let r11 = cond-zero (rule11 edition (underMap p) s) _ 10 (r10 .1) in
     let r12 = cond-zero (rule12 p s fs) _ 11 (r11 .1) in
     let r13 = cond-zero (rule13 p s fs) _ 12 (r12 .1) in

@@ -3,7 +3,6 @@ pub mod TreeLaws
 pub mod OpenPlacesLaws
 pub mod PlacesLaws
 pub mod FaultLaws
-pub mod EditionLaws
 pub mod TreeOfLaws
 pub mod StandingLaws
 pub mod JudgingLaws
@@ -14,3 +13,4 @@ pub mod NodeLaws
 pub mod JudgingSteps
 pub mod CountingLaws
 pub mod JudgementLaws
+pub mod EditionLaws

@@ -59,7 +59,7 @@ unfoldable pub brokenTo12 : ℕ → Standing → SlotBytes → Fields → ℕ
 brokenTo12 edition p s fs =
     cond (rule8 p s fs)
     (cond (rule9 s)
-    (cond (rule10 (underMap p) s)
+    (cond (rule10 edition (underMap p) s)
     (cond (rule11 edition (underMap p) s)
     (cond (rule12 p s fs) 0 12) 11) 10) 9) 8
 
@@ -68,7 +68,7 @@ to12-by : (edition : ℕ) (p : Standing) (s : SlotBytes) (fs : Fields) → broke
 unfolding brokenTo12 rule9 rule10 rule11 rule12 isList kind listBroken resolutionOf
 to12-by edition p s fs =
     ap (λ (n : ℕ). cond (rule8 p s fs) n 8)
-    (broken-cases (nine.rule9 (annotated s)) (ten.rule10 (annotated s) (underMap p)) (eleven.rule11 edition (annotated s) (underMap p)) (kindOf (annotated s) (underMap p)) (λ k. listBroken (k .kind) s fs))
+    (broken-cases (nine.rule9 (annotated s)) (ten.rule10 edition (annotated s) (underMap p)) (eleven.rule11 edition (annotated s) (underMap p)) (kindOf (annotated s) (underMap p)) (λ k. listBroken (k .kind) s fs))
 
 -- rule 13 behind the others
 with13-cases : (a b c d e m : Bool) → let n : ℕ = cond a (cond b (cond c (cond d (cond e 0 12) 11) 10) 9) 8 in cond (eqb n 0) (cond m 0 13) n ≡ cond a (cond b (cond c (cond d (cond e (cond m 0 13) 12) 11) 10) 9) 8
@@ -92,7 +92,7 @@ broken-with13 : (edition : ℕ) (p : Standing) (s : SlotBytes) (fs : Fields) →
 unfolding brokenWith13 brokenTo12 broken rule13
 broken-with13 edition p s fs =
     rw under-below
-    (with13-cases (rule8 p s fs) (rule9 s) (rule10 (underMap p) s) (rule11 edition (underMap p) s) (rule12 p s fs) (not (isMap p s) || mapKept s fs))
+    (with13-cases (rule8 p s fs) (rule9 s) (rule10 edition (underMap p) s) (rule11 edition (underMap p) s) (rule12 p s fs) (not (isMap p s) || mapKept s fs))
 
 -- by what the code finds before and behind the node's run
 pub own-is : (edition : ℕ) (p q : Standing) (s : SlotBytes) (fs : Fields) (least own : ℕ) → least ≡ brokenTo12 edition p s fs → q ≡ standingBelow p s → own ≡ brokenWith13 least q s fs → own ≡ broken edition p s fs
@@ -108,7 +108,7 @@ unfolding broken
 broken-most edition p s fs =
     let r13 : cond (rule13 p s fs) 0 13 ≤ 13 = cond-most (rule13 p s fs) (omega arith) (omega arith) in
     let r12 : cond (rule12 p s fs) (cond (rule13 p s fs) 0 13) 12 ≤ 13 = cond-most (rule12 p s fs) r13 (omega arith) in
-    cond-most (rule8 p s fs) (cond-most (rule9 s) (cond-most (rule10 (underMap p) s) (cond-most (rule11 edition (underMap p) s) r12 (omega arith)) (omega arith)) (omega arith)) (omega arith)
+    cond-most (rule8 p s fs) (cond-most (rule9 s) (cond-most (rule10 edition (underMap p) s) (cond-most (rule11 edition (underMap p) s) r12 (omega arith)) (omega arith)) (omega arith)) (omega arith)
 
 module _ (b : List ℕ) (at : ℕ) (s : Numbers) (p : Standing) (v : Visited b at s) where
   -- rule 8 by the numbers of the node

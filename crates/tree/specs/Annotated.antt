@@ -37,8 +37,8 @@ kind under s = kindOf (annotated s) under
 unfoldable pub rule9 : List ℕ → Bool
 rule9 s = nine.rule9 (annotated s)
 
-unfoldable pub rule10 : Bool → List ℕ → Bool
-rule10 under s = ten.rule10 (annotated s) under
+unfoldable pub rule10 : ℕ → Bool → List ℕ → Bool
+rule10 edition under s = ten.rule10 edition (annotated s) under
 
 unfoldable pub rule11 : ℕ → Bool → List ℕ → Bool
 rule11 edition under s = eleven.rule11 edition (annotated s) under

@@ -12,7 +12,7 @@ unfoldable pub broken : ℕ → Standing → SlotBytes → Fields → ℕ
 broken edition p s fs =
     cond (rule8 p s fs)
     (cond (rule9 s)
-    (cond (rule10 (underMap p) s)
+    (cond (rule10 edition (underMap p) s)
     (cond (rule11 edition (underMap p) s)
     (cond (rule12 p s fs)
     (cond (rule13 p s fs) 0 13) 12) 11) 10) 9) 8

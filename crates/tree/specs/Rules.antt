@@ -1,4 +1,4 @@
--- The listed rules 8 to 13, kept at every node and judged on the tree alone. Of them an edition decides rule 11.
+-- The listed rules 8 to 13, kept at every node and judged on the tree alone. Of them an edition decides rules 10 and 11.
 use Prim.Native.Nat.{ℕ}
 use mathlib.Core.Path.{_≡_}
 use mathlib.Core.Bool.{Bool, true, false, cond, not, _&&_, _||_}
@@ -172,7 +172,7 @@ rule13 p s fs = not (isMap p s) || mapKept s fs
 pub record KeepsAt (edition : ℕ) (p : Standing) (s : SlotBytes) (fs : Fields) : Type 0 where
   pub shape : rule8 p s fs ≡ true
   pub agreement : rule9 s ≡ true
-  pub placement : rule10 (underMap p) s ≡ true
+  pub placement : rule10 edition (underMap p) s ≡ true
   pub decimals : rule11 edition (underMap p) s ≡ true
   pub lists : rule12 p s fs ≡ true
   pub maps : rule13 p s fs ≡ true

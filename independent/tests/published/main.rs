@@ -3,6 +3,7 @@
 mod tables;
 
 use independent::edition::FIRST;
+use independent::int96::{count_of, of_parts, value_of};
 use independent::sheet::{assemble, Sheet, Slot, BLOCK};
 use independent::{
     decimal, decode, encode, order, read, resolve, rewrite, utf8, ColumnType, Fields, PairRefusal, Refusal, Value,
@@ -45,6 +46,22 @@ fn instants() {
     }
     for (unit, given, number) in NO_INSTANTS {
         assert_eq!(encode(unit, &fields(given)), Err(refused(number)));
+    }
+}
+
+#[test]
+fn int96_times() {
+    for (of_day, day, expected) in INT96 {
+        let value = of_parts(of_day, day);
+        assert_eq!(count_of(&value), expected.map_err(refused), "{of_day} in day {day}");
+        if let Ok(count) = expected {
+            assert_eq!(value_of(count), value);
+        }
+    }
+    for (year, month, day, hour, halves) in MEEUS {
+        let (of_day, julian_day) = int96_of_meeus(hour, halves);
+        let expected = encode(3, &fields([year, month, day, hour, 0, 0, 0]));
+        assert_eq!(count_of(&of_parts(of_day, julian_day)), expected, "{year}-{month}-{day}");
     }
 }
 

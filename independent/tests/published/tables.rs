@@ -1,8 +1,8 @@
 //! Published vectors, each under its source, and those of each edition. Data alone: whoever runs them brings the reader.
 
-/// Document 02, R-4: the known editions, and numbers of none.
-pub const KNOWN_EDITIONS: [u32; 2] = [1, 2];
-pub const UNKNOWN_EDITIONS: [u32; 4] = [0, 3, 4, u32::MAX];
+/// Document 02, R-4 and R-10: the known editions, and numbers of none.
+pub const KNOWN_EDITIONS: [u32; 3] = [1, 2, 3];
+pub const UNKNOWN_EDITIONS: [u32; 4] = [0, 4, 5, u32::MAX];
 
 /// Every edition that the vectors are asked in.
 pub fn editions() -> impl Iterator<Item = u32> {
@@ -11,6 +11,16 @@ pub fn editions() -> impl Iterator<Item = u32> {
 
 /// What the known editions answer, in their order.
 pub type ByEdition<T> = [T; KNOWN_EDITIONS.len()];
+
+/// What the first edition answers, and what those after it do.
+const fn since_second<T: Copy>(first: T, later: T) -> ByEdition<T> {
+    [first, later, later]
+}
+
+/// What the editions before the third answer, and what that does.
+const fn until_third<T: Copy>(earlier: T, third: T) -> ByEdition<T> {
+    [earlier, earlier, third]
+}
 
 /// What an edition answers; an unknown one refuses all.
 fn answer_in<T: Copy>(edition: u32, answers: ByEdition<T>, unknown: T) -> T {
@@ -109,6 +119,35 @@ pub const NO_INSTANTS: [NoInstant; 8] = [
     (3, [2262, 4, 11, 23, 47, 16, 854_775_808], 19),
 ];
 
+/// The nanoseconds in a day and the Julian day of an INT96, and its count of nanoseconds since 1970, or the number of its refusal.
+pub type Int96 = (u64, u32, Result<i64, u32>);
+
+const NANOS_OF_DAY: u64 = 86_400_000_000_000;
+
+/// Document 02, R-10: 1 January 1970, and a full day of nanoseconds. Document 003, the ends of NANOS: 21 September 1677 at 00:12:43 and
+/// 11 April 2262 at 23:47:16, with the nanosecond of each end and the one beyond; the Julian days of both are R-10's, 106,752 days
+/// before and 106,751 days behind 1970.
+/// Meeus, chapter 7: the Modified Julian Day begins at Julian Day 2,400,000.5, which is 17 November 1858, 0 h, and Julian Day 2,451,545.0
+/// is 1 January 2000, 12 h; 40,587 days before and 10,957 days behind 1970. Julian Days are counted from the year -4712 on.
+pub const INT96: [Int96; 11] = [
+    (0, 2_440_588, Ok(0)),
+    (NANOS_OF_DAY - 1, 2_440_587, Ok(-1)),
+    (NANOS_OF_DAY, 2_440_587, Err(16)),
+    (763_145_224_192, 2_333_836, Ok(i64::MIN)),
+    (763_145_224_191, 2_333_836, Err(19)),
+    (85_636_854_775_807, 2_547_339, Ok(i64::MAX)),
+    (85_636_854_775_808, 2_547_339, Err(19)),
+    (0, 2_400_001, Ok(-40_587 * NANOS_OF_DAY as i64)),
+    (NANOS_OF_DAY / 2, 2_451_545, Ok(10_957 * NANOS_OF_DAY as i64 + NANOS_OF_DAY as i64 / 2)),
+    (0, 0, Err(19)),
+    (0, u32::MAX, Err(19)),
+];
+
+/// The INT96 of a date and time of [`MEEUS`], of its hour and twice its Julian Day: the Julian day of a date is its Julian Day at noon.
+pub fn int96_of_meeus(hour: i64, halves: i64) -> (u64, u32) {
+    (hour as u64 * (NANOS_OF_DAY / 24), ((halves + 1) / 2) as u32)
+}
+
 /// A text, and where whole valid sequences stop in it.
 pub type Text = (&'static [u8], usize);
 
@@ -169,20 +208,25 @@ const READS: [(Column, &[u8], Read); 16] = [
     ([6, 0, 11, 0, 0], b"", Err(16)),
 ];
 
-/// Document 02, R-4: scale equal to precision on each physical type, at its greatest precision; and no precision.
-const READS_BY_EDITION: [(Column, &[u8], ByEdition<Read>); 6] = [
-    ([6, 0, 5, 3, 3], b"\x01", [Err(20), Ok((5, [0, 1]))]),
-    ([1, 0, 5, 9, 9], b"\xFF\xFF\xFF\xFF", [Err(20), Ok((1, [u64::MAX, 0]))]),
-    ([2, 0, 5, 18, 18], b"\x01\0\0\0\0\0\0\0", [Err(20), Ok((1, [1, 0]))]),
-    ([7, 1, 5, 2, 2], b"\x63", [Err(20), Ok((5, [0, 1]))]),
-    ([7, 1, 5, 2, 2], b"\x64", [Err(20), Err(16)]),
-    ([6, 0, 5, 0, 0], b"\0", [Err(20), Err(20)]),
+/// Document 02, R-4: scale equal to precision on each physical type, at its greatest precision; and no precision. R-10: INT96, also under
+/// UNKNOWN, which no value is.
+const READS_BY_EDITION: [(Column, &[u8], ByEdition<Read>); 10] = [
+    ([6, 0, 5, 3, 3], b"\x01", since_second(Err(20), Ok((5, [0, 1])))),
+    ([1, 0, 5, 9, 9], b"\xFF\xFF\xFF\xFF", since_second(Err(20), Ok((1, [u64::MAX, 0])))),
+    ([2, 0, 5, 18, 18], b"\x01\0\0\0\0\0\0\0", since_second(Err(20), Ok((1, [1, 0])))),
+    ([7, 1, 5, 2, 2], b"\x63", since_second(Err(20), Ok((5, [0, 1])))),
+    ([7, 1, 5, 2, 2], b"\x64", since_second(Err(20), Err(16))),
+    ([6, 0, 5, 0, 0], b"\0", [Err(20); 3]),
+    ([3, 0, 0, 0, 0], &[0xFF; 12], until_third(Ok((5, [0, 12])), Err(20))),
+    ([3, 0, 0, 0, 0], &[0; 11], until_third(Err(15), Err(20))),
+    ([3, 0, 11, 0, 0], &[0; 12], until_third(Err(16), Err(20))),
+    ([3, 0, 8, 3, 0], &[0; 12], [Err(20); 3]),
 ];
 
 /// Every value that is read, with what an edition answers.
 pub fn reads(edition: u32) -> impl Iterator<Item = (Column, &'static [u8], Read)> {
-    let in_both = READS.into_iter().map(|(column, value, read)| (column, value, [read, read]));
-    let all = in_both.chain(READS_BY_EDITION);
+    let in_all = READS.into_iter().map(|(column, value, read)| (column, value, [read; KNOWN_EDITIONS.len()]));
+    let all = in_all.chain(READS_BY_EDITION);
     all.map(move |(column, value, read)| (column, value, answer_in(edition, read, Err(21))))
 }
 
@@ -193,7 +237,7 @@ pub type Order = Result<u32, u32>;
 pub type Ordered<T> = (Column, &'static [u8], &'static [u8], T);
 
 /// Document 01, fixed points of decimals; zeros and NaN of its order; what has no order.
-const ORDERS: [Ordered<Order>; 11] = [
+const ORDERS: [Ordered<Order>; 10] = [
     (BYTE_DECIMAL_3, b"\xFF", b"\xFF\xFF", Ok(1)),
     (BYTE_DECIMAL_3, b"\x80", b"\x7F", Ok(0)),
     (BYTE_DECIMAL_3, b"\x00\xFF", b"\x7F", Ok(2)),
@@ -204,19 +248,20 @@ const ORDERS: [Ordered<Order>; 11] = [
     ([6, 0, 1, 0, 0], b"ab", b"abc", Ok(0)),
     ([6, 0, 0, 0, 0], b"\x80", b"\x7F", Ok(2)),
     ([7, 12, 21, 0, 0], b"", b"", Err(17)),
-    ([3, 0, 11, 0, 0], b"", b"", Err(17)),
 ];
 
-/// Document 02, R-4: decimals whose scale equals their precision.
-const ORDERS_BY_EDITION: [Ordered<ByEdition<Order>>; 2] = [
-    ([6, 0, 5, 3, 3], b"\x80", b"\x7F", [Err(20), Ok(0)]),
-    ([1, 0, 5, 1, 1], b"\x09\0\0\0", b"\xF7\xFF\xFF\xFF", [Err(20), Ok(2)]),
+/// Document 02, R-4: decimals whose scale equals their precision. R-10: INT96, which has no order and then no column.
+const ORDERS_BY_EDITION: [Ordered<ByEdition<Order>>; 4] = [
+    ([6, 0, 5, 3, 3], b"\x80", b"\x7F", since_second(Err(20), Ok(0))),
+    ([1, 0, 5, 1, 1], b"\x09\0\0\0", b"\xF7\xFF\xFF\xFF", since_second(Err(20), Ok(2))),
+    ([3, 0, 0, 0, 0], &[0; 12], &[0; 12], until_third(Err(17), Err(20))),
+    ([3, 0, 11, 0, 0], b"", b"", until_third(Err(17), Err(20))),
 ];
 
 /// Every two values that are ordered, with what an edition answers.
 pub fn orders(edition: u32) -> impl Iterator<Item = Ordered<Order>> {
-    let in_both = ORDERS.into_iter().map(|(column, a, b, order)| (column, a, b, [order, order]));
-    let all = in_both.chain(ORDERS_BY_EDITION);
+    let in_all = ORDERS.into_iter().map(|(column, a, b, order)| (column, a, b, [order; KNOWN_EDITIONS.len()]));
+    let all = in_all.chain(ORDERS_BY_EDITION);
     all.map(move |(column, a, b, order)| (column, a, b, answer_in(edition, order, Err(21))))
 }
 
@@ -433,40 +478,70 @@ const SHEETS: [Sheet; 19] = [
 ];
 
 /// Document 01's point "scale = precision", and document 02, R-4: the same on each physical type, at its greatest precision, by one annotation
-/// and by both; no precision; a scale above the precision.
-const SHEETS_BY_EDITION: [(&str, &[Slot], ByEdition<Rows>); 7] = [
+/// and by both; no precision; a scale above the precision. R-10: an INT96 leaf, plain, under UNKNOWN, behind a scale that equals its precision,
+/// and with a fault that comes before.
+const SHEETS_BY_EDITION: [(&str, &[Slot], ByEdition<Rows>); 12] = [
     (
         "scale = precision",
         &[ROOT_OF_ONE, ([1, 0, 255, 5, 0, 0, 0, 0, 3, 3], "d")],
-        [Err((11, 1)), Ok(&[ROW_OF_ONE, [1, 0, 0, 5, 3, 3, 0, 2, 0, 0, 0]])],
+        since_second(Err((11, 1)), Ok(&[ROW_OF_ONE, [1, 0, 0, 5, 3, 3, 0, 2, 0, 0, 0]])),
     ),
     (
         "scale = precision on INT64, by converted",
         &[ROOT_OF_ONE, ([2, 1, 5, 0, 0, 0, 0, 0, 18, 18], "d")],
-        [Err((11, 1)), Ok(&[ROW_OF_ONE, [2, 0, 1, 5, 18, 18, 0, 2, 0, 1, 0]])],
+        since_second(Err((11, 1)), Ok(&[ROW_OF_ONE, [2, 0, 1, 5, 18, 18, 0, 2, 0, 1, 0]])),
     ),
     (
         "scale = precision on BYTE_ARRAY, by both",
         &[ROOT_OF_ONE, ([6, 0, 5, 5, 0, 0, 0, 0, 2_147_483_647, 2_147_483_647], "d")],
-        [Err((11, 1)), Ok(&[ROW_OF_ONE, [6, 0, 0, 5, 2_147_483_647, 2_147_483_647, 0, 2, 0, 0, 0]])],
+        since_second(Err((11, 1)), Ok(&[ROW_OF_ONE, [6, 0, 0, 5, 2_147_483_647, 2_147_483_647, 0, 2, 0, 0, 0]])),
     ),
     (
         "scale = precision on FIXED, by both",
         &[ROOT_OF_ONE, ([7, 0, 5, 5, 0, 0, 0, 16, 38, 38], "d")],
-        [Err((11, 1)), Ok(&[ROW_OF_ONE, [7, 16, 0, 5, 38, 38, 0, 2, 0, 0, 0]])],
+        since_second(Err((11, 1)), Ok(&[ROW_OF_ONE, [7, 16, 0, 5, 38, 38, 0, 2, 0, 0, 0]])),
     ),
-    ("no precision", &[ROOT_OF_ONE, ([1, 0, 255, 5, 0, 0, 0, 0, 0, 0], "d")], [Err((11, 1)), Err((11, 1))]),
-    ("scale above precision", &[ROOT_OF_ONE, ([1, 0, 255, 5, 0, 0, 0, 0, 4, 3], "d")], [Err((11, 1)), Err((11, 1))]),
+    ("no precision", &[ROOT_OF_ONE, ([1, 0, 255, 5, 0, 0, 0, 0, 0, 0], "d")], [Err((11, 1)); 3]),
+    ("scale above precision", &[ROOT_OF_ONE, ([1, 0, 255, 5, 0, 0, 0, 0, 4, 3], "d")], [Err((11, 1)); 3]),
     (
         "precision 10 and scale 10 on INT32",
         &[ROOT_OF_ONE, ([1, 0, 255, 5, 0, 0, 0, 0, 10, 10], "d")],
-        [Err((11, 1)), Err((11, 1))],
+        [Err((11, 1)); 3],
     ),
+    (
+        "INT96",
+        &[ROOT_OF_ONE, ([3, 0, 255, 0, 0, 0, 0, 0, 0, 0], "t")],
+        until_third(Ok(&[ROW_OF_ONE, [3, 0, 0, 0, 0, 0, 0, 2, 0, 0, 0]]), Err((10, 1))),
+    ),
+    (
+        "UNKNOWN on INT96",
+        &[ROOT_OF_ONE, ([3, 1, 255, 11, 0, 0, 0, 0, 0, 0], "t")],
+        until_third(Ok(&[ROW_OF_ONE, [3, 0, 1, 11, 0, 0, 0, 2, 0, 1, 0]]), Err((10, 1))),
+    ),
+    (
+        "scale = precision, then INT96",
+        &[
+            ([255, 255, 255, 0, 0, 0, 2, 0, 0, 0], "r"),
+            ([1, 0, 255, 5, 0, 0, 0, 0, 3, 3], "d"),
+            ([3, 0, 255, 0, 0, 0, 0, 0, 0, 0], "t"),
+        ],
+        [
+            Err((11, 1)),
+            Ok(&[
+                [255, 0, 255, 30, 0, 0, 0, 3, 0, 0, 0],
+                [1, 0, 0, 5, 3, 3, 0, 2, 0, 0, 0],
+                [3, 0, 0, 0, 0, 0, 0, 3, 0, 0, 0],
+            ]),
+            Err((10, 2)),
+        ],
+    ),
+    ("a type length on INT96", &[ROOT_OF_ONE, ([3, 0, 255, 0, 0, 0, 0, 12, 0, 0], "t")], [Err((8, 1)); 3]),
+    ("UTF8 beside ENUM on INT96", &[ROOT_OF_ONE, ([3, 0, 0, 4, 0, 0, 0, 0, 0, 0], "t")], [Err((9, 1)); 3]),
 ];
 
 /// Every sheet, with what an edition answers.
 pub fn sheets(edition: u32) -> impl Iterator<Item = Sheet> {
-    let in_both = SHEETS.into_iter().map(|(title, slots, rows)| (title, slots, [rows, rows]));
-    let all = in_both.chain(SHEETS_BY_EDITION);
+    let in_all = SHEETS.into_iter().map(|(title, slots, rows)| (title, slots, [rows; KNOWN_EDITIONS.len()]));
+    let all = in_all.chain(SHEETS_BY_EDITION);
     all.map(move |(title, slots, rows)| (title, slots, answer_in(edition, rows, Err((21, 0)))))
 }

@@ -49,7 +49,7 @@ fn change_slot(random: &mut Random, sheet: &mut [u8]) {
     });
     let node = near.filter(|_| random.percent(50)).unwrap_or(any);
     let slot = &mut sheet[slot_start(node)..][..SLOT];
-    match random.below(24) {
+    match random.below(25) {
         0 => slot[0] = random.pick(&[0, 1, 2, 3, 4, 5, 6, 7, 8, 9, 254, physical::GROUP, physical::GROUP]),
         1..4 => slot[1] = random.pick(&[0, 1, 2, 2, 3, 254, 255]),
         4 => {
@@ -84,6 +84,7 @@ fn change_slot(random: &mut Random, sheet: &mut [u8]) {
         16 => slot[random.between(21, 23)] = random.byte(),
         17 => slot[random.between(24, SLOT - 1)] = random.byte(),
         18..21 => rename(random, slot),
+        21 => make_int96(random, slot),
         _ => {
             // Another annotation, whole.
             let any = Annotation::Logical(random_logical(random));
@@ -146,6 +147,20 @@ fn change_digits(random: &mut Random, slot: &mut [u8]) {
     for (at, number) in [(8, length), (12, scale), (16, precision)] {
         slot[at..at + 4].copy_from_slice(&number.to_le_bytes());
     }
+}
+
+/// Makes a slot an INT96 without annotation or with one, at times with a fault that comes before that of the third edition.
+fn make_int96(random: &mut Random, slot: &mut [u8]) {
+    slot[0] = physical::INT96;
+    slot[2..6].copy_from_slice(&random.pick(&[
+        [converted::NONE, logical::NONE, 0, 0],
+        [converted::NONE, logical::UNKNOWN, 0, 0],
+        [converted::NONE, logical::TIMESTAMP, 3, 1],
+        [converted::UTF8, logical::UNKNOWN, 0, 0],
+        [converted::TIMESTAMP_MILLIS, logical::TIMESTAMP, 3, 1],
+    ]));
+    slot[8..20].fill(0);
+    slot[8] = random.pick(&[0, 0, 0, 12]);
 }
 
 /// Gives a slot another name, of those that rule 12 looks at.

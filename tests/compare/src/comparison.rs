@@ -4,6 +4,7 @@ use std::fmt;
 use std::hint::black_box;
 
 use independent::compare::{ENTRY, ONLY_IN_FIRST, ONLY_IN_SECOND, PLACES};
+use independent::int96::SIZE;
 use independent::refusal::{is_of_a_sheet, OUTPUT, UNKNOWN_EDITION};
 use independent::sheet::FIELDS;
 use independent::ROW_WIDTH;
@@ -291,9 +292,36 @@ impl<'a> Comparison<'a> {
         Ok(left)
     }
 
-    /// The count that the last encoding wrote.
+    /// Turns an INT96 into its count, with so many numbers lent.
+    pub fn from_int96(&mut self, value: &[u8], lent: usize) -> Result<u64, Difference> {
+        self.numbers.prepare(lent, |at| (at as i64).wrapping_mul(0x1E37_79B9_7F4A_7C15) ^ value.len() as i64);
+        let left = on_copies([value], |[value]| self.left.from_int96(value, self.numbers.left()))?;
+        let right = self.right.from_int96(value, self.numbers.right());
+        let answers = Answers { entry: "from_int96", left, right };
+        answers.check(Some((&self.numbers, 0, 1)), || format!("value {}, {lent} lent", hex(value)))?;
+        self.count(left);
+        Ok(left)
+    }
+
+    /// The count that the last encoding, or the last turning of an INT96, wrote.
     pub fn encoded(&self) -> i64 {
         self.numbers.held()[0]
+    }
+
+    /// Turns a count into its INT96, with so many bytes lent.
+    pub fn to_int96(&mut self, count: i64, lent: usize) -> Result<u64, Difference> {
+        self.bytes.prepare(lent, byte_marks(count as usize));
+        let left = self.left.to_int96(count, self.bytes.left());
+        let right = self.right.to_int96(count, self.bytes.right());
+        let answers = Answers { entry: "to_int96", left, right };
+        answers.check(Some((&self.bytes, 0, SIZE)), || format!("count {count}, {lent} lent"))?;
+        self.count(left);
+        Ok(left)
+    }
+
+    /// The INT96 that the last turning of a count wrote.
+    pub fn int96(&self) -> [u8; SIZE] {
+        *self.bytes.held().first_chunk().expect("twelve bytes were written")
     }
 }
 

@@ -1,19 +1,20 @@
 //! A question asked in every edition, and the answers of the known ones held to one another.
 
-use independent::codes::logical;
-use independent::edition::{FIRST, SECOND};
+use independent::codes::{logical, physical};
+use independent::edition::{FIRST, SECOND, THIRD};
 use independent::refusal;
-use independent::sheet::slot_at;
+use independent::sheet::{slot_at, slot_start};
 
 use crate::columns::Column;
 use crate::comparison::{broken, Comparison, Difference};
-use crate::side::{fault_of, refusal_of, shown, value_of};
+use crate::sheets::total_of;
+use crate::side::{fault_of, pair_refused, refusal_of, refused, shown, value_of};
 
 /// The editions that are asked: the known ones, and numbers beside them.
 pub const ALL: [u32; 5] = [0, 1, 2, 3, 4];
 
 /// What the known editions answer, in their order, and what they leave.
-type Known<T> = [(u64, T); 2];
+type Known<T> = [(u64, T); 3];
 
 impl Comparison<'_> {
     /// Resolves a sheet into so many lent numbers by every edition.
@@ -22,7 +23,7 @@ impl Comparison<'_> {
             let answer = self.resolve(edition, sheet, lent)?;
             Ok((answer, self.resolved(answer)))
         })?;
-        held("resolve", &known, |first| is_only_of_the_second(sheet, first), || sheet.to_vec())
+        held_on_sheet("resolve", &known, sheet)
     }
 
     /// Rewrites a sheet into so many lent bytes, from a start on, by every edition.
@@ -31,7 +32,7 @@ impl Comparison<'_> {
             let answer = self.rewrite(edition, sheet, lent, start)?;
             Ok((answer, self.rewritten(start, answer)))
         })?;
-        held("rewrite", &known, |first| is_only_of_the_second(sheet, first), || sheet.to_vec())
+        held_on_sheet("rewrite", &known, sheet)
     }
 
     /// Compares two sheets into so many lent bytes by every edition.
@@ -41,23 +42,24 @@ impl Comparison<'_> {
             Ok((answer, self.list(answer)))
         })?;
         let is_first_alone = |answer| match fault_of(answer) {
-            1 => is_only_of_the_second(first, answer),
-            _ => is_only_of_the_second(second, answer),
+            1 => is_not_of_the_first(first, answer),
+            _ => is_not_of_the_first(second, answer),
         };
-        held("compare", &known, is_first_alone, || [first, second].concat())
+        let in_third = |answer| int96_in_either([first, second], answer);
+        held("compare", &known, is_first_alone, in_third, || [first, second].concat())
     }
 
     /// Reads a value, with so many numbers lent, by every edition; answers what the first does.
     pub fn read_in_all(&mut self, column: Column, value: &[u8], lent: usize) -> Result<u64, Difference> {
         let known = in_all(|edition| Ok((self.read(edition, column, value, lent)?, self.read_words().to_vec())))?;
-        held("read", &known, |first| is_no_column_of_the_first(column, first), || value.to_vec())?;
+        held_on_column("read", &known, column, || value.to_vec())?;
         Ok(known[0].0)
     }
 
     /// Orders two values, both ways, by every edition.
     pub fn order_in_all(&mut self, column: Column, a: &[u8], b: &[u8]) -> Result<(), Difference> {
         let known = in_all(|edition| Ok((self.order(edition, column, a, b)?, ())))?;
-        held("order", &known, |first| is_no_column_of_the_first(column, first), || [a, b].concat())
+        held_on_column("order", &known, column, || [a, b].concat())
     }
 }
 
@@ -66,30 +68,82 @@ fn in_all<T>(mut ask: impl FnMut(u32) -> Result<(u64, T), Difference>) -> Result
     let mut known = Vec::new();
     for edition in ALL {
         let answered = ask(edition)?;
-        if [FIRST, SECOND].contains(&edition) {
+        if [FIRST, SECOND, THIRD].contains(&edition) {
             known.push(answered);
         }
     }
-    Ok(known.try_into().unwrap_or_else(|_| unreachable!("two known editions are among all")))
+    Ok(known.try_into().unwrap_or_else(|_| unreachable!("three known editions are among all")))
 }
 
-/// Holds the second edition to what the first answers and leaves, unless that is a refusal that the second need not give.
+/// Holds the editions to one another on a sheet.
+fn held_on_sheet<T: PartialEq>(entry: &'static str, known: &Known<T>, sheet: &[u8]) -> Result<(), Difference> {
+    let is_first_alone = |first| is_not_of_the_first(sheet, first);
+    held(entry, known, is_first_alone, |second| int96_in(sheet, second), || sheet.to_vec())
+}
+
+/// Holds the editions to one another on a column type: in the third INT96 is none.
+fn held_on_column<T: PartialEq>(
+    entry: &'static str,
+    known: &Known<T>,
+    column: Column,
+    input: impl FnOnce() -> Vec<u8>,
+) -> Result<(), Difference> {
+    let is_int96 = column[0] == physical::INT96.into();
+    let in_third = |_| is_int96.then_some(refused(refusal::COLUMN_TYPE, 0));
+    held(entry, known, |first| is_no_column_of_the_first(column, first), in_third, input)
+}
+
+/// Holds the second edition to what the first answers and leaves, unless that is a refusal that the second need not give; and the third to
+/// what the second answers and leaves, or to the refusal that it gives in place of that.
 fn held<T: PartialEq>(
     entry: &'static str,
     known: &Known<T>,
     is_first_alone: impl FnOnce(u64) -> bool,
+    in_third: impl FnOnce(u64) -> Option<u64>,
     input: impl FnOnce() -> Vec<u8>,
 ) -> Result<(), Difference> {
-    let [first, second] = known;
-    if first == second || first.0 != second.0 && is_first_alone(first.0) {
+    let [first, second, third] = known;
+    let of_second = first == second || first.0 != second.0 && is_first_alone(first.0);
+    let of_third = match in_third(second.0) {
+        Some(refusal) => third.0 == refusal,
+        None => third == second,
+    };
+    if of_second && of_third {
         return Ok(());
     }
-    let what = format!("{} by the first edition, {} by the second", shown(first.0), shown(second.0));
+    let [first, second, third] = [first, second, third].map(|(answer, _)| shown(*answer));
+    let what = format!("{first} by the first edition, {second} by the second, {third} by the third");
     Err(broken(entry, what, &input()))
 }
 
+/// The refusal of the third edition for an INT96 leaf in a sheet, in place of what the second answers: the first such leaf, where the second
+/// finds nothing wrong up to it. At the leaf itself 8 and 9 come before.
+fn int96_in(sheet: &[u8], second: u64) -> Option<u64> {
+    let judged = match refusal_of(second) {
+        0 | refusal::OUTPUT => total_of(sheet),
+        refusal::SHAPE..=refusal::MAP => value_of(second) as usize,
+        _ => return None,
+    };
+    let leaf = (0..judged).find(|&node| sheet[slot_start(node)] == physical::INT96)?;
+    Some(refused(refusal::ANNOTATION, leaf as u32))
+}
+
+/// The same for two sheets that are compared, with the sheet at fault.
+fn int96_in_either(sheets: [&[u8]; 2], second: u64) -> Option<u64> {
+    let accepted = Some(0);
+    let judged = match (refusal_of(second), fault_of(second)) {
+        (_, 1) => [Some(second), None],
+        (_, 2) => [accepted, Some(second)],
+        _ => [accepted; 2],
+    };
+    (1..).zip(sheets).zip(judged).find_map(|((number, sheet), judged)| {
+        let refusal = int96_in(sheet, judged?)?;
+        Some(pair_refused(number, refusal_of(refusal), value_of(refusal)))
+    })
+}
+
 /// Whether the first edition refuses a sheet for a leaf whose scale equals its precision.
-fn is_only_of_the_second(sheet: &[u8], first: u64) -> bool {
+fn is_not_of_the_first(sheet: &[u8], first: u64) -> bool {
     let leaf = slot_at(sheet, value_of(first) as usize);
     refusal_of(first) == refusal::DECIMAL
         && leaf.is_some_and(|(_, leaf)| leaf.scale == leaf.precision && leaf.precision >= 1)

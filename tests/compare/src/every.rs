@@ -1,12 +1,14 @@
-//! Every case of what has few: codes beside codes, lengths beside precisions, small trees beside one another, octets beside octets.
+//! Every case of what has few: codes beside codes, lengths beside precisions, small trees beside one another, octets beside octets, days.
 
 use independent::codes::physical::{BOOLEAN, BYTE_ARRAY, DOUBLE, FIXED, FLOAT, GROUP, INT32, INT64, INT96};
 use independent::codes::{converted, logical, repetition};
 use independent::decimal::{greatest_precision, MAX_LENGTH};
+use independent::int96::{self, of_parts, SIZE};
 use independent::{refusal, sheet, ROW_WIDTH};
 
 use crate::columns::Column;
 use crate::comparison::{broken, Comparison, Difference};
+use crate::int96::{from_and_back, to_and_back, DAY, FIRST_DAY, LAST_DAY};
 use crate::lists;
 use crate::sheets::assemble;
 use crate::side::{refusal_of, shown, value_of};
@@ -62,7 +64,9 @@ pub fn run(comparison: &mut Comparison) -> Result<(), Difference> {
     small_trees(comparison)?;
     decimals(comparison)?;
     octets(comparison)?;
-    plain_texts(comparison)
+    plain_texts(comparison)?;
+    julian_days(comparison)?;
+    int96_bytes(comparison)
 }
 
 /// A node of a sheet: its codes and parameters, its numbers, and how many children it has.
@@ -311,6 +315,40 @@ fn plain_texts(comparison: &mut Comparison) -> Result<(), Difference> {
                 bytes.splice(place..(place + other.len()).min(length), other.iter().copied());
                 text(comparison, &bytes)?;
             }
+        }
+    }
+    Ok(())
+}
+
+/// Every Julian day that has a count and some beside them, its first and its last nanosecond and the first that it has not.
+fn julian_days(comparison: &mut Comparison) -> Result<(), Difference> {
+    for day in FIRST_DAY - 3..=LAST_DAY + 3 {
+        for of_day in [0, DAY - 1, DAY] {
+            from_and_back(comparison, &of_parts(of_day, day), 1)?;
+        }
+    }
+    Ok(())
+}
+
+/// Every byte of a value in every place of three, values of each length and counts with each output that is too short or somewhat longer.
+fn int96_bytes(comparison: &mut Comparison) -> Result<(), Difference> {
+    for value in [int96::value_of(0), int96::value_of(i64::MIN), [0xFF; SIZE]] {
+        for at in 0..SIZE {
+            for byte in 0..=255 {
+                let mut other = value;
+                other[at] = byte;
+                from_and_back(comparison, &other, 1)?;
+            }
+        }
+        for length in 0..=3 * SIZE {
+            for lent in 0..=3 {
+                from_and_back(comparison, &value.repeat(3)[..length], lent)?;
+            }
+        }
+    }
+    for count in [i64::MIN, -1, 0, i64::MAX] {
+        for lent in 0..=3 * SIZE {
+            to_and_back(comparison, count, lent)?;
         }
     }
     Ok(())

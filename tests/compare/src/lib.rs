@@ -7,6 +7,7 @@ pub mod comparison;
 pub mod editions;
 pub mod every;
 pub mod instants;
+pub mod int96;
 pub mod lent;
 #[cfg(linked)]
 pub mod linked;

@@ -37,4 +37,12 @@ impl Side for Linked {
     fn encode(&self, unit: u32, fields: &[i64], count: &mut [i64]) -> u64 {
         boundary::encode(unit, fields, count)
     }
+
+    fn from_int96(&self, value: &[u8], count: &mut [i64]) -> u64 {
+        boundary::from_int96(value, count)
+    }
+
+    fn to_int96(&self, count: i64, value: &mut [u8]) -> u64 {
+        boundary::to_int96(count, value)
+    }
 }

@@ -1,5 +1,5 @@
 //! Trees near one another: a lawful one, and the same with fields of its slots changed and with nodes taken out, put in, doubled and moved.
-//! What is changed keeps the rules, but where a node gets too deep, nodes get too many, or a scale equals its precision.
+//! What is changed keeps the rules of the second edition, but where a node gets too deep or nodes get too many.
 
 use independent::codes::repetition::{self, OPTIONAL, REPEATED, REQUIRED};
 use independent::codes::{converted, logical, physical};

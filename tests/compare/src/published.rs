@@ -1,5 +1,6 @@
 //! Published vectors run against a side: document 01's points, calendars, the UTF-8 examples.
 
+use independent::int96::{of_parts, SIZE};
 use independent::ROW_WIDTH;
 
 use crate::sheets::assemble;
@@ -34,10 +35,35 @@ pub fn run(side: &dyn Side) -> Result<usize, String> {
         let found = side.encode(unit, &fields, &mut [0]);
         hold(format!("unit {unit}, fields {fields:?}: {number}"), found == refused(number, 0))?;
     }
+    for (of_day, day, expected) in INT96 {
+        let right = is_int96(side, &of_parts(of_day, day), expected);
+        hold(format!("INT96 of {of_day} in day {day}"), right)?;
+    }
+    for (year, month, day, hour, halves) in MEEUS {
+        let (of_day, julian_day) = int96_of_meeus(hour, halves);
+        let mut count = [0];
+        let answer = side.encode(3, &[year, month, day, hour, 0, 0, 0], &mut count);
+        let expected = if answer == 1 { Ok(count[0]) } else { Err(19) };
+        let right = is_int96(side, &of_parts(of_day, julian_day), expected);
+        hold(format!("INT96 of {of_day} in day {julian_day}, {year}-{month}-{day}"), right)?;
+    }
     for edition in editions() {
         by_edition(side, edition, &mut hold)?;
     }
     Ok(count)
+}
+
+/// Whether a side turns an INT96 into a count and back, or refuses it with a number and writes nothing.
+fn is_int96(side: &dyn Side, value: &[u8; SIZE], expected: Result<i64, u32>) -> bool {
+    let (mut count, mut back) = ([9], [9; SIZE]);
+    let answer = side.from_int96(value, &mut count);
+    match expected {
+        Ok(expected) => {
+            let is_back = side.to_int96(expected, &mut back) == SIZE as u64 && back == *value;
+            answer == 1 && count == [expected] && is_back
+        }
+        Err(number) => answer == refused(number, 0) && count == [9],
+    }
 }
 
 /// Holds a side to what an edition answers: an unknown one refuses everything with 21.

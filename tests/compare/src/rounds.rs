@@ -3,7 +3,8 @@
 use std::iter;
 
 use independent::compare::ENTRY;
-use independent::edition::{FIRST, SECOND};
+use independent::edition::{FIRST, SECOND, THIRD};
+use independent::int96::SIZE;
 use independent::refusal;
 use independent::sheet::{self, MAX_NODES};
 use independent::tree::MAX_DEPTH;
@@ -13,12 +14,13 @@ use crate::changes::{change, change_nodes};
 use crate::columns::{column, is_text, second_value, value};
 use crate::comparison::{broken, Comparison, Difference};
 use crate::instants::{count, fields, unit};
+use crate::int96;
 use crate::lists;
 use crate::near::near_trees;
 use crate::random::Random;
 use crate::sheets::{assemble, random_bytes, store_unreduced, total_of};
 use crate::side::{refusal_of, refused, shown, value_of};
-use crate::trees::{deep_tree, is_fraction, tree, Slot};
+use crate::trees::{deep_tree, is_fraction, is_int96, tree, Slot};
 
 /// Runs one round.
 pub fn run(comparison: &mut Comparison, seed: u64, round: u64) -> Result<(), Difference> {
@@ -32,6 +34,7 @@ pub fn run(comparison: &mut Comparison, seed: u64, round: u64) -> Result<(), Dif
     other_editions(comparison, random, &bytes)?;
     for _ in 0..8 {
         instants(comparison, random)?;
+        int96_times(comparison, random)?;
     }
     for _ in 0..2 {
         pairs(comparison, random)?;
@@ -117,8 +120,8 @@ fn size(random: &mut Random) -> usize {
     }
 }
 
-/// A sheet that the second edition must accept, and the first where no scale equals its precision: what rewriting it gives is held to what
-/// document 01 says of it.
+/// A sheet that the second edition must accept, the first where no scale equals its precision, and the third where no leaf is INT96: what
+/// rewriting it gives is held to what document 01 says of it.
 fn accepted(comparison: &mut Comparison, random: &mut Random, slots: &[Slot]) -> Result<(), Difference> {
     let sheet = &assemble(slots);
     let of_second = slots.iter().position(is_fraction);
@@ -129,7 +132,10 @@ fn accepted(comparison: &mut Comparison, random: &mut Random, slots: &[Slot]) ->
             return Err(broken("resolve", format!("scale as precision at {node}: {}", shown(answer)), sheet));
         }
     }
-    let edition = if of_second.is_some() { SECOND } else { random.pick(&[FIRST, SECOND]) };
+    let mut editions = vec![SECOND];
+    editions.extend(of_second.is_none().then_some(FIRST));
+    editions.extend((!slots.iter().any(is_int96)).then_some(THIRD));
+    let edition = random.pick(&editions);
     let answer = comparison.resolve(edition, sheet, ROW_WIDTH * total)?;
     if answer != total as u64 {
         return Err(broken("resolve", format!("a lawful tree was refused by {}", refusal_of(answer)), sheet));
@@ -249,4 +255,14 @@ fn instants(comparison: &mut Comparison, random: &mut Random) -> Result<(), Diff
         }
     }
     Ok(())
+}
+
+/// An INT96 turned into a count and back, and a count turned into an INT96 and back.
+fn int96_times(comparison: &mut Comparison, random: &mut Random) -> Result<(), Difference> {
+    let value = int96::value(random);
+    let lent = if random.percent(10) { 0 } else { random.pick(&[1, 1, 2, 12]) };
+    int96::from_and_back(comparison, &value, lent)?;
+    let number = count(random);
+    let lent = if random.percent(10) { random.below(SIZE) } else { random.pick(&[SIZE, SIZE, SIZE + 1, 40]) };
+    int96::to_and_back(comparison, number, lent)
 }

@@ -1,8 +1,8 @@
-//! A side of the comparison: the seven entries in the shape of the C interface.
+//! A side of the comparison: the nine entries in the shape of the C interface.
 
 use independent::refusal::{is_of_a_sheet, Refusal};
 
-/// The entries of the C interface; all but timestamps take an edition first. An answer has a refusal's number in bits 32 to 39, 0 for a
+/// The entries of the C interface; all but those of times take an edition first. An answer has a refusal's number in bits 32 to 39, 0 for a
 /// result, and its place or the result's value in bits 0 to 31. The refusal of an order has in bits 40 to 47 the value at fault, that of
 /// a comparison the sheet at fault.
 pub trait Side {
@@ -20,6 +20,10 @@ pub trait Side {
     fn decode(&self, unit: u32, count: i64, fields: &mut [i64]) -> u64;
     /// 1; one count is written.
     fn encode(&self, unit: u32, fields: &[i64], count: &mut [i64]) -> u64;
+    /// 1; one count is written.
+    fn from_int96(&self, value: &[u8], count: &mut [i64]) -> u64;
+    /// 12; so many bytes are written.
+    fn to_int96(&self, count: i64, value: &mut [u8]) -> u64;
 }
 
 /// The number of an answer's refusal, 0 for a result.
@@ -145,6 +149,14 @@ macro_rules! side {
                         1
                     }
                 }
+            }
+
+            fn from_int96(&self, value: &[u8], count: &mut [i64]) -> u64 {
+                $crate::side!(@answer $library::from_int96(value, count))
+            }
+
+            fn to_int96(&self, count: i64, value: &mut [u8]) -> u64 {
+                $crate::side!(@answer $library::to_int96(count, value))
             }
         }
     };

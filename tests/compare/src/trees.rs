@@ -1,7 +1,7 @@
 //! Random trees that keep every rule, of every shape and kind.
 
 use independent::annotation::Logical;
-use independent::codes::physical::{self, BYTE_ARRAY, FIXED, GROUP, INT32, INT64};
+use independent::codes::physical::{self, BYTE_ARRAY, FIXED, GROUP, INT32, INT64, INT96};
 use independent::codes::repetition::{self, OPTIONAL, REPEATED, REQUIRED};
 use independent::codes::{converted, logical};
 use independent::decimal::greatest_precision;
@@ -42,9 +42,12 @@ struct Grower<'a> {
     favour: Favour,
     /// Whether the scale of a DECIMAL may equal its precision.
     has_fractions: bool,
+    /// Whether a leaf may be INT96.
+    has_int96: bool,
 }
 
-/// The slots of a random tree of so many nodes that keeps every rule of the second edition; half the time also those of the first.
+/// The slots of a random tree of so many nodes that keeps every rule of the second edition; half the time also those of the first, and half
+/// the time also those of the third.
 pub fn tree(random: &mut Random, size: usize) -> Vec<Slot> {
     let shape = random.pick(&[Shape::Any, Shape::Any, Shape::Any, Shape::Flat, Shape::Deep]);
     grown(random, size, MAX_DEPTH, shape)
@@ -58,8 +61,9 @@ pub fn deep_tree(random: &mut Random, size: usize, max_depth: usize) -> Vec<Slot
 
 fn grown(random: &mut Random, size: usize, max_depth: usize, shape: Shape) -> Vec<Slot> {
     let favour = random.pick(&[Favour::None, Favour::None, Favour::Lists, Favour::Maps, Favour::Groups]);
-    let has_fractions = random.percent(50);
-    let mut grower = Grower { random, slots: Vec::with_capacity(size), max_depth, shape, favour, has_fractions };
+    let (has_fractions, has_int96) = (random.percent(50), random.percent(50));
+    let slots = Vec::with_capacity(size);
+    let mut grower = Grower { random, slots, max_depth, shape, favour, has_fractions, has_int96 };
     let name = grower.name();
     grower.push(GROUP, repetition::NONE, NO_ANNOTATION, &name);
     grower.fields(0, size - 1, 1, 0);
@@ -232,6 +236,7 @@ impl Grower<'_> {
         let form = self.random.below(10);
         if form == 0 {
             let physical = self.random.below(usize::from(FIXED) + 1) as u8;
+            let physical = self.unless_int96(physical);
             let node = self.push(physical, repetition, NO_ANNOTATION, name);
             self.type_length(node, physical);
         } else if form == 1 {
@@ -240,6 +245,7 @@ impl Grower<'_> {
         } else {
             let logical = random_logical(self.random);
             let physical = random_physical(self.random, logical);
+            let physical = self.unless_int96(physical);
             let (a, b) = logical.parameters();
             let image = logical.forward();
             // The converted type alone where it means the same, the logical type alone, or both.
@@ -255,6 +261,15 @@ impl Grower<'_> {
                 Logical::Decimal => self.digits(node, physical),
                 _ => self.type_length(node, physical),
             }
+        }
+    }
+
+    /// A physical type, or INT64 in place of INT96 where no leaf may be that. What may stand on INT96 may stand on any.
+    fn unless_int96(&self, physical: u8) -> u8 {
+        if physical == INT96 && !self.has_int96 {
+            INT64
+        } else {
+            physical
         }
     }
 
@@ -324,6 +339,11 @@ impl Grower<'_> {
 /// Whether a slot is a DECIMAL whose scale equals its precision.
 pub fn is_fraction(slot: &Slot) -> bool {
     (slot[2] == converted::DECIMAL || slot[3] == logical::DECIMAL) && slot[12..16] == slot[16..20]
+}
+
+/// Whether a slot is an INT96 leaf.
+pub fn is_int96(slot: &Slot) -> bool {
+    slot[0] == INT96
 }
 
 /// A logical type of a leaf with any of its parameters.

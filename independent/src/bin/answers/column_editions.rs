@@ -1,19 +1,21 @@
 //! Values by edition: those of `column` that the known editions answer otherwise, those of decimals whose scale equals their precision,
-//! and what unknown editions are asked too.
+//! those of INT96, and what unknown editions are asked too.
 
-use independent::codes::logical::{DECIMAL, STRING};
+use independent::codes::kind::INTERVAL;
+use independent::codes::logical::{DECIMAL, STRING, TIMESTAMP, UNKNOWN};
 use independent::codes::physical::{BOOLEAN, BYTE_ARRAY, FIXED, INT32, INT64, INT96};
 use independent::decimal::greatest_precision;
-use independent::edition::{FIRST, SECOND};
+use independent::edition::SECOND;
 use independent::ColumnType;
 
 use crate::column::{self, edges, pairs, plain, Bytes, Vector, Vectors};
-use crate::editions::{in_each, title_in, Editions, KNOWN, KNOWN_AND_OTHERS};
+use crate::editions::{all_alike, in_each, title_in, Editions, KNOWN, KNOWN_AND_OTHERS};
 
 /// Every question in its edition.
 pub fn input() -> Vec<u8> {
     let mut vectors = asked_in(&KNOWN, otherwise());
     vectors.extend(asked_in(&KNOWN, decimals()));
+    vectors.extend(asked_in(&KNOWN, int96()));
     vectors.extend(asked_in(&KNOWN_AND_OTHERS, of_any_edition()));
     column::packed(Editions::BeforeEach, &vectors)
 }
@@ -30,12 +32,11 @@ fn asked_in(editions: &[u32], vectors: Vectors) -> Vec<Vector> {
     })
 }
 
-/// Those of `column` that the second edition answers otherwise than the first.
+/// Those of `column` that not all known editions answer alike.
 fn otherwise() -> Vectors {
     let mut vectors = column::vectors();
     vectors.0.retain(|Vector { column, first, second, .. }| {
-        let answer = |edition| column::answer_text(edition, *column, first, second.as_ref());
-        answer(FIRST) != answer(SECOND)
+        !all_alike(|edition| column::answer_text(edition, *column, first, second.as_ref()))
     });
     vectors
 }
@@ -63,6 +64,24 @@ fn decimals() -> Vectors {
             vectors.add(decimal(physical, type_length, precision, scale), &zero, None);
         }
         vectors.add(decimal(physical, type_length, 0, 0), &zero, Some(&zero));
+    }
+    vectors
+}
+
+/// INT96 with annotations that it may have and may not, a type length and a parameter: values of a right and of wrong lengths read, and
+/// ordered.
+fn int96() -> Vectors {
+    let mut vectors = Vectors::default();
+    let of_kind = |kind: u8| ColumnType { kind: kind.into(), ..plain(INT96) };
+    let timestamp = ColumnType { p1: 3, p2: 1, ..of_kind(TIMESTAMP) };
+    let sized = ColumnType { type_length: 12, ..plain(INT96) };
+    let marked = ColumnType { p2: 1, ..of_kind(UNKNOWN) };
+    for column in [plain(INT96), of_kind(UNKNOWN), timestamp, of_kind(INTERVAL), sized, marked] {
+        let values = [vec![], vec![0; 11], vec![0; 12], vec![0xFF; 12], vec![0; 13]].map(Bytes::all);
+        for value in &values {
+            vectors.add(column, value, None);
+            vectors.add(column, value, Some(&values[2]));
+        }
     }
     vectors
 }

@@ -3,7 +3,7 @@
 
 use std::fmt::Write;
 
-use independent::codes::physical::{BYTE_ARRAY, FIXED, INT64};
+use independent::codes::physical::{BYTE_ARRAY, FIXED, INT64, INT96};
 use independent::codes::repetition::{OPTIONAL, REPEATED};
 use independent::codes::{converted, logical};
 use independent::compare::{differences, Entry, ENTRY};
@@ -260,7 +260,7 @@ fn refusals(vectors: &mut Vectors) {
     }
 }
 
-/// What unknown editions are asked too: lists, no list, a scale that equals its precision in either sheet, and refusals.
+/// What unknown editions are asked too: lists, no list, a scale that equals its precision or an INT96 leaf in either sheet, and refusals.
 fn of_any_edition() -> Vec<Vector> {
     let mut vectors = Vectors::default();
     let plain = sheet_of(&root([int32()]));
@@ -271,6 +271,15 @@ fn of_any_edition() -> Vec<Vector> {
     vectors.lend("scale as precision in the first", &fraction, &plain, 3 * ENTRY);
     vectors.lend("scale as precision in both", &fraction, &fraction, 0);
     vectors.lend("scale as precision, too little lent", &fraction, &plain, 3 * ENTRY - 1);
+    let int96 = sheet_of(&root([leaf(INT96)]));
+    vectors.lend("INT96 in the second", &plain, &int96, 3 * ENTRY);
+    vectors.lend("INT96 in the first", &int96, &plain, 3 * ENTRY);
+    vectors.lend("INT96 in both", &int96, &int96, 0);
+    vectors.lend("INT96 in the first, too little lent", &int96, &plain, 0);
+    vectors.lend("INT96 in the first, scale as precision in the second", &int96, &fraction, 9 * ENTRY);
+    vectors.lend("scale as precision in the first, INT96 in the second", &fraction, &int96, 9 * ENTRY);
+    vectors.lend("INT96 in the first, no bytes in the second", &int96, &[], 0);
+    vectors.lend("no bytes in the first, INT96 in the second", &[], &int96, 0);
     vectors.lend("no bytes twice", &[], &[], 0);
     vectors.lend("no bytes in the second", &plain, &[], 0);
     in_each(&KNOWN_AND_OTHERS, &vectors.0, |vector, edition| Vector {

@@ -11,6 +11,7 @@ mod column;
 mod column_editions;
 mod comparison;
 mod editions;
+mod int96;
 mod nodes;
 mod plain_text;
 mod random;
@@ -74,7 +75,7 @@ const fn stored(name: &'static str, place: Place, questions: Option<fn() -> Vec<
     Stored { name, place, questions, answers }
 }
 
-const ALL: [Stored; 10] = [
+const ALL: [Stored; 11] = [
     stored("sheet_vectors", PROGRAM, Some(sheet_vectors::input), InEdition(sheet_vectors::answers)),
     stored("sheet_slots", PROGRAM, Some(sheet_slots::input), InEdition(sheet_slots::answers)),
     stored("schema_rows", PROGRAM, Some(schema_programs::input), InEdition(schema_programs::rows)),
@@ -85,6 +86,7 @@ const ALL: [Stored; 10] = [
     stored("column", LIBRARY, Some(column::input), AsAsked(column::answers)),
     stored("column_editions", LIBRARY, Some(column_editions::input), AsAsked(column_editions::answers)),
     stored("timestamp", LIBRARY, None, AsAsked(timestamp::answers)),
+    stored("int96", LIBRARY, None, AsAsked(int96::answers)),
 ];
 
 fn main() -> ExitCode {

@@ -1,22 +1,24 @@
-//! Sheets by edition: those of `schema` that the known editions answer otherwise, decimals whose scale equals their precision, and what
-//! unknown editions are asked too.
+//! Sheets by edition: those of `schema` that the known editions answer otherwise, decimals whose scale equals their precision, INT96
+//! leaves, and what unknown editions are asked too.
 
 use std::borrow::Cow;
 
-use independent::codes::physical::{BOOLEAN, BYTE_ARRAY, FIXED, INT32, INT64};
-use independent::codes::repetition::OPTIONAL;
+use independent::codes::physical::{BOOLEAN, BYTE_ARRAY, FIXED, INT32, INT64, INT96};
+use independent::codes::repetition::{NONE, OPTIONAL, REPEATED};
 use independent::codes::{converted, logical};
 use independent::decimal::greatest_precision;
-use independent::edition::{FIRST, SECOND};
+use independent::sheet::BLOCK;
 
-use crate::editions::{in_each, title_in, Editions, KNOWN, KNOWN_AND_OTHERS};
-use crate::nodes::{changed, example, group, int32, leaf, list, map, root, sheet_of, Node};
+use crate::editions::{all_alike, in_each, title_in, Editions, KNOWN, KNOWN_AND_OTHERS};
+use crate::nodes::{changed, example, group, int32, key, key_value, layer, leaf, list, map, root, sheet_of, Node};
+use crate::random_trees::logical_types;
 use crate::schema::{self, Rewrite, Vector, Vectors};
 
 /// Every question in its edition, and the sheets rewritten too.
 pub fn input() -> Vec<u8> {
     let mut vectors = asked_in(&KNOWN, otherwise());
     vectors.extend(asked_in(&KNOWN, decimals()));
+    vectors.extend(asked_in(&KNOWN, int96_leaves()));
     vectors.extend(asked_in(&KNOWN_AND_OTHERS, of_any_edition()));
     let rewrites: Vec<Rewrite> = vectors.iter().enumerate().map(rewrite).collect();
     schema::packed(Editions::BeforeEach, &vectors, &rewrites)
@@ -41,11 +43,12 @@ fn rewrite((at, vector): (usize, &Vector)) -> Rewrite<'_> {
     Rewrite { edition: *edition, title: title.clone(), sheet: Cow::Borrowed(sheet), lent, start: at as u32 % 3 }
 }
 
-/// Those of `schema` that the second edition answers otherwise than the first.
+/// Those of `schema` of a few blocks that not all known editions answer alike.
 fn otherwise() -> Vectors {
+    const MOST_BYTES: usize = 4 * BLOCK;
     let mut vectors = schema::vectors();
     vectors.0.retain(|Vector { sheet, lent, .. }| {
-        schema::resolved(FIRST, sheet, *lent) != schema::resolved(SECOND, sheet, *lent)
+        sheet.len() <= MOST_BYTES && !all_alike(|edition| schema::resolved(edition, sheet, *lent))
     });
     vectors
 }
@@ -92,13 +95,86 @@ fn decimal(precision: i32, scale: i32) -> Node {
     int32().logical(logical::DECIMAL).digits(precision, scale)
 }
 
-/// A lawful sheet, one of the second edition alone, and one of each refusal that comes early or last.
+fn int96() -> Node {
+    leaf(INT96)
+}
+
+/// INT96 leaves: of each repetition, with each annotation, with another fault of their own, beside and between other faults, in lists, maps
+/// and groups, and several of them.
+fn int96_leaves() -> Vectors {
+    let mut vectors = Vectors::default();
+    vectors.field("INT96", int96());
+    vectors.field("INT96, optional", int96().repetition(OPTIONAL));
+    vectors.field("INT96, repeated", int96().repetition(REPEATED));
+    for code in 0..=converted::INTERVAL {
+        let digits = if code == converted::DECIMAL { (4, 1) } else { (0, 0) };
+        vectors.field(format!("INT96 with converted {code}"), int96().converted(code).digits(digits.0, digits.1));
+    }
+    for logical in logical_types() {
+        let (code, (a, b)) = (logical.code(), logical.parameters());
+        let precision = if code == logical::DECIMAL { 4 } else { 0 };
+        let node = int96().logical(code).parameters(a, b).digits(precision, precision);
+        vectors.field(format!("INT96 with logical {code} ({a}, {b})"), node);
+    }
+    let disagreeing = int96().converted(converted::UTF8).logical(logical::UNKNOWN);
+    for (title, node) in [
+        ("a type length", int96().length(12)),
+        ("a scale", int96().digits(0, 1)),
+        ("no repetition", int96().repetition(NONE)),
+        ("a child", int96().having([int32()])),
+        ("a child and UNKNOWN", int96().logical(logical::UNKNOWN).having([int32()])),
+        ("UTF8 beside UNKNOWN", disagreeing.clone()),
+        ("UTF8 beside ENUM", int96().converted(converted::UTF8).logical(logical::ENUM)),
+        ("a type length, and UTF8 beside UNKNOWN", disagreeing.clone().length(12)),
+        ("a parameter", int96().parameters(1, 0)),
+        ("UNKNOWN with a parameter", int96().logical(logical::UNKNOWN).parameters(0, 1)),
+    ] {
+        vectors.field(format!("INT96 with {title}"), node.clone());
+        vectors.fields(format!("INT96 with {title}, then INT96"), [node.clone(), int96()]);
+        vectors.fields(format!("INT96, then INT96 with {title}"), [int96(), node]);
+    }
+    let faults = [
+        ("8", int32().length(1)),
+        ("9", int32().converted(converted::UTF8).logical(logical::DATE)),
+        ("10", int32().logical(logical::STRING)),
+        ("11", decimal(3, 4)),
+        ("scale as precision", decimal(3, 3)),
+        ("12", list([int32()])),
+        ("13", map([int32()])),
+    ];
+    for (title, fault) in faults {
+        vectors.fields(format!("INT96, then {title}"), [int96(), fault.clone()]);
+        vectors.fields(format!("{title}, then INT96"), [fault, int96()]);
+    }
+    vectors.fields("INT96 three times", [int96(), int96().logical(logical::UNKNOWN), int96()]);
+    vectors.field("INT96 in a group of a group", group([group([int96()])]));
+    vectors.field("INT96 as a list's layer", list([int96().repetition(REPEATED)]));
+    vectors.field("INT96 as a list's element", list([layer([int96().repetition(OPTIONAL)])]));
+    vectors.field("INT96 in a list's element", list([layer([int32(), int96()])]));
+    vectors.field("a list of two layers, INT96 in one", list([layer([int96()]), layer([int32()])]));
+    let value = || int32().named("value").repetition(OPTIONAL);
+    vectors.field("INT96 as a map's key", map([key_value([int96().named("key"), value()])]));
+    vectors.field("INT96 as a map's value", map([key_value([key(), int96().named("value")])]));
+    vectors.field("INT96 as a map's value of MAP_KEY_VALUE", {
+        map([key_value([key(), int96()]).converted(converted::MAP_KEY_VALUE)])
+    });
+    vectors.field("INT96 as an optional key", map([key_value([int96().repetition(OPTIONAL), value()])]));
+    let sheet = sheet_of(&root([int96()]));
+    vectors.lend("INT96, too little lent", sheet.clone(), 21);
+    vectors.lend("INT96, nothing lent", sheet, 0);
+    vectors.sheet("a node missing behind INT96", sheet_of(&root([int96()]).claiming(2)));
+    vectors.sheet("a node left over behind INT96", sheet_of(&root([int96(), int32()]).claiming(1)));
+    vectors
+}
+
+/// A lawful sheet, one that the first edition refuses, one that the third does, and one of each refusal that comes early or last.
 fn of_any_edition() -> Vectors {
     let mut vectors = Vectors::default();
     let sample = sheet_of(&example());
     vectors.sheet("example", sample.clone());
     vectors.lend("example, nothing lent", sample.clone(), 0);
     vectors.sheet("scale as precision", sheet_of(&root([decimal(3, 3)])));
+    vectors.sheet("INT96", sheet_of(&root([int96()])));
     vectors.sheet("no bytes", Vec::new());
     vectors.sheet("511 bytes", sample[..511].to_vec());
     vectors.sheet("zeros", vec![0; 512]);

@@ -4,6 +4,7 @@
 mod changed;
 mod column;
 mod comparison;
+mod int96;
 mod questions;
 mod schema;
 mod timestamp;
@@ -31,7 +32,7 @@ pub struct Stored {
 type Compare = fn(&mut Comparison, &[u8]) -> Result<(), String>;
 
 /// All that is stored.
-pub const ALL: [Stored; 6] = [
+pub const ALL: [Stored; 7] = [
     Stored {
         name: "schema",
         is_one_file: false,
@@ -58,6 +59,7 @@ pub const ALL: [Stored; 6] = [
         compare: Some(|comparison, questions| column::compare(comparison, questions, Editions::BeforeEach)),
     },
     Stored { name: "timestamp", is_one_file: true, ask: timestamp::ask, compare: None },
+    Stored { name: "int96", is_one_file: true, ask: int96::ask, compare: None },
 ];
 
 /// Asks both sides of a comparison every stored question in every edition.
@@ -97,6 +99,17 @@ impl Answered {
         writeln!(self.text, "{answer}").expect("a string takes any text");
         self.count += 1;
     }
+}
+
+/// Asks the questions that stand at the beginnings of lines, before a colon; each answer is a whole line.
+fn ask_lines(lines: &[u8], line_of: impl Fn(&str) -> Option<String>) -> Result<Answered, String> {
+    let mut answered = Answered::default();
+    for (number, line) in (1..).zip(String::from_utf8_lossy(lines).lines()) {
+        let question = line.split(':').next().unwrap_or_default();
+        let answer = line_of(question).ok_or_else(|| format!("line {number}: no question in {line:?}"))?;
+        answered.add(answer);
+    }
+    Ok(answered)
 }
 
 impl Stored {

@@ -7,13 +7,7 @@ use crate::side::{refusal_of, refused, shown, Side};
 const MARK: i64 = 0x5A5A_5A5A_5A5A_5A5A;
 
 pub fn ask(side: &dyn Side, lines: &[u8]) -> Result<Answered, String> {
-    let mut answered = Answered::default();
-    for (number, line) in (1..).zip(String::from_utf8_lossy(lines).lines()) {
-        let question = line.split(':').next().unwrap_or_default();
-        let answer = line_of(side, question).ok_or_else(|| format!("line {number}: no question in {line:?}"))?;
-        answered.add(answer);
-    }
-    Ok(answered)
+    super::ask_lines(lines, |question| line_of(side, question))
 }
 
 /// The line of `decode UNIT COUNT` or `encode UNIT FIELDS`.

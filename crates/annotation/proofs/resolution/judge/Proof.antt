@@ -1,10 +1,10 @@
--- `annotation::resolution::judge` meets its contract: no annotation breaks no rule, and the number of what any other says has both.
+-- `annotation::resolution::judge` meets its contract: no annotation breaks rule 10 alone, and the number of what any other says has both.
 -- Assumes nothing.
 use mathlib.Core.Path.{_≡_, sym, ap, _∙_}
 use borrow.Author.Needs.{needs}
 use Rattle.annotation.specs.Outcome.{refusalOf, resolutionOf}
 use Rattle.annotation.specs.declared.rewriting.Written.{Written}
-use Rattle.annotation.proofs.SlotLaws.{written-read, fault-passed, kept-read, plain-kept, plain-logical}
+use Rattle.annotation.proofs.SlotLaws.{written-read, fault-passed, kept-read, plain-fault, plain-logical}
 use Rattle.annotation.proofs.resolution.judge.Statement.{statement}
 use Rattle.annotation.proofs.resolution.judge.Tie as tie
 
@@ -22,8 +22,8 @@ number c = c .fault .ensures ∙ search (needs, fault-passed)
 
 returns : tie.Need-returns
 returns c =
-    let plain = sym (c .before .is-plain .ensures) ∙ c .if1 .taken in
-    (plain-kept _ _ plain _, plain-logical _ _ plain)
+    let plain = sym (c .before .before .is-plain .ensures) ∙ c .before .if1 .taken in
+    (c .plain-fault .ensures ∙ plain-fault _ _ plain _, plain-logical _ _ plain)
 
 returns-2 : tie.Need-returns-2
 returns-2 c =
@@ -41,6 +41,7 @@ pub judge-spec : {M : Type 1} → statement M
 judge-spec =
     tie.close
     (tie.spec
+    (λ c κs. tt)
     (λ c κs. tt)
     returns
     (λ c κs. tt)

@@ -10,8 +10,7 @@ use lib.Signed.{mag, nonNeg}
 use mir.Syntax.{w64}
 use mir.Val.{Fits, SFits, toZ, ofZ}
 use Rattle.refusal.specs.Outcome.{given}
-use Rattle.timestamp.specs.Outcomes.{notRepresentable}
-use Rattle.timestamp.specs.Steps.{counting}
+use Rattle.timestamp.specs.Outcomes.{notRepresentable, counting}
 use Rattle.timestamp.proofs.CountLaws.{counted-fits, counted-beyond}
 use Rattle.timestamp.proofs.FloorLaws.{joined, joined-signed, turned-of, turned-below}
 use Rattle.timestamp.proofs.SignedLaws.{signed-of, signed-told, signed-back}

@@ -8,7 +8,7 @@ use mir.Syntax.{w64}
 use mir.Val.{toZ, ofZ}
 use mir.ValLaws.{toZ-ofZ}
 use Rattle.refusal.specs.Outcome.{Outcome}
-use Rattle.timestamp.specs.Steps.{counting}
+use Rattle.timestamp.specs.Outcomes.{counting}
 use Rattle.timestamp.proofs.FloorLaws.{joined}
 use Rattle.timestamp.proofs.MomentLaws.{fraction-beyond, fraction-within, fraction-far, fraction-none}
 use Rattle.timestamp.proofs.encoding.encode_at.Statement.{statement}

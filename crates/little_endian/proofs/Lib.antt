@@ -1,0 +1,2 @@
+-- Laws of reading and storing numbers.
+pub mod NumberLaws
