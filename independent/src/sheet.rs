@@ -157,6 +157,24 @@ pub struct Slot<'a> {
     pub name: &'a [u8],
 }
 
+impl Slot<'_> {
+    /// An unused slot, and what stands past the end of a sheet.
+    pub const UNUSED: Slot<'static> = Slot {
+        physical: 0,
+        repetition: 0,
+        converted: 0,
+        logical: 0,
+        a: 0,
+        b: 0,
+        children: 0,
+        type_length: 0,
+        scale: 0,
+        precision: 0,
+        name_length: 0,
+        name: b"",
+    };
+}
+
 impl<'a> Slot<'a> {
     /// Reads a slot's 72 bytes, whatever they hold.
     pub fn parse(slot: &'a [u8; SLOT]) -> Self {

@@ -6,20 +6,7 @@ use independent::edition::{FIRST, SECOND, THIRD};
 use independent::sheet::{assemble, renew_checks, slot_start, Slot, MAX_NODES, SLOT};
 use independent::{compare, rebuild, PairRefusal, Refusal};
 
-const LEAF: Slot = Slot {
-    physical: 1,
-    repetition: 0,
-    converted: 255,
-    logical: 0,
-    a: 0,
-    b: 0,
-    children: 0,
-    type_length: 0,
-    scale: 0,
-    precision: 0,
-    name_length: 1,
-    name: b"v",
-};
+const LEAF: Slot = Slot { physical: 1, converted: 255, name_length: 1, name: b"v", ..Slot::UNUSED };
 
 fn named<'a>(slot: Slot<'a>, name: &'a [u8]) -> Slot<'a> {
     Slot { name_length: name.len() as u8, name, ..slot }

@@ -8,20 +8,7 @@ fn refused(number: u32, place: u32) -> Refusal {
     Refusal { number, place }
 }
 
-const ROOT: Slot = Slot {
-    physical: 255,
-    repetition: 255,
-    converted: 255,
-    logical: 0,
-    a: 0,
-    b: 0,
-    children: 0,
-    type_length: 0,
-    scale: 0,
-    precision: 0,
-    name_length: 1,
-    name: b"r",
-};
+const ROOT: Slot = Slot { physical: 255, repetition: 255, converted: 255, name_length: 1, name: b"r", ..Slot::UNUSED };
 const LEAF: Slot = Slot { physical: 1, repetition: 0, name: b"v", ..ROOT };
 
 /// A root with so many leaves.

@@ -392,6 +392,7 @@ request10 =
       second-alike = retired.second-alike;
       same-opening = λ sheet. openOf-edition 3 2 sheet (known-of third) (known-of second);
       accepted = retired.accepted;
+      answered = retired.answered;
       refused-alone = retired.refused-alone;
       same-judgement = retired.same-judgement;
       same-rows = λ sheet lent none. retired.same-rows sheet none lent;

@@ -2,7 +2,7 @@
 use Prim.Native.Nat.{ℕ}
 use mathlib.Core.Path.{_≡_, refl, sym, ap, subst, _∙_}
 use mathlib.Core.Bool.{Bool, true, false, true≢false, not, cond, _&&_}
-use mathlib.Core.Logic.{_↔_}
+use mathlib.Core.Logic.{_↔_, _⊎_, inl, inr, ⊎-elim}
 use mathlib.Core.List.{List}
 use borrow.Author.Tests.{eq-eqb, ne-eqb, eqb-true, eqb-false}
 use lib.Dec.{eqb}
@@ -32,7 +32,7 @@ use Rattle.tree.proofs.EditionLaws.{broken-third}
 use Rattle.schema.specs.Outcome.{answer, outcome, written}
 use Rattle.schema.specs.Rewriting.{fits, rewriteAnswer, rewriteOutcome, rewriteWritten}
 use Rattle.schema.proofs.EditionLaws as sheets
-use Rattle.schema.proofs.EditionLaws.{third-second, third-refused, third-lawful, third-none, third-same}
+use Rattle.schema.proofs.EditionLaws.{third-second, third-answers, third-refused, third-none, third-same}
 use Rattle.matching.specs.Outcome.{matchedOf}
 use Rattle.matching.specs.declared.sheets.Matched.{Matched}
 use Rattle.differences.specs.Outcome as differences
@@ -81,17 +81,22 @@ from-test sheet none k at = eqb-false (physical (slotAt sheet k)) INT96 (none k 
 
 pub accepted : (sheet : List ℕ) → (judgement 3 sheet ≡ Verdict.Lawful) ↔ ((judgement 2 sheet ≡ Verdict.Lawful) × NoInt96 sheet)
 accepted sheet = (
-  (λ e. let before = third-second sheet e in (before, from-test sheet (third-none sheet before e))),
-  λ h. third-lawful sheet (h .0) (to-test sheet (h .1)),
+  (λ e. let before = third-second sheet e in (before, from-test sheet (third-none sheet e))),
+  λ h. third-same sheet (to-test sheet (h .1)) ∙ h .0,
 )
+
+-- the first, as the test that is computed has it
+first-of : (sheet : List ℕ) (k : ℕ) → sheets.FirstInt96 sheet k → FirstInt96 sheet k
+first-of sheet k m = record { here = record { below = m .below; is-int96 = eqb-true _ _ (m .here) }; earlier = λ j h q. eqb-false _ _ (m .earlier j h) (q .is-int96) }
+
+pub answered : (sheet : List ℕ) → (judgement 3 sheet ≡ judgement 2 sheet) ⊎ ((k : ℕ) × (judgement 3 sheet ≡ Verdict.Refused (refusal 10 k)) × FirstInt96 sheet k)
+answered sheet = ⊎-elim inl (λ r. inr (r .0, r .1, first-of sheet (r .0) (r .2))) (third-answers sheet)
 
 pub refused-alone : (sheet : List ℕ) (r : Refusal) → judgement 2 sheet ≡ Verdict.Lawful → judgement 3 sheet ≡ Verdict.Refused r → (r .number ≡ 10) × FirstInt96 sheet (r .place)
 refused-alone sheet r lawful e =
     let found = third-refused sheet lawful r e in
-    let m = found .2 in
     let at : r .place ≡ found .0 = ap (λ (q : Refusal). q .place) (found .1) in
-    let first : FirstInt96 sheet (found .0) = record { here = record { below = m .below; is-int96 = eqb-true _ _ (m .here) }; earlier = λ j h q. eqb-false _ _ (m .earlier j h) (q .is-int96) } in
-    (ap (λ (q : Refusal). q .number) (found .1), subst (FirstInt96 sheet) (sym at) first)
+    (ap (λ (q : Refusal). q .number) (found .1), subst (FirstInt96 sheet) (sym at) (first-of sheet (found .0) (found .2)))
 
 module _ (sheet : List ℕ) (none : NoInt96 sheet) where
   alike : judgement 3 sheet ≡ judgement 2 sheet

@@ -38,7 +38,7 @@ use Rattle.column_order.specs.Order.{hasOrder}
 use Rattle.column_order.specs.Comparison.{Valid}
 use Rattle.column_order.specs.Outcome as order
 use Rattle.tree.specs.Annotated.{kind, rule9}
-use Rattle.tree.specs.Tree.{SlotBytes, Tree, Fields, node, empty, field, listing, size}
+use Rattle.tree.specs.Tree.{SlotBytes, Tree, Fields, node, empty, field, listing, size, slotOf}
 use Rattle.tree.specs.Rules.{isGroup, isRequiredOrOptional, isList, namedElement, rule8, rule12, KeepsAt}
 use Rattle.tree.specs.Faults.{broken}
 use Rattle.tree.specs.declared.standing.Standing.{Standing}
@@ -54,7 +54,7 @@ use Rattle.schema.specs.Rewriting.{rewriteOutcome, rewriteWritten}
 use Rattle.schema.specs.Demand.{IsTreeOf, Sound, Accepted}
 use Rattle.schema.specs.declared.roles.Parent.{Parent}
 use Rattle.matching.specs.Matching.{Sibling, nameOf}
-use Rattle.matching.specs.Nodes.{rootOf, slotOf, IsField, IsNode, ordinal, Matched, Unmatched}
+use Rattle.matching.specs.Nodes.{rootOf, IsField, IsNode, ordinal, Matched, Unmatched}
 use Rattle.differences.specs.Entry.{SlotField, slotFields, Entry, entry, PLACES, ONLY-FIRST, ONLY-SECOND}
 use Rattle.differences.specs.Differences.{content, differences}
 use Rattle.differences.specs.Listed.{_∈_, Difference, timesListed, Rising}
@@ -372,6 +372,8 @@ pub record Request10 : Type 1 where
   pub same-opening : (sheet : List ℕ) → openOf 3 sheet ≡ openOf 2 sheet
   -- edition 3 accepts exactly the sheets that edition 2 accepts and that have no INT96 leaf
   pub accepted : (sheet : List ℕ) → (judgement 3 sheet ≡ Verdict.Lawful) ↔ ((judgement 2 sheet ≡ Verdict.Lawful) × NoInt96 sheet)
+  -- of any sheet, whatever else is wrong with it, it answers what 2 does, or 10 at the first INT96 leaf
+  pub answered : (sheet : List ℕ) → (judgement 3 sheet ≡ judgement 2 sheet) ⊎ ((k : ℕ) × (judgement 3 sheet ≡ Verdict.Refused (refusal 10 k)) × FirstInt96 sheet k)
   -- of those that 2 accepts, it refuses the others with 10 at the first INT96 leaf
   pub refused-alone : (sheet : List ℕ) (r : Refusal) → judgement 2 sheet ≡ Verdict.Lawful → judgement 3 sheet ≡ Verdict.Refused r → (r .number ≡ 10) × FirstInt96 sheet (r .place)
   -- a sheet without one is judged alike, whatever else is wrong with it

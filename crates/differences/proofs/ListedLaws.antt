@@ -15,9 +15,9 @@ use Rattle.laws.proofs.BoolLaws.{by-test}
 use Rattle.sheet.specs.Slot.{emptySlot}
 use Rattle.sheet.specs.Name.{sameBytes}
 use Rattle.sheet.proofs.NameLaws.{sameBytes-true, sameBytes-false}
-use Rattle.tree.specs.Tree.{SlotBytes, Tree, listing, size}
+use Rattle.tree.specs.Tree.{SlotBytes, Tree, listing, size, slotOf}
 use Rattle.matching.specs.Matching.{Sibling, Match, matching}
-use Rattle.matching.specs.Nodes.{slotOf, IsNode, Matched, Unmatched}
+use Rattle.matching.specs.Nodes.{IsNode, Matched, Unmatched}
 use Rattle.matching.proofs.NthLaws.{element-at}
 use Rattle.matching.proofs.NodeLaws.{node-below, node-at, node-slot}
 use Rattle.matching.proofs.MatchedLaws.{matched-or-not}

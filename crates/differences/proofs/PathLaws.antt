@@ -6,9 +6,9 @@ use mathlib.Core.Option.{some, Option·some-inj, Option·none-ne-some}
 use native.Mathlib.Omega.{arith}
 use lib.ListN.{length, getD, getElem?, length-append, List·getD-append}
 use lib.Seq.{getD-append-add}
-use Rattle.tree.specs.Tree.{Tree, Fields, node, empty, field, size, listing, listings}
+use Rattle.tree.specs.Tree.{Tree, Fields, node, empty, field, size, listing, listings, runOf}
 use Rattle.tree.proofs.StandingLaws.{size-positive}
-use Rattle.matching.specs.Matching.{Sibling, nameOf, runOf, siblings}
+use Rattle.matching.specs.Matching.{Sibling, nameOf, siblings}
 use Rattle.matching.specs.Nodes.{IsField, Within, here, inside, IsNode}
 use Rattle.matching.proofs.NthLaws.{siblings-within, length-listings}
 use Rattle.matching.proofs.NodeLaws.{field-within, node-within}

@@ -4,9 +4,9 @@ use mathlib.Core.Path.{_≡_, sym, ap, _∙_}
 use mathlib.Core.Option.{none, some, Option·none-ne-some, Option·some-inj}
 use native.Mathlib.Omega.{arith}
 use lib.ListN.{getD, getElem?}
-use Rattle.tree.specs.Tree.{Tree, Fields, empty, field, size}
+use Rattle.tree.specs.Tree.{Tree, Fields, empty, field, size, runOf}
 use Rattle.tree.proofs.StandingLaws.{size-positive}
-use Rattle.matching.specs.Matching.{Sibling, runOf, siblings, Match, matching}
+use Rattle.matching.specs.Matching.{Sibling, siblings, Match, matching}
 use Rattle.matching.specs.Nodes.{Within, here, inside, IsNode}
 use Rattle.matching.proofs.NodeLaws.{node-at}
 use Rattle.matching.proofs.MatchingLaws.{matching-below, matching-within}

@@ -5,9 +5,9 @@ use mathlib.Core.Bool.{cond, _&&_}
 use mathlib.Core.List.{List, [], _∷_, List·Memᴰ}
 use lib.Dec.{eqb}
 use Rattle.laws.specs.Bytes.{bytesOf}
-use Rattle.tree.specs.Tree.{Tree}
+use Rattle.tree.specs.Tree.{Tree, slotOf}
 use Rattle.matching.specs.Matching.{Sibling}
-use Rattle.matching.specs.Nodes.{slotOf, IsNode, Matched, Unmatched}
+use Rattle.matching.specs.Nodes.{IsNode, Matched, Unmatched}
 use Rattle.differences.specs.Entry.{SlotField, slotFields, Entry, entry, PLACES, ONLY-FIRST, ONLY-SECOND}
 use Rattle.differences.specs.Differences.{content}
 

@@ -2,7 +2,7 @@
 use mathlib.Core.Path.{_≡_, refl, sym, ap, _∙_}
 use mathlib.Core.Bool.{Bool, true, false, true≢false, not, _&&_}
 use mathlib.Core.List.{List, [], _∷_, _++_}
-use Prim.Native.Nat.{ℕ, suc, _+_, _*_, _-_, _/_, _%_, _≤_, _<_}
+use Prim.Native.Nat.{ℕ, _+_, _*_, _-_, _/_, _%_, _≤_, _<_}
 use native.Mathlib.Decide.{ℕ-discrete}
 use native.Mathlib.Omega.{arith}
 use lib.Dec.{eqb}
@@ -12,13 +12,14 @@ use borrow.Author.Tests.{eq-eqb, ne-eqb, eqb-true}
 use Rattle.laws.proofs.BoolLaws.{by-test}
 use Rattle.sheet.specs.Block.{mostNodes}
 use Rattle.sheet.specs.Slot.{slots, slotAt, name}
-use Rattle.tree.specs.Tree.{Fields, empty, field, size, count}
+use Rattle.tree.specs.Tree.{size}
 use Rattle.tree.specs.Steps.{treeAt, runAt}
 use Rattle.tree.proofs.StandingLaws.{count-runAt}
-use Rattle.matching.specs.Matching.{Sibling, siblings, nameOf}
+use Rattle.matching.specs.Matching.{Sibling, nameOf}
 use Rattle.matching.specs.Outcome.{placeWeight, otherWeight}
 use Rattle.matching.specs.Steps.{Ends, printOf, Stands, fieldsFrom, isTaken, firstFree, headCount, fromAlike, headOf, stampOf, HeadsBelow, withHead, IsHead, Heads, Indexed, Leads}
 use Rattle.matching.specs.declared.candidates.Candidate.{Candidate}
+use Rattle.matching.proofs.NthLaws.{length-siblings}
 use Rattle.matching.proofs.CandidateLaws.{at, siblingAt, nameOf-at, below, below-most, end-is, stands-next, fieldsFrom-next, fieldsFrom-end, prints-unlike}
 
 and-false : (b : Bool) → (b && false) ≡ false
@@ -67,11 +68,6 @@ alike-behind r (c ∷ before) cs ds e l = cases (ℕ-discrete (restOf c) r) (λ 
     cases (no f) next = next (sym (alike-later r c (before ++ cs) f) ∙ e)
 
 -- how many fields there are from one on
-length-siblings : (number place : ℕ) (fs : Fields) → length (siblings number place fs) ≡ count fs
-unfolding siblings count
-length-siblings number place empty = refl
-length-siblings number place (field t fs) = ap suc (length-siblings (number + size t) (suc place) fs)
-
 length-from : (b : List ℕ) (c : Candidate) (n : ℕ) → Stands b c n → length (fieldsFrom b c n) ≡ n - c .place
 unfolding fieldsFrom
 length-from b c n s = length-siblings (c .number) (c .place) (runAt (slots b) (c .number) (n - c .place)) ∙ count-runAt (slots b) (c .number) (n - c .place) (s .fields)

@@ -11,9 +11,9 @@ use lib.ListN.{length, take, getD, getElem?, length-append, List·getD-append, L
 use lib.Seq.{getD-append-add}
 use Rattle.laws.proofs.BoolLaws.{by-test}
 use Rattle.sheet.specs.Name.{sameBytes}
-use Rattle.tree.specs.Tree.{Tree, Fields, node, empty, field, size, listing, listings}
+use Rattle.tree.specs.Tree.{Tree, Fields, node, empty, field, size, listing, listings, runOf}
 use Rattle.tree.proofs.StandingLaws.{size-positive}
-use Rattle.matching.specs.Matching.{Sibling, Match, nameOf, runOf, siblings, candidates, alike, nth, matchOf, matches, runMatches, matching}
+use Rattle.matching.specs.Matching.{Sibling, Match, nameOf, siblings, candidates, alike, nth, matchOf, matches, runMatches, matching}
 use Rattle.matching.specs.Nodes.{rootOf, fieldsOf, IsField, Within, here, inside, IsNode, names, ordinal, Matched}
 use Rattle.matching.proofs.NthLaws.{nth-at, nth-found, siblings-within, length-listings}
 use Rattle.matching.proofs.NodeLaws.{field-place, field-at, field-within, node-at}

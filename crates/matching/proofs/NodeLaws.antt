@@ -7,10 +7,10 @@ use native.Mathlib.Decide.{decLt}
 use native.Mathlib.Omega.{arith}
 use lib.ListN.{length, getD, getElem?, List·getD-append}
 use lib.Seq.{getD-append-add}
-use Rattle.tree.specs.Tree.{Tree, Fields, node, empty, field, size, listing, listings}
+use Rattle.tree.specs.Tree.{Tree, Fields, node, empty, field, size, listing, listings, slotOf, runOf}
 use Rattle.tree.proofs.StandingLaws.{size-positive}
-use Rattle.matching.specs.Matching.{Sibling, runOf, siblings}
-use Rattle.matching.specs.Nodes.{slotOf, fieldsOf, IsField, Within, here, inside, IsNode}
+use Rattle.matching.specs.Matching.{Sibling, siblings}
+use Rattle.matching.specs.Nodes.{fieldsOf, IsField, Within, here, inside, IsNode}
 use Rattle.matching.proofs.NthLaws.{siblings-place, siblings-within, siblings-rise, length-listings}
 
 -- a field has its index for a place

@@ -9,12 +9,12 @@ use lib.ListN.{length, drop, set, replicate, getElem?, length-append, length-map
 use lib.Seq.{append-snoc, set-at, getD-at}
 use Rattle.sheet.specs.Block.{totalOf, mostNodes}
 use Rattle.sheet.specs.Slot.{slots, slotAt, childCount}
-use Rattle.tree.specs.Tree.{Tree, Fields, node, empty, field, size, count}
+use Rattle.tree.specs.Tree.{Tree, Fields, node, empty, field, size, count, runOf}
 use Rattle.tree.specs.Reading.{trees, treeOf}
 use Rattle.tree.specs.Steps.{Claimed, treeAt, runAt, fieldsAt, sizes}
 use Rattle.tree.proofs.StandingLaws.{treeAt-zero, runAt-zero, runAt-suc, count-behind, sizes-empty, sizes-field, size-node}
 use Rattle.tree.proofs.VisitLaws.{treeAt-slot, claimed-slot, run-below}
-use Rattle.matching.specs.Matching.{Sibling, nameOf, runOf, siblings, candidates, alike, nth, matchOf, matches, runMatches, matching}
+use Rattle.matching.specs.Matching.{Sibling, nameOf, siblings, candidates, alike, nth, matchOf, matches, runMatches, matching}
 use Rattle.matching.specs.Nodes.{rootOf}
 use Rattle.matching.specs.Outcome.{placeWeight, codeOf, padded}
 use Rattle.matching.specs.Steps.{OneTree, withFields, fieldsMatched, stepAt, stepsFrom}

@@ -6,14 +6,11 @@ use mathlib.Core.List.{List, [], _∷_, _++_}
 use mathlib.Core.Option.{Option, none, some}
 use Rattle.sheet.specs.Slot.{name}
 use Rattle.sheet.specs.Name.{sameBytes}
-use Rattle.tree.specs.Tree.{Tree, Fields, node, empty, field, size}
+use Rattle.tree.specs.Tree.{Tree, Fields, node, empty, field, size, slotOf, runOf}
 
--- the name of a tree's root, and its run
+-- the name of a tree's root
 abbrev pub nameOf : Tree → List ℕ
-nameOf (node s fs) = name s
-
-abbrev pub runOf : Tree → Fields
-runOf (node s fs) = fs
+nameOf t = name (slotOf t)
 
 -- a field of a node: its number, its place among its siblings, from 0, and the field itself
 pub record Sibling : Type 0 where

@@ -4,16 +4,12 @@ use mathlib.Core.Path.{_≡_}
 use mathlib.Core.List.{List, [], _∷_}
 use mathlib.Core.Option.{none, some}
 use lib.ListN.{take, getD, getElem?}
-use Rattle.tree.specs.Tree.{SlotBytes, Tree, node}
-use Rattle.matching.specs.Matching.{Sibling, nameOf, runOf, siblings, alike, matching}
+use Rattle.tree.specs.Tree.{Tree, runOf}
+use Rattle.matching.specs.Matching.{Sibling, nameOf, siblings, alike, matching}
 
 -- a tree's root: node 0, at place 0
 abbrev pub rootOf : Tree → Sibling
 rootOf t = record { number = 0; place = 0; tree = t }
-
--- the slot of a tree's root
-abbrev pub slotOf : Tree → SlotBytes
-slotOf (node s fs) = s
 
 -- a node's fields, numbered from the node behind it on, their places from 0
 abbrev pub fieldsOf : Sibling → List Sibling

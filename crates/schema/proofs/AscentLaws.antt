@@ -15,11 +15,11 @@ use Rattle.sheet.specs.Name.{sameBytes}
 use Rattle.sheet.specs.Slot.{physical, repetition, name}
 use Rattle.sheet.proofs.NameLaws.{sameBytes-equal, sameBytes-true}
 use Rattle.tree.specs.Annotated.{kind}
-use Rattle.tree.specs.Tree.{SlotBytes, Fields, node, empty, field}
+use Rattle.tree.specs.Tree.{SlotBytes, Fields, node, empty, field, slotOf}
 use Rattle.tree.specs.Rules.{isGroup, isRequiredOrOptional, underMap, isList, isMap, arrayName, tupleSuffix, namedElement, isRepeated, isElementGroup, listChild, listRun, listKept, rule12, keyValue, mapRun, mapKept, rule13, KeepsAt}
 use Rattle.tree.specs.declared.standing.Standing.{Standing}
 use Rattle.schema.specs.Rows.{isMapParent, LIST-LAYER, KEY-VALUE-LAYER, listRole, role, parentBy, parentOf, afterFirst}
-use Rattle.schema.specs.Roles.{slotOf, Step, Ascent, isResolvedMap, HasKind, IsElementGroup, several, array, tuple, single, IsListLayer, IsElement, IsElementLayer, IsKeyValueLayer, IsKey, IsValue, HasLayerRole, list-layer, element, element-layer, key-value-layer, key, value, IsBareRepeated, IsField}
+use Rattle.schema.specs.Roles.{Step, Ascent, isResolvedMap, HasKind, IsElementGroup, several, array, tuple, single, IsListLayer, IsElement, IsElementLayer, IsKeyValueLayer, IsKey, IsValue, HasLayerRole, list-layer, element, element-layer, key-value-layer, key, value, IsBareRepeated, IsField}
 use Rattle.schema.specs.declared.roles.Parent.{Parent}
 use Rattle.schema.specs.declared.roles.Parent.the-variants as parent
 use Rattle.schema.proofs.RepeatedFieldLaws.{no-list, no-map}

@@ -1,14 +1,15 @@
 -- Sheets in the editions: what the first or the third accepts the second accepts; what the second accepts and the first refuses, it refuses with 11 at the first
--- DECIMAL whose scale equals its precision, and the third with 10 at the first INT96; of a sheet without INT96 the third answers what the second does.
+-- DECIMAL whose scale equals its precision. Of any sheet the third answers what the second does, or 10 at the first INT96.
 use Prim.Native.Nat.{ℕ, zero, suc, _+_, _*_, _<_}
 use mathlib.Core.Path.{_≡_, refl, sym, ap, _∙_}
-use mathlib.Core.Bool.{true, false}
+use mathlib.Core.Bool.{true, false, true≢false}
+use mathlib.Core.Logic.{_⊎_, inl, inr, ⊎-elim}
 use mathlib.Core.List.{List, [], map}
 use native.Mathlib.Omega.{arith}
 use lib.ListN.{length, getD, drop}
 use lib.Seq.{drop-drop}
 use Rattle.edition.specs.Editions.{FIRST, SECOND, THIRD, isKnown}
-use Rattle.edition.proofs.EditionLaws.{first, second, third, known-of}
+use Rattle.edition.proofs.EditionLaws.{first, second, known-of}
 use Rattle.refusal.specs.Numbers.{MISPLACED, BAD-DECIMAL}
 use Rattle.refusal.specs.Outcome.{refusal}
 use Rattle.refusal.specs.declared.answers.Refusal.{Refusal}
@@ -25,10 +26,10 @@ use Rattle.tree.specs.Faults.{faults}
 use Rattle.tree.specs.Reading.{treeOf}
 use Rattle.tree.specs.Judgement.{orElse, unlawful, firstFault, judgement}
 use Rattle.tree.specs.declared.standing.Standing.the-variants.{Root}
-use Rattle.tree.proofs.FaultLaws.{atMostDeep-none}
+use Rattle.tree.proofs.FaultLaws.{atMostDeep-none, keeps-none as keeps-lawful, refused-not-lawful}
 use Rattle.tree.proofs.TreeOfLaws.{treeRefusal-tree}
 use Rattle.tree.proofs.JudgementLaws.{lawful-opened}
-use Rattle.tree.proofs.EditionLaws.{keeps-second, keeps-third, FirstMarked, marked-first, unmarked, none-marked, markEqual, faults-first, isInt96, markInt96, faults-third, without-each, judgement-same}
+use Rattle.tree.proofs.EditionLaws.{keeps-second, keeps-third, marked-first, unmarked, markEqual, faults-first, isInt96, FirstInt96 as FirstListed, keeps-none, Answered, judgement-third}
 use Rattle.schema.specs.Rows.{rowWidth, rows, numberIn, kindsIn}
 use Rattle.schema.specs.Demand.{IsTreeOf, Sound, kindIn}
 use Rattle.schema.proofs.DemandLaws.{tree-accepted, accepted-tree, sound-judgement}
@@ -109,22 +110,6 @@ module _ (bytes : List ℕ) (t : Tree) (sound : Sound SECOND bytes) (tree : IsTr
   first-lawful e k h =
       sym (ap isEqual (at-row k h)) ∙ unmarked isEqual 10 none (kindsIn (rows t) (size t)) 0 (sym verdict-first ∙ e) k (omega (arith, h, kindsIn-length (rows t) (size t)))
 
-  -- the third
-
-  verdict-third : judgement THIRD bytes ≡ firstFault 0 (map markInt96 (slots bytes))
-  verdict-third = verdict THIRD (known-of third) ∙ ap (firstFault 0) (faults-third t Root (tree .keeps) ∙ ap (map markInt96) (tree .lists))
-
-  third-marked : (r : Refusal) → judgement THIRD bytes ≡ Verdict.Refused r → (k : ℕ) × (r ≡ refusal MISPLACED k) × FirstMarked isInt96 9 [] (slots bytes) k
-  third-marked r e =
-      let found = marked-first isInt96 9 [] (slots bytes) 0 r (sym verdict-third ∙ e) in
-      (found .0, found .1 ∙ ap (refusal MISPLACED) (omega arith), found .2)
-
-  third-unmarked : judgement THIRD bytes ≡ Verdict.Lawful → (k : ℕ) → k < length (slots bytes) → isInt96 (getD (slots bytes) k []) ≡ false
-  third-unmarked e k h = unmarked isInt96 9 [] (slots bytes) 0 (sym verdict-third ∙ e) k h
-
-  third-kept : ((k : ℕ) → k < length (slots bytes) → isInt96 (getD (slots bytes) k []) ≡ false) → judgement THIRD bytes ≡ Verdict.Lawful
-  third-kept h = verdict-third ∙ none-marked isInt96 9 [] (slots bytes) 0 h
-
 -- the first INT96 of a sheet
 pub record FirstInt96 (bytes : List ℕ) (k : ℕ) : Type 0 where
   pub below : k < totalOf bytes
@@ -139,33 +124,35 @@ module _ (bytes : List ℕ) where
   at-slot : (k : ℕ) → k < totalOf bytes → isInt96 (getD (slots bytes) k []) ≡ isInt96 (slotAt bytes k)
   at-slot k h = ap isInt96 (slots-at bytes k [] h)
 
-  -- slot by slot
-  none-listed : NoInt96 bytes → (k : ℕ) → k < length (slots bytes) → isInt96 (getD (slots bytes) k []) ≡ false
-  none-listed none k h = let low : k < totalOf bytes = omega (arith, h, slots-length bytes) in at-slot k low ∙ none k low
+  first-listed : (k : ℕ) → FirstListed (slots bytes) k → FirstInt96 bytes k
+  first-listed k m =
+      let low : k < totalOf bytes = omega (arith, m .below, slots-length bytes) in
+      record { below = low; here = sym (at-slot k low) ∙ m .here; earlier = λ j h. sym (at-slot j (omega (arith, low, h))) ∙ m .earlier j h }
 
-  module _ (lawful : judgement SECOND bytes ≡ Verdict.Lawful) where
-    sound : Sound SECOND bytes
-    sound = lawful-sound SECOND bytes lawful
+  -- of any sheet the third edition answers what the second does, or 10 at the first INT96
+  pub third-answers : (judgement THIRD bytes ≡ judgement SECOND bytes) ⊎ ((k : ℕ) × (judgement THIRD bytes ≡ Verdict.Refused (refusal MISPLACED k)) × FirstInt96 bytes k)
+  third-answers = on (judgement-third bytes)
+    where
+      on : Answered bytes (judgement THIRD bytes) (judgement SECOND bytes) → (judgement THIRD bytes ≡ judgement SECOND bytes) ⊎ ((k : ℕ) × (judgement THIRD bytes ≡ Verdict.Refused (refusal MISPLACED k)) × FirstInt96 bytes k)
+      on (inl e) = inl e
+      on (inr r) = inr (r .0, r .1, first-listed (r .0) (r .2))
 
-    tree : IsTreeOf SECOND bytes (treeOf (slots bytes))
-    tree = accepted-tree SECOND bytes (sym (sound-judgement SECOND bytes sound) ∙ lawful)
-
-    -- of what the second edition accepts, the third refuses what has an INT96, at the first
-    pub third-refused : (r : Refusal) → judgement THIRD bytes ≡ Verdict.Refused r → (k : ℕ) × (r ≡ refusal MISPLACED k) × FirstInt96 bytes k
-    third-refused r e =
-        let found = third-marked bytes (treeOf (slots bytes)) sound tree r e in
-        let k = found .0 in
-        let m = found .2 in
-        let low : k < totalOf bytes = omega (arith, m .below, slots-length bytes) in
-        (k, found .1, record { below = low; here = sym (at-slot k low) ∙ m .here; earlier = λ j h. sym (at-slot j (omega (arith, low, h))) ∙ m .earlier j h })
-
-    -- and accepts what has none
-    pub third-lawful : NoInt96 bytes → judgement THIRD bytes ≡ Verdict.Lawful
-    third-lawful none = third-kept bytes (treeOf (slots bytes)) sound tree (none-listed none)
-
-    pub third-none : judgement THIRD bytes ≡ Verdict.Lawful → NoInt96 bytes
-    third-none e k h = sym (at-slot k h) ∙ third-unmarked bytes (treeOf (slots bytes)) sound tree e k (omega (arith, h, slots-length bytes))
-
-  -- of a sheet without INT96 the third answers what the second does, refusals too
+  -- so what the second does, where there is none
   pub third-same : NoInt96 bytes → judgement THIRD bytes ≡ judgement SECOND bytes
-  third-same none = judgement-same bytes (without-each [] (slots bytes) (none-listed none))
+  third-same none = ⊎-elim (λ e. e) (λ r. absurd (true≢false (sym (r .2 .here) ∙ none (r .0) (r .2 .below)))) third-answers
+
+  -- what it accepts has none
+  pub third-none : judgement THIRD bytes ≡ Verdict.Lawful → NoInt96 bytes
+  third-none e k h =
+      let kept = sym (sound-judgement THIRD bytes (lawful-sound THIRD bytes e)) ∙ e in
+      let tree = accepted-tree THIRD bytes kept in
+      let listed = keeps-none (treeOf (slots bytes)) (keeps-lawful THIRD (treeOf (slots bytes)) (tree .keeps)) k (omega (arith, h, slots-length bytes, ap length (tree .lists))) in
+      sym (at-slot k h) ∙ sym (ap (λ (ss : List (List ℕ)). isInt96 (getD ss k [])) (tree .lists)) ∙ listed
+
+  -- and of what the second accepts it refuses the others at the first
+  pub third-refused : judgement SECOND bytes ≡ Verdict.Lawful → (r : Refusal) → judgement THIRD bytes ≡ Verdict.Refused r → (k : ℕ) × (r ≡ refusal MISPLACED k) × FirstInt96 bytes k
+  third-refused lawful r e =
+      ⊎-elim (λ same. absurd (refused-not-lawful r (sym e ∙ same ∙ lawful))) (λ found. (found .0, refused-is (sym e ∙ found .1), found .2)) third-answers
+    where
+      refused-is : {q s : Refusal} → Verdict.Refused q ≡ Verdict.Refused s → q ≡ s
+      refused-is h = cc

@@ -10,11 +10,11 @@ use Rattle.parquet.specs.Repetition.{REPEATED}
 use Rattle.parquet.specs.Logical as logical
 use Rattle.sheet.specs.Slot.{repetition}
 use Rattle.tree.specs.Annotated.{kind}
-use Rattle.tree.specs.Tree.{SlotBytes, Tree, Fields, node, empty, field, listing, listings, size}
+use Rattle.tree.specs.Tree.{SlotBytes, Tree, Fields, node, empty, field, listing, listings, size, slotOf}
 use Rattle.tree.specs.Rules.{underMap, standingBelow, KeepsAt, Keeps, KeepsAll}
 use Rattle.schema.specs.Rows.{isMapParent, row, parentOf, afterFirst, rowsFrom, runRowsFrom, rows, rowWidth, numberIn}
 use Rattle.schema.specs.Demand.{kindIn}
-use Rattle.schema.specs.Roles.{slotOf, Ascent, ascents, runAscents, ascent, HasKind}
+use Rattle.schema.specs.Roles.{Ascent, ascents, runAscents, ascent, HasKind}
 use Rattle.tree.specs.declared.standing.Standing.{Standing}
 use Rattle.tree.specs.declared.standing.Standing.the-variants.{Root}
 use Rattle.schema.specs.declared.roles.Parent.{Parent}

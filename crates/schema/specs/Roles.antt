@@ -12,15 +12,8 @@ use Rattle.parquet.specs.Physical.{GROUP}
 use Rattle.parquet.specs.Logical as logical
 use Rattle.sheet.specs.Slot.{physical, repetition, name}
 use Rattle.tree.specs.Annotated.{kind}
-use Rattle.tree.specs.Tree.{SlotBytes, Tree, Fields, node, empty, field}
+use Rattle.tree.specs.Tree.{SlotBytes, Tree, Fields, node, empty, field, slotOf, runOf}
 use Rattle.tree.specs.Rules.{arrayName, tupleSuffix}
-
--- a node's slot, and its run
-abbrev pub slotOf : Tree → SlotBytes
-slotOf (node s fs) = s
-
-abbrev pub runOf : Tree → Fields
-runOf (node s fs) = fs
 
 -- a step of the way from a node up to the root: a node's index among its siblings, from 0, and the node with its run
 pub record Step : Type 0 where

@@ -1,9 +1,9 @@
 -- The rules in the editions: a tree that keeps the first's keeps the second's, and so does one that keeps the third's. Of a tree that keeps the second's, the first
--- refuses with 11 each DECIMAL whose scale equals its precision, the third with 10 each INT96, and neither anything else. Where there is no INT96, the third
--- refuses what the second does.
+-- refuses with 11 each DECIMAL whose scale equals its precision, and nothing else. Of any slots the third answers what the second does, or 10 at the first INT96.
 use Prim.Native.Nat.{ℕ, zero, suc, _+_, _<_}
 use mathlib.Core.Path.{_≡_, refl, sym, ap, ap₂, subst, _∙_}
 use mathlib.Core.Bool.{Bool, true, false, not, cond, _&&_}
+use mathlib.Core.Logic.{_⊎_, inl, inr}
 use mathlib.Core.List.{List, [], _∷_, _++_, map, map-append}
 use native.Mathlib.Omega.{arith}
 use lib.Dec.{eqb}
@@ -124,14 +124,6 @@ module _ {A : Type 0} (test : A → Bool) (number : ℕ) where
       at zero l f rest = f
       at (suc i) l f rest = rest i (omega arith)
 
-  -- and where none is marked, none is refused
-  pub none-marked : (other : A) (xs : List A) (k : ℕ) → ((j : ℕ) → j < length xs → test (getD xs j other) ≡ false) → firstFault k (map mark xs) ≡ Verdict.Lawful
-  unfolding firstFault
-  none-marked other [] k h = refl
-  none-marked other (x ∷ xs) k h =
-      let f : test x ≡ false = h 0 (omega arith) in
-      rw f (none-marked other xs (suc k) (λ j l. h (suc j) (omega arith)))
-
 -- the first edition ---------------------------------------------------------------------------------------------------------
 
 -- it marks with 11, where a tree keeps the second's rules
@@ -179,72 +171,139 @@ unfolding broken
 broken-third p s fs =
     rw (ten-is (underMap p) s, eleven-is (underMap p) s) (by-test (isInt96 s) (λ t. rw t) (λ f. rw f))
 
--- so it marks with 10, where a tree keeps the second's rules
-abbrev pub markInt96 : SlotBytes → ℕ
-markInt96 = mark isInt96 9
+-- what a node breaks in the second edition and in the third: the same where it is no INT96; where it is one, the same rule, or 10
+abbrev Third : SlotBytes → ℕ → ℕ → Type 0
+Third s m n = ((isInt96 s ≡ false) × (n ≡ m)) ⊎ (((0 < n) × (n ≡ m)) ⊎ ((isInt96 s ≡ true) × (n ≡ MISPLACED)))
 
-broken-marked : (p : Standing) (s : SlotBytes) (fs : Fields) → KeepsAt SECOND p s fs → broken THIRD p s fs ≡ markInt96 s
+node-third : (p : Standing) (s : SlotBytes) (fs : Fields) → Third s (broken SECOND p s fs) (broken THIRD p s fs)
 unfolding broken
-broken-marked p s fs h = broken-third p s fs ∙ rw (h .shape, h .agreement, h .placement, h .decimals, h .lists, h .maps)
+node-third p s fs =
+    by-test (isInt96 s)
+    (λ t. by-test (rule8 p s fs)
+    (λ e. by-test (rule9 s) (λ n. inr (inr (t, broken-third p s fs ∙ rw (t, e, n)))) (λ n. inr (inl (positive 8 (broken-third p s fs ∙ rw (t, e, n)), broken-third p s fs ∙ rw (t, e, n)))))
+    (λ e. inr (inl (positive 7 (broken-third p s fs ∙ rw (t, e)), broken-third p s fs ∙ rw (t, e)))))
+    (λ f. inl (f, broken-third p s fs ∙ rw f))
+  where
+    positive : {n : ℕ} (m : ℕ) → n ≡ suc m → 0 < n
+    positive m e = omega (arith, e)
 
-mutual
-  unfolding Keeps faults listing
+-- so of each of some nodes
+abbrev Thirds : List SlotBytes → List ℕ → List ℕ → Type 0
+Thirds [] [] [] = Unit {0}
+Thirds [] [] (n ∷ ns) = ⊥
+Thirds [] (m ∷ ms) ns = ⊥
+Thirds (s ∷ ss) [] ns = ⊥
+Thirds (s ∷ ss) (m ∷ ms) [] = ⊥
+Thirds (s ∷ ss) (m ∷ ms) (n ∷ ns) = Third s m n × Thirds ss ms ns
 
-  pub faults-third : (t : Tree) (p : Standing) → Keeps SECOND p t → faults THIRD p t ≡ map markInt96 (listing t)
-  faults-third (node s fs) p h = ap₂ _∷_ (broken-marked p s fs (h .0)) (runFaults-third fs (standingBelow p s) (h .1))
+thirds-append : (ss : List SlotBytes) (ms ns : List ℕ) (ss′ : List SlotBytes) (ms′ ns′ : List ℕ) → Thirds ss ms ns → Thirds ss′ ms′ ns′ → Thirds (ss ++ ss′) (ms ++ ms′) (ns ++ ns′)
+thirds-append [] [] [] ss′ ms′ ns′ h k = k
+thirds-append [] [] (n ∷ ns) ss′ ms′ ns′ h k = absurd h
+thirds-append [] (m ∷ ms) ns ss′ ms′ ns′ h k = absurd h
+thirds-append (s ∷ ss) [] ns ss′ ms′ ns′ h k = absurd h
+thirds-append (s ∷ ss) (m ∷ ms) [] ss′ ms′ ns′ h k = absurd h
+thirds-append (s ∷ ss) (m ∷ ms) (n ∷ ns) ss′ ms′ ns′ h k = (h .0, thirds-append ss ms ns ss′ ms′ ns′ (h .1) k)
 
-  runFaults-third : (fs : Fields) (p : Standing) → KeepsAll SECOND p fs → runFaults THIRD p fs ≡ map markInt96 (listings fs)
-  runFaults-third empty p h = refl
-  runFaults-third (field t fs) p h =
-      ap₂ _++_ (faults-third t p (h .0)) (runFaults-third fs p (h .1)) ∙ sym (map-append markInt96 (listing t) (listings fs))
-
--- slots with no INT96 among them
-abbrev pub Without : List SlotBytes → Type 0
-Without [] = Unit {0}
-Without (s ∷ ss) = (isInt96 s ≡ false) × Without ss
-
-pub without-each : (other : SlotBytes) (ss : List SlotBytes) → ((k : ℕ) → k < length ss → isInt96 (getD ss k other) ≡ false) → Without ss
-without-each other [] h = tt
-without-each other (s ∷ ss) h = (h 0 (omega arith), without-each other ss (λ k l. h (suc k) (omega arith)))
-
-without-parts : (ss rest : List SlotBytes) → Without (ss ++ rest) → Without ss × Without rest
-without-parts [] rest h = (tt, h)
-without-parts (s ∷ ss) rest h = let parts = without-parts ss rest (h .1) in ((h .0, parts .0), parts .1)
-
--- a tree of such slots breaks what it does in the second
 mutual
   unfolding faults listing
 
-  pub faults-same : (t : Tree) (p : Standing) → Without (listing t) → faults THIRD p t ≡ faults SECOND p t
-  faults-same (node s fs) p h = ap₂ _∷_ (broken-third p s fs ∙ rw (h .0)) (runFaults-same fs (standingBelow p s) (h .1))
+  tree-thirds : (t : Tree) (p : Standing) → Thirds (listing t) (faults SECOND p t) (faults THIRD p t)
+  tree-thirds (node s fs) p = (node-third p s fs, run-thirds fs (standingBelow p s))
 
-  runFaults-same : (fs : Fields) (p : Standing) → Without (listings fs) → runFaults THIRD p fs ≡ runFaults SECOND p fs
-  runFaults-same empty p h = refl
-  runFaults-same (field t fs) p h =
-      let parts = without-parts (listing t) (listings fs) h in
-      ap₂ _++_ (faults-same t p (parts .0)) (runFaults-same fs p (parts .1))
+  run-thirds : (fs : Fields) (p : Standing) → Thirds (listings fs) (runFaults SECOND p fs) (runFaults THIRD p fs)
+  run-thirds empty p = tt
+  run-thirds (field t fs) p = thirds-append (listing t) (faults SECOND p t) (faults THIRD p t) (listings fs) (runFaults SECOND p fs) (runFaults THIRD p fs) (tree-thirds t p) (run-thirds fs p)
 
--- so a sheet of such slots is answered as in the second
-slots-same : (ss : List SlotBytes) → Without ss → treeRefusal THIRD ss ≡ treeRefusal SECOND ss
-unfolding orElse unlawful
-slots-same ss h = treeRefusal-places THIRD ss ∙ places (orElse (leftOver ss) (missing ss)) refl ∙ sym (treeRefusal-places SECOND ss)
+-- the first of some slots that is an INT96
+abbrev pub FirstInt96 : List SlotBytes → ℕ → Type 0
+FirstInt96 ss j = FirstMarked isInt96 0 [] ss j
+
+-- what the third edition answers of nodes from the k-th on: what the second does, or 10 at the first INT96
+abbrev SameOr : List SlotBytes → ℕ → Verdict → Verdict → Type 0
+SameOr ss k v w = (v ≡ w) ⊎ ((j : ℕ) × (v ≡ Verdict.Refused (refusal MISPLACED (k + j))) × FirstInt96 ss j)
+
+first-thirds : (ss : List SlotBytes) (ms ns : List ℕ) (k : ℕ) → Thirds ss ms ns → SameOr ss k (firstFault k ns) (firstFault k ms)
+unfolding firstFault
+first-thirds [] [] [] k h = inl refl
+first-thirds [] [] (n ∷ ns) k h = absurd h
+first-thirds [] (m ∷ ms) ns k h = absurd h
+first-thirds (s ∷ ss) [] ns k h = absurd h
+first-thirds (s ∷ ss) (m ∷ ms) [] k h = absurd h
+first-thirds (s ∷ ss) (m ∷ ms) (n ∷ ns) k h = at (h .0) (first-thirds ss ms ns (suc k) (h .1))
   where
-    deeper : ℕ → Verdict
-    deeper edition = orElse (tooDeep (treeOf ss)) (unlawful edition (treeOf ss))
+    later : isInt96 s ≡ false → SameOr ss (suc k) (firstFault (suc k) ns) (firstFault (suc k) ms) → SameOr (s ∷ ss) k (firstFault (suc k) ns) (firstFault (suc k) ms)
+    later f (inl e) = inl e
+    later f (inr r) =
+        inr (suc (r .0), r .1 ∙ ap (λ (i : ℕ). Verdict.Refused (refusal MISPLACED i)) (omega arith), record { below = omega (arith, r .2 .below); here = r .2 .here; earlier = earlier (r .0) (r .2 .earlier) })
+      where
+        earlier : (j : ℕ) → ((i : ℕ) → i < j → isInt96 (getD ss i []) ≡ false) → (i : ℕ) → i < suc j → isInt96 (getD (s ∷ ss) i []) ≡ false
+        earlier j before zero l = f
+        earlier j before (suc i) l = before i (omega arith)
+
+    same : (x : ℕ) → isInt96 s ≡ false → SameOr ss (suc k) (firstFault (suc k) ns) (firstFault (suc k) ms) → SameOr (s ∷ ss) k (firstFault k (x ∷ ns)) (firstFault k (x ∷ ms))
+    same zero f rest = later f rest
+    same (suc x) f rest = inl refl
+
+    told : (x : ℕ) → 0 < x → firstFault k (x ∷ ns) ≡ firstFault k (x ∷ ms)
+    told zero l = absurd (omega arith)
+    told (suc x) l = refl
+
+    at : Third s m n → SameOr ss (suc k) (firstFault (suc k) ns) (firstFault (suc k) ms) → SameOr (s ∷ ss) k (firstFault k (n ∷ ns)) (firstFault k (m ∷ ms))
+    at (inl h) rest = rw (h .1) (same m (h .0) rest)
+    at (inr (inl h)) rest = inl (told n (h .0) ∙ ap (λ (x : ℕ). firstFault k (x ∷ ms)) (h .1))
+    at (inr (inr h)) rest =
+        inr (0, ap (λ (x : ℕ). firstFault k (x ∷ ns)) (h .1) ∙ ap (λ (i : ℕ). Verdict.Refused (refusal MISPLACED i)) (omega arith), record { below = omega arith; here = h .0; earlier = λ i l. absurd (omega arith) })
+
+-- and where it refuses none, none is one
+none-thirds : (ss : List SlotBytes) (ms ns : List ℕ) (k : ℕ) → Thirds ss ms ns → firstFault k ns ≡ Verdict.Lawful → (j : ℕ) → j < length ss → isInt96 (getD ss j []) ≡ false
+unfolding firstFault
+none-thirds [] ms ns k h e j l = absurd (omega arith)
+none-thirds (s ∷ ss) [] ns k h e j l = absurd h
+none-thirds (s ∷ ss) (m ∷ ms) [] k h e j l = absurd h
+none-thirds (s ∷ ss) (m ∷ ms) (suc n ∷ ns) k h e j l = absurd (let z : _≡_ {A = ℕ} 0 1 = cc in omega arith)
+none-thirds (s ∷ ss) (m ∷ ms) (zero ∷ ns) k h e zero l = other (h .0)
+  where
+    other : Third s m 0 → isInt96 s ≡ false
+    other (inl q) = q .0
+    other (inr (inl q)) = absurd (omega (arith, q .0))
+    other (inr (inr q)) = absurd (omega (arith, q .1))
+none-thirds (s ∷ ss) (m ∷ ms) (zero ∷ ns) k h e (suc j) l = none-thirds ss ms ns (suc k) (h .1) e j (omega arith)
+
+pub keeps-none : (t : Tree) → unlawful THIRD t ≡ Verdict.Lawful → (j : ℕ) → j < length (listing t) → isInt96 (getD (listing t) j []) ≡ false
+unfolding unlawful
+keeps-none t e = none-thirds (listing t) (faults SECOND Root t) (faults THIRD Root t) 0 (tree-thirds t Root) e
+
+-- so of any slots, whatever else is wrong with them
+slots-third : (ss : List SlotBytes) → SameOr ss 0 (treeRefusal THIRD ss) (treeRefusal SECOND ss)
+unfolding orElse unlawful
+slots-third ss = rw (treeRefusal-places THIRD ss, treeRefusal-places SECOND ss) (places (orElse (leftOver ss) (missing ss)) refl)
+  where
+    deeper : (v : Verdict) → listing (treeOf ss) ≡ ss → SameOr ss 0 (orElse v (unlawful THIRD (treeOf ss))) (orElse v (unlawful SECOND (treeOf ss)))
+    deeper (Verdict.Refused r) e = inl refl
+    deeper Verdict.Lawful e =
+        subst (λ (l : List SlotBytes). SameOr l 0 (unlawful THIRD (treeOf ss)) (unlawful SECOND (treeOf ss))) e
+        (first-thirds (listing (treeOf ss)) (faults SECOND Root (treeOf ss)) (faults THIRD Root (treeOf ss)) 0 (tree-thirds (treeOf ss) Root))
 
     -- where 5 and 6 refuse nothing, the slots are the tree's
     fills : orElse (leftOver ss) (missing ss) ≡ Verdict.Lawful → listing (treeOf ss) ≡ ss
     fills e = let none = none-orElse _ _ e in fills-listing ss (accepted-fills ss (none .0) (none .1))
 
-    places : (v : Verdict) → orElse (leftOver ss) (missing ss) ≡ v → orElse v (deeper THIRD) ≡ orElse v (deeper SECOND)
-    places (Verdict.Refused r) e = refl
-    places Verdict.Lawful e =
-        ap (λ (v : Verdict). orElse (tooDeep (treeOf ss)) v) (ap (firstFault 0) (faults-same (treeOf ss) Root (subst Without (sym (fills e)) h)))
+    places : (v : Verdict) → orElse (leftOver ss) (missing ss) ≡ v → SameOr ss 0 (orElse v (orElse (tooDeep (treeOf ss)) (unlawful THIRD (treeOf ss)))) (orElse v (orElse (tooDeep (treeOf ss)) (unlawful SECOND (treeOf ss))))
+    places (Verdict.Refused r) e = inl refl
+    places Verdict.Lawful e = deeper (tooDeep (treeOf ss)) (fills e)
 
-pub judgement-same : (bytes : List ℕ) → Without (slots bytes) → judgement THIRD bytes ≡ judgement SECOND bytes
+-- and of any sheet
+abbrev pub Answered : List ℕ → Verdict → Verdict → Type 0
+Answered bytes v w = (v ≡ w) ⊎ ((j : ℕ) × (v ≡ Verdict.Refused (refusal MISPLACED j)) × FirstInt96 (slots bytes) j)
+
+pub judgement-third : (bytes : List ℕ) → Answered bytes (judgement THIRD bytes) (judgement SECOND bytes)
 unfolding judgement judgedAs outcome outcomeOf
-judgement-same bytes h = rw (openOf-edition THIRD SECOND bytes (known-of third) (known-of second)) (on (openOf SECOND bytes))
+judgement-third bytes = rw (openOf-edition THIRD SECOND bytes (known-of third) (known-of second)) (on (openOf SECOND bytes))
   where
-    on : (c : Counted) → judgedAs THIRD (outcomeOf bytes c) ≡ judgedAs SECOND (outcomeOf bytes c)
-    on (Counted.Count t) = slots-same (slots bytes) h
-    on (Counted.Refused r) = refl
+    from-first : {v w : Verdict} → SameOr (slots bytes) 0 v w → Answered bytes v w
+    from-first (inl e) = inl e
+    from-first (inr r) = inr (r .0, r .1 ∙ ap (λ (i : ℕ). Verdict.Refused (refusal MISPLACED i)) (omega arith), r .2)
+
+    on : (c : Counted) → Answered bytes (judgedAs THIRD (outcomeOf bytes c)) (judgedAs SECOND (outcomeOf bytes c))
+    on (Counted.Count t) = from-first (slots-third (slots bytes))
+    on (Counted.Refused r) = inl refl

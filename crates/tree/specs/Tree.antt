@@ -19,6 +19,13 @@ mutual
     empty : Fields
     field : Tree → Fields → Fields
 
+-- the slot of a tree's root, and its run
+abbrev pub slotOf : Tree → SlotBytes
+slotOf (node s fs) = s
+
+abbrev pub runOf : Tree → Fields
+runOf (node s fs) = fs
+
 -- a tree's listing: its root, then each field's listing in order
 unfoldable mutual
   pub listing : Tree → List SlotBytes

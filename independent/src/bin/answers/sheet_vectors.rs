@@ -60,9 +60,9 @@ pub fn answers(edition: u32, input: &[u8]) -> Vec<u8> {
             Ok(opened) => write!(lines, "nodes {}", opened.node_count()).unwrap(),
             Err(refusal) => write!(lines, "{refusal}").unwrap(),
         }
-        let (start, slot) = sheet::slot_at(sheet, node).unwrap_or((0, NOTHING));
+        let (start, slot) = sheet::slot_at(sheet, node).unwrap_or((0, Slot::UNUSED));
         let is = slot.name == text;
-        let (_, other) = sheet::slot_at(sheet, other).unwrap_or((0, NOTHING));
+        let (_, other) = sheet::slot_at(sheet, other).unwrap_or((0, Slot::UNUSED));
         let with = slot.name == [other.name, text].concat();
         writeln!(
             lines,
@@ -76,22 +76,6 @@ pub fn answers(edition: u32, input: &[u8]) -> Vec<u8> {
     }
     lines.into()
 }
-
-/// What stands past the end of a sheet.
-const NOTHING: Slot = Slot {
-    physical: 0,
-    repetition: 0,
-    converted: 0,
-    logical: 0,
-    a: 0,
-    b: 0,
-    children: 0,
-    type_length: 0,
-    scale: 0,
-    precision: 0,
-    name_length: 0,
-    name: b"",
-};
 
 /// A byte array named n: physical 6, as most nodes here.
 fn plain() -> Node {
