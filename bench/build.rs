@@ -1,4 +1,5 @@
-//! Links the archive that `rt staticlib griffeljol` writes, and the peers in C and C++, compiled at -O3.
+//! Links the archive that `rt staticlib griffeljol` writes, and the peers in C and C++, compiled at -O3, but those of
+//! boxes at -O2.
 //!
 //! Every function of each of them starts at a line of 64 bytes, and so do the functions in Rust (`.cargo/config.toml`). A short loop
 //! can take twice as long where it crosses a line, and without that, where it does would change with every link. The peers' loops
@@ -16,6 +17,7 @@ fn main() {
     println!("cargo::rerun-if-changed=peers");
     let mut objects = vec![
         compile(&out, "cc", &["-std=c99", "-DFIRST_BAD_CHECK=first_bad_check_cc"], "block_checks.c", "checks_cc.o"),
+        compile(&out, "cc", &["-std=c99", "-O2"], "boxes.c", "boxes.o"),
         compile(&out, "c++", &["-std=c++17"], "dates.cc", "dates.o"),
     ];
     if is_there("clang") {
@@ -43,7 +45,8 @@ fn link_archive(out: &Path) {
     println!("cargo::rustc-link-lib=static=griffeljol");
 }
 
-/// Compiles a file of peers/ for the processor family and not for this machine, as the archive is.
+/// Compiles a file of peers/ with some words, which come last, for the processor family and not for this machine, as
+/// the archive is.
 fn compile(out: &Path, compiler: &str, words: &[&str], source: &str, object: &str) -> PathBuf {
     let object = out.join(object);
     let source = Path::new("peers").join(source);

@@ -4,6 +4,7 @@
 #include "griffeljol.h"
 
 #include <inttypes.h>
+#include <math.h>
 #include <stdio.h>
 
 /* Whether an answer is a result; a refusal is told. */
@@ -112,6 +113,26 @@ static void int96(void)
     printf("\n");
 }
 
+/* The box of three terminals, one of which has no longitude; whether the second is inside it, and inside one that goes
+ * around. */
+static void box(void)
+{
+    const double terminals[6] = {174.76, -36.85, 178.44, -18.14, NAN, -13.83};
+    double bounds[GRIFFELJOL_BOX_WIDTH];
+    uint64_t answer = griffeljol_box(GRIFFELJOL_KIND_GEOGRAPHY, terminals, 6, bounds, GRIFFELJOL_BOX_WIDTH);
+    if (!accepted(answer) || griffeljol_value(answer) == 0)
+        return;
+    printf("x %.2f to %.2f, y %.2f to %.2f\n", bounds[GRIFFELJOL_BOX_XMIN], bounds[GRIFFELJOL_BOX_XMAX],
+           bounds[GRIFFELJOL_BOX_YMIN], bounds[GRIFFELJOL_BOX_YMAX]);
+    answer = griffeljol_inside(GRIFFELJOL_KIND_GEOGRAPHY, bounds[GRIFFELJOL_BOX_XMIN], bounds[GRIFFELJOL_BOX_XMAX],
+                               bounds[GRIFFELJOL_BOX_YMIN], bounds[GRIFFELJOL_BOX_YMAX], terminals[2], terminals[3]);
+    if (accepted(answer))
+        printf("%s\n", griffeljol_value(answer) ? "inside" : "outside");
+    answer = griffeljol_inside(GRIFFELJOL_KIND_GEOGRAPHY, 179, -179, -20, -10, terminals[2], terminals[3]);
+    if (accepted(answer))
+        printf("%s\n", griffeljol_value(answer) ? "inside" : "outside");
+}
+
 int main(int argc, char **argv)
 {
     /* One byte more than the longest sheet, so that a longer file is refused. */
@@ -130,5 +151,6 @@ int main(int argc, char **argv)
     order_values();
     timestamp();
     int96();
+    box();
     return 0;
 }

@@ -2,7 +2,7 @@
  *
  * Link the archive libgriffeljol.a, which `rt staticlib griffeljol` proves and writes to target/staticlib; it links into x86-64 Linux
  * programs. "Document 01" is the paper that defines the sheet, the rows and the refusals, "document 02" the one that adds
- * editions, comparison and the turning of INT96 times.
+ * editions, comparison, the turning of INT96 times, and boxes of points.
  *
  * Answers
  *   Each function answers one uint64_t. Bits 32 to 39 are the number of a refusal, 1 to 21, or 0 for a result. Bits 0 to 31
@@ -15,7 +15,9 @@
  *   What reads or judges a sheet or a column type takes the number of an edition first. In edition 1 the scale of a DECIMAL is
  *   below its precision, as document 01 has it; in edition 2 it may also equal it. All else is the same in both: what edition 1
  *   accepts, edition 2 accepts with the same answer. Edition 3 is edition 2 without INT96: such a leaf is refused with 10, whatever
- *   its annotation, and such a column type with 20. Any other number is refused with 21, before every other refusal.
+ *   its annotation, and such a column type with 20. It also has GEOMETRY and GEOGRAPHY, whose numbers the other two
+ *   refuse with 4 in a sheet and with 20 in a column type. Any other number of an edition is refused with 21, before
+ *   every other refusal.
  *
  * Memory
  *   An array is a pointer and a length, which counts elements and not bytes. The pointer is aligned for its type; that many
@@ -44,7 +46,7 @@ extern "C" {
 /* Editions. */
 #define GRIFFELJOL_EDITION_1 1 /* a DECIMAL's scale is below its precision */
 #define GRIFFELJOL_EDITION_2 2 /* it is at most its precision */
-#define GRIFFELJOL_EDITION_3 3 /* likewise, and no leaf is INT96 */
+#define GRIFFELJOL_EDITION_3 3 /* likewise, no leaf is INT96, and one may be GEOMETRY or GEOGRAPHY */
 
 /* The most bytes of a sheet, its most nodes, and the most bytes of a value. */
 #define GRIFFELJOL_MAX_SHEET 65536
@@ -100,6 +102,13 @@ extern "C" {
 #define GRIFFELJOL_INT96_DAY 8
 #define GRIFFELJOL_INT96_EPOCH 2440588
 
+/* The numbers of a bounding box, and which stands where. */
+#define GRIFFELJOL_BOX_WIDTH 4
+#define GRIFFELJOL_BOX_XMIN 0
+#define GRIFFELJOL_BOX_XMAX 1
+#define GRIFFELJOL_BOX_YMIN 2
+#define GRIFFELJOL_BOX_YMAX 3
+
 /* Physical types. */
 #define GRIFFELJOL_PHYSICAL_BOOLEAN 0
 #define GRIFFELJOL_PHYSICAL_INT32 1
@@ -118,7 +127,7 @@ extern "C" {
 #define GRIFFELJOL_REPETITION_NONE 255
 
 /* Kinds. p1 and p2 are precision and scale of a DECIMAL; unit and UTC (1 or 0) of a TIME or TIMESTAMP; bit width and signed
- * (1 or 0) of an INTEGER; else 0. */
+ * (1 or 0) of an INTEGER; edge rule and 0 of a GEOGRAPHY; else 0. */
 #define GRIFFELJOL_KIND_PLAIN_LEAF 0
 #define GRIFFELJOL_KIND_STRING 1
 #define GRIFFELJOL_KIND_MAP 2
@@ -133,6 +142,8 @@ extern "C" {
 #define GRIFFELJOL_KIND_JSON 12
 #define GRIFFELJOL_KIND_BSON 13
 #define GRIFFELJOL_KIND_UUID 14
+#define GRIFFELJOL_KIND_GEOMETRY 17  /* in edition 3, as the next */
+#define GRIFFELJOL_KIND_GEOGRAPHY 18
 #define GRIFFELJOL_KIND_INTERVAL 21
 #define GRIFFELJOL_KIND_PLAIN_GROUP 30
 
@@ -161,7 +172,7 @@ extern "C" {
 #define GRIFFELJOL_CONVERTED_INTERVAL 21
 #define GRIFFELJOL_CONVERTED_NONE 255
 
-/* Logical types, as a slot has them: none, or the number of the kind from GRIFFELJOL_KIND_STRING to _UUID. */
+/* Logical types, as a slot has them: none, or the number of the kind from GRIFFELJOL_KIND_STRING to _GEOGRAPHY. */
 #define GRIFFELJOL_LOGICAL_NONE 0
 
 /* Codes of a comparison's entries. That of a field is where its first byte stands in the slot. */
@@ -195,6 +206,13 @@ extern "C" {
 #define GRIFFELJOL_UNIT_MILLIS 1
 #define GRIFFELJOL_UNIT_MICROS 2
 #define GRIFFELJOL_UNIT_NANOS 3
+
+/* Edge rules: how the points between two vertices of a GEOGRAPHY are found. */
+#define GRIFFELJOL_EDGE_RULE_SPHERICAL 0
+#define GRIFFELJOL_EDGE_RULE_VINCENTY 1
+#define GRIFFELJOL_EDGE_RULE_THOMAS 2
+#define GRIFFELJOL_EDGE_RULE_ANDOYER 3
+#define GRIFFELJOL_EDGE_RULE_KARNEY 4
 
 /* The cases of a read value. */
 #define GRIFFELJOL_CASE_TRUTH 0
@@ -363,6 +381,31 @@ uint64_t griffeljol_from_int96(const uint8_t *value, size_t value_len, int64_t *
  * Result: GRIFFELJOL_INT96_WIDTH, the bytes written; those behind them stay.
  * Refusals: 14 where value_len is below GRIFFELJOL_INT96_WIDTH. value stays as it was. */
 uint64_t griffeljol_to_int96(int64_t count, uint8_t *value, size_t value_len);
+
+/* Finds the bounding box of points. It takes no edition, as griffeljol_inside.
+ *   kind          GRIFFELJOL_KIND_GEOMETRY or _GEOGRAPHY
+ *   coordinates   x and y of each point in turn, any doubles; coordinates_len counts the doubles and not the points
+ *   box           where xmin, xmax, ymin and ymax go
+ * Result: GRIFFELJOL_BOX_WIDTH, the numbers written, or 0 where there is no box and nothing is written; the numbers
+ * behind the box stay. A coordinate that is a NaN is skipped, and the other one of its point still counts. Every
+ * coordinate that counts lies from the least bound of its axis to the greatest, and each bound equals one of them; a
+ * zero may be written with either sign. There is no box exactly where an axis has no coordinate that counts, so also
+ * where there are no points.
+ * Refusals: 20 for another kind, then 15 where coordinates_len is odd, then 16 where, for GEOGRAPHY, a coordinate that
+ * is no NaN lies outside [-180, 180] in x or [-90, 90] in y, then 14 where there is a box and box_len is below
+ * GRIFFELJOL_BOX_WIDTH. box stays as it was. */
+uint64_t griffeljol_box(uint32_t kind, const double *coordinates, size_t coordinates_len, double *box, size_t box_len);
+
+/* Tests whether a point is inside a bounding box, its bounds included.
+ *   kind                     GRIFFELJOL_KIND_GEOMETRY or _GEOGRAPHY
+ *   xmin, xmax, ymin, ymax   the box. Where xmin is above xmax it goes around: x is inside where it is at least xmin or
+ *                            at most xmax
+ *   x, y                     the point; a NaN is inside nothing
+ * Result: 1 where both coordinates are inside, else 0. Nothing is written.
+ * Refusals: 20 for another kind, then 16 for a box with a NaN, with ymin above ymax or, for GEOGRAPHY, with a bound
+ * outside [-180, 180] in x or [-90, 90] in y, and for a point of GEOGRAPHY with a coordinate outside them that is no
+ * NaN. */
+uint64_t griffeljol_inside(uint32_t kind, double xmin, double xmax, double ymin, double ymax, double x, double y);
 
 #ifdef __cplusplus
 }

@@ -36,7 +36,9 @@ pub enum Goal {
     Millisecond,
     /// The time of each of some contenders.
     TimeOf(&'static [&'static str]),
-    /// The same, and an eighth of the time of one more.
+    /// The time of one of the contenders and a fifth more.
+    FifthAbove(&'static str),
+    /// The time of each of some contenders, and an eighth of the time of one more.
     EighthOf(&'static str, &'static [&'static str]),
     /// A decimal of 16 bytes.
     Decimal,
@@ -51,6 +53,8 @@ pub struct Contender<'a> {
     pub name: &'static str,
     /// Does it so many times.
     pub run: Box<dyn FnMut(usize) + 'a>,
+    /// Whether it is so slow that it is timed in a few rounds alone, and its instructions are not counted.
+    pub is_slow: bool,
 }
 
 impl<'a> Contender<'a> {
@@ -61,7 +65,12 @@ impl<'a> Contender<'a> {
                 once();
             }
         };
-        Contender { name, run: Box::new(run) }
+        Contender { name, run: Box::new(run), is_slow: false }
+    }
+
+    /// The same as one that is slow.
+    pub fn slow(self) -> Self {
+        Contender { is_slow: true, ..self }
     }
 }
 

@@ -33,7 +33,7 @@ fn times(case: &Case) -> usize {
 pub fn work_between_marks(cases: &mut [Case]) {
     for case in cases {
         let times = times(case);
-        for contender in &mut case.contenders {
+        for contender in case.contenders.iter_mut().filter(|contender| !contender.is_slow) {
             // Once before, so that whatever is done at a first call is done.
             (contender.run)(black_box(1));
             griffeljol_bench_mark();
@@ -45,7 +45,7 @@ pub fn work_between_marks(cases: &mut [Case]) {
     }
 }
 
-/// The instructions for an item of each contender of the cases that have a word.
+/// The instructions for an item of each contender of the cases that have a word; none of a slow one.
 pub fn count(cases: &[Case], word: &str) -> io::Result<Vec<Vec<f64>>> {
     let folder = env::temp_dir().join(format!("griffeljol-bench-{}", process::id()));
     fs::create_dir(&folder)?;
@@ -71,7 +71,11 @@ fn count_in(folder: &Path, cases: &[Case], word: &str) -> io::Result<Vec<Vec<f64
     let mut counts = Vec::new();
     for case in cases {
         let mut of_case = Vec::new();
-        for _ in &case.contenders {
+        for contender in &case.contenders {
+            if contender.is_slow {
+                of_case.push(f64::NAN);
+                continue;
+            }
             // What is written at the second mark is counted from the first on.
             let once = total(&part(&out, marks + 2))?;
             let twice = total(&part(&out, marks + 3))?;

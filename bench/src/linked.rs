@@ -3,7 +3,7 @@
 #[path = "../../wrapper/src/boundary.rs"]
 mod boundary;
 
-pub use boundary::{compare, decode, encode, from_int96, order, read, resolve, rewrite, to_int96};
+pub use boundary::{box_of, compare, decode, encode, from_int96, inside, order, read, resolve, rewrite, to_int96};
 
 /// The edition that is measured.
 pub const EDITION: u32 = independent::edition::FIRST;

@@ -1,5 +1,6 @@
 //! Measures the library beside the independent reader and beside what a user would pick instead: time and instructions.
 
+mod box_cases;
 mod byte_loop;
 mod case;
 mod check_cases;
@@ -78,6 +79,7 @@ fn cases(word: &str) -> Vec<Case<'static>> {
     cases.extend(check_cases::cases());
     cases.extend(timestamp_cases::cases());
     cases.extend(int96_cases::cases());
+    cases.extend(box_cases::cases());
     cases.extend(decimal_cases::cases());
     cases.extend(text_cases::cases());
     cases.retain(|case| case.entry.contains(word) || case.input.contains(word));

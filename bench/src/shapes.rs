@@ -1,4 +1,4 @@
-//! Sheets of any number of nodes in four shapes, and of columns in any order.
+//! Sheets of any number of nodes in four shapes, of columns in any order, and of leaves that are all alike.
 
 use independent::codes::{converted, logical, physical, repetition};
 use independent::sheet::{self, Slot};
@@ -143,6 +143,16 @@ pub fn columns(numbers: &[usize], name: fn(usize) -> String) -> Vec<u8> {
         listing.claim();
         listing.column(at, (at % 2) as u8);
         listing.nodes.last_mut().expect("it was pushed").name = name(at);
+    }
+    listing.sheet()
+}
+
+/// A root with leaves of BYTE_ARRAY that all have one annotation.
+pub fn leaves(annotation: [u8; 4], nodes: usize) -> Vec<u8> {
+    let mut listing = Listing::new();
+    for at in 1..nodes {
+        listing.claim();
+        listing.push(physical::BYTE_ARRAY, (at % 2) as u8, annotation, 0, name(at));
     }
     listing.sheet()
 }

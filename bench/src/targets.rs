@@ -21,6 +21,8 @@ const DECIMAL: f64 = 30.0;
 const PRECISION_SPAN: f64 = 1.1;
 /// How far a time may be above another and still count as that.
 const TOLERANCE: f64 = 1.05;
+/// How much dearer a box may be than by a plain loop.
+const FIFTH_ABOVE: f64 = 1.2;
 /// The greatest sheet.
 const MOST_NODES: usize = 896;
 
@@ -39,6 +41,7 @@ pub fn print(measured: &[Measured]) {
             Goal::IndependentSpeed => lines.extend(independent_speed(one)),
             Goal::Millisecond => lines.push(millisecond(one)),
             Goal::TimeOf(names) => lines.extend(names.iter().filter_map(|name| time_of(one, name))),
+            Goal::FifthAbove(name) => lines.extend(fifth_above(one, name)),
             Goal::EighthOf(name, names) => {
                 lines.extend(eighth_of(one, name));
                 lines.extend(names.iter().filter_map(|name| time_of(one, name)));
@@ -100,6 +103,12 @@ fn time_of(one: &Measured, name: &str) -> Option<Line> {
     let times = one.library().times.over(&one.of(name)?.times);
     let to_reach = format!("the time of {name}, or less");
     Some(line(one, &to_reach, format!("{times:.2} times"), times <= TOLERANCE))
+}
+
+fn fifth_above(one: &Measured, name: &str) -> Option<Line> {
+    let times = one.library().times.over(&one.of(name)?.times);
+    let to_reach = format!("at most 1.2 times the time of {name}");
+    Some(line(one, &to_reach, format!("{times:.2} times"), times <= FIFTH_ABOVE))
 }
 
 fn eighth_of(one: &Measured, name: &str) -> Option<Line> {

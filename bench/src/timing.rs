@@ -5,6 +5,9 @@ use std::time::{Duration, Instant};
 
 use crate::case::Case;
 
+/// In how many rounds a slow contender has a turn, the first ones.
+const SLOW_ROUNDS: usize = 5;
+
 /// How long it is measured.
 pub struct Plan {
     pub rounds: usize,
@@ -12,7 +15,7 @@ pub struct Plan {
     pub turn: Duration,
 }
 
-/// Nanoseconds for an item, one number for each round.
+/// Nanoseconds for an item, one number for each round, from the first on.
 #[derive(Clone)]
 pub struct Times(Vec<f64>);
 
@@ -28,7 +31,7 @@ impl Times {
         spread(self.0.clone())
     }
 
-    /// How often other times go into these: the median of what it is in each round.
+    /// How often other times go into these: the median of what it is in each round that has both.
     pub fn over(&self, other: &Times) -> f64 {
         spread(self.0.iter().zip(&other.0).map(|(one, other)| one / other).collect()).median
     }
@@ -44,6 +47,9 @@ pub fn time(cases: &mut [Case], plan: &Plan) -> Vec<Vec<Times>> {
             for turn in 0..count {
                 // Everyone comes first equally often.
                 let who = (round + turn) % count;
+                if case.contenders[who].is_slow && round >= SLOW_ROUNDS {
+                    continue;
+                }
                 // Once before it counts, so that nobody pays for what others left in the caches.
                 (case.contenders[who].run)(1);
                 let nanos = measure(case, who, repeats[at][who]).as_nanos() as f64;

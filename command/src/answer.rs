@@ -8,13 +8,13 @@ pub struct Answer {
     pub status: ExitCode,
 }
 
-/// The status where two sheets differ.
-const DIFFERENT: u8 = 3;
+/// The status of a no: two sheets are not the same, or a point is not inside.
+const NO: u8 = 3;
 
 impl Answer {
-    /// A comparison's answer.
-    pub fn compared(text: String, differ: bool) -> Self {
-        let status = if differ { ExitCode::from(DIFFERENT) } else { ExitCode::SUCCESS };
+    /// The answer to a question of yes or no.
+    pub fn yes_or_no(text: String, is_yes: bool) -> Self {
+        let status = if is_yes { ExitCode::SUCCESS } else { ExitCode::from(NO) };
         Answer { text: text.into_bytes(), status }
     }
 }

@@ -18,6 +18,8 @@ pub const OUTPUT: &str = "-o";
 pub const HEX: &str = "--hex";
 /// A file of many values; takes a word.
 pub const FILE: &str = "--file";
+/// Points as doubles, and not as text.
+pub const BINARY: &str = "--binary";
 /// The edition that judges a sheet or a column type; takes a word.
 pub const EDITION: &str = "--edition";
 
@@ -48,7 +50,7 @@ impl Arguments {
                     return Err(Failure::arguments(format!("{option} is given twice")));
                 }
                 let operand = match *option {
-                    JSON | REPORT => OsString::new(),
+                    BINARY | JSON | REPORT => OsString::new(),
                     _ => given.next().ok_or_else(|| Failure::arguments(format!("{option} needs a word behind it")))?,
                 };
                 options.push((option, operand));
@@ -115,7 +117,13 @@ pub fn is_help(word: &OsStr) -> bool {
 /// Whether a word is an option: a dash and more, but no number.
 fn is_option(word: &OsStr) -> bool {
     match word.as_encoded_bytes() {
-        [b'-', next, ..] => !next.is_ascii_digit(),
+        [b'-', rest @ ..] => !rest.is_empty() && !begins_a_number(rest),
         _ => false,
     }
+}
+
+/// Whether what stands behind a minus is, or begins, a number: a digit, a point, an infinity or a NaN.
+fn begins_a_number(text: &[u8]) -> bool {
+    let begins_with = |word: &[u8]| text.get(..word.len()).is_some_and(|start| start.eq_ignore_ascii_case(word));
+    text[0].is_ascii_digit() || [&b"."[..], b"inf", b"nan"].into_iter().any(begins_with)
 }

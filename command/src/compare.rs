@@ -42,5 +42,5 @@ pub fn run(mut arguments: Arguments) -> Result<Answer, Failure> {
     } else {
         differences::lines(&told).concat()
     };
-    Ok(Answer::compared(text, !found.is_empty()))
+    Ok(Answer::yes_or_no(text, found.is_empty()))
 }

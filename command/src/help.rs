@@ -15,20 +15,25 @@ griffeljol reads Parquet schema sheets. Every answer is the proved library's.
                                            a count as a date and time, and back
   griffeljol int96 decode (HEX | --file FILE) [--json]
   griffeljol int96 encode COUNT [--json]   an INT96 time as a count and its date and time, and back
+  griffeljol box KIND FILE [--binary] [--json]
+                                           the bounding box of points
+  griffeljol inside KIND BOX POINT [--json]
+                                           whether a point is inside a bounding box
   griffeljol COMMAND --help                more on one of them
 
-All but timestamp and int96 take --edition N, the edition that judges the sheet or the column type, which is 1 without
-it.
+All but timestamp, int96, box and inside take --edition N, the edition that judges the sheet or the column type, which
+is 1 without it.
 
 FILE, one of A and B, and OUT may be - for standard input and standard output. Behind -- every word is taken as it
 stands.
 
 Exit status
-    0  done; of compare, the sheets do not differ
+    0  done; of compare, the sheets do not differ; of inside, the point is inside
     1  refused: standard error has the line 'refused N at P', then its meaning in words; of int96 decode --file, how
        many values were refused
-    2  wrong arguments, or a file that cannot be read or written: standard error has one line
-    3  of compare, the sheets differ
+    2  wrong arguments, or a file that cannot be read or written or has no points where it must: standard error has one
+       line
+    3  of compare, the sheets differ; of inside, the point is outside
   141  whoever read standard output stopped reading; nothing is said
 ";
 
@@ -36,7 +41,8 @@ Exit status
 pub const EDITION: &str = "
   --edition N   judges by edition N, 1 to 3, and by 1 without it. In edition 1 the scale of a DECIMAL is below its
                 precision, in 2 and 3 it may also equal it. In 3 no leaf is INT96: one is refused with 10, and such a
-                column type with 20. A number that is no known edition is refused with 21
+                column type with 20; and a leaf may be GEOMETRY or GEOGRAPHY, which in 1 and 2 are refused with 4, and
+                such column types with 20. A number that is no known edition is refused with 21
 ";
 
 pub const ROWS: &str = "\
@@ -120,9 +126,10 @@ byte where its whole sequences, read from the start, stop.
   PHYSICAL   0 BOOLEAN  1 INT32  2 INT64  3 INT96  4 FLOAT  5 DOUBLE  6 BYTE_ARRAY  7 FIXED_LEN_BYTE_ARRAY
   LENGTH     bytes of a FIXED_LEN_BYTE_ARRAY, else 0
   KIND       0 none  1 STRING  4 ENUM  5 DECIMAL  6 DATE  7 TIME  8 TIMESTAMP  10 INTEGER  11 UNKNOWN  12 JSON
-             13 BSON  14 UUID  21 INTERVAL
+             13 BSON  14 UUID  21 INTERVAL, and in edition 3  17 GEOMETRY  18 GEOGRAPHY
   P1 P2      DECIMAL: precision and scale. TIME, TIMESTAMP: unit (1 millis, 2 micros, 3 nanos) and UTC (1 or 0).
-             INTEGER: bit width and signed (1 or 0). Else 0 0
+             INTEGER: bit width and signed (1 or 0). GEOGRAPHY: edge rule (0 SPHERICAL, 1 VINCENTY, 2 THOMAS,
+             3 ANDOYER, 4 KARNEY) and 0. Else 0 0
 
 For example, a DECIMAL of precision 3 and scale 2 on BYTE_ARRAY: griffeljol value 6 0 5 3 2 --hex FF
 ";
@@ -165,4 +172,41 @@ refused with 15, a full day of nanoseconds or more with 16, and a time that no c
 For example:
   griffeljol int96 decode 0080A7484A27000059682500
   griffeljol int96 encode 946728000000000000
+";
+
+pub const BOX: &str = "\
+griffeljol box KIND FILE [--binary] [--json]
+
+Finds the bounding box of the points in FILE, or on standard input for -, and prints 'xmin A xmax B ymin C ymax D', or
+'no box' where no point has an x or none has a y. KIND is GEOMETRY or GEOGRAPHY, or its number, 17 or 18; every other
+number is refused with 20. A coordinate that is nan is skipped, and the other one of its point still counts. One of
+GEOGRAPHY that lies outside [-180, 180] in x or [-90, 90] in y is refused with 16.
+
+FILE has a point on a line: x and y, two numbers with spaces, tabs or one comma between them. A number is a decimal, as
+-36.85 or 1e-3, or nan, inf or -inf in capitals or not. Empty lines are skipped. Any other line, one of more than 4096
+bytes and a decimal that no double reaches are told with the line's number, and the status is 2.
+
+  --binary   FILE has x and y in turn as doubles of 8 bytes, little-endian. An odd number of them is refused with 15
+  --json     prints an object with the box, which has four numbers or is null. An infinity is the text inf or -inf. A
+             refusal is printed as an object, besides its words on standard error
+
+Each bound stands as the shortest decimal that reads back as the same double.
+";
+
+pub const INSIDE: &str = "\
+griffeljol inside KIND BOX POINT [--json]
+
+Prints 'inside' where a point is inside a bounding box, its bounds included, and exits 0; or prints 'outside', and exits
+3. KIND is GEOMETRY or GEOGRAPHY, or its number, 17 or 18; every other number is refused with 20. BOX is xmin, xmax,
+ymin and ymax and POINT is x and y, with a comma and no blank between each two. Numbers are spelled as in the file of
+griffeljol box.
+
+Where xmin is above xmax the box goes around, and x is inside where it is at least xmin or at most xmax. A coordinate
+that is nan is inside nothing. A box with nan or with ymin above ymax is refused with 16, and so are a bound and a
+coordinate of GEOGRAPHY that lie outside [-180, 180] in x or [-90, 90] in y.
+
+  --json   prints an object with a truth value. A refusal is printed as an object, besides its words on standard error
+
+For example, across the line of 180 degrees:
+  griffeljol inside GEOGRAPHY 177,-178,-21,-12 178.44,-18.14
 ";

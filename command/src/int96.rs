@@ -1,7 +1,7 @@
 //! `griffeljol int96`: an INT96 time as a count and its date and time, one or a file of many, and back.
 
 use std::ffi::{OsStr, OsString};
-use std::io::{self, BufReader, BufWriter, Read, Write};
+use std::io::{self, BufWriter, Write};
 
 use griffeljol::codes::unit;
 use griffeljol::{Fields, Refusal, INT96_WIDTH};
@@ -9,9 +9,10 @@ use griffeljol::{Fields, Refusal, INT96_WIDTH};
 use crate::answer::Answer;
 use crate::arguments::{Arguments, FILE, JSON};
 use crate::failure::{Failure, Refused};
-use crate::files::{self, STANDARD};
+use crate::files::STANDARD;
 use crate::json::{self, Json};
 use crate::progress::Progress;
+use crate::values::Values;
 use crate::{hex, timestamp};
 
 /// What is asked.
@@ -88,7 +89,7 @@ pub fn time_of(value: &[u8]) -> Option<String> {
 
 /// Turns the values of a file one by one, and prints a line for each as it goes.
 fn decode_file(name: &OsStr, wants_json: bool) -> Result<Answer, Failure> {
-    let mut values = Values::open(name)?;
+    let mut values = Values::open(name, INT96_WIDTH)?;
     let mut out = BufWriter::new(io::stdout().lock());
     let mut progress = Progress::new();
     let (mut count, mut refused) = (0, 0);
@@ -116,30 +117,6 @@ fn decode_file(name: &OsStr, wants_json: bool) -> Result<Answer, Failure> {
 
 fn written(error: io::Error) -> Failure {
     Failure::write(OsStr::new(STANDARD), error)
-}
-
-/// The values of a file, of which only a part is held at a time.
-struct Values {
-    reader: BufReader<Box<dyn Read>>,
-    value: Vec<u8>,
-}
-
-impl Values {
-    fn open(name: &OsStr) -> Result<Self, Failure> {
-        Ok(Values { reader: BufReader::new(files::open(name)?), value: Vec::with_capacity(INT96_WIDTH) })
-    }
-
-    /// Whether the next value is there without reading on.
-    fn has_next(&self) -> bool {
-        self.reader.buffer().len() >= INT96_WIDTH
-    }
-
-    /// The bytes of the next value: fewer where the file ends within it, and none at its end.
-    fn next(&mut self) -> io::Result<&[u8]> {
-        self.value.clear();
-        self.reader.by_ref().take(INT96_WIDTH as u64).read_to_end(&mut self.value)?;
-        Ok(&self.value)
-    }
 }
 
 /// A value of a file on a line.

@@ -21,6 +21,16 @@ impl Json {
         Json::Number(number.to_string())
     }
 
+    /// A double as the shortest decimal that reads back as it. What JSON cannot spell is a text.
+    pub fn double(double: f64) -> Self {
+        let shortest = format!("{double:?}");
+        if double.is_finite() {
+            Json::Number(shortest)
+        } else {
+            Json::Text(shortest)
+        }
+    }
+
     /// A text.
     pub fn text(text: impl Into<String>) -> Self {
         Json::Text(text.into())

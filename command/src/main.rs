@@ -1,10 +1,12 @@
-//! The command `griffeljol`: rows, rewriting, the tree, comparison, single values, timestamps and INT96 times, by the proved library.
+//! The command `griffeljol`: rows, rewriting, the tree, comparison, single values, timestamps, INT96 times and boxes of
+//! points, by the proved library.
 //!
 //! It judges nothing: every answer is the library's. Of an accepted sheet it reads names, logical types and checks itself, by
 //! the layout of document 01 (`layout`), to say in words what the library answers.
 
 mod answer;
 mod arguments;
+mod boxes;
 mod compare;
 mod compared;
 mod differences;
@@ -16,6 +18,7 @@ mod int96;
 mod json;
 mod layout;
 mod names;
+mod points;
 mod progress;
 mod report;
 mod rewrite;
@@ -24,6 +27,7 @@ mod table;
 mod timestamp;
 mod tree;
 mod value;
+mod values;
 mod words;
 
 use std::env;
@@ -31,7 +35,7 @@ use std::ffi::OsString;
 use std::process::ExitCode;
 
 use answer::Answer;
-use arguments::{Arguments, EDITION, FILE, HEX, JSON, OUTPUT, REPORT};
+use arguments::{Arguments, BINARY, EDITION, FILE, HEX, JSON, OUTPUT, REPORT};
 use failure::Failure;
 use json::Json;
 
@@ -43,7 +47,7 @@ struct Command {
     run: fn(Arguments) -> Result<Answer, Failure>,
 }
 
-const COMMANDS: [Command; 7] = [
+const COMMANDS: [Command; 9] = [
     Command { name: "rows", options: &[EDITION, JSON], help: help::ROWS, run: rows::run },
     Command { name: "rewrite", options: &[EDITION, OUTPUT], help: help::REWRITE, run: rewrite::run },
     Command { name: "tree", options: &[EDITION, JSON], help: help::TREE, run: tree::run },
@@ -51,6 +55,8 @@ const COMMANDS: [Command; 7] = [
     Command { name: "value", options: &[EDITION, HEX, JSON], help: help::VALUE, run: value::run },
     Command { name: "timestamp", options: &[JSON], help: help::TIMESTAMP, run: timestamp::run },
     Command { name: "int96", options: &[FILE, JSON], help: help::INT96, run: int96::run },
+    Command { name: "box", options: &[BINARY, JSON], help: help::BOX, run: boxes::run },
+    Command { name: "inside", options: &[JSON], help: help::INSIDE, run: boxes::run_inside },
 ];
 
 fn main() -> ExitCode {

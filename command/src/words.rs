@@ -1,6 +1,6 @@
 //! The words for the numbers of rows and slots, by the names of document 01.
 
-use griffeljol::codes::{converted, kind, logical, physical, repetition, role, unit};
+use griffeljol::codes::{converted, edge_rule, kind, logical, physical, repetition, role, unit};
 use griffeljol::Row;
 
 /// What stands for an annotation, a parameter or a repetition that is not there.
@@ -38,6 +38,7 @@ pub fn annotation(row: &Row) -> Option<String> {
         kind::DECIMAL => format!("DECIMAL(precision {}, scale {})", row.p1, row.p2),
         kind::TIME | kind::TIMESTAMP => format!("{}({}, {})", logical(row.kind), unit_name(row.p1), adjusted(row.p2)),
         kind::INTEGER => format!("INT({}, {})", row.p1, signed(row.p2)),
+        kind::GEOGRAPHY => format!("GEOGRAPHY({})", edge_rule_name(row.p1)),
         kind::INTERVAL => "INTERVAL".to_owned(),
         // Every other kind has the code of its logical type.
         code => logical(code).to_owned(),
@@ -61,6 +62,8 @@ pub fn logical(code: u32) -> &'static str {
         logical::JSON => "JSON",
         logical::BSON => "BSON",
         logical::UUID => "UUID",
+        logical::GEOMETRY => "GEOMETRY",
+        logical::GEOGRAPHY => "GEOGRAPHY",
         _ => "logical unknown",
     }
 }
@@ -100,6 +103,7 @@ pub fn parameter_a(logical: u32, a: u32) -> String {
     match logical {
         logical::INTEGER => format!("{a} bits"),
         logical::TIME | logical::TIMESTAMP => unit_name(a).to_owned(),
+        logical::GEOGRAPHY => edge_rule_name(a).to_owned(),
         _ => NONE.to_owned(),
     }
 }
@@ -120,6 +124,18 @@ fn unit_name(code: u32) -> &'static str {
         unit::MICROS => "MICROS",
         unit::NANOS => "NANOS",
         _ => "unit unknown",
+    }
+}
+
+/// An edge rule.
+fn edge_rule_name(code: u32) -> &'static str {
+    match code {
+        edge_rule::SPHERICAL => "SPHERICAL",
+        edge_rule::VINCENTY => "VINCENTY",
+        edge_rule::THOMAS => "THOMAS",
+        edge_rule::ANDOYER => "ANDOYER",
+        edge_rule::KARNEY => "KARNEY",
+        _ => "edge rule unknown",
     }
 }
 

@@ -46,6 +46,8 @@ fn nobody_reads_standard_output() {
         &["value", "6", "0", "0", "0", "0", "-"],
         &["int96", "decode", "--file", "-"],
         &["int96", "decode", "--file", "-", "--json"],
+        &["box", "17", "-", "--binary"],
+        &["box", "17", "-", "--binary", "--json"],
     ];
     for words in lines {
         let mut child = start(words);

@@ -24,6 +24,30 @@ pub enum Logical {
     Json,
     Bson,
     Uuid,
+    Geometry,
+    Geography { edge_rule: EdgeRule },
+}
+
+/// How the points of an edge between two vertices of a GEOGRAPHY are found; its number is parameter a.
+#[allow(missing_docs)]
+#[derive(Clone, Copy, Debug, PartialEq, Eq)]
+pub enum EdgeRule {
+    Spherical = 0,
+    Vincenty = 1,
+    Thomas = 2,
+    Andoyer = 3,
+    Karney = 4,
+}
+
+impl EdgeRule {
+    /// All of them, by their numbers.
+    pub const ALL: [EdgeRule; 5] =
+        [EdgeRule::Spherical, EdgeRule::Vincenty, EdgeRule::Thomas, EdgeRule::Andoyer, EdgeRule::Karney];
+
+    /// The edge rule of a number.
+    pub fn from_code(code: u8) -> Option<Self> {
+        Self::ALL.get(usize::from(code)).copied()
+    }
 }
 
 impl Logical {
@@ -40,6 +64,10 @@ impl Logical {
             logical::TIMESTAMP => {
                 return Some(Logical::Timestamp { unit: Unit::from_code(a.into())?, is_adjusted_to_utc: flag(b)? })
             }
+            logical::GEOGRAPHY => {
+                let edge_rule = EdgeRule::from_code(a)?;
+                return (b == 0).then_some(Logical::Geography { edge_rule });
+            }
             logical::STRING => Logical::String,
             logical::MAP => Logical::Map,
             logical::LIST => Logical::List,
@@ -50,6 +78,7 @@ impl Logical {
             logical::JSON => Logical::Json,
             logical::BSON => Logical::Bson,
             logical::UUID => Logical::Uuid,
+            logical::GEOMETRY => Logical::Geometry,
             _ => return None,
         };
         (a == 0 && b == 0).then_some(plain)
@@ -71,6 +100,8 @@ impl Logical {
             Logical::Json => logical::JSON,
             Logical::Bson => logical::BSON,
             Logical::Uuid => logical::UUID,
+            Logical::Geometry => logical::GEOMETRY,
+            Logical::Geography { .. } => logical::GEOGRAPHY,
         }
     }
 
@@ -81,6 +112,7 @@ impl Logical {
             Logical::Time { unit, is_adjusted_to_utc } | Logical::Timestamp { unit, is_adjusted_to_utc } => {
                 (unit as u8, is_adjusted_to_utc.into())
             }
+            Logical::Geography { edge_rule } => (edge_rule as u8, 0),
             _ => (0, 0),
         }
     }
@@ -112,7 +144,7 @@ impl Logical {
                 (64, true) => converted::INT_64,
                 _ => return None,
             },
-            Logical::Unknown | Logical::Uuid => return None,
+            Logical::Unknown | Logical::Uuid | Logical::Geometry | Logical::Geography { .. } => return None,
         })
     }
 
@@ -193,6 +225,9 @@ impl Annotation {
                 matches!(physical, physical::INT32 | physical::INT64 | physical::FIXED | physical::BYTE_ARRAY)
             }
             Logical::List | Logical::Map => physical == physical::GROUP,
+            Logical::Geometry | Logical::Geography { .. } => {
+                edition.has_geospatial_types() && physical == physical::BYTE_ARRAY
+            }
         }
     }
 
@@ -217,6 +252,11 @@ impl Annotation {
             Annotation::Logical(logical) => logical.code(),
             Annotation::Interval => kind::INTERVAL,
         }
+    }
+
+    /// Whether values under it have no order, whatever they are.
+    pub fn has_no_order(self) -> bool {
+        matches!(self, Annotation::Interval | Annotation::Logical(Logical::Geometry | Logical::Geography { .. }))
     }
 }
 

@@ -1,4 +1,4 @@
-//! The numeric codes of parquet.thrift, as document 01 lists them.
+//! The numeric codes of parquet.thrift, as document 01 lists them and document 02's R-11 adds to them.
 
 /// Physical types, and the group.
 pub mod physical {
@@ -99,10 +99,17 @@ pub mod logical {
     pub const JSON: u8 = 12;
     pub const BSON: u8 = 13;
     pub const UUID: u8 = 14;
+    pub const GEOMETRY: u8 = 17;
+    pub const GEOGRAPHY: u8 = 18;
 
-    /// Whether a code is in the list.
+    /// Whether a code is in document 01's list.
     pub fn is_listed(code: u8) -> bool {
         matches!(code, NONE..=TIMESTAMP | INTEGER..=UUID)
+    }
+
+    /// Whether a code is one of those that document 02's R-11 adds.
+    pub fn is_geospatial(code: u8) -> bool {
+        matches!(code, GEOMETRY | GEOGRAPHY)
     }
 }
 

@@ -1,4 +1,5 @@
-//! Editions, by document 02's: which are known, and what each decides. No other module asks for the number of one.
+//! Editions, by document 02's: which are known, and what each decides. No other module asks for the
+//! number of one.
 
 use crate::refusal::{self, Refusal};
 
@@ -6,7 +7,7 @@ use crate::refusal::{self, Refusal};
 pub const FIRST: u32 = 1;
 /// The number of the second: a DECIMAL's scale may equal its precision.
 pub const SECOND: u32 = 2;
-/// The number of the third: no leaf is INT96.
+/// The number of the third: no leaf is INT96, and one may be GEOMETRY or GEOGRAPHY.
 pub const THIRD: u32 = 3;
 
 /// A known edition.
@@ -30,5 +31,10 @@ impl Edition {
     /// Whether a leaf may be INT96.
     pub fn has_int96(self) -> bool {
         self.0 < THIRD
+    }
+
+    /// Whether a leaf may be GEOMETRY or GEOGRAPHY; where none may, their codes are in no list.
+    pub fn has_geospatial_types(self) -> bool {
+        self.0 >= THIRD
     }
 }

@@ -12,6 +12,7 @@
 #![warn(missing_docs)]
 
 pub mod annotation;
+pub mod boxes;
 pub mod codes;
 pub mod column;
 pub mod compare;
@@ -30,6 +31,7 @@ pub mod tree;
 pub mod utf8;
 pub mod value;
 
+pub use boxes::{box_of, inside};
 pub use column::ColumnType;
 pub use compare::compare;
 pub use int96::{from_int96, to_int96};

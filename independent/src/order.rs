@@ -2,7 +2,6 @@
 
 use std::cmp::Ordering;
 
-use crate::annotation::Annotation;
 use crate::codes::physical;
 use crate::column::{Column, ColumnType};
 use crate::decimal;
@@ -35,7 +34,7 @@ impl From<Ordering> for Order {
 /// Orders two values of a column by an edition: refusal 21, then 20, then 17, then those of the first value, then those of the second.
 pub fn order(edition: u32, column: ColumnType, a: &[u8], b: &[u8]) -> Result<Order, PairRefusal> {
     let column = Column::of(edition, column).map_err(PairRefusal::of_neither)?;
-    if column.physical == physical::INT96 || column.annotation == Annotation::Interval {
+    if column.physical == physical::INT96 || column.annotation.has_no_order() {
         return Err(PairRefusal::of_neither(Refusal::whole(refusal::NO_ORDER)));
     }
     let first = read_in(&column, a).map_err(PairRefusal::of_first)?;

@@ -9,8 +9,8 @@ use crate::tree::Tree;
 
 /// The second sheet, from the first and the list alone; none where the list leads to no sheet.
 pub fn rebuild(first: &[u8], list: &[u8]) -> Option<Vec<u8>> {
-    // What a sheet must be to have a tree does not go by the edition.
-    let tree = Tree::read(Sheet::open(edition::FIRST, first).ok()?).ok()?;
+    // What a sheet must be to have a tree does not go by the edition, but for the codes, of which the third lists all.
+    let tree = Tree::read(Sheet::open(edition::THIRD, first).ok()?).ok()?;
     let mut second = Second::like(&tree);
     for entry in list.chunks(ENTRY) {
         second.change(&Entry::parse(entry.try_into().ok()?))?;

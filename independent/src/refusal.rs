@@ -1,4 +1,4 @@
-//! The numbered refusals of document 01, with what document 02's add.
+//! The numbered refusals of document 01, with what document 02's add.
 
 use std::fmt;
 
@@ -103,9 +103,11 @@ pub const LIST: u32 = 12;
 pub const MAP: u32 = 13;
 /// Output too short, or its start lies beyond its end.
 pub const OUTPUT: u32 = 14;
-/// A value of wrong length, or over 65,536 bytes; an INT96 to convert of another length than 12.
+/// A value of wrong length, or over 65,536 bytes; an INT96 to convert of another length than 12; an odd number of
+/// coordinates.
 pub const VALUE_LENGTH: u32 = 15;
-/// A value breaks its annotation; an INT96 to convert has a full day of nanoseconds or more.
+/// A value breaks its annotation; an INT96 to convert has a full day of nanoseconds or more; a box is none, or a
+/// coordinate of GEOGRAPHY is out of its range.
 pub const VALUE: u32 = 16;
 /// The column has no order.
 pub const NO_ORDER: u32 = 17;
@@ -113,7 +115,7 @@ pub const NO_ORDER: u32 = 17;
 pub const NO_DATE: u32 = 18;
 /// The fields, or an INT96 to convert, are not representable in a signed 64-bit count.
 pub const NO_COUNT: u32 = 19;
-/// No accepted sheet has a leaf of this column type, or a time unit is not 1 to 3.
+/// No accepted sheet has a leaf of this column type, a time unit is not 1 to 3, or a box is of no kind that has boxes.
 pub const COLUMN_TYPE: u32 = 20;
 /// The edition is unknown.
 pub const UNKNOWN_EDITION: u32 = 21;

@@ -59,7 +59,7 @@ impl<'a> Sheet<'a> {
             return Err(Refusal::at(refusal::BLOCK_HEADER, at));
         }
         let slots = blocks().flat_map(|block| block[HEADER..CHECK].chunks_exact(SLOT));
-        let right = |(node, slot)| if node < nodes { is_sound(slot) } else { is_zero(slot) };
+        let right = |(node, slot)| if node < nodes { is_sound(edition, slot) } else { is_zero(slot) };
         if let Some(at) = slots.enumerate().position(|numbered| !right(numbered)) {
             return Err(Refusal::at(refusal::SLOT, at));
         }
@@ -271,16 +271,21 @@ fn check(block: &[u8]) -> u16 {
     (sum % CHECK_MODULUS) as u16
 }
 
-/// Whether a used slot's codes, name length and zero bytes are right.
-fn is_sound(slot: &[u8]) -> bool {
+/// Whether a used slot's codes, name length and zero bytes are right in an edition.
+fn is_sound(edition: Edition, slot: &[u8]) -> bool {
     let name_length = usize::from(slot[NAME_LENGTH]);
     physical::is_listed(slot[0])
         && repetition::is_listed(slot[1])
         && converted::is_listed(slot[2])
-        && logical::is_listed(slot[3])
+        && is_logical(edition, slot[3])
         && (1..=MAX_NAME).contains(&name_length)
         && is_zero(&slot[NAME_LENGTH + 1..NAME])
         && is_zero(&slot[NAME + name_length..])
+}
+
+/// Whether an edition lists a logical type.
+fn is_logical(edition: Edition, code: u8) -> bool {
+    logical::is_listed(code) || edition.has_geospatial_types() && logical::is_geospatial(code)
 }
 
 fn is_zero(bytes: &[u8]) -> bool {

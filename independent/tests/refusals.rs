@@ -269,3 +269,68 @@ fn a_column_of_int96_is_none_of_the_third_edition() {
         }
     }
 }
+
+const POINTS: Slot = Slot { physical: 6, logical: 18, ..LEAF };
+
+#[test]
+fn geospatial_leaves_are_of_the_third_edition() {
+    let earlier = Err(refused(4, 1));
+    for (logical, edge_rules) in [(17, 0..=0), (18, 0..=4)] {
+        for a in 0..=6 {
+            let third = if edge_rules.contains(&a) { Ok(2) } else { Err(refused(10, 1)) };
+            assert_eq!(in_editions(&[Slot { logical, a, ..POINTS }]), [earlier, earlier, third]);
+            assert_eq!(in_editions(&[Slot { logical, a, b: 1, ..POINTS }]), [earlier, earlier, Err(refused(10, 1))]);
+            // No converted type is their image, and invalid parameters have none.
+            for converted in 0..=21 {
+                let slot = Slot { logical, a, converted, ..POINTS };
+                assert_eq!(in_editions(&[slot]), [earlier, earlier, Err(refused(9, 1))]);
+            }
+        }
+        for physical in [0, 1, 2, 3, 4, 5, 7] {
+            let type_length = if physical == 7 { 21 } else { 0 };
+            let slot = Slot { logical, physical, type_length, ..POINTS };
+            assert_eq!(in_editions(&[slot]), [earlier, earlier, Err(refused(10, 1))]);
+        }
+    }
+    for logical in [9, 15, 16, 19, 255] {
+        assert_eq!(in_editions(&[Slot { logical, ..POINTS }]), [earlier; 3]);
+    }
+}
+
+#[test]
+fn a_geospatial_leaf_is_written_back_without_a_converted_type() {
+    for (logical, a) in [(17, 0), (18, 0), (18, 4)] {
+        let sheet = assemble(&[Slot { children: 1, ..ROOT }, Slot { logical, a, ..POINTS }]);
+        let mut rows = [7; 2 * ROW_WIDTH];
+        assert_eq!(resolve(THIRD, &sheet, &mut rows), Ok(2));
+        assert_eq!(rows[ROW_WIDTH..][..6], [6, 0, 0, u32::from(logical), u32::from(a), 0]);
+        let mut out = vec![9; sheet.len()];
+        assert_eq!(rewrite(THIRD, &sheet, &mut out, 0), Ok(512));
+        assert_eq!(out, sheet);
+    }
+}
+
+#[test]
+fn a_geospatial_column_is_read_as_any_bytes_and_has_no_order() {
+    let column = |kind, p1| ColumnType { physical: 6, type_length: 0, kind, p1, p2: 0 };
+    for (kind, p1) in [(17, 0), (18, 0), (18, 4)] {
+        for (value, read_as) in [(&b"\xFF\x80"[..], Ok(())), (b"", Ok(())), (&[0; 65_537], Err(refused(15, 0)))] {
+            assert_eq!(read(THIRD, column(kind, p1), value).map(drop), read_as);
+            assert_eq!(order(THIRD, column(kind, p1), value, b""), Err(PairRefusal::of_neither(refused(17, 0))));
+        }
+        for edition in [FIRST, SECOND] {
+            assert_eq!(read(edition, column(kind, p1), b""), Err(refused(20, 0)));
+            assert_eq!(order(edition, column(kind, p1), b"", b""), Err(PairRefusal::of_neither(refused(20, 0))));
+        }
+    }
+    let unlawful =
+        [column(17, 1), column(18, 5), column(18, 256), column(15, 0), column(16, 0), column(19, 0), column(273, 0)];
+    let elsewhere =
+        [0, 1, 3, 5, 7].map(|physical| ColumnType { physical, type_length: u32::from(physical == 7), ..column(17, 0) });
+    let marked = ColumnType { p2: 1, ..column(18, 0) };
+    for column in unlawful.into_iter().chain(elsewhere).chain([marked]) {
+        for edition in EDITIONS {
+            assert_eq!(read(edition, column, b"0"), Err(refused(20, 0)));
+        }
+    }
+}

@@ -2,6 +2,7 @@
  * and which refusal comes first. The argument is the sample sheet, of four nodes. */
 #include "griffeljol.h"
 
+#include <math.h>
 #include <stdio.h>
 #include <string.h>
 
@@ -333,6 +334,60 @@ static void check_third_edition(const uint8_t *sheet)
     CHECK(memcmp(out, before, sizeof out) == 0);
 }
 
+/* A sheet with one leaf of BYTE_ARRAY, its node 2, of a logical type with parameter a. */
+static void geospatial_leaf(uint8_t *out, const uint8_t *sheet, uint8_t logical, uint8_t a)
+{
+    uint8_t leaves[SHEET];
+    two_leaves(leaves, sheet, 'a', 'b');
+    changed(out, leaves, 2, GRIFFELJOL_DIFFERENCE_PHYSICAL, GRIFFELJOL_PHYSICAL_BYTE_ARRAY);
+    changed(leaves, out, 2, GRIFFELJOL_DIFFERENCE_LOGICAL, logical);
+    changed(out, leaves, 2, GRIFFELJOL_DIFFERENCE_A, a);
+}
+
+/* What the third edition alone has: leaves and columns of GEOMETRY and GEOGRAPHY. */
+static void check_geospatial(const uint8_t *sheet)
+{
+    const uint32_t bytes = GRIFFELJOL_PHYSICAL_BYTE_ARRAY;
+    const uint8_t kinds[2] = {GRIFFELJOL_KIND_GEOMETRY, GRIFFELJOL_KIND_GEOGRAPHY}, value[2] = {0xFF, 0x80};
+    uint8_t leaf[SHEET], wrong[SHEET], out[SHEET];
+    uint32_t rows[3 * GRIFFELJOL_ROW_WIDTH];
+    const uint32_t *row = &rows[2 * GRIFFELJOL_ROW_WIDTH];
+    for (size_t i = 0; i < sizeof kinds; i++) {
+        uint8_t kind = kinds[i], last = kind == GRIFFELJOL_KIND_GEOGRAPHY ? GRIFFELJOL_EDGE_RULE_KARNEY : 0;
+        for (uint8_t a = 0; a <= GRIFFELJOL_EDGE_RULE_KARNEY + 1; a++) {
+            geospatial_leaf(leaf, sheet, kind, a);
+            for (uint32_t edition = GRIFFELJOL_EDITION_1; edition <= GRIFFELJOL_EDITION_2; edition++) {
+                CHECK(griffeljol_resolve(edition, leaf, SHEET, NULL, 0) == refused_in(0, 4, 2));
+                CHECK(griffeljol_rewrite(edition, leaf, SHEET, NULL, 0, 0) == refused_in(0, 4, 2));
+                CHECK(griffeljol_compare(edition, sheet, SHEET, leaf, SHEET, NULL, 0) == refused_in(2, 4, 2));
+                CHECK(griffeljol_read(edition, bytes, 0, kind, a, 0, value, 2, NULL, 0) == refused(20));
+                CHECK(griffeljol_order(edition, bytes, 0, kind, a, 0, value, 2, value, 2) == refused(20));
+            }
+            if (a > last) {
+                CHECK(griffeljol_resolve(GRIFFELJOL_EDITION_3, leaf, SHEET, NULL, 0) == refused_in(0, 10, 2));
+                CHECK(griffeljol_read(GRIFFELJOL_EDITION_3, bytes, 0, kind, a, 0, value, 2, NULL, 0) == refused(20));
+                CHECK(griffeljol_order(GRIFFELJOL_EDITION_3, bytes, 0, kind, a, 0, value, 2, value, 2) == refused(20));
+                continue;
+            }
+            CHECK(griffeljol_resolve(GRIFFELJOL_EDITION_3, leaf, SHEET, rows, 3 * GRIFFELJOL_ROW_WIDTH) == 3);
+            CHECK(row[GRIFFELJOL_ROW_PHYSICAL] == bytes && row[GRIFFELJOL_ROW_KIND] == kind);
+            CHECK(row[GRIFFELJOL_ROW_P1] == a && row[GRIFFELJOL_ROW_P2] == 0);
+            CHECK(griffeljol_rewrite(GRIFFELJOL_EDITION_3, leaf, SHEET, out, SHEET, 0) == SHEET);
+            CHECK(memcmp(out, leaf, SHEET) == 0);
+            CHECK(griffeljol_compare(GRIFFELJOL_EDITION_3, leaf, SHEET, leaf, SHEET, NULL, 0) == 0);
+            CHECK(reads(GRIFFELJOL_EDITION_3, bytes, kind, a, 0, value, 2, GRIFFELJOL_CASE_BYTES, 0, 2));
+            CHECK(griffeljol_order(GRIFFELJOL_EDITION_3, bytes, 0, kind, a, 0, value, 2, value, 2) == refused(17));
+        }
+        geospatial_leaf(leaf, sheet, kind, 0);
+        changed(wrong, leaf, 2, GRIFFELJOL_DIFFERENCE_PHYSICAL, GRIFFELJOL_PHYSICAL_INT32);
+        CHECK(griffeljol_resolve(GRIFFELJOL_EDITION_3, wrong, SHEET, NULL, 0) == refused_in(0, 10, 2));
+        changed(wrong, leaf, 2, GRIFFELJOL_DIFFERENCE_B, 1);
+        CHECK(griffeljol_resolve(GRIFFELJOL_EDITION_3, wrong, SHEET, NULL, 0) == refused_in(0, 10, 2));
+        changed(wrong, leaf, 2, GRIFFELJOL_DIFFERENCE_CONVERTED, GRIFFELJOL_CONVERTED_UTF8);
+        CHECK(griffeljol_resolve(GRIFFELJOL_EDITION_3, wrong, SHEET, NULL, 0) == refused_in(0, 9, 2));
+    }
+}
+
 /* An edition that is unknown: 21 before every other refusal, and nothing written. */
 static void check_unknown_edition(uint32_t edition, const uint8_t *sheet)
 {
@@ -456,6 +511,87 @@ static void check_int96(void)
     CHECK(memcmp(out, value, WIDTH) == 0);
 }
 
+/* Whether two runs of doubles are equal as numbers, none of which is a NaN. */
+static int equal(const double *a, const double *b, size_t count)
+{
+    for (size_t i = 0; i < count; i++)
+        if (!(a[i] == b[i]))
+            return 0;
+    return 1;
+}
+
+static void check_box(void)
+{
+    enum { WIDTH = GRIFFELJOL_BOX_WIDTH, GEOMETRY = GRIFFELJOL_KIND_GEOMETRY, GEOGRAPHY = GRIFFELJOL_KIND_GEOGRAPHY };
+    const uint32_t others[6] = {0, GEOMETRY - 1, GEOGRAPHY + 1, 256 + GEOMETRY, 1u << 31 | GEOMETRY, UINT32_MAX};
+    const double points[8] = {3, -4, NAN, 6, -1, NAN, 2, 5}, expected[WIDTH] = {-1, 3, -4, 6}, sevens[WIDTH + 1] = {7, 7, 7, 7, 7};
+    const double far[2] = {181, 1}, gone[4] = {NAN, 91, NAN, 1}, single[4] = {NAN, 1, NAN, 2}, zeros[4] = {0.0, -0.0, -0.0, 0.0};
+    const double ends[4] = {-180, -90, 180, 90}, infinite[2] = {INFINITY, -INFINITY}, none[WIDTH] = {0};
+    double box[WIDTH + 1];
+    memcpy(box, sevens, sizeof box);
+    for (size_t i = 0; i < sizeof others / sizeof *others; i++) {
+        CHECK(griffeljol_box(others[i], NULL, 0, NULL, 0) == refused(20));
+        CHECK(griffeljol_box(others[i], far, 1, box, WIDTH) == refused(20));
+        CHECK(griffeljol_inside(others[i], NAN, 0, 1, 0, 181, 0) == refused(20));
+    }
+    for (uint32_t kind = GEOMETRY; kind <= GEOGRAPHY; kind++) {
+        memcpy(box, sevens, sizeof box);
+        CHECK(griffeljol_box(kind, NULL, 0, NULL, 0) == 0);
+        CHECK(griffeljol_box(kind, NULL, 0, box, WIDTH) == 0);
+        CHECK(griffeljol_box(kind, single, 4, NULL, 0) == 0);
+        CHECK(griffeljol_box(kind, single, 4, box, WIDTH) == 0);
+        CHECK(griffeljol_box(kind, far, 1, NULL, 0) == refused(15));
+        CHECK(griffeljol_box(kind, single, 3, box, WIDTH) == refused(15));
+        for (size_t lent = 0; lent < WIDTH; lent++)
+            CHECK(griffeljol_box(kind, points, 8, lent == 0 ? NULL : box, lent) == refused(14));
+        CHECK(equal(box, sevens, WIDTH + 1));
+        CHECK(griffeljol_box(kind, points, 8, box, WIDTH) == WIDTH && equal(box, expected, WIDTH));
+        CHECK(griffeljol_box(kind, zeros, 4, box, WIDTH + 1) == WIDTH && equal(box, none, WIDTH));
+        CHECK(griffeljol_box(kind, ends, 4, box, WIDTH + 1) == WIDTH);
+        CHECK(box[GRIFFELJOL_BOX_XMIN] == -180 && box[GRIFFELJOL_BOX_XMAX] == 180);
+        CHECK(box[GRIFFELJOL_BOX_YMIN] == -90 && box[GRIFFELJOL_BOX_YMAX] == 90 && box[WIDTH] == 7);
+    }
+    memcpy(box, sevens, sizeof box);
+    CHECK(griffeljol_box(GEOGRAPHY, far, 2, NULL, 0) == refused(16));
+    CHECK(griffeljol_box(GEOGRAPHY, far, 2, box, WIDTH) == refused(16));
+    CHECK(griffeljol_box(GEOGRAPHY, gone, 4, NULL, 0) == refused(16));
+    CHECK(griffeljol_box(GEOGRAPHY, infinite, 2, box, WIDTH) == refused(16));
+    CHECK(griffeljol_box(GEOMETRY, gone, 4, box, WIDTH) == 0);
+    CHECK(equal(box, sevens, WIDTH + 1));
+    CHECK(griffeljol_box(GEOMETRY, infinite, 2, box, WIDTH) == WIDTH && box[0] == INFINITY && box[2] == -INFINITY);
+}
+
+static void check_inside(void)
+{
+    enum { GEOMETRY = GRIFFELJOL_KIND_GEOMETRY, GEOGRAPHY = GRIFFELJOL_KIND_GEOGRAPHY };
+    for (uint32_t kind = GEOMETRY; kind <= GEOGRAPHY; kind++) {
+        CHECK(griffeljol_inside(kind, -1, 2, -3, 4, 0, 0) == 1);
+        CHECK(griffeljol_inside(kind, -1, 2, -3, 4, -1, 4) == 1);
+        CHECK(griffeljol_inside(kind, -1, 2, -3, 4, 2, -3) == 1);
+        CHECK(griffeljol_inside(kind, -1, 2, -3, 4, 3, 0) == 0);
+        CHECK(griffeljol_inside(kind, -1, 2, -3, 4, 0, -4) == 0);
+        CHECK(griffeljol_inside(kind, -1, 2, -3, 4, NAN, 0) == 0);
+        CHECK(griffeljol_inside(kind, -1, 2, -3, 4, 0, NAN) == 0);
+        CHECK(griffeljol_inside(kind, 0.0, -0.0, -0.0, 0.0, -0.0, 0.0) == 1);
+        CHECK(griffeljol_inside(kind, 170, -170, 0, 1, 180, 1) == 1);
+        CHECK(griffeljol_inside(kind, 170, -170, 0, 1, -170, 0) == 1);
+        CHECK(griffeljol_inside(kind, 170, -170, 0, 1, 0, 0) == 0);
+        CHECK(griffeljol_inside(kind, 170, -170, 1, 0, 180, 1) == refused(16));
+        CHECK(griffeljol_inside(kind, NAN, 2, -3, 4, 0, 0) == refused(16));
+        CHECK(griffeljol_inside(kind, -1, NAN, -3, 4, NAN, 0) == refused(16));
+        CHECK(griffeljol_inside(kind, -1, 2, NAN, 4, 0, 0) == refused(16));
+        CHECK(griffeljol_inside(kind, -1, 2, -3, NAN, 0, NAN) == refused(16));
+        CHECK(griffeljol_inside(kind, -180, 180, -90, 90, -180, 90) == 1);
+    }
+    CHECK(griffeljol_inside(GEOGRAPHY, -180, 181, -90, 90, 0, 0) == refused(16));
+    CHECK(griffeljol_inside(GEOGRAPHY, -180, 180, -91, 90, 0, 0) == refused(16));
+    CHECK(griffeljol_inside(GEOGRAPHY, -180, 180, -90, 90, -181, 0) == refused(16));
+    CHECK(griffeljol_inside(GEOGRAPHY, -180, 180, -90, 90, NAN, 91) == refused(16));
+    CHECK(griffeljol_inside(GEOMETRY, -180, 181, -91, 90, 0, 0) == 1);
+    CHECK(griffeljol_inside(GEOMETRY, -180, 180, -90, 90, -181, 0) == 0);
+    CHECK(griffeljol_inside(GEOMETRY, -INFINITY, INFINITY, -INFINITY, INFINITY, INFINITY, -INFINITY) == 1);
+}
+
 int main(int argc, char **argv)
 {
     uint8_t sheet[SHEET];
@@ -475,6 +611,7 @@ int main(int argc, char **argv)
     }
     check_fractions();
     check_third_edition(sheet);
+    check_geospatial(sheet);
     check_unknown_edition(0, sheet);
     check_unknown_edition(4, sheet);
     check_unknown_edition(5, sheet);
@@ -482,5 +619,7 @@ int main(int argc, char **argv)
     check_unknown_edition(UINT32_MAX, sheet);
     check_timestamps();
     check_int96();
+    check_box();
+    check_inside();
     return failures == 0 ? 0 : 1;
 }

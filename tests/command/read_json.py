@@ -8,7 +8,7 @@ import subprocess
 import sys
 
 command, sample, rewritten = sys.argv[1:]
-DIFFERENT = 3
+NO = 3
 
 
 def lines(*words, status=0, given=b""):
@@ -36,8 +36,8 @@ for node, line in zip(nodes, lines("tree", sample)[1:]):
     assert all(word in line for word in shown if word), (shown, line)
 
 assert parsed("compare", sample, sample) == {"count": 0, "differences": []}
-compared = parsed("compare", sample, rewritten, status=DIFFERENT)
-*told, last = lines("compare", sample, rewritten, status=DIFFERENT)
+compared = parsed("compare", sample, rewritten, status=NO)
+*told, last = lines("compare", sample, rewritten, status=NO)
 assert compared["count"] == len(compared["differences"]) == len(told)
 assert last == f"{compared['count']} differences"
 for difference, line in zip(compared["differences"], told):
@@ -77,6 +77,25 @@ for index, number in ((1, 16), (2, 15)):
     assert (objects[index]["index"], objects[index]["refused"], objects[index]["at"]) == (index, number, 0)
     assert bytes.fromhex(objects[index]["int96"]) == times[12 * index:12 * index + 12]
     assert told[index] == f"{index} refused {number} at 0, {objects[index]['meaning']}"
+
+points = [(174.76, -36.85), (178.44, -18.14), (0.1, 5e-324), (float("nan"), 1e22)]
+texts = "".join(f"{x!r} {y!r}\n" for x, y in points).encode()
+doubles = b"".join(struct.pack("<2d", x, y) for x, y in points)
+bounds = {"xmin": 0.1, "xmax": 178.44, "ymin": -36.85, "ymax": 1e22}
+for words, given in ((("-",), texts), (("-", "--binary"), doubles)):
+    (line,) = lines("box", "GEOMETRY", *words, "--json", given=given)
+    assert json.loads(line) == {"box": bounds}, line
+    (line,) = lines("box", "GEOMETRY", *words, given=given)
+    assert {name: float(bound) for name, bound in zip(line.split()[::2], line.split()[1::2])} == bounds, line
+    (line,) = lines("box", "GEOGRAPHY", *words, "--json", given=given, status=1)
+    assert (json.loads(line)["refused"], json.loads(line)["at"]) == (16, 0)
+(line,) = lines("box", "17", "-", "--json", given=b"inf 1\n-inf nan\n")
+assert json.loads(line) == {"box": {"xmin": "-inf", "xmax": "inf", "ymin": 1, "ymax": 1}}
+assert parsed("box", "17", "/dev/null") == {"box": None}
+assert parsed("inside", "18", "177,-178,-21,-12", "178.44,-18.14") == {"inside": True}
+assert parsed("inside", "18", "177,-178,-21,-12", "174.76,-18.14", status=NO) == {"inside": False}
+refusal = parsed("inside", "16", "0,1,0,1", "0,0", status=1)
+assert (refusal["refused"], refusal["at"], refusal["place"]) == (20, 0, None)
 
 refusal = parsed("rows", "/dev/null", status=1)
 assert (refusal["refused"], refusal["at"], refusal["place"]) == (1, 0, None)

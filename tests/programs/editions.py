@@ -1,4 +1,4 @@
-"""The editions as a program's arguments spell them, by document 02's R-4 and R-10."""
+"""The editions as a program's arguments spell them, by document 02's R-4, R-10 and R-11."""
 
 # Without an argument it is the first.
 KNOWN = [(), ("1",), ("2",), ("3",)]

@@ -67,6 +67,8 @@ SLOT_CODES = [  # 4
     ("converted 22", change(WIDE, in_slot(13, 2), 22), "refused 4 at 13"),
     ("logical 9", change(WIDE, in_slot(14, 3), 9), "refused 4 at 14"),
     ("logical 15", change(WIDE, in_slot(16, 3), 15), "refused 4 at 16"),
+    ("logical 16", change(WIDE, in_slot(6, 3), 16), "refused 4 at 6"),
+    ("logical 19", change(WIDE, in_slot(10, 3), 19), "refused 4 at 10"),
     ("name length 0", sheet(root(leaf(), leaf(name=b""))), "refused 4 at 2"),
     ("name length 49", sheet(root(leaf(), leaf(), leaf(name=b"n" * 48, name_length=49))), "refused 4 at 3"),
     ("byte 21 not zero", change(WIDE, in_slot(8, 21), 1), "refused 4 at 8"),
@@ -216,7 +218,11 @@ def retired(line):
     return until_third(ACCEPTS, line)
 
 
-# Document 02, R-4: scale equal to precision, in each form of a DECIMAL; R-10: INT96 leaves.
+def geospatial(**numbers):
+    return leaf(**dict(physical=BYTE_ARRAY, logical=GEOGRAPHY, a=KARNEY) | numbers)
+
+
+# Document 02, R-4: scale equal to precision, in each form of a DECIMAL; R-10: INT96 leaves; R-11: GEOMETRY and GEOGRAPHY.
 FRACTION = dict(logical=DECIMAL, precision=5, scale=5)
 BY_EDITION = [
     ("scale equal to precision", behind(leaf(), leaf(**FRACTION)), fraction("refused 11 at 11")),
@@ -244,6 +250,31 @@ BY_EDITION = [
      until_third("refused 8 at 11", "refused 10 at 10")),
     ("INT96 at node 10 before 12 at node 11", behind(leaf(INT96), list_of(leaf())), until_third("refused 12 at 11", "refused 10 at 10")),
     ("INT96 before 8 at INT96", behind(leaf(INT96), leaf(INT96, type_length=12)), until_third("refused 8 at 11", "refused 10 at 10")),
+    ("one GEOMETRY", sheet(root(geospatial(logical=GEOMETRY, a=0))), until_third("refused 4 at 1", ACCEPTS)),
+    ("GEOGRAPHY of each edge rule", behind(*[geospatial(a=edge_rule) for edge_rule in EDGE_RULES]),
+     until_third("refused 4 at 10", ACCEPTS)),
+    ("GEOGRAPHY of each repetition", behind(leaf(), *[geospatial(repetition=one) for one in (OPTIONAL, REPEATED, REQUIRED)]),
+     until_third("refused 4 at 11", ACCEPTS)),
+    ("GEOGRAPHY of a sixth edge rule", behind(geospatial(a=KARNEY + 1)), until_third("refused 4 at 10", "refused 10 at 10")),
+    ("GEOGRAPHY with a second parameter", behind(geospatial(b=1)), until_third("refused 4 at 10", "refused 10 at 10")),
+    ("GEOMETRY with an edge rule", behind(geospatial(logical=GEOMETRY, a=1)), until_third("refused 4 at 10", "refused 10 at 10")),
+    ("GEOMETRY on FIXED", behind(geospatial(physical=FIXED, type_length=21, logical=GEOMETRY, a=0)),
+     until_third("refused 4 at 10", "refused 10 at 10")),
+    ("GEOGRAPHY on INT32", behind(geospatial(physical=INT32)), until_third("refused 4 at 10", "refused 10 at 10")),
+    ("GEOMETRY on a group", behind(group(leaf(), logical=GEOMETRY)), until_third("refused 4 at 10", "refused 10 at 10")),
+    ("GEOMETRY at the root", sheet(root(leaf(), logical=GEOMETRY)), until_third("refused 4 at 0", "refused 8 at 0")),
+    ("UTF8 beside GEOMETRY", behind(geospatial(converted=UTF8, logical=GEOMETRY, a=0)), until_third("refused 4 at 10", "refused 9 at 10")),
+    ("BSON beside GEOGRAPHY of a sixth edge rule", behind(geospatial(converted=C_BSON, a=KARNEY + 1)),
+     until_third("refused 4 at 10", "refused 9 at 10")),
+    ("a type length on GEOGRAPHY", behind(geospatial(type_length=21)), until_third("refused 4 at 10", "refused 8 at 10")),
+    ("GEOGRAPHY as a list's element", behind(list_of(layer(geospatial()))), until_third("refused 4 at 12", ACCEPTS)),
+    ("GEOGRAPHY as a map's key", behind(map_of(layer(geospatial(), leaf()))), until_third("refused 4 at 12", ACCEPTS)),
+    ("GEOGRAPHY at node 895", sheet(root(*[leaf()] * (MOST_NODES - 2), geospatial())), until_third("refused 4 at 895", ACCEPTS)),
+    ("8 at node 10 before GEOGRAPHY at node 11", behind(leaf(type_length=1), geospatial()),
+     until_third("refused 4 at 11", "refused 8 at 10")),
+    ("INT96 before GEOGRAPHY", behind(leaf(INT96), geospatial()), until_third("refused 4 at 11", "refused 10 at 10")),
+    ("GEOGRAPHY behind scale equal to precision", behind(leaf(**FRACTION), geospatial()), until_third("refused 4 at 11", ACCEPTS)),
+    ("a node left over behind GEOGRAPHY", sheet(root(geospatial(), leaf(), claims=1)), until_third("refused 4 at 1", "refused 6 at 2")),
 ]
 
 # A column, its annotation, and its annotation once rewritten.
@@ -337,4 +368,9 @@ BY_HAND_SINCE_SECOND = [
 BY_HAND_UNTIL_THIRD = [
     ("schema_rows", "one INT96", b"nodes 2\n255 0 255 30 0 0 0 2 0 0 0\n3 0 0 0 0 0 0 2 0 0 0\n"),
     ("schema_rewrite", "one INT96", sheet(root(leaf(INT96)))),
+]
+BY_HAND_SINCE_THIRD = [
+    ("schema_rows", "one GEOMETRY", b"nodes 2\n255 0 255 30 0 0 0 2 0 0 0\n6 0 0 17 0 0 0 2 0 0 0\n"),
+    ("schema_rewrite", "one GEOMETRY", sheet(root(geospatial(logical=GEOMETRY, a=0)))),
+    ("schema_rewrite", "GEOGRAPHY of each edge rule", behind(*[geospatial(a=edge_rule) for edge_rule in EDGE_RULES])),
 ]

@@ -15,7 +15,9 @@ NO_LOGICAL = 0
  UINT_8, UINT_16, UINT_32, UINT_64, INT_8, INT_16, INT_32, INT_64, C_JSON, C_BSON, INTERVAL) = range(22)
 STRING, MAP, LIST, ENUM, DECIMAL, DATE, TIME, TIMESTAMP = range(1, 9)
 INTEGER, UNKNOWN, JSON, BSON, UUID = range(10, 15)
+GEOMETRY, GEOGRAPHY = 17, 18
 MILLIS, MICROS, NANOS = 1, 2, 3
+EDGE_RULES = SPHERICAL, VINCENTY, THOMAS, ANDOYER, KARNEY = range(5)
 
 
 def slot(physical, repetition, converted=NO_CONVERTED, logical=NO_LOGICAL, a=0, b=0, children=0, type_length=0, scale=0, precision=0,

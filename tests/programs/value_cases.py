@@ -1,5 +1,5 @@
 """Values of columns: a column type's five numbers, the value, and the line that comes. Every line is written by hand from document 01, and
-from document 02's R-4 and R-10 where a line depends on the edition."""
+from document 02's R-4, R-10 and R-11 where a line depends on the edition."""
 import editions
 from sheets import *
 
@@ -71,6 +71,13 @@ NO_COLUMN = [  # 20
     ("scale above precision", (INT32, 0, DECIMAL, 5, 6), bytes(4), "refused 20 at 0"),
     ("precision 3 on FIXED 1", (FIXED, 1, DECIMAL, 3, 0), b"\0", "refused 20 at 0"),
     ("TIMESTAMP on INT96", (INT96, 0, TIMESTAMP, NANOS, 1), bytes(12), "refused 20 at 0"),
+    ("GEOGRAPHY of a sixth edge rule", (BYTE_ARRAY, 0, GEOGRAPHY, KARNEY + 1, 0), b"", "refused 20 at 0"),
+    ("GEOGRAPHY with a second parameter", (BYTE_ARRAY, 0, GEOGRAPHY, KARNEY, 1), b"", "refused 20 at 0"),
+    ("GEOMETRY with an edge rule", (BYTE_ARRAY, 0, GEOMETRY, 1, 0), b"", "refused 20 at 0"),
+    ("GEOMETRY on FIXED", (FIXED, 1, GEOMETRY, 0, 0), b"\0", "refused 20 at 0"),
+    ("kind 16", (BYTE_ARRAY, 0, 16, 0, 0), b"", "refused 20 at 0"),
+    ("kind 19", (BYTE_ARRAY, 0, 19, 0, 0), b"", "refused 20 at 0"),
+    ("kind 273, whose low byte is GEOMETRY", (BYTE_ARRAY, 0, 256 + GEOMETRY, 0, 0), b"", "refused 20 at 0"),
 ]
 
 WRONG_LENGTH = [  # 15
@@ -125,7 +132,11 @@ def retired(line):
     return editions.until_third(line, NO_LEAF)
 
 
-# Scale equal to precision, and INT96: a column type, a value, and the line of each edition.
+def geospatial(line):
+    return editions.until_third(NO_LEAF, line)
+
+
+# Scale equal to precision, INT96, and GEOMETRY and GEOGRAPHY: a column type, a value, and the line of each edition.
 BY_EDITION = [
     ("DECIMAL(5, 5) on INT32", (INT32, 0, DECIMAL, 5, 5), little(-99999), fraction("-99999")),
     ("DECIMAL(18, 18) on INT64", (INT64, 0, DECIMAL, 18, 18), little(1, 8), fraction("1")),
@@ -137,6 +148,11 @@ BY_EDITION = [
     ("INT96 of eleven bytes", PLAIN_INT96, bytes(11), retired("refused 15 at 0")),
     ("UNKNOWN on INT96", (INT96, 0, UNKNOWN, 0, 0), bytes(12), retired("refused 16 at 0")),
     ("UNKNOWN on INT96 of no bytes", (INT96, 0, UNKNOWN, 0, 0), b"", retired("refused 15 at 0")),
+    ("GEOMETRY of bytes that are no text", text(GEOMETRY), b"\xff\x80", geospatial("bytes 0 2")),
+    ("GEOMETRY of no bytes", text(GEOMETRY), b"", geospatial("bytes 0 0")),
+    ("GEOMETRY of 65,537 bytes", text(GEOMETRY), bytes(MOST_BYTES + 1), geospatial("refused 15 at 0")),
+    *[(f"GEOGRAPHY of edge rule {edge_rule}", (BYTE_ARRAY, 0, GEOGRAPHY, edge_rule, 0), b"\xff", geospatial("bytes 0 1"))
+      for edge_rule in EDGE_RULES],
 ]
 
 # An edition that is unknown comes before every other refusal, whatever the column type and the value are.

@@ -61,6 +61,16 @@ extern "C" {
     fn griffeljol_from_int96(value: *const u8, value_len: usize, count: *mut i64, count_len: usize) -> u64;
 
     fn griffeljol_to_int96(count: i64, value: *mut u8, value_len: usize) -> u64;
+
+    fn griffeljol_box(
+        kind: u32,
+        coordinates: *const f64,
+        coordinates_len: usize,
+        bounds: *mut f64,
+        bounds_len: usize,
+    ) -> u64;
+
+    fn griffeljol_inside(kind: u32, xmin: f64, xmax: f64, ymin: f64, ymax: f64, x: f64, y: f64) -> u64;
 }
 
 // SAFETY of each call: the pointers and lengths are those of slices that live through it, those written to are borrowed alone, and
@@ -105,4 +115,13 @@ pub fn from_int96(value: &[u8], count: &mut [i64]) -> u64 {
 
 pub fn to_int96(count: i64, value: &mut [u8]) -> u64 {
     unsafe { griffeljol_to_int96(count, value.as_mut_ptr(), value.len()) }
+}
+
+pub fn box_of(kind: u32, coordinates: &[f64], bounds: &mut [f64]) -> u64 {
+    unsafe { griffeljol_box(kind, coordinates.as_ptr(), coordinates.len(), bounds.as_mut_ptr(), bounds.len()) }
+}
+
+/// The bounds are xmin, xmax, ymin and ymax.
+pub fn inside(kind: u32, [xmin, xmax, ymin, ymax]: [f64; 4], x: f64, y: f64) -> u64 {
+    unsafe { griffeljol_inside(kind, xmin, xmax, ymin, ymax, x, y) }
 }

@@ -23,7 +23,7 @@ pub mod repetition {
 }
 
 /// Kinds. The parameters p1 and p2 are precision and scale of a DECIMAL; unit and UTC (1 or 0) of a TIME or TIMESTAMP; bit
-/// width and signed (1 or 0) of an INTEGER; else 0.
+/// width and signed (1 or 0) of an INTEGER; edge rule and 0 of a GEOGRAPHY; else 0.
 pub mod kind {
     pub const PLAIN_LEAF: u32 = 0;
     pub const STRING: u32 = 1;
@@ -39,6 +39,9 @@ pub mod kind {
     pub const JSON: u32 = 12;
     pub const BSON: u32 = 13;
     pub const UUID: u32 = 14;
+    /// In edition 3, as the next.
+    pub const GEOMETRY: u32 = 17;
+    pub const GEOGRAPHY: u32 = 18;
     pub const INTERVAL: u32 = 21;
     pub const PLAIN_GROUP: u32 = 30;
 }
@@ -73,7 +76,8 @@ pub mod converted {
 /// Logical types, as a slot has them: none, or the number of their kind.
 pub mod logical {
     pub use super::kind::{
-        BSON, DATE, DECIMAL, ENUM, INTEGER, JSON, LIST, MAP, STRING, TIME, TIMESTAMP, UNKNOWN, UUID,
+        BSON, DATE, DECIMAL, ENUM, GEOGRAPHY, GEOMETRY, INTEGER, JSON, LIST, MAP, STRING, TIME, TIMESTAMP, UNKNOWN,
+        UUID,
     };
     pub const NONE: u32 = 0;
 }
@@ -115,6 +119,15 @@ pub mod unit {
     pub const MILLIS: u32 = 1;
     pub const MICROS: u32 = 2;
     pub const NANOS: u32 = 3;
+}
+
+/// Edge rules: how the points between two vertices of a GEOGRAPHY are found.
+pub mod edge_rule {
+    pub const SPHERICAL: u32 = 0;
+    pub const VINCENTY: u32 = 1;
+    pub const THOMAS: u32 = 2;
+    pub const ANDOYER: u32 = 3;
+    pub const KARNEY: u32 = 4;
 }
 
 /// The cases of a read value.

@@ -24,7 +24,9 @@ impl Edition {
     /// The scale of a DECIMAL is at most its precision. What the first edition accepts this one accepts too, with the same answer.
     pub const SECOND: Self = Edition(2);
 
-    /// As the second, but no leaf is INT96: one is refused with 10, whatever its annotation, and such a column type with 20.
+    /// As the second, but no leaf is INT96: one is refused with 10, whatever its annotation, and such a column type
+    /// with 20. A leaf may be GEOMETRY or GEOGRAPHY, whose numbers the others refuse with 4, and with 20 in a column
+    /// type.
     pub const THIRD: Self = Edition(3);
 
     /// Its number.

@@ -41,6 +41,39 @@ impl Refusal {
         }
     }
 
+    /// What [`box_of`](crate::box_of) gives it for, where points have other words than a value or a column has.
+    ///
+    /// ```
+    /// let refusal = griffeljol::box_of(griffeljol::codes::kind::STRING, &[]).unwrap_err();
+    /// assert_eq!((refusal.number, refusal.box_meaning()), (20, "only GEOMETRY, 17, and GEOGRAPHY, 18, have boxes"));
+    /// ```
+    pub fn box_meaning(&self) -> &'static str {
+        match self.number {
+            15 => "an odd number of coordinates",
+            16 => "a coordinate of GEOGRAPHY is outside [-180, 180] in x or [-90, 90] in y",
+            20 => "only GEOMETRY, 17, and GEOGRAPHY, 18, have boxes",
+            _ => self.meaning(),
+        }
+    }
+
+    /// What [`inside`](crate::inside) gives it for, likewise.
+    ///
+    /// ```
+    /// let turned = [0.0, 1.0, 1.0, 0.0].into();
+    /// let refusal = griffeljol::inside(griffeljol::codes::kind::GEOMETRY, turned, 0.0, 0.0).unwrap_err();
+    /// assert_eq!(refusal.number, 16);
+    /// assert!(refusal.inside_meaning().starts_with("a bound is NaN, ymin is above ymax, or "));
+    /// ```
+    pub fn inside_meaning(&self) -> &'static str {
+        match self.number {
+            16 => {
+                "a bound is NaN, ymin is above ymax, or a bound or coordinate of GEOGRAPHY is outside [-180, 180] in x or \
+                 [-90, 90] in y"
+            }
+            _ => self.box_meaning(),
+        }
+    }
+
     /// What its place is; none where it is always 0.
     ///
     /// ```

@@ -4,9 +4,9 @@ mod sheets;
 
 use std::fs;
 
-use griffeljol::codes::{kind, physical, unit};
-use griffeljol::{decode, encode, from_int96, order, read, resolve, rewrite, rows, to_int96};
-use griffeljol::{ColumnType, Edition, Fields, Order, OrderRefusal, Refusal, Row, Slot, Value, ROW_WIDTH};
+use griffeljol::codes::{converted, edge_rule, kind, physical, unit};
+use griffeljol::{box_of, decode, encode, from_int96, inside, order, read, resolve, rewrite, rows, to_int96};
+use griffeljol::{BoundingBox, ColumnType, Edition, Fields, Order, OrderRefusal, Refusal, Row, Slot, Value, ROW_WIDTH};
 use sheets::{leaf, root, sheet};
 
 fn sample() -> Vec<u8> {
@@ -216,6 +216,61 @@ fn int96_times_there_and_back() {
             to_int96(end).split_first_chunk().map(|(nanos, day)| (*nanos, day.to_vec())).expect("12 bytes");
         let beyond = step(u64::from_le_bytes(nanos), 1).to_le_bytes();
         assert_eq!(from_int96(&[&beyond[..], &day].concat()), refused(19));
+    }
+}
+
+#[test]
+fn the_third_edition_has_geometry_and_geography() {
+    let edge_rules =
+        [edge_rule::SPHERICAL, edge_rule::VINCENTY, edge_rule::THOMAS, edge_rule::ANDOYER, edge_rule::KARNEY];
+    let of_geography = edge_rules.map(|a| (kind::GEOGRAPHY, a));
+    for (logical, a) in of_geography.into_iter().chain([(kind::GEOMETRY, 0)]) {
+        let slot = Slot { logical, a, ..leaf("p", physical::BYTE_ARRAY) };
+        let bytes = sheet(&[root("r", 1), slot.clone()]);
+        for edition in [Edition::FIRST, Edition::SECOND] {
+            assert_eq!(rows(edition, &bytes), Err(Refusal { number: 4, place: 1 }));
+            assert_eq!(read(edition, column(physical::BYTE_ARRAY, logical), b""), refused(20));
+        }
+        let row = rows(Edition::THIRD, &bytes).expect("the third edition accepts it")[1];
+        assert_eq!((row.kind, row.p1, row.p2), (logical, a, 0));
+        let mut out = [7; 512];
+        assert_eq!(rewrite(Edition::THIRD, &bytes, &mut out, 0), Ok(512));
+        assert_eq!(out[..], bytes);
+        let points = ColumnType { p1: a, ..column(physical::BYTE_ARRAY, logical) };
+        assert_eq!(read(Edition::THIRD, points, b"\xFF"), Ok(Value::Bytes { start: 0, length: 1 }));
+        assert_eq!(order(Edition::THIRD, points, b"a", b"b").map_err(|refused| refused.refusal), refused(17));
+        let beside = sheet(&[root("r", 1), Slot { converted: converted::UTF8, ..slot.clone() }]);
+        assert_eq!(rows(Edition::THIRD, &beside), Err(Refusal { number: 9, place: 1 }));
+        let another = sheet(&[root("r", 1), Slot { a: 5, ..slot }]);
+        assert_eq!(rows(Edition::THIRD, &another), Err(Refusal { number: 10, place: 1 }));
+    }
+}
+
+#[test]
+fn boxes_of_points_and_points_in_them() {
+    let bounds = BoundingBox { xmin: -1.0, xmax: 3.0, ymin: -4.0, ymax: 6.0 };
+    for kind in [kind::GEOMETRY, kind::GEOGRAPHY] {
+        let points = [3.0, -4.0, f64::NAN, 6.0, -1.0, f64::NAN];
+        assert_eq!(box_of(kind, &points), Ok(Some(bounds)));
+        assert_eq!(box_of(kind, &points[..5]), refused(15));
+        assert_eq!(box_of(kind, &points[4..]), Ok(None));
+        assert_eq!(box_of(kind, &[]), Ok(None));
+        for (x, y, expected) in [(3.0, 6.0, true), (3.5, 6.0, false), (f64::NAN, 0.0, false)] {
+            assert_eq!(inside(kind, bounds, x, y), Ok(expected));
+        }
+        let around = BoundingBox { xmin: 3.0, xmax: -1.0, ..bounds };
+        for (x, expected) in [(-1.0, true), (3.0, true), (100.0, true), (0.0, false)] {
+            assert_eq!(inside(kind, around, x, 0.0), Ok(expected));
+        }
+        assert_eq!(inside(kind, BoundingBox { ymin: 7.0, ..bounds }, 0.0, 0.0), refused(16));
+        assert_eq!(inside(kind, BoundingBox { xmax: f64::NAN, ..bounds }, 0.0, 0.0), refused(16));
+    }
+    assert_eq!(box_of(kind::GEOGRAPHY, &[0.0, 90.5]), refused(16));
+    assert_eq!(inside(kind::GEOGRAPHY, bounds, -180.5, 0.0), refused(16));
+    assert_eq!(inside(kind::GEOMETRY, bounds, -180.5, 0.0), Ok(false));
+    for kind in [0, 16, 19, 273, u32::MAX] {
+        assert_eq!(box_of(kind, &[200.0]), refused(20));
+        assert_eq!(inside(kind, BoundingBox { xmax: f64::NAN, ..bounds }, 200.0, 0.0), refused(20));
     }
 }
 

@@ -38,8 +38,19 @@ fn codes() -> BTreeMap<String, u64> {
 
 #[test]
 fn codes_are_those_of_the_header() {
-    let groups =
-        ["PHYSICAL", "REPETITION", "KIND", "CONVERTED", "LOGICAL", "DIFFERENCE", "ROLE", "UNIT", "CASE", "ORDER"];
+    let groups = [
+        "PHYSICAL",
+        "REPETITION",
+        "KIND",
+        "CONVERTED",
+        "LOGICAL",
+        "DIFFERENCE",
+        "ROLE",
+        "UNIT",
+        "EDGE_RULE",
+        "CASE",
+        "ORDER",
+    ];
     let mut expected = header();
     expected.retain(|name, _| {
         groups.iter().any(|group| name.strip_prefix(group).is_some_and(|rest| rest.starts_with('_')))
@@ -59,6 +70,9 @@ fn widths_are_those_of_the_header() {
     assert_eq!(header["ENTRY_SIDE"], griffeljol::SLOT_WIDTH as u64);
     assert_eq!(header["INT96_WIDTH"], griffeljol::INT96_WIDTH as u64);
     assert_eq!(header["INT96_EPOCH"].to_le_bytes()[..4], griffeljol::to_int96(0)[header["INT96_DAY"] as usize..]);
+    assert_eq!(header["BOX_WIDTH"], griffeljol::BOX_WIDTH as u64);
+    let bounds: [f64; 4] = griffeljol::BoundingBox { xmin: 0.0, xmax: 1.0, ymin: 2.0, ymax: 3.0 }.into();
+    assert_eq!(["XMIN", "XMAX", "YMIN", "YMAX"].map(|bound| header[&format!("BOX_{bound}")] as f64), bounds);
     assert_eq!(header["ENTRY_SECOND"] + header["ENTRY_SIDE"], header["ENTRY_WIDTH"]);
     assert_eq!(header["ENTRY_FIRST"] + header["ENTRY_SIDE"], header["ENTRY_SECOND"]);
     let text = fs::read_to_string("../include/griffeljol.h").expect("the header");

@@ -72,6 +72,52 @@ fn every_kind() -> Vec<Node> {
     ]
 }
 
+/// A schema with GEOMETRY and each edge rule of GEOGRAPHY.
+fn every_place() -> Vec<Node> {
+    let leaf = |name, logical, a| Node::leaf(name, BYTE_ARRAY, OPTIONAL).logical(logical, a, 0);
+    let mut nodes = vec![Node::root(6), leaf("shape", 17, 0)];
+    nodes.extend(["s", "v", "t", "a", "k"].into_iter().zip(0..).map(|(name, edge_rule)| leaf(name, 18, edge_rule)));
+    nodes
+}
+
+#[test]
+fn tree_of_every_edge_rule_in_the_third_edition() {
+    let sheet = sheet(&every_place());
+    let expected = "\
+node  level  name      type        annotation            repetition  role
+   0      0  r         group
+   1      1  ├─ shape  BYTE_ARRAY  GEOMETRY              optional    field
+   2      1  ├─ s      BYTE_ARRAY  GEOGRAPHY(SPHERICAL)  optional    field
+   3      1  ├─ v      BYTE_ARRAY  GEOGRAPHY(VINCENTY)   optional    field
+   4      1  ├─ t      BYTE_ARRAY  GEOGRAPHY(THOMAS)     optional    field
+   5      1  ├─ a      BYTE_ARRAY  GEOGRAPHY(ANDOYER)    optional    field
+   6      1  └─ k      BYTE_ARRAY  GEOGRAPHY(KARNEY)     optional    field
+";
+    prints("tree - --edition 3", &sheet, expected);
+    let output = run_on(&["tree", "-", "--edition", "3", "--json"], &sheet);
+    assert!(text(&output.stdout).contains("\"annotation\": \"GEOGRAPHY(KARNEY)\""));
+    for edition in ["1", "2"] {
+        let output = run_on(&["tree", "-", "--edition", edition], &sheet);
+        assert!(text(&output.stderr).starts_with("refused 4 at 1\n"));
+        assert_eq!(output.status.code(), Some(1));
+    }
+}
+
+#[test]
+fn values_of_geospatial_columns() {
+    prints("value 6 0 17 0 0 --edition 3 --hex FF80", b"", "bytes 0 2\n");
+    prints("value 6 0 18 4 0 --edition 3 -", b"", "bytes 0 0\n");
+    for line in [
+        "value 6 0 17 0 0 --edition 2 --hex FF",
+        "value 6 0 18 5 0 --edition 3 --hex FF",
+        "value 7 1 17 0 0 --edition 3 --hex FF",
+    ] {
+        let output = run(line.split(' '));
+        assert!(text(&output.stderr).starts_with("refused 20 at 0\n"), "{line}");
+        assert_eq!(output.status.code(), Some(1), "{line}");
+    }
+}
+
 #[test]
 fn tree_of_every_kind_and_role() {
     prints("tree -", &sheet(&every_kind()), include_str!("every_kind.txt"));

@@ -329,6 +329,27 @@ fn editions_of_both_sheets() {
 }
 
 #[test]
+fn edge_rules_in_the_third_edition() {
+    let leaf = |name: &str, logical, a| Node::leaf(name, BYTE_ARRAY, REQUIRED).logical(logical, a, 0);
+    let a = root_of(&[leaf("at", 18, 0), leaf("shape", 17, 0), leaf("note", 1, 0)]);
+    let b = root_of(&[leaf("at", 18, 4), leaf("shape", 18, 2), leaf("note", 17, 0), leaf("new", 18, 3)]);
+    let folder = files("edge_rules_in_the_third_edition", &sheet(&a), &sheet(&b));
+    let lines = "\
+the root: child count 4, was 3
+at: parameter a KARNEY, was SPHERICAL
+shape: logical GEOGRAPHY, was GEOMETRY
+shape: parameter a THOMAS, was none
+note: logical GEOMETRY, was STRING
+new: only in B, required BYTE_ARRAY GEOGRAPHY(ANDOYER)
+6 differences
+";
+    told(&compare(&folder, &["--edition", "3"]), lines);
+    let meaning = "slot code outside the lists, name length or zero bytes wrong, unused slot not zero";
+    let words = format!("A, \"a\": {meaning}; place 1 is the first such node");
+    refused(&compare(&folder, &["--edition", "2"]), "refused 4 at 1", &words);
+}
+
+#[test]
 fn files_that_cannot_be_read_or_written() {
     failed(&run(["compare", "missing", SAMPLE]), "cannot read \"missing\"");
     failed(&run(["compare", SAMPLE, "missing"]), "cannot read \"missing\"");

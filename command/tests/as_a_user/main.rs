@@ -2,6 +2,7 @@
 
 mod answers;
 mod arguments;
+mod boxes;
 mod compare;
 mod files;
 mod int96;

@@ -1,24 +1,30 @@
 -- Rules 10 and 11 in the editions: what keeps the first's keeps the second's, and what keeps the second's alone is a DECIMAL whose scale equals its precision;
--- what keeps the third's keeps the second's and is no INT96.
+-- what is neither GEOMETRY nor GEOGRAPHY keeps the third's exactly where it keeps the second's and is no INT96.
 -- Assumes nothing.
 use Prim.Native.Nat.{ℕ, _≤_, _<_}
 use mathlib.Core.Path.{_≡_, refl, sym, _∙_}
 use mathlib.Core.Logic.{_↔_}
+use mathlib.Core.List.{List, [], _∷_}
 use mathlib.Core.Bool.{Bool, true, false, true≢false, not, cond, _&&_, _||_}
 use native.Mathlib.Omega.{arith}
 use lib.Dec.{eqb, leb, ltb}
 use lib.IntN.{ℤ, pos, negsuc}
 use lib.Signed.{leZ}
-use borrow.Author.Tests.{eqb-true, eqb-false, le-leb, lt-ltb, leb-true, ltb-true}
-use Rattle.laws.proofs.BoolLaws.{and-left, and-right, and-both, both-and, and-true, by-test}
-use Rattle.edition.specs.Editions.{FIRST, SECOND, THIRD, scaleMayEqual, int96Retired}
+use borrow.Author.Tests.{not-true, eqb-true, eqb-false, le-leb, lt-ltb, leb-true, ltb-true}
+use Rattle.laws.proofs.BoolLaws.{and-left, and-right, and-both, both-and, and-true, is-false, by-test}
+use Rattle.edition.specs.Editions.{FIRST, SECOND, THIRD, scaleMayEqual, int96Retired, hasGeospatial}
 use Rattle.parquet.specs.Physical as physical
 use Rattle.parquet.specs.Logical as logical
-use Rattle.logical_type.specs.Spelling.{codeOf}
+use Rattle.parquet.specs.Logical.{isGeospatial}
+use Rattle.logical_type.specs.Table.{lookup}
+use Rattle.logical_type.specs.Parameters.{validParameters}
+use Rattle.logical_type.specs.Spelling.{codeOf, statedOf}
+use Rattle.logical_type.specs.Backward.{backwardTable, backwardOf}
+use Rattle.logical_type.proofs.ReadingLaws.{Spells, spelled-stated}
 use Rattle.logical_type.specs.declared.types.Annotation.{Annotation}
 use Rattle.annotation.specs.Signed.{natural}
 use Rattle.annotation.specs.Meaning.{annotationOf}
-use Rattle.annotation.specs.Rule10.{isRetired, rule10}
+use Rattle.annotation.specs.Rule10.{annotationOn, saysGeospatial, isPlaced, isRetired, rule10}
 use Rattle.annotation.specs.Rule11.{scaleAllowed, ordered, physicalHolds, isDecimal, decimalHolds, digitsAllowed, rule11}
 use Rattle.annotation.specs.Kinds.{PLAIN-LEAF, PLAIN-GROUP, bareKind, kindAs, kindOf}
 use Rattle.annotation.specs.declared.slot.Annotated.{Annotated}
@@ -121,13 +127,70 @@ eleven-first n underMap e = on (annotationOf n underMap) e
 
 -- of rule 10 the first two editions ask the same
 pub ten-second : (n : Annotated) (underMap : Bool) → rule10 SECOND n underMap ≡ rule10 FIRST n underMap
-unfolding rule10 isRetired int96Retired
+unfolding rule10 isRetired int96Retired hasGeospatial
 ten-second n underMap = refl
 
--- and the third besides that there is no INT96
-pub ten-third : (n : Annotated) (underMap : Bool) → rule10 THIRD n underMap ≡ (not (eqb (n .physical) physical.INT96) && rule10 SECOND n underMap)
-unfolding rule10 isRetired int96Retired
-ten-third n underMap = by-test (eqb (n .physical) physical.INT96) (λ t. rw t) (λ f. rw f)
+-- what document 01 does, and that it is neither GEOMETRY nor GEOGRAPHY
+pub ten-before : (n : Annotated) (underMap : Bool) → rule10 SECOND n underMap ≡ (not (saysGeospatial (annotationOf n underMap)) && isPlaced n underMap)
+unfolding rule10 isRetired int96Retired hasGeospatial
+ten-before n underMap =
+    by-test (eqb (n .physical) physical.INT96) (λ t. rw (t, and-true (saysGeospatial (annotationOf n underMap)))) (λ f. rw (f, and-true (saysGeospatial (annotationOf n underMap))))
+
+-- and the third what document 01 does, and that there is no INT96
+pub ten-third : (n : Annotated) (underMap : Bool) → rule10 THIRD n underMap ≡ (not (eqb (n .physical) physical.INT96) && isPlaced n underMap)
+unfolding rule10 isRetired int96Retired hasGeospatial
+ten-third n underMap =
+    rw (and-true (eqb (n .physical) physical.INT96)) (by-test (saysGeospatial (annotationOf n underMap)) (λ t. rw t) (λ f. rw f))
+
+-- a logical type that is said has the code that stands
+said-code : (n : Annotated) (says : Annotation) → Spells says (n .logical) (n .a) (n .b) → saysGeospatial says ≡ true → isGeospatial (n .logical) ≡ true
+said-code n Annotation.Plain s e = absurd s
+said-code n (Annotation.Logical l) s e = rw (← s .0) e
+said-code n Annotation.Interval s e = absurd s
+said-code n Annotation.Unreadable s e = absurd (true≢false (sym e))
+
+-- no converted type means GEOMETRY or GEOGRAPHY
+noneSays : List (ℕ × Annotation) → Bool
+noneSays [] = true
+noneSays (entry ∷ table) = not (saysGeospatial (entry .1)) && noneSays table
+
+none-said : (code : ℕ) (table : List (ℕ × Annotation)) → noneSays table ≡ true → saysGeospatial (lookup code table Annotation.Unreadable) ≡ false
+unfolding noneSays
+none-said code [] e = refl
+none-said code (entry ∷ table) e =
+    let both = and-both (not (saysGeospatial (entry .1))) (noneSays table) e in
+    by-test (eqb code (entry .0)) (λ t. rw t (not-true _ (both .0))) (λ f. rw f (none-said code table (both .1)))
+
+converted-not : (code : ℕ) (underMap : Bool) → saysGeospatial (backwardOf code underMap) ≡ false
+unfolding backwardOf noneSays
+converted-not code true = none-said code (backwardTable true) refl
+converted-not code false = none-said code (backwardTable false) refl
+
+-- so a slot says so only where its logical code does
+pub not-said : (n : Annotated) (underMap : Bool) → isGeospatial (n .logical) ≡ false → saysGeospatial (annotationOf n underMap) ≡ false
+unfolding annotationOf
+not-said n underMap e = by-test (eqb (n .logical) logical.NONE) (λ t. rw t (alone (validParameters logical.NONE (n .a) (n .b)))) (λ f. rw f stated)
+  where
+    alone : (valid : Bool) → saysGeospatial (cond valid (backwardOf (n .converted) underMap) Annotation.Unreadable) ≡ false
+    alone true = converted-not (n .converted) underMap
+    alone false = refl
+
+    stated : saysGeospatial (statedOf (n .logical) (n .a) (n .b)) ≡ false
+    stated = is-false _ (λ said. true≢false (sym (said-code n (statedOf (n .logical) (n .a) (n .b)) (spelled-stated (n .logical) (n .a) (n .b)) said) ∙ e))
+
+-- where it does, the second edition's rule 10 is broken
+pub geospatial-breaks : (n : Annotated) (underMap : Bool) → isGeospatial (n .logical) ≡ true → rule10 SECOND n underMap ≡ false
+unfolding isPlaced annotationOf
+geospatial-breaks n underMap e = ten-before n underMap ∙ rw stands (stated (statedOf (n .logical) (n .a) (n .b)) (spelled-stated (n .logical) (n .a) (n .b)))
+  where
+    stands : eqb (n .logical) logical.NONE ≡ false
+    stands = is-false (eqb (n .logical) logical.NONE) (λ t. true≢false (sym (rw (eqb-true (n .logical) logical.NONE t) at e)))
+
+    stated : (says : Annotation) → Spells says (n .logical) (n .a) (n .b) → (not (saysGeospatial says) && annotationOn says (n .physical) (natural (n .«type_length»))) ≡ false
+    stated Annotation.Plain s = absurd s
+    stated (Annotation.Logical l) s = rw (s .0, e)
+    stated Annotation.Interval s = absurd s
+    stated Annotation.Unreadable s = refl
 
 -- of rule 11 it asks what the second does
 pub eleven-third : (n : Annotated) (underMap : Bool) → rule11 THIRD n underMap ≡ rule11 SECOND n underMap

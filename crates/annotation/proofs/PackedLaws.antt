@@ -43,6 +43,8 @@ forward-bounds LogicalType.Unknown = omega arith
 forward-bounds LogicalType.Json = omega arith
 forward-bounds LogicalType.Bson = omega arith
 forward-bounds LogicalType.Uuid = omega arith
+forward-bounds LogicalType.Geometry = omega arith
+forward-bounds (LogicalType.Geography edge) = omega arith
 
 -- the bounds of the parts
 record Bounded (says : Annotation) : Type 0 where
@@ -117,6 +119,8 @@ logical-not-int96 LogicalType.Unknown = refl
 logical-not-int96 LogicalType.Json = refl
 logical-not-int96 LogicalType.Bson = refl
 logical-not-int96 LogicalType.Uuid = refl
+logical-not-int96 LogicalType.Geometry = refl
+logical-not-int96 (LogicalType.Geography edge) = refl
 
 pub not-int96 : (says : Annotation) → eqb physical.INT96 (demandOf says) ≡ false
 not-int96 Annotation.Plain = refl

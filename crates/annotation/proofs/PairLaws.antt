@@ -1,16 +1,17 @@
 -- Parameters as one number: a pair is valid where it is one of those that are spelled.
 -- Assumes nothing.
 use Prim.Native.Nat.{ℕ}
-use mathlib.Core.Path.{_≡_, refl}
+use mathlib.Core.Path.{_≡_}
 use mathlib.Core.Bool.{Bool, true, false, _&&_}
 use mathlib.Core.List.{List, [], _∷_}
 use native.Mathlib.Omega.{arith}
 use lib.Dec.{eqb}
 use Rattle.laws.proofs.BoolLaws.{is-false}
-use Rattle.logical_type.specs.Parameters.{UNUSED, unitCode, bitWidthCode, flagCode, validUnit, validBitWidth, validFlag, unitOf, bitWidthOf, flagOf}
+use Rattle.logical_type.specs.Parameters.{UNUSED, unitCode, bitWidthCode, edgeCode, flagCode, validUnit, validBitWidth, validEdge, validFlag, unitOf, bitWidthOf, edgeOf, flagOf}
 use Rattle.logical_type.specs.declared.types.TimeUnit.{TimeUnit}
 use Rattle.logical_type.specs.declared.types.BitWidth.{BitWidth}
-use Rattle.logical_type.proofs.ReadingLaws.{unused-spelled, unit-flag-spelled, width-flag-spelled}
+use Rattle.logical_type.specs.declared.types.EdgeRule.{EdgeRule}
+use Rattle.logical_type.proofs.ReadingLaws.{unused-spelled, unit-flag-spelled, width-flag-spelled, edge-unused-spelled}
 use Rattle.annotation.specs.Pairs.{NO-PAIR, pairOf, pairA, pairB}
 use Rattle.annotation.proofs.TableLaws.{Rest}
 
@@ -67,3 +68,23 @@ sized-rest pair r =
     none BitWidth.Bits16 true = r .0 .0 .1
     none BitWidth.Bits32 true = r .0 .1
     none BitWidth.Bits64 true = r .1
+
+-- and those of GEOGRAPHY but SPHERICAL, whose parameters are unused
+abbrev edgedPairs : List (ℕ × Unit {0})
+edgedPairs =
+    (pairOf (edgeCode EdgeRule.Vincenty) UNUSED, tt)
+    ∷ (pairOf (edgeCode EdgeRule.Thomas) UNUSED, tt)
+    ∷ (pairOf (edgeCode EdgeRule.Andoyer) UNUSED, tt)
+    ∷ (pairOf (edgeCode EdgeRule.Karney) UNUSED, tt)
+    ∷ []
+
+pub edged-rest : (pair : ℕ) → (pair ≡ NO-PAIR → ⊥) → Rest pair edgedPairs (Unit {0}) → validEdge (pairA pair) && eqb (pairB pair) UNUSED ≡ false
+edged-rest pair some r =
+    is-false _ (λ e. let both = edge-unused-spelled (pairA pair) (pairB pair) e in none (edgeOf (pairA pair)) (omega arith))
+  where
+    none : (p : EdgeRule) → pair ≡ pairOf (edgeCode p) UNUSED → ⊥
+    none EdgeRule.Spherical = some
+    none EdgeRule.Vincenty = r .0 .0 .0 .1
+    none EdgeRule.Thomas = r .0 .0 .1
+    none EdgeRule.Andoyer = r .0 .1
+    none EdgeRule.Karney = r .1

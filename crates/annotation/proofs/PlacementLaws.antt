@@ -4,13 +4,14 @@ use Prim.Native.Nat.{ℕ}
 use mathlib.Core.Path.{_≡_, refl, sym, _∙_, subst}
 use mathlib.Core.Bool.{Bool, true, false, true≢false, not, cond, _||_}
 use lib.Dec.{eqb}
-use Rattle.laws.proofs.BoolLaws.{and-both}
+use borrow.Author.Tests.{not-true}
+use Rattle.laws.proofs.BoolLaws.{and-left, and-right}
 use Rattle.parquet.specs.Physical as physical
 use Rattle.parquet.specs.Logical as logical
 use Rattle.logical_type.specs.Spelling.{codeOf}
 use Rattle.annotation.specs.Signed.{natural}
 use Rattle.annotation.specs.Meaning.{annotationOf}
-use Rattle.annotation.specs.Rule10.{logicalOn, annotationOn, isPlaced, isRetired, rule10}
+use Rattle.annotation.specs.Rule10.{logicalOn, annotationOn, isPlaced, isRetired, isEarly, rule10}
 use Rattle.annotation.specs.Kinds.{PLAIN-GROUP, kindAs, kindOf}
 use Rattle.logical_type.specs.declared.types.TimeUnit.{TimeUnit}
 use Rattle.logical_type.specs.declared.types.BitWidth.{BitWidth}
@@ -42,6 +43,8 @@ logical-group LogicalType.Unknown length e = e
 logical-group LogicalType.Json length e = e
 logical-group LogicalType.Bson length e = e
 logical-group LogicalType.Uuid length e = e
+logical-group LogicalType.Geometry length e = e
+logical-group (LogicalType.Geography edge) length e = e
 
 -- a logical type that may stand on a leaf is neither
 logical-leaf : (l : LogicalType) (code length : ℕ) → eqb code physical.GROUP ≡ false → logicalOn l code length ≡ true → groupKind (codeOf l) ≡ false
@@ -58,6 +61,8 @@ logical-leaf LogicalType.Unknown code length leaf e = refl
 logical-leaf LogicalType.Json code length leaf e = refl
 logical-leaf LogicalType.Bson code length leaf e = refl
 logical-leaf LogicalType.Uuid code length leaf e = refl
+logical-leaf LogicalType.Geometry code length leaf e = refl
+logical-leaf (LogicalType.Geography edge) code length leaf e = refl
 
 -- the code of a logical type says that one stands, and is not the kind of a plain group
 pub code-stands : (l : LogicalType) → (eqb (codeOf l) logical.NONE ≡ false) × (eqb (codeOf l) PLAIN-GROUP ≡ false)
@@ -74,6 +79,8 @@ code-stands LogicalType.Unknown = (refl, refl)
 code-stands LogicalType.Json = (refl, refl)
 code-stands LogicalType.Bson = (refl, refl)
 code-stands LogicalType.Uuid = (refl, refl)
+code-stands LogicalType.Geometry = (refl, refl)
+code-stands (LogicalType.Geography edge) = (refl, refl)
 
 -- the kind of a logical type is its code, DECIMAL's too
 pub kind-logical : (l : LogicalType) (n : Annotated) → kindAs (Annotation.Logical l) n .kind ≡ codeOf l
@@ -90,6 +97,8 @@ kind-logical LogicalType.Unknown n = refl
 kind-logical LogicalType.Json n = refl
 kind-logical LogicalType.Bson n = refl
 kind-logical LogicalType.Uuid n = refl
+kind-logical LogicalType.Geometry n = refl
+kind-logical (LogicalType.Geography edge) n = refl
 
 kind-group : (says : Annotation) (n : Annotated) (length : ℕ) → n .physical ≡ physical.GROUP → annotationOn says physical.GROUP length ≡ true → groupKind (kindAs says n .kind) ≡ true
 kind-group Annotation.Plain n length group e = rw group
@@ -108,10 +117,19 @@ pub readable : (valid : Bool) (says : Annotation) (code length : ℕ) → annota
 readable true says code length e = refl
 readable false says code length e = absurd (true≢false (sym e))
 
--- rule 10 has two parts
-pub ten-parts : (edition : ℕ) (n : Annotated) (underMap : Bool) → rule10 edition n underMap ≡ true → (not (isRetired edition (n .physical)) ≡ true) × (isPlaced n underMap ≡ true)
+-- what rule 10 asks in every edition
+pub ten-placed : (edition : ℕ) (n : Annotated) (underMap : Bool) → rule10 edition n underMap ≡ true → isPlaced n underMap ≡ true
 unfolding rule10
-ten-parts edition n underMap e = and-both (not (isRetired edition (n .physical))) (isPlaced n underMap) e
+ten-placed edition n underMap e =
+    let own = and-right (not (isRetired edition (n .physical))) _ e in
+    and-right (not (isEarly edition (annotationOf n underMap))) (isPlaced n underMap) own
+
+-- and no GEOMETRY and GEOGRAPHY before the edition that has them
+pub ten-timely : (edition : ℕ) (n : Annotated) (underMap : Bool) → rule10 edition n underMap ≡ true → isEarly edition (annotationOf n underMap) ≡ false
+unfolding rule10
+ten-timely edition n underMap e =
+    let own = and-right (not (isRetired edition (n .physical))) _ e in
+    not-true _ (and-left (not (isEarly edition (annotationOf n underMap))) (isPlaced n underMap) own)
 
 -- a group whose annotation is placed as rule 10 asks is plain, LIST or MAP
 pub group-kind : (n : Annotated) (underMap : Bool) → isPlaced n underMap ≡ true → n .physical ≡ physical.GROUP → groupKind (kindOf n underMap .kind) ≡ true

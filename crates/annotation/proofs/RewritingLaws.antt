@@ -29,7 +29,7 @@ use Rattle.annotation.specs.declared.rewriting.Written.{Written}
 use Rattle.annotation.specs.declared.rewriting.Rewriting.{Rewriting}
 use Rattle.logical_type.proofs.ConversionLaws.{forward-decimal}
 use Rattle.logical_type.proofs.SpellingLaws.{stated-spelled}
-use Rattle.annotation.proofs.PlacementLaws.{kind-logical, code-stands, ten-parts}
+use Rattle.annotation.proofs.PlacementLaws.{kind-logical, code-stands, ten-placed}
 use Rattle.annotation.proofs.OutcomeLaws.{resolved-of-keeps, keeps-of-resolved, kind-of-resolved, resolved-of-refusal, refused-of-number}
 
 -- an annotation as it is after rewriting: what cannot be read is written as none
@@ -81,7 +81,7 @@ pub resolved-rewritten : (edition : ℕ) (n : Annotated) (underMap : Bool) (k : 
 unfolding rewritten writtenOf isPlaced rule10 rule11 decimalHolds kindOf
 resolved-rewritten edition n underMap k e =
     let keeps = keeps-of-resolved edition n underMap k e in
-    let same = annotation-rewritten n underMap (ten-parts edition n underMap (keeps .ten) .1) in
+    let same = annotation-rewritten n underMap (ten-placed edition n underMap (keeps .ten)) in
     resolved-of-keeps edition (rewritten n underMap) underMap
     (record {
       nine = nine-written (annotationOf n underMap) n;

@@ -11,7 +11,7 @@ use mir.Syntax.{w32}
 use mir.Val.{SFits, toZ, ofZ}
 use borrow.Author.Tests.{eqb-true, eq-eqb, ne-eqb, le-leb, lt-leb}
 use Rattle.refusal.specs.Numbers.{DISAGREEMENT, MISPLACED, BAD-DECIMAL}
-use Rattle.edition.specs.Editions.{int96Retired}
+use Rattle.edition.specs.Editions.{int96Retired, hasGeospatial}
 use Rattle.parquet.specs.Physical as physical
 use Rattle.parquet.specs.Converted as converted
 use Rattle.parquet.specs.Logical as logical
@@ -20,13 +20,13 @@ use Rattle.logical_type.specs.Backward.{backwardOf}
 use Rattle.annotation.specs.Signed.{natural}
 use Rattle.annotation.specs.Meaning.{annotationOf}
 use Rattle.annotation.specs.Rule9.{rule9}
-use Rattle.annotation.specs.Rule10.{INTERVAL-LENGTH, isFixed, decimalOn, logicalOn, annotationOn, isPlaced, isRetired, rule10}
+use Rattle.annotation.specs.Rule10.{INTERVAL-LENGTH, isFixed, decimalOn, logicalOn, annotationOn, isPlaced, isRetired, isEarly, rule10}
 use Rattle.annotation.specs.Rule11.{decimalHolds, digitsAllowed, rule11}
 use Rattle.annotation.specs.Kinds.{plainKind, decimalKind, kindAs, kindOf}
 use Rattle.annotation.specs.Outcome.{refusalOf, resolutionOf}
 use Rattle.annotation.specs.Rewriting.{writtenAs, writtenOf}
 use Rattle.annotation.specs.Packed.{ANY-PHYSICAL, NO-PHYSICAL, OWN-RULE, DISAGREEMENT-MARK, demandOf, packedOf, demandPart}
-use Rattle.annotation.specs.Steps.{isPlain, annotatedBy, marked, readingOf, ownOn, digitsHold, ownFault, faultBy, plainFault, standsBy, loneKind, kindBy, writtenBy}
+use Rattle.annotation.specs.Steps.{isPlain, annotatedBy, marked, readingOf, geospatialOn, ownOn, digitsHold, ownFault, faultBy, plainFault, standsBy, loneKind, kindBy, writtenBy}
 use Rattle.logical_type.specs.declared.types.TimeUnit.{TimeUnit}
 use Rattle.logical_type.specs.declared.types.BitWidth.{BitWidth}
 use Rattle.logical_type.specs.declared.types.LogicalType.{LogicalType}
@@ -78,7 +78,7 @@ reading-written n underMap = written-by (rule9 n) (annotationOf n underMap)
 resolutionAs : ℕ → Bool → Bool → Annotation → Annotated → Resolution
 resolutionAs edition agree retired says n =
     cond agree
-    (cond (not retired && annotationOn says (n .physical) (natural (n .«type_length»)))
+    (cond (not retired && (not (isEarly edition says) && annotationOn says (n .physical) (natural (n .«type_length»))))
     (cond (digitsAllowed edition says n) (Resolution.Resolved (kindAs says n)) (Resolution.Refused BAD-DECIMAL))
     (Resolution.Refused MISPLACED))
     (Resolution.Refused DISAGREEMENT)
@@ -95,6 +95,13 @@ by-ten-eleven : (ten eleven : Bool) (k : Kind)
 by-ten-eleven true true k = refl
 by-ten-eleven true false k = refl
 by-ten-eleven false eleven k = refl
+
+by-geospatial : (on has : Bool) (k : Kind)
+    → cond (on && has) 0 MISPLACED ≡ refusalOf (cond (not (not has) && on) (Resolution.Resolved k) (Resolution.Refused MISPLACED))
+by-geospatial true true k = refl
+by-geospatial true false k = refl
+by-geospatial false true k = refl
+by-geospatial false false k = refl
 
 -- rules 10 and 11 of a physical type that is not retired, by what an annotation demands and the logical type that is written for it
 placedBy : ℕ → Annotation → Annotated → ℕ
@@ -116,7 +123,7 @@ module _ (edition : ℕ) (n : Annotated) (byte : n .physical < 2 ^ 8) where
   kept l = by-ten (logicalOn l (n .physical) (natural (n .«type_length»))) (kindAs (Annotation.Logical l) n)
 
   logical-placed : (l : LogicalType) → placedBy edition (Annotation.Logical l) n ≡ refusalOf (resolutionAs edition true false (Annotation.Logical l) n)
-  unfolding placedBy resolutionAs ownFault ownOn digitsHold decimalHolds
+  unfolding placedBy resolutionAs ownFault ownOn geospatialOn digitsHold decimalHolds
   logical-placed LogicalType.String = kept LogicalType.String
   logical-placed LogicalType.Map = kept LogicalType.Map
   logical-placed LogicalType.List = kept LogicalType.List
@@ -136,6 +143,10 @@ module _ (edition : ℕ) (n : Annotated) (byte : n .physical < 2 ^ 8) where
   logical-placed LogicalType.Json = kept LogicalType.Json
   logical-placed LogicalType.Bson = kept LogicalType.Bson
   logical-placed LogicalType.Uuid = rw (apart OWN-RULE (omega arith)) (kept LogicalType.Uuid)
+  logical-placed LogicalType.Geometry =
+      rw (apart OWN-RULE (omega arith)) (by-geospatial (eqb (n .physical) physical.BYTE-ARRAY) (hasGeospatial edition) (kindAs (Annotation.Logical LogicalType.Geometry) n))
+  logical-placed (LogicalType.Geography edge) =
+      rw (apart OWN-RULE (omega arith)) (by-geospatial (eqb (n .physical) physical.BYTE-ARRAY) (hasGeospatial edition) (kindAs (Annotation.Logical (LogicalType.Geography edge)) n))
 
   placed : (says : Annotation) → placedBy edition says n ≡ refusalOf (resolutionAs edition true false says n)
   unfolding placedBy resolutionAs ownFault ownOn

@@ -31,6 +31,8 @@ logicalDemand LogicalType.Unknown = OWN-RULE
 logicalDemand LogicalType.Json = physical.BYTE-ARRAY
 logicalDemand LogicalType.Bson = physical.BYTE-ARRAY
 logicalDemand LogicalType.Uuid = OWN-RULE
+logicalDemand LogicalType.Geometry = OWN-RULE
+logicalDemand (LogicalType.Geography edge) = OWN-RULE
 
 -- what an annotation demands
 abbrev pub demandOf : Annotation → ℕ

@@ -1,9 +1,11 @@
--- Rule 10: each annotation on its physical type and length, and no physical type that an edition has retired.
+-- Rule 10: each annotation on its physical type and length, no physical type that an edition has retired, and no logical type that it does not have yet.
 use Prim.Native.Nat.{ℕ}
 use mathlib.Core.Bool.{Bool, true, false, not, _&&_, _||_}
 use lib.Dec.{eqb}
-use Rattle.edition.specs.Editions.{int96Retired}
+use Rattle.edition.specs.Editions.{int96Retired, hasGeospatial}
 use Rattle.parquet.specs.Physical as physical
+use Rattle.parquet.specs.Logical.{isGeospatial}
+use Rattle.logical_type.specs.Spelling.{codeOf}
 use Rattle.annotation.specs.Signed.{natural}
 use Rattle.annotation.specs.Meaning.{annotationOf}
 use Rattle.logical_type.specs.declared.types.TimeUnit.{TimeUnit}
@@ -42,7 +44,7 @@ abbrev pub decimalOn : ℕ → Bool
 decimalOn code =
     eqb code physical.INT32 || eqb code physical.INT64 || eqb code physical.FIXED-LEN-BYTE-ARRAY || eqb code physical.BYTE-ARRAY
 
--- whether a logical type may stand on a physical type and length: "STRING, ENUM, JSON, BSON: BYTE_ARRAY .. DATE: INT32 .. TIMESTAMP: INT64. UNKNOWN: any leaf .. LIST and MAP: groups"
+-- whether a logical type may stand on a physical type and length: "STRING, ENUM, JSON, BSON: BYTE_ARRAY .. DATE: INT32 .. TIMESTAMP: INT64. UNKNOWN: any leaf .. LIST and MAP: groups"; "GEOMETRY .. and GEOGRAPHY .. on BYTE_ARRAY" (02, R-11)
 abbrev pub logicalOn : LogicalType → ℕ → ℕ → Bool
 logicalOn LogicalType.String code length = eqb code physical.BYTE-ARRAY
 logicalOn LogicalType.Map code length = eqb code physical.GROUP
@@ -57,6 +59,8 @@ logicalOn LogicalType.Unknown code length = not (eqb code physical.GROUP)
 logicalOn LogicalType.Json code length = eqb code physical.BYTE-ARRAY
 logicalOn LogicalType.Bson code length = eqb code physical.BYTE-ARRAY
 logicalOn LogicalType.Uuid code length = isFixed UUID-LENGTH code length
+logicalOn LogicalType.Geometry code length = eqb code physical.BYTE-ARRAY
+logicalOn (LogicalType.Geography edge) code length = eqb code physical.BYTE-ARRAY
 
 -- whether an annotation may stand on a physical type and length; no annotation may stand on any
 abbrev pub annotationOn : Annotation → ℕ → ℕ → Bool
@@ -73,5 +77,16 @@ isPlaced n underMap = annotationOn (annotationOf n underMap) (n .physical) (natu
 unfoldable pub isRetired : ℕ → ℕ → Bool
 isRetired edition code = eqb code physical.INT96 && int96Retired edition
 
+-- and GEOMETRY and GEOGRAPHY before the edition that has them: "from edition 3" (02, R-11)
+abbrev pub saysGeospatial : Annotation → Bool
+saysGeospatial Annotation.Plain = false
+saysGeospatial (Annotation.Logical l) = isGeospatial (codeOf l)
+saysGeospatial Annotation.Interval = false
+saysGeospatial Annotation.Unreadable = false
+
+abbrev pub isEarly : ℕ → Annotation → Bool
+isEarly edition says = saysGeospatial says && not (hasGeospatial edition)
+
 unfoldable pub rule10 : ℕ → Annotated → Bool → Bool
-rule10 edition n underMap = not (isRetired edition (n .physical)) && isPlaced n underMap
+rule10 edition n underMap =
+    not (isRetired edition (n .physical)) && (not (isEarly edition (annotationOf n underMap)) && isPlaced n underMap)

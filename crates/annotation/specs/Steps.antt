@@ -4,6 +4,7 @@ use mathlib.Core.Bool.{Bool, true, false, not, cond, _&&_}
 use lib.Dec.{eqb, leb}
 use lib.IntN.{ℤ, pos}
 use Rattle.refusal.specs.Numbers.{DISAGREEMENT, MISPLACED, BAD-DECIMAL}
+use Rattle.edition.specs.Editions.{hasGeospatial}
 use Rattle.parquet.specs.Physical as physical
 use Rattle.parquet.specs.Converted as converted
 use Rattle.parquet.specs.Logical as logical
@@ -47,12 +48,18 @@ marked false packed = packed + DISAGREEMENT-MARK
 unfoldable pub readingOf : Annotated → Bool → ℕ
 readingOf n underMap = marked (rule9 n) (packedOf (annotationOf n underMap))
 
--- rule 10 of DECIMAL, UNKNOWN, UUID and INTERVAL, which have a rule of their own
-unfoldable pub ownOn : ℕ → ℕ → ℕ → Bool
-ownOn named code length =
+-- rule 10 of GEOMETRY and GEOGRAPHY
+unfoldable pub geospatialOn : ℕ → ℕ → Bool
+geospatialOn edition code = eqb code physical.BYTE-ARRAY && hasGeospatial edition
+
+-- rule 10 of DECIMAL, UNKNOWN, UUID, GEOMETRY, GEOGRAPHY and INTERVAL, which have a rule of their own
+unfoldable pub ownOn : ℕ → ℕ → ℕ → ℕ → Bool
+ownOn edition named code length =
     cond (eqb named logical.DECIMAL) (decimalOn code)
     (cond (eqb named logical.UNKNOWN) (not (eqb code physical.GROUP))
-    (cond (eqb named logical.UUID) (isFixed UUID-LENGTH code length) (isFixed INTERVAL-LENGTH code length)))
+    (cond (eqb named logical.UUID) (isFixed UUID-LENGTH code length)
+    (cond (eqb named logical.GEOMETRY) (geospatialOn edition code)
+    (cond (eqb named logical.GEOGRAPHY) (geospatialOn edition code) (isFixed INTERVAL-LENGTH code length)))))
 
 -- what rule 11 asks of a DECIMAL
 unfoldable pub digitsHold : ℕ → ℕ → ℕ → ℤ → ℤ → Bool
@@ -61,7 +68,7 @@ digitsHold edition code length precision scale = ordered edition precision scale
 -- the number of the first of the rules 10 and 11 that one of these breaks, and 0 of none
 unfoldable pub ownFault : ℕ → ℕ → ℕ → ℕ → ℤ → ℤ → ℕ
 ownFault edition named code length precision scale =
-    cond (ownOn named code length)
+    cond (ownOn edition named code length)
     (cond (eqb named logical.DECIMAL) (cond (digitsHold edition code length precision scale) 0 BAD-DECIMAL) 0)
     MISPLACED
 

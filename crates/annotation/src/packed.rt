@@ -137,6 +137,24 @@ pub(crate) const UUID: u64 = NO_IMAGE
     + LOGICAL_WEIGHT * logical::UUID as u64
     + DEMAND_WEIGHT * OWN_RULE;
 
+pub(crate) const GEOMETRY: u64 = NO_IMAGE
+    + LOGICAL_WEIGHT * logical::GEOMETRY as u64
+    + DEMAND_WEIGHT * OWN_RULE;
+
+const GEOGRAPHY: u64 = NO_IMAGE
+    + LOGICAL_WEIGHT * logical::GEOGRAPHY as u64
+    + DEMAND_WEIGHT * OWN_RULE;
+
+pub(crate) const SPHERICAL_GEOGRAPHY: u64 = GEOGRAPHY + A_WEIGHT * parameters::SPHERICAL as u64;
+
+pub(crate) const VINCENTY_GEOGRAPHY: u64 = GEOGRAPHY + A_WEIGHT * parameters::VINCENTY as u64;
+
+pub(crate) const THOMAS_GEOGRAPHY: u64 = GEOGRAPHY + A_WEIGHT * parameters::THOMAS as u64;
+
+pub(crate) const ANDOYER_GEOGRAPHY: u64 = GEOGRAPHY + A_WEIGHT * parameters::ANDOYER as u64;
+
+pub(crate) const KARNEY_GEOGRAPHY: u64 = GEOGRAPHY + A_WEIGHT * parameters::KARNEY as u64;
+
 // Those with their flag.
 pub(crate) const UTC_TIME_MILLIS: u64 = TIME_MILLIS + UTC;
 

@@ -82,7 +82,7 @@ fn own_fault(
 ) -> u32
     ensures { λ r. ⌜ r ≡ ownFault edition logical physical length precision scale ⌝ }
 {
-    if !own_on(logical, physical, length) {
+    if !own_on(edition, logical, physical, length) {
         return MISPLACED;
     }
     if logical != logical::DECIMAL {

@@ -38,6 +38,9 @@ fn without_parameters(logical: u8) -> u64
         logical::JSON => packed::JSON,
         logical::BSON => packed::BSON,
         logical::UUID => packed::UUID,
+        logical::GEOMETRY => packed::GEOMETRY,
+        // Unused parameters are those of SPHERICAL.
+        logical::GEOGRAPHY => packed::SPHERICAL_GEOGRAPHY,
         _ => packed::UNREADABLE,
     }
 }
@@ -51,6 +54,7 @@ fn with_parameters(logical: u8, pair: u32) -> u64
         logical::TIME => time(pair),
         logical::TIMESTAMP => timestamp(pair),
         logical::INTEGER => integer(pair),
+        logical::GEOGRAPHY => geography(pair),
         _ => packed::UNREADABLE,
     }
 }
@@ -95,6 +99,19 @@ fn integer(pair: u32) -> u64
         pairs::SIGNED_16 => packed::INT_16,
         pairs::SIGNED_32 => packed::INT_32,
         pairs::SIGNED_64 => packed::INT_64,
+        _ => packed::UNREADABLE,
+    }
+}
+
+fn geography(pair: u32) -> u64
+    requires { ⌜ (pair ≡ NO-PAIR → ⊥) ⌝ }
+    ensures { λ r. ⌜ r ≡ packedOf (statedOf logical.GEOGRAPHY (pairA pair) (pairB pair)) ⌝ }
+{
+    match pair {
+        pairs::VINCENTY_EDGES => packed::VINCENTY_GEOGRAPHY,
+        pairs::THOMAS_EDGES => packed::THOMAS_GEOGRAPHY,
+        pairs::ANDOYER_EDGES => packed::ANDOYER_GEOGRAPHY,
+        pairs::KARNEY_EDGES => packed::KARNEY_GEOGRAPHY,
         _ => packed::UNREADABLE,
     }
 }

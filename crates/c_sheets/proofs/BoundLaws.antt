@@ -167,7 +167,7 @@ openOf-bounded edition sheet known = rw known (on (lengthRight (length sheet)) r
         (cond b
         (atFirst (checkRight sheet) (blockCount sheet) BLOCK-CHECK
         (atFirst (headerRight sheet) (blockCount sheet) BLOCK-HEADER
-        (atFirst (slotRight sheet) (slotsInBlock * blockCount sheet) SLOT
+        (atFirst (slotRight edition sheet) (slotsInBlock * blockCount sheet) SLOT
         (Counted.Count (totalOf sheet)))))
         (Counted.Refused (unplaced SHEET-LENGTH)))
     on false e = record { some-number = omega arith; most-number = omega arith; most-place = omega arith }
@@ -175,7 +175,7 @@ openOf-bounded edition sheet known = rw known (on (lengthRight (length sheet)) r
         let most : slotsInBlock * blockCount sheet ≤ mostNodes = omega (arith, lengthRight-most (length sheet) e, blocks-within sheet) in
         atFirst-bounded (checkRight sheet) (blockCount sheet) BLOCK-CHECK _ (omega arith) (omega arith) (omega arith)
         (atFirst-bounded (headerRight sheet) (blockCount sheet) BLOCK-HEADER _ (omega arith) (omega arith) (omega arith)
-        (atFirst-bounded (slotRight sheet) (slotsInBlock * blockCount sheet) SLOT _ most (omega arith) (omega arith) tt))
+        (atFirst-bounded (slotRight edition sheet) (slotsInBlock * blockCount sheet) SLOT _ most (omega arith) (omega arith) tt))
 
 -- ---- what judging, resolving and rewriting answer
 

@@ -34,6 +34,10 @@ pub const UNKNOWN: u32 = logical::UNKNOWN as u32;
 
 pub const JSON: u32 = logical::JSON as u32;
 
+pub const GEOMETRY: u32 = logical::GEOMETRY as u32;
+
+pub const GEOGRAPHY: u32 = logical::GEOGRAPHY as u32;
+
 pub const INTERVAL: u32 = converted::INTERVAL as u32;
 
 // p2 of INTEGER.

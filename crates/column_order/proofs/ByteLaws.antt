@@ -11,8 +11,9 @@ use lib.ListN.{length, getD, drop, drop-of-length-le}
 use lib.Seq.{drop-cons}
 use borrow.Author.Tests.{lt-ltb, le-ltb, ltb-true, ltb-false}
 use Rattle.column_order.specs.Keys.{byteOrder}
+use Rattle.float_order.specs.Floats.{lessOrEqual}
 use Rattle.float_order.specs.declared.relation.Relation.the-variants.{Less, Equal, Greater}
-use Rattle.column_order.specs.Comparison.{reversed, lessOrEqual}
+use Rattle.column_order.specs.Comparison.{reversed}
 
 module _ (a b : List ℕ) (at : ℕ) where
   -- the second ends first

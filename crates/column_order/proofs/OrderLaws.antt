@@ -11,6 +11,7 @@ use lib.Ieee.{Format, binary32, binary64, nanBits}
 use lib.IntN.{ℤ, pos}
 use lib.Signed.{_<ℤ_}
 use borrow.Author.Tests.{eqb-true}
+use Rattle.laws.proofs.BoolLaws.{or-cases}
 use Rattle.laws.specs.Bytes.{little}
 use Rattle.annotation.specs.Meaning.{annotationOf}
 use Rattle.logical_type.specs.Parameters.{validParameters}
@@ -24,12 +25,13 @@ use Rattle.parquet.specs.Logical.{DECIMAL}
 use Rattle.column.specs.Lengths.{isByteDecimal}
 use Rattle.column.specs.Annotations.{isWhole, isUnsigned}
 use Rattle.column.proofs.ReadingLaws.{reads}
+use Rattle.float_order.specs.Floats.{lessOrEqual}
 use Rattle.float_order.specs.Keys.{floatKey, wholeOrder}
 use Rattle.float_order.specs.declared.relation.Relation.the-variants.{Less, Equal, Greater, Unordered}
 use Rattle.column_order.specs.Keys.{Key, whole, bytes, none, numberOf, numberKey, keyOf, keyOrder}
 use Rattle.column_order.specs.Order.{hasOrder, orderOf}
 use Rattle.column_order.specs.declared.answer.Order.the-variants.{Related}
-use Rattle.column_order.specs.Comparison.{Valid, NotANumber, reversed, turned, lessOrEqual, atMost}
+use Rattle.column_order.specs.Comparison.{Valid, NotANumber, reversed, turned, atMost}
 use Rattle.column_order.proofs.Turning.{at-most-both, related-as}
 use Rattle.column_order.proofs.WholeLaws.{whole-less, whole-equal, whole-greater, whole-turned, whole-trans, whole-total}
 use Rattle.column_order.proofs.ByteLaws.{byte-refl, byte-turned, byte-trans, byte-total}
@@ -160,10 +162,6 @@ module _ (edition : ℕ) (c : ColumnType) (ordered : hasOrder c ≡ true) where
 -- the physical types that a DECIMAL can have: "DECIMAL: INT32, INT64, FIXED, BYTE_ARRAY" (rule 10)
 abbrev pub TakesDecimal : ColumnType → Type 0
 TakesDecimal c = (c .physical ≡ INT32) ⊎ ((c .physical ≡ INT64) ⊎ ((c .physical ≡ FIXED-LEN-BYTE-ARRAY) ⊎ (c .physical ≡ BYTE-ARRAY)))
-
-or-cases : (a b : Bool) → (a || b) ≡ true → (a ≡ true) ⊎ (b ≡ true)
-or-cases true b e = inl refl
-or-cases false b e = inr e
 
 -- rule 10 of a lawful DECIMAL
 lawful-on : (edition : ℕ) (c : ColumnType) → isLawful edition c ≡ true → c .kind ≡ DECIMAL → decimalOn (c .physical) ≡ true

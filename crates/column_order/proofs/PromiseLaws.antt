@@ -1,11 +1,11 @@
 -- Each sentence of "Order" holds of `orderOf`, both ways.
 use Prim.Native.Nat.{ℕ, _%_, _*_, _<_}
 use mathlib.Core.Path.{_≡_, refl, sym, ap, ap₂, _∙_}
-use mathlib.Core.Bool.{Bool, true, false, false≢true, cond, _&&_}
+use mathlib.Core.Bool.{Bool, true, false, cond, not, _&&_}
 use mathlib.Core.List.{List, [], _∷_}
 use mathlib.Core.Logic.{_⊎_, inl, inr, _↔_}
 use native.Mathlib.Omega.{arith}
-use borrow.Author.Tests.{ne-eqb, eqb-true, lt-ltb, le-ltb, ltb-true, ltb-false}
+use borrow.Author.Tests.{not-false, ne-eqb, eqb-true, lt-ltb, le-ltb, ltb-true, ltb-false}
 use lib.Dec.{ltb, eqb}
 use lib.Ieee.{Format, binary32, binary64, hid, ones, top}
 use lib.IntN.{ℤ, pos}
@@ -17,7 +17,7 @@ use Rattle.refusal.specs.Numbers.{NO-ORDER}
 use Rattle.refusal.specs.declared.answers.Fault.{Fault}
 use Rattle.parquet.specs.Physical.{BOOLEAN, INT96, FLOAT, DOUBLE}
 use Rattle.parquet.specs.Converted.{INTERVAL}
-use Rattle.parquet.specs.Logical.{DECIMAL, INTEGER}
+use Rattle.parquet.specs.Logical.{DECIMAL, INTEGER, isGeospatial}
 use Rattle.decimal_bytes.specs.Number.{number}
 use Rattle.column_type.specs.Lawful.{isLawful}
 use Rattle.column_type.specs.declared.types.ColumnType.{ColumnType}
@@ -211,24 +211,30 @@ module _ (edition : ℕ) (c : ColumnType) (ordered : hasOrder c ≡ true) (a b :
     pub double-unordered : (orderOf edition c a b ≡ Related Unordered) ↔ (IsNan DOUBLE-SIGN DOUBLE-INFINITY (little a) ⊎ IsNan DOUBLE-SIGN DOUBLE-INFINITY (little b))
     double-unordered = format-unordered binary64 double-key
 
--- "INTERVAL and INT96 have none" ---------------------------------------------------------------------------------------------------
+-- "INTERVAL and INT96 have none", GEOMETRY and GEOGRAPHY neither ---------------------------------------------------------------------
 
-pub no-order-tested : (c : ColumnType) → hasOrder c ≡ false → (c .physical ≡ INT96) ⊎ (c .kind ≡ INTERVAL)
+pub no-order-tested : (c : ColumnType) → hasOrder c ≡ false → (c .physical ≡ INT96) ⊎ ((c .kind ≡ INTERVAL) ⊎ (isGeospatial (c .kind) ≡ true))
 no-order-tested c e =
     by-test (eqb (c .physical) INT96) (λ i. inl (eqb-true (c .physical) INT96 i))
-    (λ i. by-test (eqb (c .kind) INTERVAL) (λ k. inr (eqb-true (c .kind) INTERVAL k)) (λ k. absurd (false≢true (sym (rw (i, k) at e)))))
+    (λ i. by-test (eqb (c .kind) INTERVAL) (λ k. inr (inl (eqb-true (c .kind) INTERVAL k))) (λ k. inr (inr (not-false (isGeospatial (c .kind)) (rw (i, k) at e)))))
 
-pub tested-no-order : (c : ColumnType) → (c .physical ≡ INT96) ⊎ (c .kind ≡ INTERVAL) → hasOrder c ≡ false
+pub tested-no-order : (c : ColumnType) → (c .physical ≡ INT96) ⊎ ((c .kind ≡ INTERVAL) ⊎ (isGeospatial (c .kind) ≡ true)) → hasOrder c ≡ false
 tested-no-order c (inl e) = rw e
-tested-no-order c (inr e) = by-test (eqb (c .physical) INT96) (λ i. rw i) (λ i. rw (i, e))
+tested-no-order c (inr (inl e)) = by-test (eqb (c .physical) INT96) (λ i. rw i) (λ i. rw (i, e))
+tested-no-order c (inr (inr e)) = rw e (none (not (eqb (c .physical) INT96)) (not (eqb (c .kind) INTERVAL)))
+  where
+    none : (a b : Bool) → (a && b && false) ≡ false
+    none true true = refl
+    none true false = refl
+    none false b = refl
 
-pub no-order-exactly : (edition : ℕ) (c : ColumnType) (a b : List ℕ) → (outcome edition c a b ≡ refused (ofNeither NO-ORDER)) ↔ ((isLawful edition c ≡ true) × ((c .physical ≡ INT96) ⊎ (c .kind ≡ INTERVAL)))
+pub no-order-exactly : (edition : ℕ) (c : ColumnType) (a b : List ℕ) → (outcome edition c a b ≡ refused (ofNeither NO-ORDER)) ↔ ((isLawful edition c ≡ true) × ((c .physical ≡ INT96) ⊎ ((c .kind ≡ INTERVAL) ⊎ (isGeospatial (c .kind) ≡ true))))
 no-order-exactly edition c a b = (
   λ e. by-cases (neither-exactly edition c a b NO-ORDER 0 .0 e),
   λ h. neither-exactly edition c a b NO-ORDER 0 .1 (inr (inr (h .0, tested-no-order c (h .1), refl, refl))),
 )
   where
-    by-cases : OfNeither edition c a b NO-ORDER 0 → (isLawful edition c ≡ true) × ((c .physical ≡ INT96) ⊎ (c .kind ≡ INTERVAL))
+    by-cases : OfNeither edition c a b NO-ORDER 0 → (isLawful edition c ≡ true) × ((c .physical ≡ INT96) ⊎ ((c .kind ≡ INTERVAL) ⊎ (isGeospatial (c .kind) ≡ true)))
     by-cases (inl h) = absurd (omega (arith, h .1))
     by-cases (inr (inl h)) = absurd (omega (arith, h .2))
     by-cases (inr (inr h)) = (h .0, no-order-tested c (h .1))

@@ -10,10 +10,11 @@ use lib.Signed.{ltZ, _<ℤ_, ltZ-yes, ltZ-no, <ℤ-≤ℤ-trans, clashℤ}
 use Rattle.decimal_bytes.specs.declared.order.Order as decimal
 use Rattle.decimal_bytes.specs.Order.{order}
 use Rattle.decimal_bytes.proofs.OrderLaws.{order-less, order-equal, order-greater}
+use Rattle.float_order.specs.Floats.{lessOrEqual}
 use Rattle.float_order.specs.Keys.{wholeOrder}
 use Rattle.float_order.specs.declared.relation.Relation.{Relation}
 use Rattle.float_order.specs.declared.relation.Relation.the-variants.{Less, Equal, Greater, Unordered}
-use Rattle.column_order.specs.Comparison.{reversed, lessOrEqual}
+use Rattle.column_order.specs.Comparison.{reversed}
 
 -- ---- decimals
 

@@ -1,12 +1,13 @@
 -- What the promises on order speak of: valid values, NaNs, an answer turned round, and answers that say at most.
 use mathlib.Core.Path.{_≡_}
-use mathlib.Core.Bool.{Bool, true, false}
+use mathlib.Core.Bool.{Bool, false}
 use mathlib.Core.List.{List}
 use Prim.Native.Nat.{ℕ}
 use Rattle.column.specs.Reading.{readOf}
 use Rattle.column.specs.declared.value.Read.{Read}
 use Rattle.column.specs.declared.value.Value.{Value}
 use Rattle.column_type.specs.declared.types.ColumnType.{ColumnType}
+use Rattle.float_order.specs.Floats.{lessOrEqual}
 use Rattle.float_order.specs.declared.relation.Relation.{Relation}
 use Rattle.float_order.specs.declared.relation.Relation.the-variants.{Less, Equal, Greater, Unordered}
 use Rattle.column_order.specs.Keys.{none, keyOf}
@@ -32,13 +33,6 @@ reversed Unordered = Unordered
 abbrev pub turned : Order → Order
 turned (Related r) = Related (reversed r)
 turned (Refused f) = Refused f
-
--- less or equal
-abbrev pub lessOrEqual : Relation → Bool
-lessOrEqual Less = true
-lessOrEqual Equal = true
-lessOrEqual Greater = false
-lessOrEqual Unordered = false
 
 -- the first value is at most the second
 abbrev pub atMost : Order → Bool

@@ -9,6 +9,7 @@ use Rattle.column_type.specs.declared.types.ColumnType.{ColumnType}
 use Rattle.column_type.specs.Lawful.{isLawful, typeRefusal}
 use Rattle.parquet.specs.Physical.{INT96}
 use Rattle.parquet.specs.Converted.{INTERVAL}
+use Rattle.parquet.specs.Logical.{isGeospatial}
 use Rattle.column.specs.Reading.{readOf}
 use Rattle.column.specs.declared.value.Read.{Read}
 use Rattle.column.specs.declared.value.Read.the-variants as read
@@ -16,9 +17,9 @@ use Rattle.column_order.specs.declared.answer.Order.{Order}
 use Rattle.column_order.specs.declared.answer.Order.the-variants.{Related, Refused}
 use Rattle.column_order.specs.Keys.{keyOf, keyOrder}
 
--- "INTERVAL and INT96 have none", INT96 whatever its kind is
+-- "INTERVAL and INT96 have none", INT96 whatever its kind is; and GEOMETRY and GEOGRAPHY: "17 for order" (document 02, R-11)
 abbrev pub hasOrder : ColumnType → Bool
-hasOrder c = not (eqb (c .physical) INT96) && not (eqb (c .kind) INTERVAL)
+hasOrder c = not (eqb (c .physical) INT96) && not (eqb (c .kind) INTERVAL) && not (isGeospatial (c .kind))
 
 -- 21 or 20, as reading answers them
 abbrev pub isOfUnknownType : Read → Bool

@@ -80,7 +80,10 @@ fn has_order(c: ColumnType) -> bool
     if c.physical == codes::INT96 {
         return false;
     }
-    c.kind != codes::INTERVAL
+    if c.kind == codes::INTERVAL {
+        return false;
+    }
+    (c.kind != codes::GEOMETRY) & (c.kind != codes::GEOGRAPHY)
 }
 
 // The refusal of the first of two values, or what the second makes of it.

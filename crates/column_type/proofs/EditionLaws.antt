@@ -1,24 +1,27 @@
 -- Column types in the editions: one that is lawful in the first is lawful in the second; one that is so in the second and not in the first is a DECIMAL whose scale
--- equals its precision; one is lawful in the third exactly where it is so in the second and is no INT96.
+-- equals its precision; one that is neither GEOMETRY nor GEOGRAPHY is lawful in the third exactly where it is so in the second and is no INT96.
 use Prim.Native.Nat.{ℕ}
 use mathlib.Core.Path.{_≡_, refl, sym, ap, ap₂, _∙_}
-use mathlib.Core.Bool.{Bool, true, false, not, _&&_}
+use mathlib.Core.Bool.{Bool, true, false, true≢false, not, _&&_}
 use lib.Dec.{eqb}
 use lib.IntN.{pos}
 use Rattle.laws.proofs.BoolLaws.{and-both}
 use Rattle.edition.specs.Editions.{FIRST, SECOND, THIRD, isKnown}
 use Rattle.edition.proofs.EditionLaws.{first, second, third, known-of}
 use Rattle.parquet.specs.Physical.{INT96}
+use Rattle.parquet.specs.Converted as converted
 use Rattle.parquet.specs.Logical as logical
+use Rattle.parquet.specs.Logical.{isGeospatial}
 use Rattle.annotation.specs.Rule9.{rule9}
-use Rattle.annotation.specs.Rule10.{rule10}
+use Rattle.annotation.specs.Rule10.{isPlaced, rule10}
 use Rattle.annotation.specs.Rule11.{rule11}
+use Rattle.annotation.specs.declared.slot.Annotated.{Annotated}
 use Rattle.annotation.specs.declared.resolution.Kind.{Kind}
-use Rattle.annotation.proofs.EditionLaws.{isEqual, eleven-second, eleven-first, ten-second, ten-third, eleven-third}
+use Rattle.annotation.proofs.EditionLaws.{isEqual, eleven-second, eleven-first, ten-second, ten-before, ten-third, not-said, geospatial-breaks, eleven-third}
 use Rattle.tree.specs.Rules.{lengthShape}
 use Rattle.column_type.specs.Lawful.{slotOf, fits, isLeaf, slotKeeps, isLawful}
 use Rattle.column_type.specs.declared.types.ColumnType.{ColumnType}
-use Rattle.column_type.proofs.SlotLaws.{slotOf-physical}
+use Rattle.column_type.proofs.SlotLaws.{slotOf-physical, slotOf-logical, slotOf-other}
 use Rattle.column_type.proofs.LawfulLaws.{spelt}
 
 -- what lawfulness asks besides rules 10 and 11, which no edition decides
@@ -59,11 +62,18 @@ lawful-first c e =
     ∙ eleven-first (slotOf c) false (h .3)
     ∙ ap (λ (k : Kind). not (isEqual k)) (spelt SECOND c e .kind)
 
-pub lawful-third : (c : ColumnType) → isLawful THIRD c ≡ (not (eqb (c .physical) INT96) && isLawful SECOND c)
+-- the third asks what the second does, and that it is no INT96; the second besides that it is neither GEOMETRY nor GEOGRAPHY
+ten-is : (c : ColumnType) → rule10 THIRD (slotOf c) false ≡ (not (eqb (c .physical) INT96) && isPlaced (slotOf c) false)
+ten-is c = ten-third (slotOf c) false ∙ ap (λ (code : ℕ). not (eqb code INT96) && isPlaced (slotOf c) false) (slotOf-physical c)
+
+ten-other : (c : ColumnType) → isGeospatial (c .kind) ≡ false → rule10 SECOND (slotOf c) false ≡ isPlaced (slotOf c) false
+ten-other c e = ten-before (slotOf c) false ∙ ap (λ (said : Bool). not said && isPlaced (slotOf c) false) (not-said (slotOf c) false (slotOf-other c e))
+
+pub lawful-third : (c : ColumnType) → isGeospatial (c .kind) ≡ false → isLawful THIRD c ≡ (not (eqb (c .physical) INT96) && isLawful SECOND c)
 unfolding annotated
-lawful-third c =
+lawful-third c e =
     lawful-is THIRD c (known-of third)
-    ∙ ap₂ (λ (ten eleven : Bool). besides c && (rule9 (slotOf c) && ten && eleven)) (ten-third (slotOf c) false ∙ ap (λ (code : ℕ). not (eqb code INT96) && rule10 SECOND (slotOf c) false) (slotOf-physical c)) (eleven-third (slotOf c) false)
+    ∙ ap₂ (λ (ten eleven : Bool). besides c && (rule9 (slotOf c) && ten && eleven)) (ten-is c ∙ ap (λ (placed : Bool). not (eqb (c .physical) INT96) && placed) (sym (ten-other c e))) (eleven-third (slotOf c) false)
     ∙ moved (besides c) (rule9 (slotOf c)) (rule10 SECOND (slotOf c) false) (rule11 SECOND (slotOf c) false) (eqb (c .physical) INT96)
     ∙ ap (λ (b : Bool). not (eqb (c .physical) INT96) && b) (sym (lawful-is SECOND c (known-of second)))
   where
@@ -72,3 +82,31 @@ lawful-third c =
     moved false nine ten eleven true = refl
     moved true false ten eleven true = refl
     moved true true ten eleven true = refl
+
+-- one of INT96 is not lawful there, whatever its kind
+pub int96-unlawful : (c : ColumnType) → eqb (c .physical) INT96 ≡ true → isLawful THIRD c ≡ false
+unfolding annotated
+int96-unlawful c t = lawful-is THIRD c (known-of third) ∙ rw (ten-is c, t) (none (besides c) (rule9 (slotOf c)))
+  where
+    none : (b nine : Bool) → (b && ((nine && false) && rule11 THIRD (slotOf c) false)) ≡ false
+    none false nine = refl
+    none true false = refl
+    none true true = refl
+
+-- and neither GEOMETRY nor GEOGRAPHY is in the second
+pub geospatial-unlawful : (c : ColumnType) → isGeospatial (c .kind) ≡ true → isLawful SECOND c ≡ false
+unfolding annotated
+geospatial-unlawful c t =
+    lawful-is SECOND c (known-of second)
+    ∙ rw (geospatial-breaks (slotOf c) false (ap (λ (n : Annotated). isGeospatial (n .logical)) (slotOf-logical c not-decimal not-interval) ∙ t)) (none (besides c) (rule9 (slotOf c)))
+  where
+    not-decimal : c .kind ≡ logical.DECIMAL → ⊥
+    not-decimal e = true≢false (sym (rw e at t))
+
+    not-interval : c .kind ≡ converted.INTERVAL → ⊥
+    not-interval e = true≢false (sym (rw e at t))
+
+    none : (b nine : Bool) → (b && ((nine && false) && rule11 SECOND (slotOf c) false)) ≡ false
+    none false nine = refl
+    none true false = refl
+    none true true = refl

@@ -1,12 +1,11 @@
 -- A leaf that keeps the rules has a lawful column type in its row.
 use Prim.Native.Nat.{ℕ, _<_}
-use mathlib.Core.Path.{_≡_, refl, sym, subst}
+use mathlib.Core.Path.{_≡_, refl, sym, ap, ap₂, _∙_}
 use mathlib.Core.Bool.{Bool, true, false, true≢false, not, cond, _&&_, and-eq-true-iff}
 use native.Mathlib.Omega.{arith}
 use lib.Dec.{eqb, leb}
 use lib.IntN.{ℤ, pos, negsuc}
 use lib.Signed.{mag}
-use Rattle.laws.proofs.BoolLaws.{both-and}
 use Rattle.parquet.specs.Physical as physical
 use Rattle.parquet.specs.Logical as logical
 use Rattle.logical_type.specs.Parameters.{validParameters}
@@ -14,13 +13,13 @@ use Rattle.logical_type.specs.Spelling.{namedOf, statedOf}
 use Rattle.annotation.specs.Signed.{natural}
 use Rattle.logical_type.specs.Backward.{backwardOf}
 use Rattle.annotation.specs.Meaning.{annotationOf}
-use Rattle.annotation.specs.Rule10.{annotationOn, isPlaced, isRetired, rule10}
+use Rattle.annotation.specs.Rule10.{annotationOn, isPlaced, isRetired, isEarly, rule10}
 use Rattle.annotation.specs.Rule11.{isDecimal, ordered, physicalHolds, decimalHolds, digitsAllowed, rule11}
 use Rattle.annotation.specs.Kinds.{PLAIN-LEAF, PLAIN-GROUP, bareKind, plainKind, decimalKind, kindAs, kindOf}
 use Rattle.logical_type.specs.declared.types.LogicalType.{LogicalType}
 use Rattle.logical_type.specs.declared.types.Annotation.{Annotation}
 use Rattle.annotation.specs.declared.slot.Annotated.{Annotated}
-use Rattle.annotation.proofs.PlacementLaws.{ten-parts}
+use Rattle.annotation.proofs.PlacementLaws.{ten-placed}
 use Rattle.annotation.specs.declared.resolution.Kind.{Kind}
 use Rattle.logical_type.proofs.SpellingLaws.{stated-spelled}
 use Rattle.logical_type.proofs.ReadingLaws.{spelled-bytes}
@@ -63,6 +62,8 @@ says-slot (Annotation.Logical LogicalType.Unknown) n length leaf e = refl
 says-slot (Annotation.Logical LogicalType.Json) n length leaf e = refl
 says-slot (Annotation.Logical LogicalType.Bson) n length leaf e = refl
 says-slot (Annotation.Logical LogicalType.Uuid) n length leaf e = refl
+says-slot (Annotation.Logical LogicalType.Geometry) n length leaf e = refl
+says-slot (Annotation.Logical (LogicalType.Geography edge)) n length leaf e = stated-spelled (LogicalType.Geography edge)
 says-slot Annotation.Interval n length leaf e = refl
 says-slot Annotation.Unreadable n length leaf e = absurd (true≢false (sym e))
 
@@ -166,21 +167,23 @@ module _ (edition : ℕ) (n : Annotated) (under : Bool) (range : InRange n) (lea
   column : ColumnType
   column = columnWith n (kindOf n under)
 
-  parts : (not (isRetired edition (n .physical)) ≡ true) × (isPlaced n under ≡ true)
-  parts = ten-parts edition n under ten
+  placed : isPlaced n under ≡ true
+  placed = ten-placed edition n under ten
 
   says-same : annotationOf (slotOf column) false ≡ annotationOf n under
   unfolding column kindOf isPlaced
-  says-same = says-slot (annotationOf n under) n (natural (n .«type_length»)) (isLeaf-not-group (n .physical) leaf) (parts .1)
+  says-same = says-slot (annotationOf n under) n (natural (n .«type_length»)) (isLeaf-not-group (n .physical) leaf) placed
 
-  placed-slot : isPlaced (slotOf column) false ≡ true
+  placed-slot : isPlaced (slotOf column) false ≡ isPlaced n under
   unfolding column columnWith isPlaced natural
-  placed-slot = rw (says-same, slotOf-physical column, slotOf-length column) (parts .1)
+  placed-slot = rw (says-same, slotOf-physical column, slotOf-length column)
 
   ten-slot : rule10 edition (slotOf column) false ≡ true
   unfolding column columnWith rule10
   ten-slot =
-      both-and _ _ (subst (λ (code : ℕ). not (isRetired edition code) ≡ true) (sym (slotOf-physical column)) (parts .0)) placed-slot
+      ap (λ (code : ℕ). not (isRetired edition code) && (not (isEarly edition (annotationOf (slotOf column) false)) && isPlaced (slotOf column) false)) (slotOf-physical column)
+      ∙ ap₂ (λ (says : Annotation) (on : Bool). not (isRetired edition (n .physical)) && (not (isEarly edition says) && on)) says-same placed-slot
+      ∙ ten
 
   eleven-slot : rule11 edition (slotOf column) false ≡ true
   unfolding column kindOf rule11

@@ -16,7 +16,7 @@ use Rattle.annotation.specs.Rule10.{isPlaced, rule10}
 use Rattle.annotation.specs.Rule11.{rule11}
 use Rattle.annotation.specs.Kinds.{kindOf}
 use Rattle.annotation.specs.declared.slot.Annotated.{Annotated}
-use Rattle.annotation.proofs.PlacementLaws.{ten-parts}
+use Rattle.annotation.proofs.PlacementLaws.{ten-placed}
 use Rattle.sheet.specs.Block.{totalOf}
 use Rattle.sheet.specs.Slot as slot
 use Rattle.sheet.specs.Sound.{physicalListed}
@@ -51,7 +51,7 @@ module _ (edition : ℕ) (c : ColumnType) (lawful : isLawful edition c ≡ true)
   unfolding isLawful slotKeeps
   right = and-eq-true-iff _ (annotationRight edition (slotOf c)) .0 (and-eq-true-iff (isKnown edition) (slotKeeps edition c) .0 lawful .1)
 
-  shaped : ((fits c && isLeaf (c .physical)) ≡ true) × (lengthShape (c .physical) (pos (c .«type_length»)) ≡ true)
+  pub shaped : ((fits c && isLeaf (c .physical)) ≡ true) × (lengthShape (c .physical) (pos (c .«type_length»)) ≡ true)
   shaped = and-eq-true-iff (fits c && isLeaf (c .physical)) (lengthShape (c .physical) (pos (c .«type_length»))) .0 (right .0)
 
   fitting : (fits c ≡ true) × (isLeaf (c .physical) ≡ true)
@@ -64,15 +64,15 @@ module _ (edition : ℕ) (c : ColumnType) (lawful : isLawful edition c ≡ true)
   ten = and-eq-true-iff (rule9 (slotOf c)) (rule10 edition (slotOf c) false) .0 (eleven .0)
 
   pub placed : isPlaced (slotOf c) false ≡ true
-  placed = ten-parts edition (slotOf c) false (ten .1) .1
+  placed = ten-placed edition (slotOf c) false (ten .1)
 
   leaf : isGroup (c .physical) ≡ false
   leaf = isLeaf-not-group (c .physical) (fitting .1)
 
-  pub spelt : Spelt c (slotOf c)
-  spelt = slotOf-spelt c (fits-parts c (fitting .0)) leaf placed
+  pub spelt : Spelt edition c (slotOf c)
+  spelt = slotOf-spelt edition c (fits-parts c (fitting .0)) leaf (ten .1)
 
-  leaf-slot : LeafSlot (slotOf c)
+  leaf-slot : LeafSlot edition (slotOf c)
   unfolding isLeaf
   leaf-slot =
       record {
@@ -107,11 +107,11 @@ module _ (edition : ℕ) (c : ColumnType) (lawful : isLawful edition c ≡ true)
 
   sound : Sound edition sheet
   unfolding sheet
-  sound = leafSheet-sound (slotOf c) leaf-slot edition (lawful-known edition c lawful)
+  sound = leafSheet-sound edition (slotOf c) leaf-slot (lawful-known edition c lawful)
 
   total : totalOf sheet ≡ 2
   unfolding sheet
-  total = leafSheet-total (slotOf c) leaf-slot
+  total = leafSheet-total edition (slotOf c) leaf-slot
 
   enough : EnoughOutput sheet (length lent)
   unfolding EnoughOutput lent
@@ -137,7 +137,7 @@ module _ (edition : ℕ) (c : ColumnType) (lawful : isLawful edition c ≡ true)
   unfolding sheet
   lawful-leaf =
       record {
-        bytes = leafSheet-bytes (slotOf c) leaf-slot;
+        bytes = leafSheet-bytes edition (slotOf c) leaf-slot;
         accepted = accepted;
         below = omega (arith, total);
         leaf = leaf;

@@ -53,8 +53,8 @@ slot-range s bytes =
     }
 
 -- a sound slot that is no physical.GROUP's is a leaf's
-slot-leaf : (s : SlotBytes) → slotSound s ≡ true → isGroup (physical s) ≡ false → isLeaf (physical s) ≡ true
-slot-leaf s sound leaf = cases (sound-physical s sound)
+slot-leaf : (edition : ℕ) (s : SlotBytes) → slotSound edition s ≡ true → isGroup (physical s) ≡ false → isLeaf (physical s) ≡ true
+slot-leaf edition s sound leaf = cases (sound-physical edition s sound)
   where
     cases : (physical s ≤ physical.FIXED-LEN-BYTE-ARRAY) ⊎ (physical s ≡ physical.GROUP) → isLeaf (physical s) ≡ true
     cases (inl h) = sym (isLeaf-upto (physical s)) ∙ le-leb (physical s) physical.FIXED-LEN-BYTE-ARRAY h
@@ -70,10 +70,10 @@ shape-length p s fs e =
     .1
 
 -- a leaf that keeps the rules has a lawful column type
-slot-keeps : (edition : ℕ) (p : Standing) (s : SlotBytes) (fs : Fields) → Bytes s → slotSound s ≡ true → KeepsAt edition p s fs → isGroup (physical s) ≡ false → slotKeeps edition (columnWith (annotated s) (kind (underMap p) s)) ≡ true
+slot-keeps : (edition : ℕ) (p : Standing) (s : SlotBytes) (fs : Fields) → Bytes s → slotSound edition s ≡ true → KeepsAt edition p s fs → isGroup (physical s) ≡ false → slotKeeps edition (columnWith (annotated s) (kind (underMap p) s)) ≡ true
 unfolding annotated numbersOf kind rule10 rule11
 slot-keeps edition p s fs bytes sound keeps leaf =
-    kept-keeps edition (annotated s) (underMap p) (slot-range s bytes) (slot-leaf s sound leaf) (shape-length p s fs (keeps .shape)) (keeps .placement) (keeps .decimals)
+    kept-keeps edition (annotated s) (underMap p) (slot-range s bytes) (slot-leaf edition s sound leaf) (shape-length p s fs (keeps .shape)) (keeps .placement) (keeps .decimals)
 
 module _ (edition : ℕ) (c : ColumnType) (sheet lent : List ℕ) (k : ℕ) (h : IsLeafOf edition c sheet lent k) where
   sound : Sound edition sheet

@@ -1,6 +1,6 @@
 -- A sheet of one block with a root `r` and one required leaf `x`, whose slot has given numbers; that it is sound, of bytes, and lists these two nodes.
 use Prim.Native.Nat.{ℕ, zero, suc, _<_}
-use mathlib.Core.Path.{_≡_, refl, sym}
+use mathlib.Core.Path.{_≡_, refl}
 use mathlib.Core.Bool.{true}
 use mathlib.Core.List.{List, [], _∷_}
 use native.Mathlib.Omega.{arith}
@@ -71,19 +71,19 @@ leafSlot n = slotWith REQUIRED 0 leafName n
 unfoldable pub leafSheet : Annotated → List ℕ
 leafSheet n = sheetOf (rootSlot ∷ leafSlot n ∷ [])
 
--- the slot of the leaf is sound where its codes are listed
-pub record Listed (n : Annotated) : Type 0 where
+-- the slot of the leaf is sound in an edition where its codes are listed there
+pub record Listed (edition : ℕ) (n : Annotated) : Type 0 where
   pub physical : physicalListed (n .physical) ≡ true
   pub converted : convertedListed (n .converted) ≡ true
-  pub logical : logicalListed (n .logical) ≡ true
+  pub logical : logicalListed edition (n .logical) ≡ true
 
-leafSlot-sound : (n : Annotated) → Listed n → slotSound (leafSlot n) ≡ true
+leafSlot-sound : (edition : ℕ) (n : Annotated) → Listed edition n → slotSound edition (leafSlot n) ≡ true
 unfolding leafSlot bytesOf slotSound codesListed slot.physical slot.repetition slot.converted slot.logical repetitionListed listed nameRight slot.nameLength nameLengthRight reservedZero tailZero allZero
-leafSlot-sound n l = rw (l .physical, l .converted, l .logical)
+leafSlot-sound edition n l = rw (l .physical, l .converted, l .logical)
 
-root-sound : slotSound rootSlot ≡ true
+root-sound : (edition : ℕ) → slotSound edition rootSlot ≡ true
 unfolding rootSlot bytesOf slotSound codesListed slot.physical slot.repetition slot.converted slot.logical physicalListed repetitionListed convertedListed logicalListed listed nameRight slot.nameLength nameLengthRight reservedZero tailZero allZero natural
-root-sound = refl
+root-sound edition = refl
 
 -- the numbers of a slot fit its fields, and none is negative
 pub record Holds (n : Annotated) : Type 0 where
@@ -136,16 +136,16 @@ root-holds =
       precision-natural = refl;
     }
 
--- a leaf whose codes are listed and whose numbers fit
-pub record LeafSlot (n : Annotated) : Type 0 where
-  pub listed : Listed n
+-- a leaf whose codes are listed in an edition and whose numbers fit
+pub record LeafSlot (edition : ℕ) (n : Annotated) : Type 0 where
+  pub listed : Listed edition n
   pub holds : Holds n
 
-module _ (n : Annotated) (l : LeafSlot n) where
+module _ (edition : ℕ) (n : Annotated) (l : LeafSlot edition n) where
   used : List (List ℕ)
   used = rootSlot ∷ leafSlot n ∷ []
 
-  leaf-slots : SheetSlots used
+  leaf-slots : SheetSlots edition used
   unfolding used rootSlot leafSlot bytesOf
   leaf-slots = record { least = omega arith; most = omega arith; whole = whole; bytes = bytes; sound = sound }
     where
@@ -159,26 +159,26 @@ module _ (n : Annotated) (l : LeafSlot n) where
       bytes (suc zero) h = slot-bytes REQUIRED 0 leafName n (omega arith) (omega arith) (l .holds)
       bytes (suc (suc k)) h = absurd (omega arith)
 
-      sound : (k : ℕ) → k < 2 → slotSound (getD used k emptySlot) ≡ true
-      sound zero h = root-sound
-      sound (suc zero) h = leafSlot-sound n (l .listed)
+      sound : (k : ℕ) → k < 2 → slotSound edition (getD used k emptySlot) ≡ true
+      sound zero h = root-sound edition
+      sound (suc zero) h = leafSlot-sound edition n (l .listed)
       sound (suc (suc k)) h = absurd (omega arith)
 
   pub leafSheet-slots : slots (leafSheet n) ≡ rootSlot ∷ leafSlot n ∷ []
   unfolding leafSheet used
-  leafSheet-slots = slots-sheetOf used leaf-slots
+  leafSheet-slots = slots-sheetOf edition used leaf-slots
 
   pub leafSheet-total : totalOf (leafSheet n) ≡ 2
   unfolding leafSheet used
-  leafSheet-total = sheetOf-total used leaf-slots
+  leafSheet-total = sheetOf-total edition used leaf-slots
 
-  -- it opens in every edition
-  pub leafSheet-sound : (edition : ℕ) → isKnown edition ≡ true → Sound edition (leafSheet n)
+  -- it opens in the edition, where that is known
+  pub leafSheet-sound : isKnown edition ≡ true → Sound edition (leafSheet n)
   unfolding leafSheet used
-  leafSheet-sound edition known =
-      let opened = openOf-sheetOf used leaf-slots edition known in
+  leafSheet-sound known =
+      let opened = openOf-sheetOf edition used leaf-slots known in
       record { known = known; blocks = openOf-blocks edition (leafSheet n) 2 opened; slots = openOf-slots edition (leafSheet n) 2 opened }
 
   pub leafSheet-bytes : Bytes (leafSheet n)
   unfolding leafSheet used
-  leafSheet-bytes = bytes-sheetOf used leaf-slots
+  leafSheet-bytes = bytes-sheetOf edition used leaf-slots

@@ -17,7 +17,7 @@ use Rattle.annotation.specs.Rule10 as ten
 use Rattle.annotation.specs.Rule11 as eleven
 use Rattle.annotation.specs.Kinds.{PLAIN-GROUP, kindOf}
 use Rattle.annotation.specs.declared.slot.Annotated.{Annotated}
-use Rattle.annotation.proofs.PlacementLaws.{ten-parts, leaf-kind}
+use Rattle.annotation.proofs.PlacementLaws.{ten-placed, leaf-kind}
 use Rattle.sheet.specs.Number.{numberAt, signed32}
 use Rattle.sheet.specs.Slot as slot
 use Rattle.sheet.specs.Slot.{numbersOf}
@@ -55,7 +55,7 @@ root-place = refl
 
 -- the slot of a leaf keeps rules 8 to 11
 pub record LeafKept (edition : ℕ) (n : Annotated) : Type 0 where
-  pub slot : LeafSlot n
+  pub slot : LeafSlot edition n
   pub leaf : isGroup (n .physical) ≡ false
   pub length : lengthShape (n .physical) (n .«type_length») ≡ true
   pub digits : decimalShape (n .converted) (n .logical) (n .scale) (n .precision) ≡ true
@@ -77,7 +77,7 @@ module _ (edition : ℕ) (n : Annotated) (k : LeafKept edition n) where
   unfolding kind
   leaf-is =
       at-slot (λ m. (eqb (kindOf m false .kind) logical.LIST ≡ false) × (eqb (kindOf m false .kind) logical.MAP ≡ false))
-      (none-of (eqb (kindOf n false .kind) PLAIN-GROUP) _ _ (leaf-kind n false (ten-parts edition n false (k .ten) .1) (k .leaf)))
+      (none-of (eqb (kindOf n false .kind) PLAIN-GROUP) _ _ (leaf-kind n false (ten-placed edition n false (k .ten)) (k .leaf)))
     where
       none-of : (a b c : Bool) → a || b || c ≡ false → (b ≡ false) × (c ≡ false)
       none-of false false false e = (refl, refl)
@@ -103,7 +103,7 @@ module _ (edition : ℕ) (n : Annotated) (k : LeafKept edition n) where
 
   tree-lists : listing (leafTree n) ≡ slot.slots (leafSheet n)
   unfolding leafTree listing
-  tree-lists = sym (leafSheet-slots n (k .slot))
+  tree-lists = sym (leafSheet-slots edition n (k .slot))
 
   pub leafTree-of : IsTreeOf edition (leafSheet n) (leafTree n)
   leafTree-of = record { deep = tree-deep n; keeps = tree-keeps; claims = tree-claims n; lists = tree-lists }

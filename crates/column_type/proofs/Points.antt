@@ -1,13 +1,14 @@
 -- Column types that the definition calls lawful or not: the ends of each rule.
-use Prim.Native.Nat.{ℕ, _+_, _-_, _^_}
+use Prim.Native.Nat.{ℕ, zero, suc, _+_, _-_, _^_, _≤_}
 use mathlib.Core.Path.{_≡_, refl}
 use mathlib.Core.Bool.{Bool, true, false}
 use mathlib.Core.List.{List, [], _∷_, map}
+use native.Mathlib.Omega.{arith}
 use Rattle.decimal_bytes.specs.Precision.{greatestPrecision, greatest}
 use Rattle.parquet.specs.Physical.{INT32, INT64, BYTE-ARRAY, FIXED-LEN-BYTE-ARRAY, GROUP}
 use Rattle.parquet.specs.Converted as converted
 use Rattle.parquet.specs.Logical as logical
-use Rattle.logical_type.specs.Parameters.{bitWidthCode, unitCode, flagCode, unitOf, bitWidthOf, validParameters}
+use Rattle.logical_type.specs.Parameters.{bitWidthCode, unitCode, flagCode, unitOf, bitWidthOf, edgeOf, validParameters}
 use Rattle.logical_type.specs.Spelling.{namedOf, statedOf}
 use Rattle.annotation.specs.Signed.{natural}
 use Rattle.logical_type.specs.Backward.{backwardOf}
@@ -18,7 +19,7 @@ use Rattle.annotation.specs.Rule11.{scaleAllowed, ordered, physicalHolds, decim
 use Rattle.annotation.specs.Kinds.{PLAIN-LEAF, PLAIN-GROUP}
 use Rattle.logical_type.specs.declared.types.TimeUnit.{TimeUnit}
 use Rattle.logical_type.specs.declared.types.BitWidth.{BitWidth}
-use Rattle.edition.specs.Editions.{FIRST, SECOND, THIRD, isKnown, scaleMayEqual, int96Retired}
+use Rattle.edition.specs.Editions.{FIRST, SECOND, THIRD, isKnown, scaleMayEqual, int96Retired, hasGeospatial}
 use Rattle.edition.proofs.EditionLaws.{each-edition}
 use Rattle.sheet.specs.Sound.{listed, physicalListed}
 use Rattle.tree.specs.Rules.{isNought, lengthShape}
@@ -106,8 +107,22 @@ int96Points = column INT96 0 PLAIN-LEAF 0 0 ∷ column INT96 0 logical.UNKNOWN 0
 
 -- `isLawful`, with all that it is made of open
 opened : ℕ → ColumnType → Bool
-unfolding isLawful slotKeeps isKnown scaleMayEqual int96Retired fits isLeaf physicalListed listed lengthShape isNought slotOf rule9 isPlaced isRetired rule10 rule11 decimalHolds ordered scaleAllowed physicalHolds greatestPrecision greatest annotationOf backwardOf statedOf namedOf validParameters unitOf bitWidthOf natural
+unfolding isLawful slotKeeps isKnown scaleMayEqual int96Retired hasGeospatial fits isLeaf physicalListed listed lengthShape isNought slotOf rule9 isPlaced isRetired rule10 rule11 decimalHolds ordered scaleAllowed physicalHolds greatestPrecision greatest annotationOf backwardOf statedOf namedOf validParameters unitOf bitWidthOf edgeOf natural
 opened edition = isLawful edition
+
+-- document 02, R-11: GEOMETRY, and GEOGRAPHY with each edge rule
+pub geometry-lawful : isLawful THIRD (column BYTE-ARRAY 0 logical.GEOMETRY 0 0) ≡ true
+unfolding opened
+geometry-lawful = refl
+
+pub geography-lawful : (edge : ℕ) → edge ≤ 4 → isLawful THIRD (column BYTE-ARRAY 0 logical.GEOGRAPHY edge 0) ≡ true
+unfolding opened
+geography-lawful zero h = refl
+geography-lawful (suc zero) h = refl
+geography-lawful (suc (suc zero)) h = refl
+geography-lawful (suc (suc (suc zero))) h = refl
+geography-lawful (suc (suc (suc (suc zero)))) h = refl
+geography-lawful (suc (suc (suc (suc (suc edge))))) h = absurd (omega arith)
 
 pub points-lawful : (edition : ℕ) → isKnown edition ≡ true → map (isLawful edition) lawfulPoints ≡ map (λ c. true) lawfulPoints
 unfolding opened

@@ -6,6 +6,7 @@ use lib.IntN.{pos}
 use borrow.Author.Tests.{eq-eqb, ne-eqb}
 use Rattle.parquet.specs.Converted as converted
 use Rattle.parquet.specs.Logical as logical
+use Rattle.parquet.specs.Logical.{isGeospatial}
 use Rattle.logical_type.specs.Parameters.{UNUSED}
 use Rattle.annotation.specs.Rule9.{rule9}
 use Rattle.annotation.specs.declared.slot.Annotated.{Annotated}
@@ -40,6 +41,10 @@ module _ (c : ColumnType) where
 
   pub slotOf-length : slotOf c .«type_length» ≡ pos (c .«type_length»)
   slotOf-length = slotOf-any (λ n. n .«type_length» ≡ pos (c .«type_length»)) refl refl refl
+
+  -- its logical type is GEOMETRY or GEOGRAPHY only where the kind is
+  pub slotOf-other : isGeospatial (c .kind) ≡ false → isGeospatial (slotOf c .logical) ≡ false
+  slotOf-other e = slotOf-any (λ n. isGeospatial (n .logical) ≡ false) refl refl e
 
   -- it has one annotation at the most
   pub slotOf-agrees : rule9 (slotOf c) ≡ true

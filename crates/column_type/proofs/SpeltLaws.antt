@@ -10,18 +10,18 @@ use Rattle.parquet.specs.Converted as converted
 use Rattle.parquet.specs.Logical as logical
 use Rattle.logical_type.specs.Parameters.{UNUSED, validParameters}
 use Rattle.logical_type.specs.Spelling.{codeOf, namedOf, statedOf}
-use Rattle.annotation.proofs.PlacementLaws.{readable}
+use Rattle.annotation.proofs.PlacementLaws.{readable, ten-placed, ten-timely}
 use Rattle.annotation.specs.Signed.{natural}
 use Rattle.logical_type.specs.Backward.{backwardOf}
 use Rattle.annotation.specs.Meaning.{annotationOf}
-use Rattle.annotation.specs.Rule10.{annotationOn, isPlaced}
+use Rattle.annotation.specs.Rule10.{annotationOn, isPlaced, isEarly, rule10}
 use Rattle.annotation.specs.Kinds.{kindAs, kindOf}
-use Rattle.logical_type.specs.declared.types.LogicalType.{LogicalType}
 use Rattle.logical_type.specs.declared.types.Annotation.{Annotation}
 use Rattle.annotation.specs.declared.slot.Annotated.{Annotated}
 use Rattle.annotation.specs.declared.resolution.Kind.{Kind}
 use Rattle.logical_type.proofs.ReadingLaws.{Spells, spelled-stated}
 use Rattle.sheet.specs.Sound.{listed, convertedListed, logicalListed}
+use Rattle.schema.proofs.RewrittenSlotLaws.{code-listed}
 use Rattle.tree.specs.Rules.{isGroup, isNought, decimalShape}
 use Rattle.column_type.specs.Lawful.{slotWith, slotOf, byteNumbers, signedNumbers}
 use Rattle.column_type.specs.declared.types.ColumnType.{ColumnType}
@@ -33,35 +33,18 @@ use Rattle.column_type.proofs.LeafSheet.{Holds}
 abbrev pub kindIn : ColumnType → Kind
 kindIn c = record { kind = c .kind; p1 = c .p1; p2 = c .p2 }
 
--- a slot has the numbers of a column type
-pub record Spelt (c : ColumnType) (n : Annotated) : Type 0 where
+-- a slot has the numbers of a column type, and codes of an edition
+pub record Spelt (edition : ℕ) (c : ColumnType) (n : Annotated) : Type 0 where
   pub holds : Holds n
   pub converted : convertedListed (n .converted) ≡ true
-  pub logical : logicalListed (n .logical) ≡ true
+  pub logical : logicalListed edition (n .logical) ≡ true
   pub digits : decimalShape (n .converted) (n .logical) (n .scale) (n .precision) ≡ true
   pub kind : kindOf n false ≡ kindIn c
 
--- the codes of the logical types are listed
-code-listed : (l : LogicalType) → logicalListed (codeOf l) ≡ true
+-- no logical type is listed
+none-listed : (edition code : ℕ) → code ≡ logical.NONE → logicalListed edition code ≡ true
 unfolding logicalListed
-code-listed LogicalType.String = refl
-code-listed LogicalType.Map = refl
-code-listed LogicalType.List = refl
-code-listed LogicalType.Enum = refl
-code-listed LogicalType.Decimal = refl
-code-listed LogicalType.Date = refl
-code-listed (LogicalType.Time unit utc) = refl
-code-listed (LogicalType.Timestamp unit utc) = refl
-code-listed (LogicalType.Integer width signed) = refl
-code-listed LogicalType.Unknown = refl
-code-listed LogicalType.Json = refl
-code-listed LogicalType.Bson = refl
-code-listed LogicalType.Uuid = refl
-
--- and so is none
-none-listed : (code : ℕ) → code ≡ logical.NONE → logicalListed code ≡ true
-unfolding logicalListed
-none-listed code e = rw e
+none-listed edition code e = rw e
 
 -- the numbers of a slot that a column type is spelled by
 holds-with : (c : ColumnType) (conv log a b precision scale : ℕ) → Fits c → conv < byteNumbers → log < byteNumbers → a < byteNumbers → b < byteNumbers → precision < signedNumbers → scale < signedNumbers → Holds (slotWith c conv log a b precision scale)
@@ -81,9 +64,9 @@ holds-with c conv log a b precision scale f h i j k m o =
       precision-natural = refl;
     }
 
-module _ (c : ColumnType) (f : Fits c) (leaf : isGroup (c .physical) ≡ false) where
+module _ (edition : ℕ) (c : ColumnType) (f : Fits c) (leaf : isGroup (c .physical) ≡ false) where
   -- a DECIMAL
-  spelt-decimal : c .kind ≡ logical.DECIMAL → Spelt c (slotWith c converted.NONE logical.DECIMAL UNUSED UNUSED (c .p1) (c .p2))
+  spelt-decimal : c .kind ≡ logical.DECIMAL → Spelt edition c (slotWith c converted.NONE logical.DECIMAL UNUSED UNUSED (c .p1) (c .p2))
   unfolding convertedListed logicalListed listed decimalShape kindOf annotationOf statedOf namedOf validParameters natural
   spelt-decimal e =
       let p = fits-decimal c f e in
@@ -104,7 +87,7 @@ module _ (c : ColumnType) (f : Fits c) (leaf : isGroup (c .physical) ≡ false) 
         (eqb-true (c .p1) UNUSED (both .0), eqb-true (c .p2) UNUSED (both .1))
 
     -- INTERVAL
-    spelt-interval : c .kind ≡ converted.INTERVAL → isPlaced (slotWith c converted.INTERVAL logical.NONE (c .p1) (c .p2) 0 0) false ≡ true → Spelt c (slotWith c converted.INTERVAL logical.NONE (c .p1) (c .p2) 0 0)
+    spelt-interval : c .kind ≡ converted.INTERVAL → isPlaced (slotWith c converted.INTERVAL logical.NONE (c .p1) (c .p2) 0 0) false ≡ true → Spelt edition c (slotWith c converted.INTERVAL logical.NONE (c .p1) (c .p2) 0 0)
     unfolding convertedListed logicalListed listed decimalShape isNought kindOf isPlaced annotationOf backwardOf validParameters natural
     spelt-interval e placed =
         let p = fits-other c f other in
@@ -126,26 +109,26 @@ module _ (c : ColumnType) (f : Fits c) (leaf : isGroup (c .physical) ≡ false) 
           rw (e, zero .0, zero .1, leaf)
 
       -- a logical type that its code and parameters say
-      stated-kind : (says : Annotation) (n : Annotated) (length : ℕ) → Spells says (c .kind) (c .p1) (c .p2) → annotationOn says (c .physical) length ≡ true → (logicalListed (c .kind) ≡ true) × (kindAs says n ≡ kindIn c)
-      stated-kind Annotation.Plain n length s e = absurd s
-      stated-kind (Annotation.Logical l) n length s e =
+      stated-kind : (says : Annotation) (n : Annotated) (length : ℕ) → Spells says (c .kind) (c .p1) (c .p2) → annotationOn says (c .physical) length ≡ true → isEarly edition says ≡ false → (logicalListed edition (c .kind) ≡ true) × (kindAs says n ≡ kindIn c)
+      stated-kind Annotation.Plain n length s e t = absurd s
+      stated-kind (Annotation.Logical l) n length s e t =
           let apart = ne-eqb (codeOf l) logical.DECIMAL (λ (q : codeOf l ≡ logical.DECIMAL). other (sym (s .0) ∙ q)) in
-          (rw (← s .0) (code-listed l), rw (apart, s .0, s .1, s .2))
-      stated-kind Annotation.Interval n length s e = absurd s
-      stated-kind Annotation.Unreadable n length s e = absurd (true≢false (sym e))
+          (rw (← s .0) (code-listed edition l t), rw (apart, s .0, s .1, s .2))
+      stated-kind Annotation.Interval n length s e t = absurd s
+      stated-kind Annotation.Unreadable n length s e t = absurd (true≢false (sym e))
 
-      kind-logical : (c .kind ≡ logical.NONE → ⊥) → isPlaced (slotWith c converted.NONE (c .kind) (c .p1) (c .p2) 0 0) false ≡ true → (logicalListed (c .kind) ≡ true) × (kindOf (slotWith c converted.NONE (c .kind) (c .p1) (c .p2) 0 0) false ≡ kindIn c)
+      kind-logical : (c .kind ≡ logical.NONE → ⊥) → isPlaced (slotWith c converted.NONE (c .kind) (c .p1) (c .p2) 0 0) false ≡ true → isEarly edition (annotationOf (slotWith c converted.NONE (c .kind) (c .p1) (c .p2) 0 0) false) ≡ false → (logicalListed edition (c .kind) ≡ true) × (kindOf (slotWith c converted.NONE (c .kind) (c .p1) (c .p2) 0 0) false ≡ kindIn c)
       unfolding kindOf isPlaced annotationOf natural
-      kind-logical n placed =
+      kind-logical n placed timely =
           let stands = ne-eqb (c .kind) logical.NONE n in
-          rw stands (stated-kind (statedOf (c .kind) (c .p1) (c .p2)) _ (c .«type_length») (spelled-stated (c .kind) (c .p1) (c .p2)) (rw stands at placed))
+          rw stands (stated-kind (statedOf (c .kind) (c .p1) (c .p2)) _ (c .«type_length») (spelled-stated (c .kind) (c .p1) (c .p2)) (rw stands at placed) (rw stands at timely))
 
       -- a plain leaf or a logical type
-      spelt-logical : isPlaced (slotWith c converted.NONE (c .kind) (c .p1) (c .p2) 0 0) false ≡ true → Spelt c (slotWith c converted.NONE (c .kind) (c .p1) (c .p2) 0 0)
+      spelt-logical : isPlaced (slotWith c converted.NONE (c .kind) (c .p1) (c .p2) 0 0) false ≡ true → isEarly edition (annotationOf (slotWith c converted.NONE (c .kind) (c .p1) (c .p2) 0 0) false) ≡ false → Spelt edition c (slotWith c converted.NONE (c .kind) (c .p1) (c .p2) 0 0)
       unfolding convertedListed listed decimalShape isNought
-      spelt-logical placed =
+      spelt-logical placed timely =
           let p = fits-other c f other in
-          let by : (logicalListed (c .kind) ≡ true) × (kindOf (slotWith c converted.NONE (c .kind) (c .p1) (c .p2) 0 0) false ≡ kindIn c) = cases (ℕ-discrete (c .kind) logical.NONE) in
+          let by : (logicalListed edition (c .kind) ≡ true) × (kindOf (slotWith c converted.NONE (c .kind) (c .p1) (c .p2) 0 0) false ≡ kindIn c) = cases (ℕ-discrete (c .kind) logical.NONE) in
           record {
             holds = holds-with c converted.NONE (c .kind) (c .p1) (c .p2) 0 0 f (omega arith) (f .kind) (p .0) (p .1) (omega arith) (omega arith);
             converted = refl;
@@ -154,18 +137,24 @@ module _ (c : ColumnType) (f : Fits c) (leaf : isGroup (c .physical) ≡ false) 
             kind = by .1;
           }
         where
-          cases : Dec (c .kind ≡ logical.NONE) → (logicalListed (c .kind) ≡ true) × (kindOf (slotWith c converted.NONE (c .kind) (c .p1) (c .p2) 0 0) false ≡ kindIn c)
-          cases (yes e) = (none-listed (c .kind) e, kind-plain e placed)
-          cases (no n) = kind-logical n placed
+          cases : Dec (c .kind ≡ logical.NONE) → (logicalListed edition (c .kind) ≡ true) × (kindOf (slotWith c converted.NONE (c .kind) (c .p1) (c .p2) 0 0) false ≡ kindIn c)
+          cases (yes e) = (none-listed edition (c .kind) e, kind-plain e placed)
+          cases (no n) = kind-logical n placed timely
 
--- the slot of a column type whose annotation is placed as rule 10 asks has its numbers
-pub slotOf-spelt : (c : ColumnType) → Fits c → isGroup (c .physical) ≡ false → isPlaced (slotOf c) false ≡ true → Spelt c (slotOf c)
-slotOf-spelt c f leaf placed = decimal (ℕ-discrete (c .kind) logical.DECIMAL)
+-- the slot of a column type that keeps rule 10 has its numbers
+pub slotOf-spelt : (edition : ℕ) (c : ColumnType) → Fits c → isGroup (c .physical) ≡ false → rule10 edition (slotOf c) false ≡ true → Spelt edition c (slotOf c)
+slotOf-spelt edition c f leaf ten = decimal (ℕ-discrete (c .kind) logical.DECIMAL)
   where
-    interval : (c .kind ≡ logical.DECIMAL → ⊥) → Dec (c .kind ≡ converted.INTERVAL) → Spelt c (slotOf c)
-    interval n (yes e) = let is = slotOf-interval c n e in rw is (spelt-interval c f leaf n e (rw is at placed))
-    interval n (no m) = let is = slotOf-logical c n m in rw is (spelt-logical c f leaf n m (rw is at placed))
+    placed : isPlaced (slotOf c) false ≡ true
+    placed = ten-placed edition (slotOf c) false ten
 
-    decimal : Dec (c .kind ≡ logical.DECIMAL) → Spelt c (slotOf c)
-    decimal (yes e) = rw (slotOf-decimal c e) (spelt-decimal c f leaf e)
+    timely : isEarly edition (annotationOf (slotOf c) false) ≡ false
+    timely = ten-timely edition (slotOf c) false ten
+
+    interval : (c .kind ≡ logical.DECIMAL → ⊥) → Dec (c .kind ≡ converted.INTERVAL) → Spelt edition c (slotOf c)
+    interval n (yes e) = let is = slotOf-interval c n e in rw is (spelt-interval edition c f leaf n e (rw is at placed))
+    interval n (no m) = let is = slotOf-logical c n m in rw is (spelt-logical edition c f leaf n m (rw is at placed) (rw is at timely))
+
+    decimal : Dec (c .kind ≡ logical.DECIMAL) → Spelt edition c (slotOf c)
+    decimal (yes e) = rw (slotOf-decimal c e) (spelt-decimal edition c f leaf e)
     decimal (no n) = interval n (ℕ-discrete (c .kind) converted.INTERVAL)

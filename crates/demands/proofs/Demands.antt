@@ -41,9 +41,11 @@ use Rattle.c_values.specs.Values.{reading}
 use Rattle.int96.proofs.ValueLaws as int96
 use Rattle.c_timestamps.specs.Timestamps.{encoding}
 use Rattle.c_timestamps.specs.Int96.{fromInt96}
+use Rattle.c_boxes.proofs.PromiseLaws as c_boxes
 use Rattle.griffeljol.proofs.PromiseLaws.{promised}
 use Rattle.demands.proofs.RefusalLaws as sheets
 use Rattle.demands.proofs.ValueRefusalLaws as values
+use Rattle.demands.proofs.BoxLaws as box
 use Rattle.demands.specs.Demand1.{Demand1}
 use Rattle.demands.specs.Demand2.{Demand2}
 use Rattle.demands.specs.Demand3.{Demand3}
@@ -83,6 +85,8 @@ demand1 edition =
             in-day = values.in-day-first;
             from-int96 = values.from-int96-first;
             to-int96 = values.to-int96-first;
+            boxing = box.boxing-first;
+            testing = box.testing-first;
             rows-text = sheets.rows-text-first;
             answer-rows = sheets.answer-rows-first;
             answer-refusal = sheets.answer-refusal-first;
@@ -90,6 +94,7 @@ demand1 edition =
             c-decoding = values.c-decoding-first;
             c-encoding = values.c-encoding-first;
             c-from-int96 = values.c-from-int96-first;
+            c-boxing = box.c-boxing-first;
           };
       unchanged =
           record {
@@ -102,6 +107,7 @@ demand1 edition =
             c-count = λ unit numbers lent. values.refused-left (encoding unit numbers (length lent)) lent;
             c-int96-count = λ value lent. values.refused-left (fromInt96 value (length lent)) lent;
             c-fields = values.fields-left;
+            c-box = λ kind coordinates lent held answered. c_boxes.promised .box-unchanged kind coordinates lent answered held;
             c-interface = promised;
           };
     }

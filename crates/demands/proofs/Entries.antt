@@ -77,6 +77,10 @@ use Rattle.int96.proofs.decode.Statement as int96-decode-stated
 use Rattle.int96.proofs.decode.Met as int96-decode-met
 use Rattle.int96.proofs.encode.Statement as int96-encode-stated
 use Rattle.int96.proofs.encode.Met as int96-encode-met
+use Rattle.boxes.proofs.box_of.Statement as boxes-box-of-stated
+use Rattle.boxes.proofs.box_of.Met as boxes-box-of-met
+use Rattle.boxes.proofs.contains.Statement as boxes-contains-stated
+use Rattle.boxes.proofs.contains.Met as boxes-contains-met
 use Rattle.utf8.proofs.valid_up_to.Statement as utf8-valid-up-to-stated
 use Rattle.utf8.proofs.valid_up_to.Met as utf8-valid-up-to-met
 use Rattle.decimal_bytes.proofs.is_length.Statement as decimal-is-length-stated
@@ -115,6 +119,10 @@ use Rattle.griffeljol.proofs.griffeljol_from_int96.Statement as griffeljol-from
 use Rattle.griffeljol.proofs.griffeljol_from_int96.Met as griffeljol-from-int96-met
 use Rattle.griffeljol.proofs.griffeljol_to_int96.Statement as griffeljol-to-int96-stated
 use Rattle.griffeljol.proofs.griffeljol_to_int96.Met as griffeljol-to-int96-met
+use Rattle.griffeljol.proofs.griffeljol_box.Statement as griffeljol-box-stated
+use Rattle.griffeljol.proofs.griffeljol_box.Met as griffeljol-box-met
+use Rattle.griffeljol.proofs.griffeljol_inside.Statement as griffeljol-inside-stated
+use Rattle.griffeljol.proofs.griffeljol_inside.Met as griffeljol-inside-met
 
 -- a sheet's blocks, slots and names -----------------------------------------------------------------------------------------------
 
@@ -244,6 +252,14 @@ int96-decode = int96-decode-met.met
 pub int96-encode : {M : Type 1} → int96-encode-stated.statement M
 int96-encode = int96-encode-met.met
 
+-- boxes ---------------------------------------------------------------------------------------------------------------------------
+
+pub boxes-box-of : {M : Type 1} → boxes-box-of-stated.statement M
+boxes-box-of = boxes-box-of-met.met
+
+pub boxes-contains : {M : Type 1} → boxes-contains-stated.statement M
+boxes-contains = boxes-contains-met.met
+
 -- text and decimals ---------------------------------------------------------------------------------------------------------------
 
 pub utf8-valid-up-to : {M : Type 1} → utf8-valid-up-to-stated.statement M
@@ -306,3 +322,9 @@ griffeljol-from-int96 = griffeljol-from-int96-met.met
 
 pub griffeljol-to-int96 : {M : Type 1} → griffeljol-to-int96-stated.statement M
 griffeljol-to-int96 = griffeljol-to-int96-met.met
+
+pub griffeljol-box : {M : Type 1} → griffeljol-box-stated.statement M
+griffeljol-box = griffeljol-box-met.met
+
+pub griffeljol-inside : {M : Type 1} → griffeljol-inside-stated.statement M
+griffeljol-inside = griffeljol-inside-met.met

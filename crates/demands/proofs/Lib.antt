@@ -2,6 +2,7 @@
 pub mod Entries
 pub mod RefusalLaws
 pub mod ValueRefusalLaws
+pub mod BoxLaws
 pub mod Demands
 pub mod TimePoints
 pub mod ColumnPoints
@@ -10,4 +11,5 @@ pub mod Points
 pub mod ComparisonLaws
 pub mod RetiredLaws
 pub mod ConversionLaws
+pub mod TerminalLaws
 pub mod Requests

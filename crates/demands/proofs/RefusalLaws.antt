@@ -126,10 +126,10 @@ opening-first edition sheet = by-edition (isKnown edition)
     headers = each 3 (λ b. not (headerRight sheet b)) (blockCount sheet)
 
     unsound : List Ground
-    unsound = each 4 (λ k. not (slotRight sheet k)) (slotsInBlock * blockCount sheet)
+    unsound = each 4 (λ k. not (slotRight edition sheet k)) (slotsInBlock * blockCount sheet)
 
     slots-opened : Counted
-    slots-opened = atFirst (slotRight sheet) (slotsInBlock * blockCount sheet) 4 (Counted.Count (totalOf sheet))
+    slots-opened = atFirst (slotRight edition sheet) (slotsInBlock * blockCount sheet) 4 (Counted.Count (totalOf sheet))
 
     headers-opened : Counted
     headers-opened = atFirst (headerRight sheet) (blockCount sheet) 3 slots-opened
@@ -138,7 +138,7 @@ opening-first edition sheet = by-edition (isKnown edition)
     behind =
         opened-first 2 (blockCount sheet) (checkRight sheet) headers-opened (headers ++ unsound) (totalOf sheet)
         (opened-first 3 (blockCount sheet) (headerRight sheet) slots-opened unsound (totalOf sheet)
-        (opened-first 4 (slotsInBlock * blockCount sheet) (slotRight sheet) (Counted.Count (totalOf sheet)) [] (totalOf sheet) refl
+        (opened-first 4 (slotsInBlock * blockCount sheet) (slotRight edition sheet) (Counted.Count (totalOf sheet)) [] (totalOf sheet) refl
         ∙ ap (λ (gs : List Ground). first gs (totalOf sheet)) (append-nil unsound)))
         ∙ ap (λ (gs : List Ground). first gs (totalOf sheet)) (sym (append-assoc checks headers unsound))
 

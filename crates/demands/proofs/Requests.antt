@@ -20,7 +20,8 @@ use Rattle.parquet.specs.Logical.{DECIMAL}
 use Rattle.annotation.proofs.EditionLaws.{isEqual, first-ordered, second-ordered, ordered-precision, ordered-scale, eleven-third}
 use Rattle.sheet.specs.Block.{totalOf, mostNodes}
 use Rattle.sheet.specs.Opening.{openOf}
-use Rattle.sheet.proofs.OpeningLaws.{openOf-unknown, openOf-edition}
+use Rattle.sheet.proofs.OpeningLaws.{openOf-unknown}
+use Rattle.sheet.proofs.EditionLaws.{openOf-first}
 use Rattle.column_type.specs.Lawful.{isLawful, typeRefusal, judgementOf as typeJudgement}
 use Rattle.column_type.specs.declared.types.ColumnType.{ColumnType}
 use Rattle.column_type.proofs.RefusalLaws.{unknown-unlawful, refusal-known, refusal-unknown}
@@ -59,11 +60,13 @@ use Rattle.differences.proofs.OutcomeLaws as compared
 use Rattle.utf8.proofs.ValidLaws.{validUpTo-stops, stops-unique}
 use Rattle.column.proofs.PlaceLaws.{text-stops, other-place, text-refused}
 use Rattle.column_order.proofs.FaultLaws.{OfNeither, first-exactly, second-exactly, neither-exactly, fault-most}
-use Rattle.demands.specs.Requests.{output, Request1, one, Request2, EqualIn, FirstEqual, Request4, Request6, left, definitionIn, repetitionLevelIn, Request8, Request10}
+use Rattle.demands.specs.Requests.{output, Request1, one, Request2, EqualIn, FirstEqual, Request4, Request6, left, definitionIn, repetitionLevelIn, Request8, Request10, Request11}
 use Rattle.demands.proofs.ComparisonLaws as comparison
 use Rattle.demands.proofs.ColumnPoints.{cut-off, second-bad, both-bad}
 use Rattle.demands.proofs.RetiredLaws as retired
 use Rattle.demands.proofs.ConversionLaws.{conversion}
+use Rattle.demands.proofs.TerminalLaws as terminals
+use Rattle.demands.proofs.BoxLaws.{boxes}
 use Rattle.demands.proofs.SheetPoints as sheet
 use Rattle.demands.proofs.SheetPoints.{repeated-rows, example-rows}
 
@@ -278,7 +281,7 @@ request4 =
       new-rule = second-ordered;
       no-precision = ordered-precision;
       no-scale = ordered-scale;
-      same-opening = λ sheet. openOf-edition 2 1 sheet (known-of second) (known-of first);
+      same-opening = openOf-first;
       accepted = second-lawful;
       same-rows = same-rows;
       same-rewritten = same-rewritten;
@@ -390,17 +393,17 @@ request10 =
       decimals-alike = eleven-third;
       first-alike = retired.first-alike;
       second-alike = retired.second-alike;
-      same-opening = λ sheet. openOf-edition 3 2 sheet (known-of third) (known-of second);
+      same-opening = retired.same-opening;
       accepted = retired.accepted;
       answered = retired.answered;
       refused-alone = retired.refused-alone;
       same-judgement = retired.same-judgement;
-      same-rows = λ sheet lent none. retired.same-rows sheet none lent;
-      same-rewritten = λ sheet lent start none. retired.same-rewritten sheet none lent start;
+      same-rows = λ sheet lent none other. retired.same-rows sheet none other lent;
+      same-rewritten = λ sheet lent start none other. retired.same-rewritten sheet none other lent start;
       same-comparison = retired.same-comparison;
       lawful = retired.lawful;
-      same-reading = λ c bs other. retired.same-reading c other bs;
-      same-order = λ c a b other. retired.same-order c other a b;
+      same-reading = λ c bs other g. retired.same-reading c other g bs;
+      same-order = λ c a b other g. retired.same-order c other g a b;
       int96-type = retired.int96-type;
       int96-read = λ c bs int96. retired.int96-read c int96 bs;
       int96-ordered = λ c a b int96. retired.int96-ordered c int96 a b;
@@ -411,4 +414,35 @@ request10 =
       nine-first = sheet.nine-first;
       eight-first = sheet.eight-first;
       conversion = conversion;
+    }
+
+-- R-11 ---------------------------------------------------------------------------------------------------------------------
+
+pub request11 : Request11
+request11 =
+    record {
+      listed = terminals.listed;
+      same-list = terminals.same-list;
+      not-listed = terminals.not-listed;
+      never-listed = terminals.never-listed;
+      geometry = terminals.geometry;
+      geography = terminals.geography;
+      no-converted = terminals.no-converted;
+      kinds = terminals.kinds;
+      rewritten = terminals.rewritten;
+      early = terminals.early;
+      answered = retired.any-answered;
+      geometry-type = terminals.geometry-type;
+      geography-type = terminals.geography-type;
+      never-type = terminals.never-type;
+      early-type = terminals.early-type;
+      any-value = λ c bs g. terminals.any-value c g bs;
+      no-order = λ c a b g. terminals.no-order c g a b;
+      karney = sheet.karney;
+      edge-5 = sheet.edge-5;
+      geometry-edge = sheet.geometry-edge;
+      utf8-beside = sheet.utf8-beside;
+      code-15 = sheet.code-15;
+      before = sheet.karney-before;
+      boxes = boxes;
     }

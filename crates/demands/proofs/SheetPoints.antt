@@ -4,7 +4,7 @@ use mathlib.Core.Path.{_≡_, refl}
 use mathlib.Core.Bool.{Bool, true}
 use mathlib.Core.List.{List, [], _∷_}
 use lib.ListN.{replicate}
-use Rattle.edition.specs.Editions.{FIRST, SECOND, THIRD, isKnown, scaleMayEqual, int96Retired}
+use Rattle.edition.specs.Editions.{FIRST, SECOND, THIRD, isKnown, scaleMayEqual, int96Retired, hasGeospatial}
 use Rattle.edition.proofs.EditionLaws.{each-edition}
 use Rattle.laws.specs.Bytes.{little, twosComplement, bytesOf}
 use Rattle.block_check.specs.Check.{sumBelow, weighted, check}
@@ -25,7 +25,7 @@ use Rattle.parquet.specs.Physical as physical
 use Rattle.parquet.specs.Converted as converted
 use Rattle.parquet.specs.Logical as logical
 use Rattle.annotation.specs.Signed.{natural}
-use Rattle.logical_type.specs.Parameters.{UNUSED, unitCode, flagCode, unitOf, validParameters}
+use Rattle.logical_type.specs.Parameters.{UNUSED, unitCode, flagCode, unitOf, edgeOf, validParameters}
 use Rattle.logical_type.specs.Spelling.{namedOf, statedOf}
 use Rattle.logical_type.specs.Backward.{backwardOf}
 use Rattle.annotation.specs.Meaning.{annotationOf}
@@ -48,9 +48,9 @@ use Rattle.tree.specs.OpenPlaces.{sum, openPlaces, isNoPlace}
 use Rattle.tree.specs.Judgement.{orElse, leftOver, missing, firstFault, deepness, tooDeep, unlawful, treeRefusal, judgedAs, judgement}
 use Rattle.schema.specs.Outcome.{answer, outcome, written}
 use Rattle.refusal.specs.declared.answers.Counted.{Counted}
-use Rattle.demands.specs.Sheets.{rootSlot, leafSheet, int96Sheet, exampleSheet, repeatedSheet}
+use Rattle.demands.specs.Sheets.{rootSlot, leafSheet, int96Sheet, geospatialSheet, exampleSheet, repeatedSheet}
 use Rattle.demands.specs.Points.{equalSheet}
-use Rattle.demands.specs.Requests.{repeatedRows, exampleRows}
+use Rattle.demands.specs.Requests.{repeatedRows, exampleRows, karneyRows}
 
 -- Each layer's definitions, open: what names a layer on its `unfolding` line computes through it.
 
@@ -60,8 +60,8 @@ unfolding headerRight lengthRight numbersRight totalRight blocksFor nodesIn bloc
 block-layer = headerRight
 
 -- slots, their numbers, and whether they are sound
-slot-layer : List ℕ → ℕ → Bool
-unfolding slotRight slotSound codesListed listed physicalListed repetitionListed convertedListed logicalListed nameRight nameLengthRight reservedZero tailZero allZero slots slotsFrom slotAt slotStart reaches numbersOf physical repetition converted logical parameterA parameterB childCount typeLength scale precision nameLength name sameBytes
+slot-layer : ℕ → List ℕ → ℕ → Bool
+unfolding hasGeospatial slotRight slotSound codesListed listed physicalListed repetitionListed convertedListed logicalListed nameRight nameLengthRight reservedZero tailZero allZero slots slotsFrom slotAt slotStart reaches numbersOf physical repetition converted logical parameterA parameterB childCount typeLength scale precision nameLength name sameBytes
 slot-layer = slotRight
 
 -- what opening answers
@@ -154,3 +154,28 @@ nine-first = refl
 pub eight-first : outcome THIRD (int96Sheet converted.UTF8 logical.UNKNOWN 12) (rowWidth * 2) ≡ Counted.Refused (refusal 8 1)
 unfolding opened
 eight-first = refl
+
+-- document 02, R-11
+pub karney : written (outcome THIRD (geospatialSheet 255 18 4) (rowWidth * 2)) (geospatialSheet 255 18 4) (replicate (rowWidth * 2) 0) ≡ karneyRows
+unfolding opened edgeOf written rows rowsFrom row parentOf parentBy role listRole howMany size listing
+karney = refl
+
+pub edge-5 : outcome THIRD (geospatialSheet 255 18 5) (rowWidth * 2) ≡ Counted.Refused (refusal 10 1)
+unfolding opened
+edge-5 = refl
+
+pub geometry-edge : outcome THIRD (geospatialSheet 255 17 1) (rowWidth * 2) ≡ Counted.Refused (refusal 10 1)
+unfolding opened
+geometry-edge = refl
+
+pub utf8-beside : outcome THIRD (geospatialSheet 0 17 0) (rowWidth * 2) ≡ Counted.Refused (refusal 9 1)
+unfolding opened
+utf8-beside = refl
+
+pub code-15 : outcome THIRD (geospatialSheet 255 15 0) (rowWidth * 2) ≡ Counted.Refused (refusal 4 1)
+unfolding opened
+code-15 = refl
+
+pub karney-before : outcome SECOND (geospatialSheet 255 18 4) (rowWidth * 2) ≡ Counted.Refused (refusal 4 1)
+unfolding opened
+karney-before = refl

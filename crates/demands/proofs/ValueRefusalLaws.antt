@@ -143,7 +143,7 @@ abbrev written : {A : Type 0} → ℕ → List A → Result A
 written value numbers = record { value = value; numbers = numbers }
 
 -- 14 behind what was asked for
-within-first : {A : Type 0} (lent value : ℕ) (numbers : List A) → within lent (result value numbers) ≡ first (ground 14 0 (ltb lent (length numbers)) ∷ []) (written value numbers)
+pub within-first : {A : Type 0} (lent value : ℕ) (numbers : List A) → within lent (result value numbers) ≡ first (ground 14 0 (ltb lent (length numbers)) ∷ []) (written value numbers)
 unfolding first
 within-first lent value numbers = by-test (ltb lent (length numbers)) (λ e. rw e) (λ e. rw e)
 

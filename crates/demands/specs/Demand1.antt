@@ -6,10 +6,11 @@
 -- a refusal (`refusal/specs/Outcome`).
 use Prim.Native.Nat.{ℕ, _*_}
 use mathlib.Core.Path.{_≡_}
-use mathlib.Core.Bool.{Bool}
+use mathlib.Core.Bool.{Bool, _&&_}
 use mathlib.Core.List.{List, [], _∷_}
 use mathlib.Core.Option.{Option}
 use lib.Dec.{ltb}
+use lib.Ieee.{Float}
 use lib.IntN.{ℤ}
 use lib.ListN.{length}
 use Rattle.refusal.specs.Outcome.{Outcome, refused, judged, counted}
@@ -43,6 +44,10 @@ use Rattle.timestamp.specs.Outcomes.{Decodes}
 use Rattle.timestamp.specs.declared.fields.Fields.{Fields}
 use Rattle.int96.specs.Value as int96
 use Rattle.int96.specs.Outcomes as conversion
+use Rattle.boxes.specs.Points.{Answers}
+use Rattle.boxes.specs.Membership.{insideX, insideY, membership}
+use Rattle.boxes.specs.declared.bounding_box.BoundingBox.{BoundingBox}
+use Rattle.boxes.specs.declared.points.Boxed.{Boxed}
 use Rattle.schema_text.specs.Rows.{rowsText, rowsTextOf, refusalLine, answerText}
 use Rattle.schema_text.specs.Making.{made, madeIn}
 use Rattle.c_answer.specs.Answers.{within, left}
@@ -51,8 +56,9 @@ use Rattle.c_values.specs.Values.{caseOf, numbersOf}
 use Rattle.c_timestamps.specs.Timestamps.{fieldNumbers, fieldsOf, decodeEffect, Decoding}
 use Rattle.c_timestamps.specs.Timestamps as c_timestamps
 use Rattle.c_timestamps.specs.Int96.{fromInt96}
+use Rattle.c_boxes.specs.Boxes.{boxEffect, Boxing}
 use Rattle.griffeljol.specs.Promises.{Promises}
-use Rattle.demands.specs.Refusals.{unsided, first, openingGrounds, judgingGrounds, resolvingGrounds, rewritingGrounds, comparingGrounds, slotGrounds, typeGrounds, readingGrounds, orderingGrounds, unknownUnit, ticks, encodingGrounds, int96Grounds, rowsTextGrounds, shortFor, cReadingGrounds, cDecodingGrounds, cEncodingGrounds, cFromInt96Grounds}
+use Rattle.demands.specs.Refusals.{unsided, first, openingGrounds, judgingGrounds, resolvingGrounds, rewritingGrounds, comparingGrounds, slotGrounds, typeGrounds, readingGrounds, orderingGrounds, unknownUnit, ticks, encodingGrounds, int96Grounds, boxGrounds, boxVerdict, boxNumbers, testGrounds, rowsTextGrounds, shortFor, cReadingGrounds, cDecodingGrounds, cEncodingGrounds, cFromInt96Grounds, cBoxGrounds}
 
 -- "Each call ends with the result or one numbered refusal, chosen in the order document 01 states", in any edition: 21 before all others
 pub record Chosen (edition : ℕ) : Type 1 where
@@ -85,15 +91,19 @@ pub record Chosen (edition : ℕ) : Type 1 where
   -- `int96::decode`, and `int96::encode`, in C too: twelve bytes of any count
   pub from-int96 : (value : List ℕ) → conversion.decoding value ≡ first (int96Grounds value) (int96.countOf value)
   pub to-int96 : (lent : ℕ) → counted (conversion.encoding lent) ≡ first (shortFor 12 lent ∷ []) 12
+  -- `boxes::box_of`, whose answer is stated by a relation that one answer meets, but for numbers that are equal (`Requests.Boxes`), and `boxes::contains`, in C too
+  pub boxing : (kind : ℕ) (coordinates : List Float) (a : Boxed) → Answers kind coordinates a → judged (boxVerdict a) ≡ first (boxGrounds kind coordinates) tt
+  pub testing : (kind : ℕ) (b : BoundingBox) (x y : Float) → membership kind b x y ≡ first (testGrounds kind b x y) (insideX b x && insideY b y)
   -- `schema_text::rows_text`, and `schema_text::answer_text` of rows and of a refusal
   pub rows-text : (total : ℕ) (numbers : List ℕ) (room : ℕ) → counted (made (rowsTextOf total numbers) room) ≡ first (rowsTextGrounds total numbers room) (length (rowsText total numbers))
   pub answer-rows : (total : ℕ) (numbers : List ℕ) (room : ℕ) → counted (made (answerText (Counted.Count total) numbers) room) ≡ first (rowsTextGrounds total numbers room) (length (rowsText total numbers))
   pub answer-refusal : (r : Refusal) (numbers : List ℕ) (room : ℕ) → counted (made (answerText (Counted.Refused r) numbers) room) ≡ first (shortFor (length (refusalLine r)) room ∷ []) (length (refusalLine r))
-  -- `griffeljol_read`, `griffeljol_decode`, `griffeljol_encode` and `griffeljol_from_int96`
+  -- `griffeljol_read`, `griffeljol_decode`, `griffeljol_encode`, `griffeljol_from_int96` and `griffeljol_box`
   pub c-reading : (c : ColumnType) (bs : List ℕ) (lent : ℕ) → c_values.reading edition c bs lent ≡ first (cReadingGrounds edition c bs lent) (record { value = caseOf (valueOf c bs); numbers = numbersOf (valueOf c bs) })
   pub c-decoding : (unit : ℕ) (count : ℤ) (lent : ℕ) (o : Outcome Fields) → Decodes (unitOf unit) count o → (f : Fields) × (o ≡ first (unknownUnit unit ∷ []) f) × (within lent (decodeEffect o) ≡ first (cDecodingGrounds unit lent) (record { value = 7; numbers = fieldNumbers f }))
   pub c-encoding : (unit : ℕ) (numbers : List ℤ) (lent : ℕ) → c_timestamps.encoding unit numbers lent ≡ first (cEncodingGrounds unit numbers lent) (record { value = 1; numbers = countOf (ticks unit) (fieldsOf numbers) ∷ [] })
   pub c-from-int96 : (value : List ℕ) (lent : ℕ) → fromInt96 value lent ≡ first (cFromInt96Grounds value lent) (record { value = 1; numbers = int96.countOf value ∷ [] })
+  pub c-boxing : (kind : ℕ) (coordinates : List Float) (lent : ℕ) (a : Boxed) → Answers kind coordinates a → within lent (boxEffect a) ≡ first (cBoxGrounds kind coordinates a lent) (record { value = length (boxNumbers a); numbers = boxNumbers a })
 
 -- "A refusal changes no lent buffer"
 pub record Unchanged (edition : ℕ) : Type 1 where
@@ -113,6 +123,8 @@ pub record Unchanged (edition : ℕ) : Type 1 where
   pub c-int96-count : (value : List ℕ) (lent : List ℤ) (r : Refusal) → fromInt96 value (length lent) ≡ refused r → left (fromInt96 value (length lent)) lent ≡ lent
   -- the output of `griffeljol_decode`, whatever meets its contract
   pub c-fields : (unit : ℕ) (count : ℤ) (lent held : List ℤ) (answered : ℕ) (o : Outcome Fields) (r : Refusal) → Decoding unit count lent answered held → Decodes (unitOf unit) count o → within (length lent) (decodeEffect o) ≡ refused r → held ≡ lent
+  -- and of `griffeljol_box`, also where there is no box
+  pub c-box : (kind : ℕ) (coordinates lent held : List Float) (answered : ℕ) → Boxing kind coordinates lent answered held → (answered ≡ 4 → ⊥) → held ≡ lent
   -- every C answer tells whether it is a refusal, and which
   pub c-interface : Promises
 

@@ -15,6 +15,7 @@ use Rattle.laws.specs.Bytes.{little}
 use Rattle.parquet.specs.Physical.{BOOLEAN, INT96, FLOAT, DOUBLE}
 use Rattle.parquet.specs.Converted as converted
 use Rattle.parquet.specs.Logical as logical
+use Rattle.parquet.specs.Logical.{isGeospatial}
 use Rattle.logical_type.specs.Forward.{forwardOf, imageOf}
 use Rattle.logical_type.specs.Backward.{backwardOf}
 use Rattle.logical_type.specs.declared.types.LogicalType.{LogicalType}
@@ -137,9 +138,9 @@ pub record Values (edition : ℕ) : Type 1 where
 pub record Ordering (edition : ℕ) : Type 1 where
   -- what `column_order::order` gives (`order.outcome`) is the relation that is spoken of here
   pub given-exactly : (c : ColumnType) (a b : List ℕ) (r : Relation) → (order.outcome edition c a b ≡ sided.given r) ↔ (orderOf edition c a b ≡ Related r)
-  -- "INTERVAL and INT96 have none": 17 for these and for no others
-  pub no-order : (c : ColumnType) (a b : List ℕ) → (order.outcome edition c a b ≡ sided.refused (fault 0 (refusal 17 0))) ↔ ((isLawful edition c ≡ true) × ((c .physical ≡ INT96) ⊎ (c .kind ≡ converted.INTERVAL)))
-  pub has-order : (c : ColumnType) → (hasOrder c ≡ false) ↔ ((c .physical ≡ INT96) ⊎ (c .kind ≡ converted.INTERVAL))
+  -- "INTERVAL and INT96 have none": 17 for these, for GEOMETRY and GEOGRAPHY (document 02, R-11), and for no others
+  pub no-order : (c : ColumnType) (a b : List ℕ) → (order.outcome edition c a b ≡ sided.refused (fault 0 (refusal 17 0))) ↔ ((isLawful edition c ≡ true) × ((c .physical ≡ INT96) ⊎ ((c .kind ≡ converted.INTERVAL) ⊎ (isGeospatial (c .kind) ≡ true))))
+  pub has-order : (c : ColumnType) → (hasOrder c ≡ false) ↔ ((c .physical ≡ INT96) ⊎ ((c .kind ≡ converted.INTERVAL) ⊎ (isGeospatial (c .kind) ≡ true)))
   -- "signed for numbers, dates, times, decimals", of whole numbers but INT(n, false)
   pub signed : (c : ColumnType) → hasOrder c ≡ true → (a b : List ℕ) → Valid edition c a → Valid edition c b → Whole c → ((c .kind ≡ logical.INTEGER) × (c .p2 ≡ 0) → ⊥) → AsNumbers edition c a b (number.signed a) (number.signed b)
   -- "unsigned for INT(n, false) and BOOLEAN"

@@ -1,15 +1,18 @@
 -- "One numbered refusal, chosen in the order document 01 states": each refusal's own condition with its place, the paper's order as a list, and what a call
 -- ends with: the first of the list that holds, or the result where none does. No condition here speaks of another, but for the one "otherwise" of the paper.
-use Prim.Native.Nat.{ℕ, zero, suc, _+_, _*_, _^_}
+use Prim.Native.Nat.{ℕ, zero, suc, _+_, _*_, _%_, _^_}
 use mathlib.Core.Bool.{Bool, true, cond, not, _&&_}
 use mathlib.Core.List.{List, [], _∷_, _++_}
 use lib.Dec.{eqb, leb, ltb}
+use lib.Ieee.{Float}
 use lib.IntN.{ℤ}
 use lib.ListN.{length}
 use Rattle.refusal.specs.Outcome.{Outcome, given, refused, refusal}
 use Rattle.refusal.specs.Faults as sided
 use Rattle.refusal.specs.Faults.{Sided}
+use Rattle.refusal.specs.declared.answers.Verdict.{Verdict}
 use Rattle.edition.specs.Editions.{isKnown}
+use Rattle.parquet.specs.Logical.{isGeospatial}
 use Rattle.sheet.specs.Block.{slotsInBlock, blockCount, totalOf}
 use Rattle.sheet.specs.Header.{lengthRight, headerRight}
 use Rattle.sheet.specs.Check.{checkRight}
@@ -36,6 +39,11 @@ use Rattle.timestamp.specs.Count.{isDateTime, countOf}
 use Rattle.timestamp.specs.Outcomes.{isSigned64}
 use Rattle.timestamp.specs.declared.fields.Fields.{Fields as DateTime}
 use Rattle.int96.specs.Value as int96
+use Rattle.boxes.specs.Points.{pointsIn, allowsPoints}
+use Rattle.boxes.specs.Membership.{isBox, allowsPoint}
+use Rattle.boxes.specs.declared.bounding_box.BoundingBox.{BoundingBox}
+use Rattle.boxes.specs.declared.points.Boxed
+use Rattle.boxes.specs.declared.points.Boxed.{Boxed}
 use Rattle.schema_text.specs.Rows.{rowsText}
 use Rattle.c_timestamps.specs.Timestamps.{areFields, fieldsOf}
 
@@ -83,7 +91,7 @@ openingGrounds edition sheet =
     (unknownEdition edition ∷ ground 1 0 (not (lengthRight (length sheet))) ∷ [])
     ++ each 2 (λ block. not (checkRight sheet block)) (blockCount sheet)
     ++ each 3 (λ block. not (headerRight sheet block)) (blockCount sheet)
-    ++ each 4 (λ k. not (slotRight sheet k)) (slotsInBlock * blockCount sheet)
+    ++ each 4 (λ k. not (slotRight edition sheet k)) (slotsInBlock * blockCount sheet)
 
 -- "Refusal 6: zero open places at some k below T, place the least such k"
 abbrev pub leftOverGrounds : List SlotBytes → List Ground
@@ -199,6 +207,32 @@ int96Grounds value =
     ∷ ground 19 0 (not (isSigned64 (int96.countOf value)))
     ∷ []
 
+-- a box ---------------------------------------------------------------------------------------------------------------------------
+
+-- "20, first, for a box of a kind not 17 or 18", "15, before 16, for an odd run of coordinates", 16 for a coordinate beyond the degrees (document 02, R-11)
+abbrev pub boxGrounds : ℕ → List Float → List Ground
+boxGrounds kind coordinates =
+    ground 20 0 (not (isGeospatial kind))
+    ∷ ground 15 0 (not (eqb (length coordinates % 2) 0))
+    ∷ ground 16 0 (not (allowsPoints kind coordinates (pointsIn coordinates)))
+    ∷ []
+
+-- what each answer of a list of points refuses, and the numbers that it gives
+abbrev pub boxVerdict : Boxed → Verdict
+boxVerdict (Boxed.Box b) = Verdict.Lawful
+boxVerdict Boxed.NoBox = Verdict.Lawful
+boxVerdict (Boxed.Refused r) = Verdict.Refused r
+
+abbrev pub boxNumbers : Boxed → List Float
+boxNumbers (Boxed.Box b) = b .xmin ∷ b .xmax ∷ b .ymin ∷ b .ymax ∷ []
+boxNumbers Boxed.NoBox = []
+boxNumbers (Boxed.Refused r) = []
+
+-- "16 for a box with a NaN, with ymin above ymax, or, for GEOGRAPHY, with any bound outside ..; the same range holds for its points", behind 20
+abbrev pub testGrounds : ℕ → BoundingBox → Float → Float → List Ground
+testGrounds kind b x y =
+    ground 20 0 (not (isGeospatial kind)) ∷ ground 16 0 (not (isBox kind b)) ∷ ground 16 0 (not (allowsPoint kind x y)) ∷ []
+
 -- a text -------------------------------------------------------------------------------------------------------------------------
 
 -- "output too short": of rows, the numbers that were lent for them, and the buffer for their text
@@ -225,3 +259,7 @@ cEncodingGrounds unit numbers lent =
 
 abbrev pub cFromInt96Grounds : List ℕ → ℕ → List Ground
 cFromInt96Grounds value lent = int96Grounds value ++ (shortFor 1 lent ∷ [])
+
+-- four numbers for a box, and none where there is none
+abbrev pub cBoxGrounds : ℕ → List Float → Boxed → ℕ → List Ground
+cBoxGrounds kind coordinates a lent = boxGrounds kind coordinates ++ (shortFor (length (boxNumbers a)) lent ∷ [])

@@ -1,26 +1,33 @@
 -- What the requests of document 02 ask of the definitions.
 use Prim.Native.Nat.{ℕ, _+_, _*_, _-_, _/_, _%_, _^_, _≤_, _<_}
 use mathlib.Core.Path.{_≡_}
-use mathlib.Core.Bool.{Bool, true, false, cond}
+use mathlib.Core.Bool.{Bool, true, false, cond, _&&_}
 use mathlib.Core.List.{List, [], _∷_, _++_, map}
 use mathlib.Core.Logic.{_⊎_, _↔_}
 use mathlib.Core.Option.{some}
-use lib.IntN.{ℤ, pos, negsuc, _+ℤ_, _-ℤ_, _*ℤ_}
+use lib.IntN.{ℤ, pos, negsuc, negℤ, _+ℤ_, _-ℤ_, _*ℤ_}
+use lib.Ieee.{Float, binary64, nan, ofInt}
 use lib.ListN.{length, getD, getElem?, take, drop, replicate}
 use Rattle.laws.specs.Bytes.{Bytes, little}
 use Rattle.refusal.specs.Faults as sided
 use Rattle.refusal.specs.Faults.{fault}
 use Rattle.refusal.specs.Outcome.{given, refused, refusal}
 use Rattle.edition.specs.Editions.{isKnown}
+use Rattle.annotation.specs.Rule9 as nine
 use Rattle.annotation.specs.Rule10.{isPlaced, rule10}
 use Rattle.annotation.specs.Rule11.{ordered, rule11}
+use Rattle.annotation.specs.Kinds.{kindOf}
+use Rattle.annotation.specs.Rewriting.{writtenOf}
 use Rattle.annotation.specs.declared.slot.Annotated.{Annotated}
 use Rattle.sheet.specs.Block.{totalOf}
 use Rattle.sheet.specs.Opening.{openOf}
+use Rattle.sheet.specs.Slot as slot
 use Rattle.sheet.specs.Slot.{physical, repetition, slotAt, slots}
+use Rattle.sheet.specs.Sound.{logicalListed}
 use Rattle.parquet.specs.Repetition.{REPEATED}
 use Rattle.parquet.specs.Converted as converted
 use Rattle.parquet.specs.Logical as logical
+use Rattle.parquet.specs.Logical.{isGeospatial}
 use Rattle.parquet.specs.Physical.{INT96, BYTE-ARRAY}
 use Rattle.timestamp.specs.Calendar.{dayNumber}
 use Rattle.timestamp.specs.Clock.{tickOfDay}
@@ -29,11 +36,22 @@ use Rattle.timestamp.specs.Outcomes.{isSigned64, Decodes}
 use Rattle.timestamp.specs.declared.fields.Fields.{Fields as DateTime}
 use Rattle.int96.specs.Value.{nanosIn, dayIn, countOf, ValueOf, valueOf}
 use Rattle.int96.specs.Outcomes.{decoding, encoding, encoded}
+use Rattle.float_order.specs.Floats.{floatOrder}
+use Rattle.float_order.specs.declared.relation.Relation.the-variants.{Less, Equal, Greater}
+use Rattle.boxes.specs.Coordinates.{atMost, isAbove, inRange}
+use Rattle.boxes.specs.Points as boxes
+use Rattle.boxes.specs.Points.{Counted as CountedIn, NoneCounted, Met, Answers}
+use Rattle.boxes.specs.Membership.{insideX, insideY, hasNan, isBox, allowsPoint, membership}
+use Rattle.boxes.specs.Promises as boxes-promised
+use Rattle.boxes.specs.declared.bounding_box.BoundingBox.{BoundingBox}
+use Rattle.boxes.specs.declared.points.Boxed
+use Rattle.boxes.specs.declared.points.Boxed.{Boxed}
 use Rattle.utf8.specs.Valid.{validUpTo, Stops}
 use Rattle.column_type.specs.Lawful.{isLawful, judgementOf as typeJudgement}
 use Rattle.column_type.specs.declared.types.ColumnType.{ColumnType}
 use Rattle.column.specs.Annotations.{isText}
 use Rattle.column.specs.Outcome as read
+use Rattle.column.specs.declared.value.Value.the-variants as value
 use Rattle.column_order.specs.Order.{hasOrder}
 use Rattle.column_order.specs.Comparison.{Valid}
 use Rattle.column_order.specs.Outcome as order
@@ -62,7 +80,7 @@ use Rattle.differences.specs.Paths.{paths}
 use Rattle.differences.specs.Outcome.{compareOutcome, compareWritten}
 use Rattle.differences.specs.Rebuilding.{rebuilt}
 use Rattle.differences.specs.declared.comparison.Compared.{Compared}
-use Rattle.demands.specs.Sheets.{exampleSheet, repeatedSheet, int96Sheet}
+use Rattle.demands.specs.Sheets.{exampleSheet, repeatedSheet, int96Sheet, geospatialSheet}
 
 -- R-1. "Comparing the two custodians' sheets" ------------------------------------------------------------------------------
 
@@ -193,7 +211,7 @@ pub record Request4 : Type 1 where
   pub new-rule : (p s : ℕ) → (ordered 2 (pos p) (pos s) ≡ true) ↔ ((1 ≤ p) × (s ≤ p))
   pub no-precision : (edition p : ℕ) (s : ℤ) → ordered edition (negsuc p) s ≡ false
   pub no-scale : (edition : ℕ) (p : ℤ) (s : ℕ) → ordered edition p (negsuc s) ≡ false
-  -- opening asks no rule of an edition
+  -- opening asks the same in both
   pub same-opening : (sheet : List ℕ) → openOf 2 sheet ≡ openOf 1 sheet
   -- "Whatever edition 1 accepts, edition 2 accepts"
   pub accepted : (sheet : List ℕ) → judgement 1 sheet ≡ Verdict.Lawful → judgement 2 sheet ≡ Verdict.Lawful
@@ -318,6 +336,20 @@ pub record FirstInt96 (sheet : List ℕ) (k : ℕ) : Type 0 where
 abbrev pub NoInt96 : List ℕ → Type 0
 NoInt96 sheet = (k : ℕ) → Int96At sheet k → ⊥
 
+-- node k of a sheet has the logical code of GEOMETRY or GEOGRAPHY, which R-11 adds
+pub record GeospatialAt (sheet : List ℕ) (k : ℕ) : Type 0 where
+  pub below : k < totalOf sheet
+  pub is-geospatial : isGeospatial (slot.logical (slotAt sheet k)) ≡ true
+
+-- the first that has one
+pub record FirstGeospatial (sheet : List ℕ) (k : ℕ) : Type 0 where
+  pub here : GeospatialAt sheet k
+  pub earlier : (j : ℕ) → j < k → GeospatialAt sheet j → ⊥
+
+-- no node has one
+abbrev pub NoGeospatial : List ℕ → Type 0
+NoGeospatial sheet = (k : ℕ) → GeospatialAt sheet k → ⊥
+
 -- "A converter turns one such value into a TIMESTAMP count in nanoseconds and back": `int96::decode` answers what `decoding` gives; `int96::encode` writes the
 -- value that `valueOf` gives, and answers 12. No edition is asked
 pub record Conversion : Type 1 where
@@ -362,31 +394,31 @@ pub record Request10 : Type 1 where
   pub int96-breaks : (n : Annotated) (under : Bool) → n .physical ≡ INT96 → rule10 3 n under ≡ false
   -- 8 and 9 come first at that node
   pub in-turn : (p : Standing) (s : SlotBytes) (fs : Fields) → physical s ≡ INT96 → broken 3 p s fs ≡ cond (rule8 p s fs) (cond (rule9 s) 10 9) 8
-  -- "Edition 3 equals edition 2 but": of any other node rule 10 asks what it does there, and rule 11 of every node
-  pub others-alike : (n : Annotated) (under : Bool) → (n .physical ≡ INT96 → ⊥) → rule10 3 n under ≡ rule10 2 n under
+  -- "Edition 3 equals edition 2 but": of any other node that is neither GEOMETRY nor GEOGRAPHY rule 10 asks what it does there, and rule 11 of every node
+  pub others-alike : (n : Annotated) (under : Bool) → (n .physical ≡ INT96 → ⊥) → isGeospatial (n .logical) ≡ false → rule10 3 n under ≡ rule10 2 n under
   pub decimals-alike : (n : Annotated) (under : Bool) → rule11 3 n under ≡ rule11 2 n under
   -- where editions 1 and 2 ask what document 01 does, of INT96 too
-  pub first-alike : (n : Annotated) (under : Bool) → rule10 1 n under ≡ isPlaced n under
-  pub second-alike : (n : Annotated) (under : Bool) → rule10 2 n under ≡ isPlaced n under
-  -- opening asks no rule of an edition
-  pub same-opening : (sheet : List ℕ) → openOf 3 sheet ≡ openOf 2 sheet
-  -- edition 3 accepts exactly the sheets that edition 2 accepts and that have no INT96 leaf
-  pub accepted : (sheet : List ℕ) → (judgement 3 sheet ≡ Verdict.Lawful) ↔ ((judgement 2 sheet ≡ Verdict.Lawful) × NoInt96 sheet)
-  -- of any sheet, whatever else is wrong with it, it answers what 2 does, or 10 at the first INT96 leaf
-  pub answered : (sheet : List ℕ) → (judgement 3 sheet ≡ judgement 2 sheet) ⊎ ((k : ℕ) × (judgement 3 sheet ≡ Verdict.Refused (refusal 10 k)) × FirstInt96 sheet k)
+  pub first-alike : (n : Annotated) (under : Bool) → isGeospatial (n .logical) ≡ false → rule10 1 n under ≡ isPlaced n under
+  pub second-alike : (n : Annotated) (under : Bool) → isGeospatial (n .logical) ≡ false → rule10 2 n under ≡ isPlaced n under
+  -- opening asks no other rule
+  pub same-opening : (sheet : List ℕ) → NoGeospatial sheet → openOf 3 sheet ≡ openOf 2 sheet
+  -- of the sheets without GEOMETRY and GEOGRAPHY, edition 3 accepts exactly those that edition 2 accepts and that have no INT96 leaf; and edition 2 accepts no others
+  pub accepted : (sheet : List ℕ) → ((judgement 3 sheet ≡ Verdict.Lawful) × NoGeospatial sheet) ↔ ((judgement 2 sheet ≡ Verdict.Lawful) × NoInt96 sheet)
+  -- of any of them, whatever else is wrong with it, it answers what 2 does, or 10 at the first INT96 leaf
+  pub answered : (sheet : List ℕ) → NoGeospatial sheet → (judgement 3 sheet ≡ judgement 2 sheet) ⊎ ((k : ℕ) × (judgement 3 sheet ≡ Verdict.Refused (refusal 10 k)) × FirstInt96 sheet k)
   -- of those that 2 accepts, it refuses the others with 10 at the first INT96 leaf
   pub refused-alone : (sheet : List ℕ) (r : Refusal) → judgement 2 sheet ≡ Verdict.Lawful → judgement 3 sheet ≡ Verdict.Refused r → (r .number ≡ 10) × FirstInt96 sheet (r .place)
-  -- a sheet without one is judged alike, whatever else is wrong with it
-  pub same-judgement : (sheet : List ℕ) → NoInt96 sheet → judgementOf 3 sheet ≡ judgementOf 2 sheet
+  -- a sheet without either is judged alike, whatever else is wrong with it
+  pub same-judgement : (sheet : List ℕ) → NoInt96 sheet → NoGeospatial sheet → judgementOf 3 sheet ≡ judgementOf 2 sheet
   -- with the same rows, the same rewritten sheet and the same list: the same answer, and the same in what was lent
-  pub same-rows : (sheet lent : List ℕ) → NoInt96 sheet → (outcome 3 sheet (length lent) ≡ outcome 2 sheet (length lent)) × (written (outcome 3 sheet (length lent)) sheet lent ≡ written (outcome 2 sheet (length lent)) sheet lent)
-  pub same-rewritten : (sheet lent : List ℕ) (start : ℕ) → NoInt96 sheet → (rewriteOutcome 3 sheet (length lent) start ≡ rewriteOutcome 2 sheet (length lent) start) × (rewriteWritten (rewriteOutcome 3 sheet (length lent) start) sheet lent start ≡ rewriteWritten (rewriteOutcome 2 sheet (length lent) start) sheet lent start)
-  pub same-comparison : (first second lent : List ℕ) → NoInt96 first → NoInt96 second → (compareOutcome 3 first second (length lent) ≡ compareOutcome 2 first second (length lent)) × (output 3 first second lent ≡ output 2 first second lent)
-  -- a column type is lawful in 3 exactly where it is lawful in 2 and no INT96
-  pub lawful : (c : ColumnType) → (isLawful 3 c ≡ true) ↔ ((isLawful 2 c ≡ true) × (c .physical ≡ INT96 → ⊥))
+  pub same-rows : (sheet lent : List ℕ) → NoInt96 sheet → NoGeospatial sheet → (outcome 3 sheet (length lent) ≡ outcome 2 sheet (length lent)) × (written (outcome 3 sheet (length lent)) sheet lent ≡ written (outcome 2 sheet (length lent)) sheet lent)
+  pub same-rewritten : (sheet lent : List ℕ) (start : ℕ) → NoInt96 sheet → NoGeospatial sheet → (rewriteOutcome 3 sheet (length lent) start ≡ rewriteOutcome 2 sheet (length lent) start) × (rewriteWritten (rewriteOutcome 3 sheet (length lent) start) sheet lent start ≡ rewriteWritten (rewriteOutcome 2 sheet (length lent) start) sheet lent start)
+  pub same-comparison : (first second lent : List ℕ) → NoInt96 first → NoGeospatial first → NoInt96 second → NoGeospatial second → (compareOutcome 3 first second (length lent) ≡ compareOutcome 2 first second (length lent)) × (output 3 first second lent ≡ output 2 first second lent)
+  -- a column type of another kind than these is lawful in 3 exactly where it is lawful in 2 and no INT96
+  pub lawful : (c : ColumnType) → isGeospatial (c .kind) ≡ false → (isLawful 3 c ≡ true) ↔ ((isLawful 2 c ≡ true) × (c .physical ≡ INT96 → ⊥))
   -- any other is read and ordered alike
-  pub same-reading : (c : ColumnType) (bs : List ℕ) → (c .physical ≡ INT96 → ⊥) → read.outcome 3 c bs ≡ read.outcome 2 c bs
-  pub same-order : (c : ColumnType) (a b : List ℕ) → (c .physical ≡ INT96 → ⊥) → order.outcome 3 c a b ≡ order.outcome 2 c a b
+  pub same-reading : (c : ColumnType) (bs : List ℕ) → (c .physical ≡ INT96 → ⊥) → isGeospatial (c .kind) ≡ false → read.outcome 3 c bs ≡ read.outcome 2 c bs
+  pub same-order : (c : ColumnType) (a b : List ℕ) → (c .physical ≡ INT96 → ⊥) → isGeospatial (c .kind) ≡ false → order.outcome 3 c a b ≡ order.outcome 2 c a b
   -- one of INT96 is 20, before 17
   pub int96-type : (c : ColumnType) → c .physical ≡ INT96 → typeJudgement 3 c ≡ Verdict.Refused (refusal 20 0)
   pub int96-read : (c : ColumnType) (bs : List ℕ) → c .physical ≡ INT96 → read.outcome 3 c bs ≡ refused (refusal 20 0)
@@ -400,3 +432,105 @@ pub record Request10 : Type 1 where
   pub nine-first : outcome 3 (int96Sheet converted.UTF8 logical.UNKNOWN 0) (rowWidth * 2) ≡ Counted.Refused (refusal 9 1)
   pub eight-first : outcome 3 (int96Sheet converted.UTF8 logical.UNKNOWN 12) (rowWidth * 2) ≡ Counted.Refused (refusal 8 1)
   pub conversion : Conversion
+
+-- R-11. "Where the terminals stand" -----------------------------------------------------------------------------------------
+
+-- a column of GEOMETRY, and one of GEOGRAPHY with its edge rule, as their rows have them
+abbrev pub geometries : ColumnType
+geometries = record { physical = BYTE-ARRAY; «type_length» = 0; kind = 17; p1 = 0; p2 = 0 }
+
+abbrev pub geographies : ℕ → ColumnType
+geographies edge = record { physical = BYTE-ARRAY; «type_length» = 0; kind = 18; p1 = edge; p2 = 0 }
+
+-- the rows of a sheet of GEOGRAPHY(KARNEY)
+abbrev pub karneyRows : List ℕ
+karneyRows = (255 ∷ 0 ∷ 255 ∷ 30 ∷ 0 ∷ 0 ∷ 0 ∷ 2 ∷ 0 ∷ 0 ∷ 0 ∷ []) ++ (6 ∷ 0 ∷ 0 ∷ 18 ∷ 4 ∷ 0 ∷ 0 ∷ 2 ∷ 0 ∷ 0 ∷ 0 ∷ [])
+
+-- a counted coordinate of an axis that lies outside the degrees of GEOGRAPHY
+pub record Outside (coordinates : List Float) : Type 0 where
+  pub axis : ℕ
+  pub is-axis : (axis ≡ 0) ⊎ (axis ≡ 1)
+  pub value : Float
+  pub counted : CountedIn axis coordinates value
+  pub beyond : inRange axis value ≡ false
+
+-- "With it come boxes": `boxes::box_of` gives an answer that `Answers` allows, which `judgement` refuses or which is a box or none; `boxes::contains` answers what
+-- `membership` gives. No edition is asked
+pub record Boxes : Type 1 where
+  -- "compared as document 01 orders DOUBLE": `floatOrder`, which demand 2 has over the bits
+  pub at-most : (v w : Float) → (atMost v w ≡ true) ↔ ((floatOrder v w ≡ Less) ⊎ (floatOrder v w ≡ Equal))
+  pub above : (v w : Float) → (isAbove v w ≡ true) ↔ (floatOrder v w ≡ Greater)
+  -- "[-180, 180] or [-90, 90]"
+  pub x-range : (v : Float) → (inRange 0 v ≡ true) ↔ ((atMost (ofInt binary64 (negℤ (pos 180))) v ≡ true) × (atMost v (ofInt binary64 (pos 180)) ≡ true))
+  pub y-range : (v : Float) → (inRange 1 v ≡ true) ↔ ((atMost (ofInt binary64 (negℤ (pos 90))) v ≡ true) × (atMost v (ofInt binary64 (pos 90)) ≡ true))
+  -- points are two coordinates each, x and then y; "NaN coordinates are skipped", the other one of the point counts
+  pub counted : (coordinates : List Float) (axis : ℕ) (v : Float) → CountedIn axis coordinates v ↔ ((p : ℕ) × (2 * p + 1 < length coordinates) × (getD coordinates (2 * p + axis) nan ≡ v) × (v ≡ nan → ⊥))
+  -- "20, first, for a box of a kind not 17 or 18"
+  pub unknown-kind : (kind : ℕ) (coordinates : List Float) → (boxes.judgement kind coordinates ≡ Verdict.Refused (refusal 20 0)) ↔ ((kind ≡ 17 → ⊥) × (kind ≡ 18 → ⊥))
+  -- "15, before 16, for an odd run of coordinates"
+  pub odd-run : (kind : ℕ) (coordinates : List Float) → (boxes.judgement kind coordinates ≡ Verdict.Refused (refusal 15 0)) ↔ (((kind ≡ 17) ⊎ (kind ≡ 18)) × (length coordinates % 2 ≡ 1))
+  -- "16 .. for GEOGRAPHY", "the same range holds for its points, NaN aside"
+  pub out-of-range : (kind : ℕ) (coordinates : List Float) → (boxes.judgement kind coordinates ≡ Verdict.Refused (refusal 16 0)) ↔ ((kind ≡ 18) × (length coordinates % 2 ≡ 0) × Outside coordinates)
+  -- and nothing else is refused
+  pub refused-only : (kind : ℕ) (coordinates : List Float) (r : Refusal) → boxes.judgement kind coordinates ≡ Verdict.Refused r → (r .place ≡ 0) × ((r .number ≡ 20) ⊎ ((r .number ≡ 15) ⊎ (r .number ≡ 16)))
+  -- "no box results exactly if an axis has none"
+  pub none-or-box : (kind : ℕ) (coordinates : List Float) (a : Boxed) → Answers kind coordinates a → boxes.judgement kind coordinates ≡ Verdict.Lawful → (a ≡ Boxed.NoBox) ↔ (NoneCounted 0 coordinates ⊎ NoneCounted 1 coordinates)
+  -- "every counted coordinate lies from its axis's min to its max"
+  pub from-min-to-max : (kind : ℕ) (coordinates : List Float) (b : BoundingBox) (v : Float) → Answers kind coordinates (Boxed.Box b) → (CountedIn 0 coordinates v → (atMost (b .xmin) v ≡ true) × (atMost v (b .xmax) ≡ true)) × (CountedIn 1 coordinates v → (atMost (b .ymin) v ≡ true) × (atMost v (b .ymax) ≡ true))
+  -- "and each bound numerically equals a counted one of its axis"
+  pub each-met : (kind : ℕ) (coordinates : List Float) (b : BoundingBox) → Answers kind coordinates (Boxed.Box b) → Met 0 coordinates (b .xmin) × Met 0 coordinates (b .xmax) × Met 1 coordinates (b .ymin) × Met 1 coordinates (b .ymax)
+  -- two such boxes are numerically equal, there is one answer, and the box contains each of its points without NaN
+  pub promised : boxes-promised.Promises
+  -- "A test answers yes exactly if both a point's coordinates are inside"
+  pub answered : (kind : ℕ) (b : BoundingBox) (x y : Float) (inside : Bool) → (membership kind b x y ≡ given inside) ↔ (((kind ≡ 17) ⊎ (kind ≡ 18)) × (isBox kind b ≡ true) × (allowsPoint kind x y ≡ true) × ((insideX b x && insideY b y) ≡ inside))
+  -- "A received box may have xmin above xmax, and then x is inside if x >= xmin or x <= xmax"
+  pub around : (b : BoundingBox) (x : Float) → isAbove (b .xmin) (b .xmax) ≡ true → (insideX b x ≡ true) ↔ ((atMost (b .xmin) x ≡ true) ⊎ (atMost x (b .xmax) ≡ true))
+  -- "otherwise, and for y, if on or between the bounds"
+  pub between-x : (b : BoundingBox) (x : Float) → isAbove (b .xmin) (b .xmax) ≡ false → (insideX b x ≡ true) ↔ ((atMost (b .xmin) x ≡ true) × (atMost x (b .xmax) ≡ true))
+  pub between-y : (b : BoundingBox) (y : Float) → (insideY b y ≡ true) ↔ ((atMost (b .ymin) y ≡ true) × (atMost y (b .ymax) ≡ true))
+  -- a NaN is inside nothing
+  pub nan-x : (b : BoundingBox) → insideX b nan ≡ false
+  pub nan-y : (b : BoundingBox) → insideY b nan ≡ false
+  -- "16 for a box with a NaN, with ymin above ymax, or, for GEOGRAPHY, with any bound outside [-180, 180] or [-90, 90]"
+  pub geometry-box : (b : BoundingBox) → (isBox 17 b ≡ true) ↔ ((hasNan b ≡ false) × (isAbove (b .ymin) (b .ymax) ≡ false))
+  pub geography-box : (b : BoundingBox) → (isBox 18 b ≡ true) ↔ ((hasNan b ≡ false) × (isAbove (b .ymin) (b .ymax) ≡ false) × (inRange 0 (b .xmin) ≡ true) × (inRange 0 (b .xmax) ≡ true) × (inRange 1 (b .ymin) ≡ true) × (inRange 1 (b .ymax) ≡ true))
+  pub has-nan : (b : BoundingBox) → (hasNan b ≡ true) ↔ ((b .xmin ≡ nan) ⊎ ((b .xmax ≡ nan) ⊎ ((b .ymin ≡ nan) ⊎ (b .ymax ≡ nan))))
+  -- "the same range holds for its points, NaN aside"
+  pub geometry-point : (x y : Float) → allowsPoint 17 x y ≡ true
+  pub geography-point : (x y : Float) → (allowsPoint 18 x y ≡ true) ↔ (((x ≡ nan) ⊎ (inRange 0 x ≡ true)) × ((y ≡ nan) ⊎ (inRange 1 y ≡ true)))
+
+pub record Request11 : Type 1 where
+  -- "In editions 1 and 2 these codes stay 4": the list of logical codes has them from edition 3 on, and never 15 and 16
+  pub listed : (code : ℕ) → (logicalListed 3 code ≡ true) ↔ ((logicalListed 2 code ≡ true) ⊎ ((code ≡ 17) ⊎ (code ≡ 18)))
+  pub same-list : (code : ℕ) → logicalListed 2 code ≡ logicalListed 1 code
+  pub not-listed : (code : ℕ) → isGeospatial code ≡ true → logicalListed 2 code ≡ false
+  pub never-listed : (edition : ℕ) → (logicalListed edition 15 ≡ false) × (logicalListed edition 16 ≡ false)
+  -- "GEOMETRY (logical 17) and GEOGRAPHY (18) on BYTE_ARRAY, from edition 3. Parameter a is 0 for GEOMETRY, and for GEOGRAPHY the edge rule: SPHERICAL 0, .. KARNEY 4"
+  pub geometry : (n : Annotated) (under : Bool) → n .logical ≡ 17 → (rule10 3 n under ≡ true) ↔ ((n .physical ≡ BYTE-ARRAY) × (n .a ≡ 0) × (n .b ≡ 0))
+  pub geography : (n : Annotated) (under : Bool) → n .logical ≡ 18 → (rule10 3 n under ≡ true) ↔ ((n .physical ≡ BYTE-ARRAY) × (n .a ≤ 4) × (n .b ≡ 0))
+  -- "There is no converted form"
+  pub no-converted : (n : Annotated) → isGeospatial (n .logical) ≡ true → (nine.rule9 n ≡ true) ↔ (n .converted ≡ 255)
+  -- the kind is the code, and p1 the edge rule; they are rewritten as they stand, with no converted type
+  pub kinds : (n : Annotated) (under : Bool) → isGeospatial (n .logical) ≡ true → rule10 3 n under ≡ true → kindOf n under ≡ record { kind = n .logical; p1 = n .a; p2 = 0 }
+  pub rewritten : (n : Annotated) (under : Bool) → isGeospatial (n .logical) ≡ true → rule10 3 n under ≡ true → writtenOf n under ≡ record { converted = 255; logical = n .logical; a = n .a; b = 0 }
+  -- before it they break rule 10, where no sheet was opened
+  pub early : (n : Annotated) (under : Bool) → isGeospatial (n .logical) ≡ true → (rule10 1 n under ≡ false) × (rule10 2 n under ≡ false)
+  -- of any sheet, whatever else is wrong with it: edition 3 answers what 2 does, or 10 at the first INT96 leaf, or 2 answers 4 at the first GEOMETRY or GEOGRAPHY
+  pub answered : (sheet : List ℕ) → (judgement 3 sheet ≡ judgement 2 sheet) ⊎ (((k : ℕ) × (judgement 3 sheet ≡ Verdict.Refused (refusal 10 k)) × FirstInt96 sheet k) ⊎ ((k : ℕ) × (judgement 2 sheet ≡ Verdict.Refused (refusal 4 k)) × FirstGeospatial sheet k))
+  -- the column types of these kinds that are lawful are these, in edition 3 alone; before it they are 20, and those of kinds 15 and 16 in every edition
+  pub geometry-type : (c : ColumnType) → c .kind ≡ 17 → (isLawful 3 c ≡ true) ↔ (c ≡ geometries)
+  pub geography-type : (c : ColumnType) → c .kind ≡ 18 → (isLawful 3 c ≡ true) ↔ ((edge : ℕ) × (edge ≤ 4) × (c ≡ geographies edge))
+  pub never-type : (edition : ℕ) (c : ColumnType) → (c .kind ≡ 15) ⊎ (c .kind ≡ 16) → isLawful edition c ≡ false
+  pub early-type : (c : ColumnType) → isGeospatial (c .kind) ≡ true → (typeJudgement 1 c ≡ Verdict.Refused (refusal 20 0)) × (typeJudgement 2 c ≡ Verdict.Refused (refusal 20 0))
+  -- any bytes are a value, up to document 01's length
+  pub any-value : (c : ColumnType) (bs : List ℕ) → isGeospatial (c .kind) ≡ true → isLawful 3 c ≡ true → length bs ≤ 65536 → read.outcome 3 c bs ≡ given (value.Bytes 0 (length bs))
+  -- "17 for order"
+  pub no-order : (c : ColumnType) (a b : List ℕ) → isGeospatial (c .kind) ≡ true → isLawful 3 c ≡ true → order.outcome 3 c a b ≡ sided.refused (fault 0 (refusal 17 0))
+  -- sheets of one such leaf: GEOGRAPHY(KARNEY), an edge rule that is none, a converted type beside it, code 15; and in edition 2
+  pub karney : written (outcome 3 (geospatialSheet 255 18 4) (rowWidth * 2)) (geospatialSheet 255 18 4) (replicate (rowWidth * 2) 0) ≡ karneyRows
+  pub edge-5 : outcome 3 (geospatialSheet 255 18 5) (rowWidth * 2) ≡ Counted.Refused (refusal 10 1)
+  pub geometry-edge : outcome 3 (geospatialSheet 255 17 1) (rowWidth * 2) ≡ Counted.Refused (refusal 10 1)
+  pub utf8-beside : outcome 3 (geospatialSheet 0 17 0) (rowWidth * 2) ≡ Counted.Refused (refusal 9 1)
+  pub code-15 : outcome 3 (geospatialSheet 255 15 0) (rowWidth * 2) ≡ Counted.Refused (refusal 4 1)
+  pub before : outcome 2 (geospatialSheet 255 18 4) (rowWidth * 2) ≡ Counted.Refused (refusal 4 1)
+  pub boxes : Boxes

@@ -22,6 +22,10 @@ leafSheet ph conv log a b len sc pr =
 abbrev pub int96Sheet : ℕ → ℕ → ℕ → List ℕ
 int96Sheet conv log len = leafSheet physical.INT96 conv log UNUSED UNUSED len 0 0
 
+-- one of BYTE_ARRAY with a converted and a logical type and parameter a
+abbrev pub geospatialSheet : ℕ → ℕ → ℕ → List ℕ
+geospatialSheet conv log a = leafSheet physical.BYTE-ARRAY conv log a UNUSED 0 0 0
+
 -- "Root `r`; required LIST `parts`; repeated `list`", and the slot of the layer's one field
 abbrev pub listSheet : List ℕ → List ℕ
 listSheet one =

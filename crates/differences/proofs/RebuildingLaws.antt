@@ -105,7 +105,7 @@ module _ (edition : ℕ) (sheet : List ℕ) (lawful : judgement edition sheet �
   slots-whole k h =
       let below : k < totalOf sheet = omega (arith, slots-length sheet) in
       let sound = openOf-sound edition sheet (opened .0) (opened .1) k (omega (arith, openOf-total edition sheet (opened .0) (opened .1))) in
-      rw (slots-at sheet k emptySlot below) (record { long = slotAt-length sheet k; reserved = sound-reserved (slotAt sheet k) sound })
+      rw (slots-at sheet k emptySlot below) (record { long = slotAt-length sheet k; reserved = sound-reserved edition (slotAt sheet k) sound })
 
   -- and is one of which the list tells all
   pub tree-listed : Listed (treeOf (slots sheet))

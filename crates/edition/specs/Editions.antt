@@ -26,3 +26,7 @@ scaleMayEqual edition = leb SECOND edition
 -- is INT96 retired, so that no leaf may have it?
 unfoldable pub int96Retired : ℕ → Bool
 int96Retired edition = leb THIRD edition
+
+-- are GEOMETRY and GEOGRAPHY in the list of logical types? "from edition 3" (document 02, R-11)
+unfoldable pub hasGeospatial : ℕ → Bool
+hasGeospatial edition = leb THIRD edition

@@ -1,6 +1,6 @@
 // What an edition decides. Each question is answered for every number, known or not.
 ghost use mathlib.Core.Path.{_≡_};
-ghost use Rattle.edition.specs.Editions.{isKnown, scaleMayEqual, int96Retired};
+ghost use Rattle.edition.specs.Editions.{isKnown, scaleMayEqual, int96Retired, hasGeospatial};
 
 // The edition of a caller that names none.
 pub const FIRST: u32 = 1;
@@ -28,4 +28,11 @@ pub fn int96_retired(edition: u32) -> bool
     ensures { λ r. ⌜ r ≡ int96Retired edition ⌝ }
 {
     THIRD <= edition
+}
+
+// Whether GEOMETRY and GEOGRAPHY are among the logical types.
+pub fn has_geospatial(edition: u32) -> bool
+    ensures { λ r. ⌜ r ≡ hasGeospatial edition ⌝ }
+{
+    edition >= THIRD
 }

@@ -127,11 +127,11 @@ fin-alike m n u v l e d L p q =
     (mul-right-comm (n * up d) (down e) l ∙ ap (λ (x : ℕ). x * down e) q ∙ mul-assoc v (down d) (down e) ∙ ap (λ (x : ℕ). v * x) (mul-comm (down d) (down e)))
 
 -- what two tests of floats find, as signed magnitudes find it
-record Compares (x y : Float) (s : Bool) (a : ℕ) (t : Bool) (b : ℕ) : Type 0 where
-  less : lt x y ≡ below s a t b
-  same : eq x y ≡ level s a t b
+pub record Compares (x y : Float) (s : Bool) (a : ℕ) (t : Bool) (b : ℕ) : Type 0 where
+  pub less : lt x y ≡ below s a t b
+  pub same : eq x y ≡ level s a t b
 
-finite-finite : (x y : Float) (s t : Bool) (u v l : ℕ) → 0 < l → HasValue x s u l → HasValue y t v l → Compares x y s u t v
+pub finite-finite : (x y : Float) (s t : Bool) (u v l : ℕ) → 0 < l → HasValue x s u l → HasValue y t v l → Compares x y s u t v
 unfolding lt eq
 finite-finite nan y s t u v l L p q = absurd p
 finite-finite (inf z) y s t u v l L p q = absurd p
@@ -223,19 +223,19 @@ inf-inf-level s r i h =
     or-false true = refl
     or-false false = refl
 
-inf-finite : (y : Float) (s r : Bool) (i n v l : ℕ) → n < i → HasValue y r v l → Compares (inf s) y s i r n
+pub inf-finite : (y : Float) (s r : Bool) (i n v l : ℕ) → n < i → HasValue y r v l → Compares (inf s) y s i r n
 unfolding lt eq
 inf-finite nan s r i n v l h q = absurd q
 inf-finite (inf w) s r i n v l h q = absurd q
 inf-finite (fin w m d) s r i n v l h q = record { less = sym (inf-below s r i n h); same = sym (inf-level s r i n h) }
 
-finite-inf : (x : Float) (s r : Bool) (i n v l : ℕ) → n < i → HasValue x r v l → Compares x (inf s) r n s i
+pub finite-inf : (x : Float) (s r : Bool) (i n v l : ℕ) → n < i → HasValue x r v l → Compares x (inf s) r n s i
 unfolding lt eq
 finite-inf nan s r i n v l h q = absurd q
 finite-inf (inf w) s r i n v l h q = absurd q
 finite-inf (fin w m d) s r i n v l h q = record { less = sym (below-inf s r i n h); same = sym (level-inf s r i n h) }
 
-inf-inf : (s r : Bool) (i : ℕ) → 0 < i → Compares (inf s) (inf r) s i r i
+pub inf-inf : (s r : Bool) (i : ℕ) → 0 < i → Compares (inf s) (inf r) s i r i
 unfolding lt eq
 inf-inf s r i h = record { less = sym (inf-inf-below s r i h); same = sym (inf-inf-level s r i h) }
 

@@ -1,2 +1,3 @@
 -- Laws of the order of floats.
 pub mod FloatLaws
+pub mod OrderLaws

@@ -9,7 +9,9 @@ ghost use Rattle.c_sheets.specs.Comparison.{comparedAnswer};
 ghost use Rattle.c_values.specs.Values.{columnType, reading, ordering};
 ghost use Rattle.c_timestamps.specs.Timestamps.{Decoding, encoding};
 ghost use Rattle.c_timestamps.specs.Int96.{fromInt96};
+ghost use Rattle.c_boxes.specs.Boxes.{boundingBox, Boxing, testAnswer};
 ghost use Rattle.int96.specs.Outcomes as int96;
+ghost use Rattle.boxes.specs.Membership.{membership};
 
 // Resolves a sheet into rows. The value is T, the number of its nodes.
 #[no_mangle]
@@ -119,4 +121,29 @@ pub extern "C" fn griffeljol_to_int96(count: i64, value: &mut [u8]) -> u64
     ensures { λ _. ⌜ now (value .exit) ≡ int96.encoded count (now (value .entry)) ⌝ }
 {
     c_timestamps::to_int96(count, value)
+}
+
+// Writes the box of points, whose coordinates stand in turn: x, y, x, y. A NaN does not count. Four numbers are written: xmin, xmax, ymin,
+// ymax. The value is 4, or 0 where there is no box.
+#[no_mangle]
+pub extern "C" fn griffeljol_box(kind: u32, coordinates: &[f64], bounds: &mut [f64]) -> u64
+    ensures { λ r. ⌜ Boxing kind (now (coordinates .entry)) (now (bounds .entry)) r (now (bounds .exit)) ⌝ }
+{
+    c_boxes::box_of(kind, coordinates, bounds)
+}
+
+// Tests whether a point is inside a box, which may go round in x. The value is 1 where it is, and 0 where it is not.
+#[no_mangle]
+pub extern "C" fn griffeljol_inside(
+    kind: u32,
+    xmin: f64,
+    xmax: f64,
+    ymin: f64,
+    ymax: f64,
+    x: f64,
+    y: f64,
+) -> u64
+    ensures { λ r. ⌜ r ≡ testAnswer (membership kind (boundingBox xmin xmax ymin ymax) x y) ⌝ }
+{
+    c_boxes::inside(kind, xmin, xmax, ymin, ymax, x, y)
 }

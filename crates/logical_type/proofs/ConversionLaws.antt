@@ -32,6 +32,8 @@ adjusted LogicalType.Unknown = LogicalType.Unknown
 adjusted LogicalType.Json = LogicalType.Json
 adjusted LogicalType.Bson = LogicalType.Bson
 adjusted LogicalType.Uuid = LogicalType.Uuid
+adjusted LogicalType.Geometry = LogicalType.Geometry
+adjusted (LogicalType.Geography edge) = LogicalType.Geography edge
 
 -- backward after forward is the type again, but that the UTC flag comes back true
 pub backward-forward : (l : LogicalType) (underMap : Bool) → (forwardOf l ≡ converted.NONE → ⊥) → backwardOf (forwardOf l) underMap ≡ Annotation.Logical (adjusted l)
@@ -60,6 +62,8 @@ backward-forward LogicalType.Unknown underMap h = absurd (h refl)
 backward-forward LogicalType.Json underMap h = refl
 backward-forward LogicalType.Bson underMap h = refl
 backward-forward LogicalType.Uuid underMap h = absurd (h refl)
+backward-forward LogicalType.Geometry underMap h = absurd (h refl)
+backward-forward (LogicalType.Geography edge) underMap h = absurd (h refl)
 
 -- a converted code is MAP_KEY_VALUE, or comes back from its backward reading
 comesBack : Bool → ℕ → Bool
@@ -106,6 +110,8 @@ code-adjusted LogicalType.Unknown = refl
 code-adjusted LogicalType.Json = refl
 code-adjusted LogicalType.Bson = refl
 code-adjusted LogicalType.Uuid = refl
+code-adjusted LogicalType.Geometry = refl
+code-adjusted (LogicalType.Geography edge) = refl
 
 -- only DECIMAL has the image DECIMAL
 pub forward-decimal : (l : LogicalType) → forwardOf l ≡ converted.DECIMAL → codeOf l ≡ logical.DECIMAL

@@ -8,10 +8,11 @@ use native.Mathlib.Omega.{arith}
 use lib.Dec.{eqb}
 use borrow.Author.Tests.{eqb-true}
 use Rattle.logical_type.specs.Table.{lookup}
-use Rattle.logical_type.specs.Parameters.{UNUSED, unitCode, bitWidthCode, flagCode, validUnit, validBitWidth, validFlag, unitOf, bitWidthOf, flagOf, validParameters}
+use Rattle.logical_type.specs.Parameters.{UNUSED, unitCode, bitWidthCode, edgeCode, flagCode, validUnit, validBitWidth, validEdge, validFlag, unitOf, bitWidthOf, edgeOf, flagOf, validParameters}
 use Rattle.logical_type.specs.Spelling.{codeOf, aOf, bOf, logicalTable, namedOf, statedOf}
 use Rattle.logical_type.specs.declared.types.TimeUnit.{TimeUnit}
 use Rattle.logical_type.specs.declared.types.BitWidth.{BitWidth}
+use Rattle.logical_type.specs.declared.types.EdgeRule.{EdgeRule}
 use Rattle.logical_type.specs.declared.types.LogicalType.{LogicalType}
 use Rattle.logical_type.specs.declared.types.Annotation.{Annotation}
 
@@ -27,6 +28,13 @@ bit-width-byte BitWidth.Bits8 = omega arith
 bit-width-byte BitWidth.Bits16 = omega arith
 bit-width-byte BitWidth.Bits32 = omega arith
 bit-width-byte BitWidth.Bits64 = omega arith
+
+edge-byte : (edge : EdgeRule) → edgeCode edge < 2 ^ 8
+edge-byte EdgeRule.Spherical = omega arith
+edge-byte EdgeRule.Vincenty = omega arith
+edge-byte EdgeRule.Thomas = omega arith
+edge-byte EdgeRule.Andoyer = omega arith
+edge-byte EdgeRule.Karney = omega arith
 
 flag-byte : (flag : Bool) → flagCode flag < 2 ^ 8
 flag-byte true = omega arith
@@ -46,6 +54,8 @@ spelled-bytes LogicalType.Unknown = omega arith
 spelled-bytes LogicalType.Json = omega arith
 spelled-bytes LogicalType.Bson = omega arith
 spelled-bytes LogicalType.Uuid = omega arith
+spelled-bytes LogicalType.Geometry = omega arith
+spelled-bytes (LogicalType.Geography edge) = (omega arith, edge-byte edge, omega arith)
 
 -- a valid code is spelled as it was read
 
@@ -69,6 +79,19 @@ bit-width-spelled a e = cases (eqb a (bitWidthCode BitWidth.Bits8)) (eqb a (bitW
     cases false false true t w x y z v = sym (eqb-true a _ y)
     cases false false false true w x y z v = sym (eqb-true a _ z)
     cases false false false false w x y z v = absurd (true≢false (sym v))
+
+edge-spelled : (a : ℕ) → validEdge a ≡ true → edgeCode (edgeOf a) ≡ a
+unfolding edgeOf
+edge-spelled a e =
+    cases (eqb a (edgeCode EdgeRule.Spherical)) (eqb a (edgeCode EdgeRule.Vincenty)) (eqb a (edgeCode EdgeRule.Thomas)) (eqb a (edgeCode EdgeRule.Andoyer)) (eqb a (edgeCode EdgeRule.Karney)) refl refl refl refl refl e
+  where
+    cases : (p q r t u : Bool) → eqb a (edgeCode EdgeRule.Spherical) ≡ p → eqb a (edgeCode EdgeRule.Vincenty) ≡ q → eqb a (edgeCode EdgeRule.Thomas) ≡ r → eqb a (edgeCode EdgeRule.Andoyer) ≡ t → eqb a (edgeCode EdgeRule.Karney) ≡ u → p || q || r || t || u ≡ true → edgeCode (cond p EdgeRule.Spherical (cond q EdgeRule.Vincenty (cond r EdgeRule.Thomas (cond t EdgeRule.Andoyer EdgeRule.Karney)))) ≡ a
+    cases true q r t u v w x y z o = sym (eqb-true a _ v)
+    cases false true r t u v w x y z o = sym (eqb-true a _ w)
+    cases false false true t u v w x y z o = sym (eqb-true a _ x)
+    cases false false false true u v w x y z o = sym (eqb-true a _ y)
+    cases false false false false true v w x y z o = sym (eqb-true a _ z)
+    cases false false false false false v w x y z o = absurd (true≢false (sym o))
 
 flag-spelled : (b : ℕ) → validFlag b ≡ true → flagCode (flagOf b) ≡ b
 flag-spelled b e = cases (eqb b (flagCode false)) (eqb b (flagCode true)) refl refl e
@@ -100,6 +123,11 @@ width-flag-spelled a b e =
     let both = and-eq-true-iff (validBitWidth a) (validFlag b) .0 e in
     (bit-width-spelled a (both .0), flag-spelled b (both .1))
 
+pub edge-unused-spelled : (a b : ℕ) → validEdge a && eqb b UNUSED ≡ true → (edgeCode (edgeOf a) ≡ a) × (UNUSED ≡ b)
+edge-unused-spelled a b e =
+    let both = and-eq-true-iff (validEdge a) (eqb b UNUSED) .0 e in
+    (edge-spelled a (both .0), sym (eqb-true b UNUSED (both .1)))
+
 -- R, given that P holds of every entry of a table
 abbrev Given : {A : Type 0} → (ℕ → A → Type 0) → List (ℕ × A) → Type 0 → Type 0
 Given P [] R = R
@@ -122,6 +150,7 @@ named-spelled code a b e =
     let bare = unused-spelled a b in
     let timed = unit-flag-spelled a b in
     let sized = width-flag-spelled a b in
+    let edged = edge-unused-spelled a b in
     lookup-each (λ c says. validParameters c a b ≡ true → Spells says c a b) code Annotation.Unreadable (λ v. tt) (logicalTable a b) (Spells (namedOf code a b) code a b) (λ spelled. spelled e)
     (λ v. (refl, bare v .0, bare v .1))
     (λ v. (refl, bare v .0, bare v .1))
@@ -136,6 +165,8 @@ named-spelled code a b e =
     (λ v. (refl, bare v .0, bare v .1))
     (λ v. (refl, bare v .0, bare v .1))
     (λ v. (refl, bare v .0, bare v .1))
+    (λ v. (refl, bare v .0, bare v .1))
+    (λ v. (refl, edged v .0, edged v .1))
 
 -- what a code and parameters say is a logical type that spells them, or cannot be read
 pub spelled-stated : (code a b : ℕ) → Spells (statedOf code a b) code a b

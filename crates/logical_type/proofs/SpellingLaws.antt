@@ -2,10 +2,11 @@
 -- Assumes nothing.
 use mathlib.Core.Path.{_≡_, refl}
 use mathlib.Core.Bool.{Bool, true, false}
-use Rattle.logical_type.specs.Parameters.{unitOf, bitWidthOf, flagOf, unitCode, bitWidthCode, flagCode, validUnit, validBitWidth, validFlag, validParameters}
+use Rattle.logical_type.specs.Parameters.{unitOf, bitWidthOf, edgeOf, flagOf, unitCode, bitWidthCode, edgeCode, flagCode, validUnit, validBitWidth, validEdge, validFlag, validParameters}
 use Rattle.logical_type.specs.Spelling.{codeOf, aOf, bOf, namedOf, statedOf}
 use Rattle.logical_type.specs.declared.types.TimeUnit.{TimeUnit}
 use Rattle.logical_type.specs.declared.types.BitWidth.{BitWidth}
+use Rattle.logical_type.specs.declared.types.EdgeRule.{EdgeRule}
 use Rattle.logical_type.specs.declared.types.LogicalType.{LogicalType}
 use Rattle.logical_type.specs.declared.types.Annotation.{Annotation}
 
@@ -24,6 +25,14 @@ bit-width-read BitWidth.Bits16 = refl
 bit-width-read BitWidth.Bits32 = refl
 bit-width-read BitWidth.Bits64 = refl
 
+edge-read : (edge : EdgeRule) → edgeOf (edgeCode edge) ≡ edge
+unfolding edgeOf
+edge-read EdgeRule.Spherical = refl
+edge-read EdgeRule.Vincenty = refl
+edge-read EdgeRule.Thomas = refl
+edge-read EdgeRule.Andoyer = refl
+edge-read EdgeRule.Karney = refl
+
 flag-read : (flag : Bool) → flagOf (flagCode flag) ≡ flag
 flag-read true = refl
 flag-read false = refl
@@ -40,6 +49,13 @@ bit-width-valid BitWidth.Bits8 = refl
 bit-width-valid BitWidth.Bits16 = refl
 bit-width-valid BitWidth.Bits32 = refl
 bit-width-valid BitWidth.Bits64 = refl
+
+edge-valid : (edge : EdgeRule) → validEdge (edgeCode edge) ≡ true
+edge-valid EdgeRule.Spherical = refl
+edge-valid EdgeRule.Vincenty = refl
+edge-valid EdgeRule.Thomas = refl
+edge-valid EdgeRule.Andoyer = refl
+edge-valid EdgeRule.Karney = refl
 
 flag-valid : (flag : Bool) → validFlag (flagCode flag) ≡ true
 flag-valid true = refl
@@ -62,3 +78,5 @@ stated-spelled LogicalType.Unknown = refl
 stated-spelled LogicalType.Json = refl
 stated-spelled LogicalType.Bson = refl
 stated-spelled LogicalType.Uuid = refl
+stated-spelled LogicalType.Geometry = refl
+stated-spelled (LogicalType.Geography edge) = rw (edge-valid edge, edge-read edge)

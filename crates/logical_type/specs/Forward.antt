@@ -26,7 +26,7 @@ forwardTimestamp TimeUnit.Millis = converted.TIMESTAMP-MILLIS
 forwardTimestamp TimeUnit.Micros = converted.TIMESTAMP-MICROS
 forwardTimestamp TimeUnit.Nanos = converted.NONE
 
--- "STRING-UTF8, same names otherwise, INTEGER by width and sign, TIME and TIMESTAMP by unit MILLIS or MICROS whatever the UTC flag. NANOS, UNKNOWN, UUID .. have no image" (01, rule 9)
+-- "STRING-UTF8, same names otherwise, INTEGER by width and sign, TIME and TIMESTAMP by unit MILLIS or MICROS whatever the UTC flag. NANOS, UNKNOWN, UUID .. have no image" (01, rule 9); of GEOMETRY and GEOGRAPHY "there is no converted form" (02, R-11)
 abbrev pub forwardOf : LogicalType → ℕ
 forwardOf LogicalType.String = converted.UTF8
 forwardOf LogicalType.Map = converted.MAP
@@ -41,6 +41,8 @@ forwardOf LogicalType.Unknown = converted.NONE
 forwardOf LogicalType.Json = converted.JSON
 forwardOf LogicalType.Bson = converted.BSON
 forwardOf LogicalType.Uuid = converted.NONE
+forwardOf LogicalType.Geometry = converted.NONE
+forwardOf (LogicalType.Geography edge) = converted.NONE
 
 -- the forward image of what the numbers logical, a and b say: "invalid parameters have no image" (01, rule 9)
 abbrev pub imageOf : Annotation → ℕ

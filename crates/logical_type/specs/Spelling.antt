@@ -4,8 +4,8 @@ use mathlib.Core.Bool.{cond}
 use mathlib.Core.List.{List, [], _∷_}
 use Rattle.logical_type.specs.Table.{lookup}
 use Rattle.parquet.specs.Logical as logical
-use Rattle.logical_type.specs.Parameters.{UNUSED, unitCode, bitWidthCode, flagCode, unitOf, bitWidthOf, flagOf, validParameters}
--- `LogicalType` is Time or Timestamp, with a `TimeUnit` and whether it is adjusted to UTC; Integer, with a `BitWidth` and whether it is signed; or String, Map, List, Enum, Decimal, Date, Unknown, Json, Bson or Uuid, which hold nothing
+use Rattle.logical_type.specs.Parameters.{UNUSED, unitCode, bitWidthCode, edgeCode, flagCode, unitOf, bitWidthOf, edgeOf, flagOf, validParameters}
+-- `LogicalType` is Time or Timestamp, with a `TimeUnit` and whether it is adjusted to UTC; Integer, with a `BitWidth` and whether it is signed; Geography, with an `EdgeRule`; or String, Map, List, Enum, Decimal, Date, Unknown, Json, Bson, Uuid or Geometry, which hold nothing
 use Rattle.logical_type.specs.declared.types.LogicalType.{LogicalType}
 -- `Annotation` is Plain, no annotation; Logical, with a `LogicalType`; Interval, which no logical type is; or Unreadable, a code outside the lists or parameters that its type does not take
 use Rattle.logical_type.specs.declared.types.Annotation.{Annotation}
@@ -16,7 +16,7 @@ use Rattle.logical_type.specs.declared.types.Spelling.{Spelling}
 abbrev pub bareSpelling : ℕ → Spelling
 bareSpelling code = record { logical = code; a = UNUSED; b = UNUSED }
 
--- the numbers that spell a logical type: its code, parameter a (a bit width or a unit) and parameter b (the sign or the UTC flag)
+-- the numbers that spell a logical type: its code, parameter a (a bit width, a unit or an edge rule) and parameter b (the sign or the UTC flag)
 abbrev pub spellingOf : LogicalType → Spelling
 spellingOf LogicalType.String = bareSpelling logical.STRING
 spellingOf LogicalType.Map = bareSpelling logical.MAP
@@ -31,6 +31,8 @@ spellingOf LogicalType.Unknown = bareSpelling logical.UNKNOWN
 spellingOf LogicalType.Json = bareSpelling logical.JSON
 spellingOf LogicalType.Bson = bareSpelling logical.BSON
 spellingOf LogicalType.Uuid = bareSpelling logical.UUID
+spellingOf LogicalType.Geometry = bareSpelling logical.GEOMETRY
+spellingOf (LogicalType.Geography edge) = record { logical = logical.GEOGRAPHY; a = edgeCode edge; b = UNUSED }
 
 -- the code of a logical type
 abbrev pub codeOf : LogicalType → ℕ
@@ -60,6 +62,8 @@ logicalTable a b =
     ∷ (logical.JSON, Annotation.Logical LogicalType.Json)
     ∷ (logical.BSON, Annotation.Logical LogicalType.Bson)
     ∷ (logical.UUID, Annotation.Logical LogicalType.Uuid)
+    ∷ (logical.GEOMETRY, Annotation.Logical LogicalType.Geometry)
+    ∷ (logical.GEOGRAPHY, Annotation.Logical (LogicalType.Geography (edgeOf a)))
     ∷ []
 
 -- the logical type of a code, with parameters as they stand; a code outside the list is unreadable

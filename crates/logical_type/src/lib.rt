@@ -4,6 +4,7 @@ mod types; // logical types with their parameters
 
 pub use types::Annotation;
 pub use types::BitWidth;
+pub use types::EdgeRule;
 pub use types::LogicalType;
 pub use types::Spelling;
 pub use types::TimeUnit;

@@ -15,6 +15,17 @@ pub const MICROS: u8 = 2;
 
 pub const NANOS: u8 = 3;
 
+// Parameter a of GEOGRAPHY.
+pub const SPHERICAL: u8 = 0;
+
+pub const VINCENTY: u8 = 1;
+
+pub const THOMAS: u8 = 2;
+
+pub const ANDOYER: u8 = 3;
+
+pub const KARNEY: u8 = 4;
+
 // Parameter b of INTEGER, TIME and TIMESTAMP.
 pub const FALSE: u8 = 0;
 

@@ -14,6 +14,15 @@ pub enum BitWidth {
     Bits64,
 }
 
+// How the edges between a GEOGRAPHY's points run.
+pub enum EdgeRule {
+    Spherical,
+    Vincenty,
+    Thomas,
+    Andoyer,
+    Karney,
+}
+
 pub enum LogicalType {
     String,
     Map,
@@ -37,6 +46,10 @@ pub enum LogicalType {
     Json,
     Bson,
     Uuid,
+    Geometry,
+    Geography {
+        edge_rule: EdgeRule,
+    },
 }
 
 // The numbers of a slot that spell its logical type.

@@ -1,5 +1,7 @@
 -- Codes of the logical types ("3 logical (1-8, 10-14, none 0)", by name under "Logical").
 use Prim.Native.Nat.{ℕ}
+use mathlib.Core.Bool.{Bool, _||_}
+use lib.Dec.{eqb}
 
 abbrev pub STRING : ℕ
 STRING = 1
@@ -39,6 +41,16 @@ BSON = 13
 
 abbrev pub UUID : ℕ
 UUID = 14
+
+-- "GEOMETRY (logical 17) and GEOGRAPHY (18) .., from edition 3" (document 02, R-11)
+abbrev pub GEOMETRY : ℕ
+GEOMETRY = 17
+
+abbrev pub GEOGRAPHY : ℕ
+GEOGRAPHY = 18
+
+abbrev pub isGeospatial : ℕ → Bool
+isGeospatial code = eqb code GEOMETRY || eqb code GEOGRAPHY
 
 -- no logical type stands
 abbrev pub NONE : ℕ

@@ -25,5 +25,9 @@ pub const BSON: u8 = 13;
 
 pub const UUID: u8 = 14;
 
+pub const GEOMETRY: u8 = 17;
+
+pub const GEOGRAPHY: u8 = 18;
+
 // No logical type stands.
 pub const NONE: u8 = 0;

@@ -1,16 +1,17 @@
--- Sheets in the editions: what the first or the third accepts the second accepts; what the second accepts and the first refuses, it refuses with 11 at the first
--- DECIMAL whose scale equals its precision. Of any sheet the third answers what the second does, or 10 at the first INT96.
+-- Sheets in the editions: what the first accepts the second accepts; what the second accepts and the first refuses, it refuses with 11 at the first DECIMAL whose
+-- scale equals its precision. Of any sheet the third answers what the second does, or 10 at the first INT96, or the second refuses it with 4 at the first GEOMETRY
+-- or GEOGRAPHY.
 use Prim.Native.Nat.{ℕ, zero, suc, _+_, _*_, _<_}
 use mathlib.Core.Path.{_≡_, refl, sym, ap, _∙_}
 use mathlib.Core.Bool.{true, false, true≢false}
-use mathlib.Core.Logic.{_⊎_, inl, inr, ⊎-elim}
+use mathlib.Core.Logic.{_⊎_, inl, inr}
 use mathlib.Core.List.{List, [], map}
 use native.Mathlib.Omega.{arith}
 use lib.ListN.{length, getD, drop}
 use lib.Seq.{drop-drop}
-use Rattle.edition.specs.Editions.{FIRST, SECOND, THIRD, isKnown}
+use Rattle.edition.specs.Editions.{FIRST, SECOND, THIRD}
 use Rattle.edition.proofs.EditionLaws.{first, second, known-of}
-use Rattle.refusal.specs.Numbers.{MISPLACED, BAD-DECIMAL}
+use Rattle.refusal.specs.Numbers.{SLOT, MISPLACED, BAD-DECIMAL}
 use Rattle.refusal.specs.Outcome.{refusal}
 use Rattle.refusal.specs.declared.answers.Refusal.{Refusal}
 use Rattle.refusal.specs.declared.answers.Verdict.{Verdict}
@@ -18,18 +19,17 @@ use Rattle.annotation.specs.declared.resolution.Kind.{Kind}
 use Rattle.annotation.proofs.EditionLaws.{isEqual}
 use Rattle.sheet.specs.Block.{totalOf}
 use Rattle.sheet.specs.Slot.{slotAt, slots}
-use Rattle.sheet.proofs.OpeningLaws.{openOf-known, openOf-blocks, openOf-slots}
+use Rattle.sheet.proofs.OpeningLaws.{openOf-known, openOf-blocks, openOf-slots, openOf-total, openOf-sound}
+use Rattle.sheet.proofs.EditionLaws.{slots-second, slots-first, sound-other, FirstGeospatial}
 use Rattle.sheet.proofs.SlotLaws.{slots-at, slots-length}
 use Rattle.tree.specs.Tree.{Tree, size}
-use Rattle.tree.specs.Rules.{Keeps}
-use Rattle.tree.specs.Faults.{faults}
 use Rattle.tree.specs.Reading.{treeOf}
 use Rattle.tree.specs.Judgement.{orElse, unlawful, firstFault, judgement}
 use Rattle.tree.specs.declared.standing.Standing.the-variants.{Root}
 use Rattle.tree.proofs.FaultLaws.{atMostDeep-none, keeps-none as keeps-lawful, refused-not-lawful}
 use Rattle.tree.proofs.TreeOfLaws.{treeRefusal-tree}
 use Rattle.tree.proofs.JudgementLaws.{lawful-opened}
-use Rattle.tree.proofs.EditionLaws.{keeps-second, keeps-third, marked-first, unmarked, markEqual, faults-first, isInt96, FirstInt96 as FirstListed, keeps-none, Answered, judgement-third}
+use Rattle.tree.proofs.EditionLaws.{keeps-second, marked-first, unmarked, markEqual, faults-first, isInt96, isPlaceType, FirstInt96 as FirstListed, keeps-none, Answered, judgement-third}
 use Rattle.schema.specs.Rows.{rowWidth, rows, numberIn, kindsIn}
 use Rattle.schema.specs.Demand.{IsTreeOf, Sound, kindIn}
 use Rattle.schema.proofs.DemandLaws.{tree-accepted, accepted-tree, sound-judgement}
@@ -41,21 +41,13 @@ lawful-sound edition bytes e =
     let o = lawful-opened edition bytes e in
     record { known = openOf-known edition bytes (o .0) (o .1); blocks = openOf-blocks edition bytes (o .0) (o .1); slots = openOf-slots edition bytes (o .0) (o .1) }
 
--- where the second edition's rules are kept with another's, it accepts what that accepts
-accepts-too : (other : ℕ) → ((t : Tree) → Keeps other Root t → Keeps SECOND Root t) → (bytes : List ℕ) → judgement other bytes ≡ Verdict.Lawful → judgement SECOND bytes ≡ Verdict.Lawful
-accepts-too other keeps bytes e =
-    let s = lawful-sound other bytes e in
-    let tree = accepted-tree other bytes (sym (sound-judgement other bytes s) ∙ e) in
-    sound-judgement SECOND bytes (record { known = known-of second; blocks = s .blocks; slots = s .slots })
-    ∙ tree-accepted SECOND bytes _ (record { deep = tree .deep; keeps = keeps _ (tree .keeps); claims = tree .claims; lists = tree .lists })
-
 -- what the first edition accepts, the second accepts
 pub second-lawful : (bytes : List ℕ) → judgement FIRST bytes ≡ Verdict.Lawful → judgement SECOND bytes ≡ Verdict.Lawful
-second-lawful = accepts-too FIRST (λ t. keeps-second t Root)
-
--- and what the third accepts
-pub third-second : (bytes : List ℕ) → judgement THIRD bytes ≡ Verdict.Lawful → judgement SECOND bytes ≡ Verdict.Lawful
-third-second = accepts-too THIRD (λ t. keeps-third t Root)
+second-lawful bytes e =
+    let s = lawful-sound FIRST bytes e in
+    let tree = accepted-tree FIRST bytes (sym (sound-judgement FIRST bytes s) ∙ e) in
+    sound-judgement SECOND bytes (record { known = known-of second; blocks = s .blocks; slots = slots-second bytes (s .slots) })
+    ∙ tree-accepted SECOND bytes _ (record { deep = tree .deep; keeps = keeps-second _ Root (tree .keeps); claims = tree .claims; lists = tree .lists })
 
 -- the kind in a row
 kindsIn-at : (numbers : List ℕ) (n k : ℕ) (other : Kind) → k < n → getD (kindsIn numbers n) k other ≡ kindIn numbers k
@@ -79,18 +71,14 @@ pub record FirstIn (t : Tree) (k : ℕ) : Type 0 where
   pub earlier : (j : ℕ) → j < k → isEqual (kindIn (rows t) j) ≡ false
 
 module _ (bytes : List ℕ) (t : Tree) (sound : Sound SECOND bytes) (tree : IsTreeOf SECOND bytes t) where
-  -- what another edition answers for a sheet that the second accepts: the first fault of its tree
-  verdict : (other : ℕ) → isKnown other ≡ true → judgement other bytes ≡ firstFault 0 (faults other Root t)
-  unfolding orElse unlawful
-  verdict other known =
-      sound-judgement other bytes (record { known = known; blocks = sound .blocks; slots = sound .slots })
-      ∙ treeRefusal-tree other (slots bytes) t (tree .claims) (tree .lists)
-      ∙ ap (λ (v : Verdict). orElse v (unlawful other t)) (atMostDeep-none t (tree .deep))
-
-  -- the first edition
-
+  -- what the first edition answers for a sheet that the second accepts: the first fault of its tree
   verdict-first : judgement FIRST bytes ≡ firstFault 0 (map markEqual (kindsIn (rows t) (size t)))
-  verdict-first = verdict FIRST (known-of first) ∙ ap (firstFault 0) (faults-first t Root (tree .keeps) ∙ ap (map markEqual) (sym (rows-kinds t)))
+  unfolding orElse unlawful
+  verdict-first =
+      sound-judgement FIRST bytes (record { known = known-of first; blocks = sound .blocks; slots = slots-first bytes (sound .slots) })
+      ∙ treeRefusal-tree FIRST (slots bytes) t (tree .claims) (tree .lists)
+      ∙ ap (λ (v : Verdict). orElse v (unlawful FIRST t)) (atMostDeep-none t (tree .deep))
+      ∙ ap (firstFault 0) (faults-first t Root (tree .keeps) ∙ ap (map markEqual) (sym (rows-kinds t)))
 
   abbrev none : Kind
   none = record { kind = 0; p1 = 0; p2 = 0 }
@@ -120,6 +108,10 @@ pub record FirstInt96 (bytes : List ℕ) (k : ℕ) : Type 0 where
 abbrev pub NoInt96 : List ℕ → Type 0
 NoInt96 bytes = (k : ℕ) → k < totalOf bytes → isInt96 (slotAt bytes k) ≡ false
 
+-- and one without GEOMETRY and GEOGRAPHY
+abbrev pub NoGeospatial : List ℕ → Type 0
+NoGeospatial bytes = (k : ℕ) → k < totalOf bytes → isPlaceType (slotAt bytes k) ≡ false
+
 module _ (bytes : List ℕ) where
   at-slot : (k : ℕ) → k < totalOf bytes → isInt96 (getD (slots bytes) k []) ≡ isInt96 (slotAt bytes k)
   at-slot k h = ap isInt96 (slots-at bytes k [] h)
@@ -129,19 +121,31 @@ module _ (bytes : List ℕ) where
       let low : k < totalOf bytes = omega (arith, m .below, slots-length bytes) in
       record { below = low; here = sym (at-slot k low) ∙ m .here; earlier = λ j h. sym (at-slot j (omega (arith, low, h))) ∙ m .earlier j h }
 
-  -- of any sheet the third edition answers what the second does, or 10 at the first INT96
-  pub third-answers : (judgement THIRD bytes ≡ judgement SECOND bytes) ⊎ ((k : ℕ) × (judgement THIRD bytes ≡ Verdict.Refused (refusal MISPLACED k)) × FirstInt96 bytes k)
+  -- what the third edition answers of any sheet: what the second does, or 10 at the first INT96; or the second answers 4 at the first GEOMETRY or GEOGRAPHY
+  abbrev pub ThirdAnswers : Type 0
+  ThirdAnswers =
+      (judgement THIRD bytes ≡ judgement SECOND bytes)
+      ⊎ (((k : ℕ) × (judgement THIRD bytes ≡ Verdict.Refused (refusal MISPLACED k)) × FirstInt96 bytes k)
+      ⊎ ((k : ℕ) × (judgement SECOND bytes ≡ Verdict.Refused (refusal SLOT k)) × FirstGeospatial bytes k))
+
+  pub third-answers : ThirdAnswers
   third-answers = on (judgement-third bytes)
     where
-      on : Answered bytes (judgement THIRD bytes) (judgement SECOND bytes) → (judgement THIRD bytes ≡ judgement SECOND bytes) ⊎ ((k : ℕ) × (judgement THIRD bytes ≡ Verdict.Refused (refusal MISPLACED k)) × FirstInt96 bytes k)
+      on : Answered bytes (judgement THIRD bytes) (judgement SECOND bytes) → ThirdAnswers
       on (inl e) = inl e
-      on (inr r) = inr (r .0, r .1, first-listed (r .0) (r .2))
+      on (inr (inl r)) = inr (inl (r .0, r .1, first-listed (r .0) (r .2)))
+      on (inr (inr r)) = inr (inr r)
 
-  -- so what the second does, where there is none
-  pub third-same : NoInt96 bytes → judgement THIRD bytes ≡ judgement SECOND bytes
-  third-same none = ⊎-elim (λ e. e) (λ r. absurd (true≢false (sym (r .2 .here) ∙ none (r .0) (r .2 .below)))) third-answers
+  -- so what the second does, where there is none of these
+  pub third-same : NoInt96 bytes → NoGeospatial bytes → judgement THIRD bytes ≡ judgement SECOND bytes
+  third-same none other = on third-answers
+    where
+      on : ThirdAnswers → judgement THIRD bytes ≡ judgement SECOND bytes
+      on (inl e) = e
+      on (inr (inl r)) = absurd (true≢false (sym (r .2 .here) ∙ none (r .0) (r .2 .below)))
+      on (inr (inr r)) = absurd (true≢false (sym (r .2 .here) ∙ other (r .0) (r .2 .below)))
 
-  -- what it accepts has none
+  -- what it accepts has no INT96
   pub third-none : judgement THIRD bytes ≡ Verdict.Lawful → NoInt96 bytes
   third-none e k h =
       let kept = sym (sound-judgement THIRD bytes (lawful-sound THIRD bytes e)) ∙ e in
@@ -149,10 +153,20 @@ module _ (bytes : List ℕ) where
       let listed = keeps-none (treeOf (slots bytes)) (keeps-lawful THIRD (treeOf (slots bytes)) (tree .keeps)) k (omega (arith, h, slots-length bytes, ap length (tree .lists))) in
       sym (at-slot k h) ∙ sym (ap (λ (ss : List (List ℕ)). isInt96 (getD ss k [])) (tree .lists)) ∙ listed
 
-  -- and of what the second accepts it refuses the others at the first
+  -- and what the second accepts has no GEOMETRY and no GEOGRAPHY
+  pub second-none : judgement SECOND bytes ≡ Verdict.Lawful → NoGeospatial bytes
+  second-none e k h =
+      let o = lawful-opened SECOND bytes e in
+      sound-other (slotAt bytes k) (openOf-sound SECOND bytes (o .0) (o .1) k (omega (arith, h, openOf-total SECOND bytes (o .0) (o .1))))
+
+  -- of what the second accepts the third refuses what has an INT96, at the first
   pub third-refused : judgement SECOND bytes ≡ Verdict.Lawful → (r : Refusal) → judgement THIRD bytes ≡ Verdict.Refused r → (k : ℕ) × (r ≡ refusal MISPLACED k) × FirstInt96 bytes k
-  third-refused lawful r e =
-      ⊎-elim (λ same. absurd (refused-not-lawful r (sym e ∙ same ∙ lawful))) (λ found. (found .0, refused-is (sym e ∙ found .1), found .2)) third-answers
+  third-refused lawful r e = on third-answers
     where
       refused-is : {q s : Refusal} → Verdict.Refused q ≡ Verdict.Refused s → q ≡ s
       refused-is h = cc
+
+      on : ThirdAnswers → (k : ℕ) × (r ≡ refusal MISPLACED k) × FirstInt96 bytes k
+      on (inl same) = absurd (refused-not-lawful r (sym e ∙ same ∙ lawful))
+      on (inr (inl found)) = (found .0, refused-is (sym e ∙ found .1), found .2)
+      on (inr (inr other)) = absurd (refused-not-lawful (refusal SLOT (other .0)) (sym (other .1) ∙ lawful))

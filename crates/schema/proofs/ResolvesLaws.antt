@@ -26,7 +26,7 @@ use Rattle.annotation.specs.Rule11.{ordered, isDecimal, decimalHolds}
 use Rattle.annotation.specs.Rule11 as eleven
 use Rattle.annotation.specs.declared.slot.Annotated.{Annotated}
 use Rattle.annotation.specs.declared.resolution.Kind.{Kind}
-use Rattle.annotation.proofs.PlacementLaws.{kind-logical, readable, ten-parts}
+use Rattle.annotation.proofs.PlacementLaws.{kind-logical, readable, ten-placed}
 use Rattle.sheet.specs.Slot.{physical, scale, precision, numbersOf}
 use Rattle.tree.specs.Annotated.{annotated, kind, rule10, rule11}
 use Rattle.tree.specs.Tree.{SlotBytes, Tree, listing, size}
@@ -110,7 +110,7 @@ resolves-to : (edition : ℕ) (under : Bool) (s : SlotBytes) → rule10 edition 
 unfolding kind rule10 rule11 annotated numbersOf
 resolves-to edition under s kept e =
     let n = annotated s in
-    let t = ten-parts edition n under kept .1 in
+    let t = ten-placed edition n under kept in
     record {
       logical-kind = λ h. stated-kind edition n under t e h .0;
       logical-p1 = λ h d. stated-kind edition n under t e h .1 d .0;

@@ -100,28 +100,28 @@ module _ (edition : ℕ) (b : List ℕ) (lawful : judgement edition b ≡ Verdic
         headers-right = λ i h. headerRight-same (rewritten b) b (rewritten-headers b) i ∙ old .headers-right i (omega (arith, same));
       }
 
-  every-sound : Each SoundSlot (slots b)
+  every-sound : Each (SoundSlot edition) (slots b)
   unfolding slots
   every-sound =
-      each-slotsFrom SoundSlot (totalOf b) b 0
+      each-slotsFrom (SoundSlot edition) (totalOf b) b 0
       (λ j l h. openOf-sound edition b (opened .0) (opened .1) j (omega (arith, openOf-total edition b (opened .0) (opened .1))))
 
-  still-sound : Each SoundSlot (slots (rewritten b))
-  still-sound = rw slots-are (sound-listing edition t Root long (tree .keeps) (subst (Each SoundSlot) (sym (tree .lists)) every-sound))
+  still-sound : Each (SoundSlot edition) (slots (rewritten b))
+  still-sound = rw slots-are (sound-listing edition t Root long (tree .keeps) (subst (Each (SoundSlot edition)) (sym (tree .lists)) every-sound))
 
   -- and so are its slots
-  slots-sound : sheet.SlotsSound (rewritten b)
+  slots-sound : sheet.SlotsSound edition (rewritten b)
   unfolding slots rewritten
   slots-sound = record { slots-right = λ k h. used k h (decLt k (totalOf b)) }
     where
-      used : (k : ℕ) → k < slotsInBlock * blockCount (rewritten b) → Dec (k < totalOf b) → slotRight (rewritten b) k ≡ true
+      used : (k : ℕ) → k < slotsInBlock * blockCount (rewritten b) → Dec (k < totalOf b) → slotRight edition (rewritten b) k ≡ true
       used k h (yes l) =
-          slotRight-used (rewritten b) k (omega (arith, total-is))
-          ∙ subst (λ (j : ℕ). slotSound (slotAt (rewritten b) j) ≡ true) (zero-add k) (slotsFrom-each SoundSlot (totalOf (rewritten b)) (rewritten b) 0 still-sound k (omega (arith, total-is)))
+          slotRight-used edition (rewritten b) k (omega (arith, total-is))
+          ∙ subst (λ (j : ℕ). slotSound edition (slotAt (rewritten b) j) ≡ true) (zero-add k) (slotsFrom-each (SoundSlot edition) (totalOf (rewritten b)) (rewritten b) 0 still-sound k (omega (arith, total-is)))
       used k h (no l) =
-          slotRight-unused (rewritten b) k (omega (arith, total-is))
+          slotRight-unused edition (rewritten b) k (omega (arith, total-is))
           ∙ ap allZero (slotAt-renewed (withRewritings b 0 rs) k ∙ slotAt-behind rs b 0 k (omega (arith, count-is)))
-          ∙ sym (slotRight-unused b k (omega arith))
+          ∙ sym (slotRight-unused edition b k (omega arith))
           ∙ openOf-slots edition b (opened .0) (opened .1) .slots-right k (omega (arith, blockCount-same (rewritten b) b (rewritten-headers b .long)))
 
   -- the rewritten tree is its tree

@@ -170,24 +170,24 @@ mutual
       let parts = each-split LongSlot (listing t) (listings fs) h in
       (long-listing t (parts .0), long-listings fs (parts .1))
 
-abbrev pub SoundSlot : SlotBytes → Type 0
-SoundSlot s = slotSound s ≡ true
+abbrev pub SoundSlot : ℕ → SlotBytes → Type 0
+SoundSlot edition s = slotSound edition s ≡ true
 
 mutual
   unfolding rewrittenTree listing Each Keeps Long
 
   -- the slots of the rewritten tree are sound where those of the tree were
-  pub sound-listing : (edition : ℕ) (t : Tree) (p : Standing) → Long t → Keeps edition p t → Each SoundSlot (listing t) → Each SoundSlot (listing (rewrittenTree p t))
+  pub sound-listing : (edition : ℕ) (t : Tree) (p : Standing) → Long t → Keeps edition p t → Each (SoundSlot edition) (listing t) → Each (SoundSlot edition) (listing (rewrittenTree p t))
   sound-listing edition (node s fs) p long h sound = (
     sound-rewritten edition (underMap p) s (resolves edition p s fs (long .0) (h .0)) (sound .0),
     sound-listings edition fs (standingBelow p s) (long .1) (h .1) (sound .1),
   )
 
-  sound-listings : (edition : ℕ) (fs : Fields) (p : Standing) → LongAll fs → KeepsAll edition p fs → Each SoundSlot (listings fs) → Each SoundSlot (listings (rewrittenRun p fs))
+  sound-listings : (edition : ℕ) (fs : Fields) (p : Standing) → LongAll fs → KeepsAll edition p fs → Each (SoundSlot edition) (listings fs) → Each (SoundSlot edition) (listings (rewrittenRun p fs))
   sound-listings edition empty p long h sound = tt
   sound-listings edition (field t fs) p long h sound =
-      let parts = each-split SoundSlot (listing t) (listings fs) sound in
-      each-join SoundSlot (listing (rewrittenTree p t)) (listings (rewrittenRun p fs))
+      let parts = each-split (SoundSlot edition) (listing t) (listings fs) sound in
+      each-join (SoundSlot edition) (listing (rewrittenTree p t)) (listings (rewrittenRun p fs))
       (sound-listing edition t p (long .0) (h .0) (parts .0)) (sound-listings edition fs p (long .1) (h .1) (parts .1))
 
 -- each slot of a list has what is rewritten of it

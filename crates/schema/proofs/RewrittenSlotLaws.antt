@@ -4,13 +4,18 @@ use mathlib.Core.Path.{_≡_, refl, _∙_}
 use mathlib.Core.Bool.{Bool, true, false}
 use mathlib.Core.List.{List}
 use lib.ListN.{length}
+use borrow.Author.Tests.{not-false}
+use Rattle.edition.specs.Editions.{hasGeospatial}
 use Rattle.sheet.specs.Slot.{childCountAt, converted, logical, parameterA, parameterB, numbersOf, annotatedSlot}
 use Rattle.sheet.specs.Sound.{listed, convertedListed, logicalListed, slotSound}
 use Rattle.sheet.proofs.AnnotatedSlotLaws.{physical-annotated, repetition-annotated, childCount-annotated, typeLength-annotated, scale-annotated, precision-annotated, name-annotated, length-annotated, converted-annotated, logical-annotated, parameterA-annotated, parameterB-annotated, sound-annotated}
+use Rattle.annotation.specs.Rule10.{isEarly}
 use Rattle.annotation.specs.Kinds.{kindOf}
 use Rattle.annotation.specs.Outcome.{resolutionOf}
 use Rattle.annotation.specs.Rewriting.{writtenAs, writtenOf, rewritten as rewrittenNumbers}
 use Rattle.annotation.specs.Meaning.{annotationOf}
+use Rattle.logical_type.specs.Spelling.{codeOf}
+use Rattle.logical_type.specs.Forward.{forwardOf}
 use Rattle.logical_type.specs.declared.types.Annotation.{Annotation}
 use Rattle.logical_type.specs.declared.types.LogicalType.{LogicalType}
 use Rattle.logical_type.specs.declared.types.TimeUnit.{TimeUnit}
@@ -18,6 +23,7 @@ use Rattle.logical_type.specs.declared.types.BitWidth.{BitWidth}
 use Rattle.annotation.specs.declared.resolution.Resolution.{Resolution}
 use Rattle.annotation.specs.declared.rewriting.Written.{Written}
 use Rattle.annotation.proofs.OutcomeLaws.{Keeps, resolved-of-keeps, keeps-of-resolved, kind-of-resolved}
+use Rattle.annotation.proofs.PlacementLaws.{ten-timely}
 use Rattle.annotation.proofs.RewritingLaws.{resolved-rewritten, written-rewritten}
 use Rattle.tree.specs.Annotated.{annotated, kind, rule9, rule10, rule11}
 use Rattle.tree.specs.Tree.{SlotBytes}
@@ -68,40 +74,61 @@ abbrev pub Holds : Written → SlotBytes → Type 0
 Holds w s =
     (converted s ≡ w .converted) × (logical s ≡ w .logical) × (parameterA s ≡ w .a) × (parameterB s ≡ w .b)
 
-logical-listed : (l : LogicalType) → (convertedListed (writtenAs (Annotation.Logical l) .converted) ≡ true) × (logicalListed (writtenAs (Annotation.Logical l) .logical) ≡ true)
-unfolding convertedListed logicalListed listed
-logical-listed LogicalType.String = (refl, refl)
-logical-listed LogicalType.Map = (refl, refl)
-logical-listed LogicalType.List = (refl, refl)
-logical-listed LogicalType.Enum = (refl, refl)
-logical-listed LogicalType.Decimal = (refl, refl)
-logical-listed LogicalType.Date = (refl, refl)
-logical-listed (LogicalType.Time TimeUnit.Millis utc) = (refl, refl)
-logical-listed (LogicalType.Time TimeUnit.Micros utc) = (refl, refl)
-logical-listed (LogicalType.Time TimeUnit.Nanos utc) = (refl, refl)
-logical-listed (LogicalType.Timestamp TimeUnit.Millis utc) = (refl, refl)
-logical-listed (LogicalType.Timestamp TimeUnit.Micros utc) = (refl, refl)
-logical-listed (LogicalType.Timestamp TimeUnit.Nanos utc) = (refl, refl)
-logical-listed (LogicalType.Integer BitWidth.Bits8 true) = (refl, refl)
-logical-listed (LogicalType.Integer BitWidth.Bits8 false) = (refl, refl)
-logical-listed (LogicalType.Integer BitWidth.Bits16 true) = (refl, refl)
-logical-listed (LogicalType.Integer BitWidth.Bits16 false) = (refl, refl)
-logical-listed (LogicalType.Integer BitWidth.Bits32 true) = (refl, refl)
-logical-listed (LogicalType.Integer BitWidth.Bits32 false) = (refl, refl)
-logical-listed (LogicalType.Integer BitWidth.Bits64 true) = (refl, refl)
-logical-listed (LogicalType.Integer BitWidth.Bits64 false) = (refl, refl)
-logical-listed LogicalType.Unknown = (refl, refl)
-logical-listed LogicalType.Json = (refl, refl)
-logical-listed LogicalType.Bson = (refl, refl)
-logical-listed LogicalType.Uuid = (refl, refl)
+image-listed : (l : LogicalType) → convertedListed (forwardOf l) ≡ true
+unfolding convertedListed listed
+image-listed LogicalType.String = refl
+image-listed LogicalType.Map = refl
+image-listed LogicalType.List = refl
+image-listed LogicalType.Enum = refl
+image-listed LogicalType.Decimal = refl
+image-listed LogicalType.Date = refl
+image-listed (LogicalType.Time TimeUnit.Millis utc) = refl
+image-listed (LogicalType.Time TimeUnit.Micros utc) = refl
+image-listed (LogicalType.Time TimeUnit.Nanos utc) = refl
+image-listed (LogicalType.Timestamp TimeUnit.Millis utc) = refl
+image-listed (LogicalType.Timestamp TimeUnit.Micros utc) = refl
+image-listed (LogicalType.Timestamp TimeUnit.Nanos utc) = refl
+image-listed (LogicalType.Integer BitWidth.Bits8 true) = refl
+image-listed (LogicalType.Integer BitWidth.Bits8 false) = refl
+image-listed (LogicalType.Integer BitWidth.Bits16 true) = refl
+image-listed (LogicalType.Integer BitWidth.Bits16 false) = refl
+image-listed (LogicalType.Integer BitWidth.Bits32 true) = refl
+image-listed (LogicalType.Integer BitWidth.Bits32 false) = refl
+image-listed (LogicalType.Integer BitWidth.Bits64 true) = refl
+image-listed (LogicalType.Integer BitWidth.Bits64 false) = refl
+image-listed LogicalType.Unknown = refl
+image-listed LogicalType.Json = refl
+image-listed LogicalType.Bson = refl
+image-listed LogicalType.Uuid = refl
+image-listed LogicalType.Geometry = refl
+image-listed (LogicalType.Geography edge) = refl
+
+-- the code of a logical type stands in the list of an edition that has it
+pub code-listed : (edition : ℕ) (l : LogicalType) → isEarly edition (Annotation.Logical l) ≡ false → logicalListed edition (codeOf l) ≡ true
+unfolding logicalListed
+code-listed edition LogicalType.String e = refl
+code-listed edition LogicalType.Map e = refl
+code-listed edition LogicalType.List e = refl
+code-listed edition LogicalType.Enum e = refl
+code-listed edition LogicalType.Decimal e = refl
+code-listed edition LogicalType.Date e = refl
+code-listed edition (LogicalType.Time unit utc) e = refl
+code-listed edition (LogicalType.Timestamp unit utc) e = refl
+code-listed edition (LogicalType.Integer width signed) e = refl
+code-listed edition LogicalType.Unknown e = refl
+code-listed edition LogicalType.Json e = refl
+code-listed edition LogicalType.Bson e = refl
+code-listed edition LogicalType.Uuid e = refl
+code-listed edition LogicalType.Geometry e = not-false (hasGeospatial edition) e
+code-listed edition (LogicalType.Geography edge) e = not-false (hasGeospatial edition) e
 
 -- every code that is written stands in the lists
-written-listed : (says : Annotation) → (convertedListed (writtenAs says .converted) ≡ true) × (logicalListed (writtenAs says .logical) ≡ true)
+written-listed : (edition : ℕ) (says : Annotation) → isEarly edition says ≡ false → (convertedListed (writtenAs says .converted) ≡ true) × (logicalListed edition (writtenAs says .logical) ≡ true)
 unfolding convertedListed logicalListed listed
-written-listed Annotation.Plain = (refl, refl)
-written-listed (Annotation.Logical l) = logical-listed l
-written-listed Annotation.Interval = (refl, refl)
-written-listed Annotation.Unreadable = (refl, refl)
+written-listed edition Annotation.Plain e = (refl, refl)
+written-listed edition (Annotation.Logical l) e = (image-listed l, code-listed edition l e)
+written-listed edition Annotation.Interval e = (refl, refl)
+written-listed edition Annotation.Unreadable e = (refl, refl)
 
 -- a slot that is long enough to have annotations, and keeps rules 9, 10 and 11
 pub record Resolves (edition : ℕ) (under : Bool) (s : SlotBytes) : Type 0 where
@@ -157,11 +184,11 @@ module _ (edition : ℕ) (under : Bool) (s : SlotBytes) (h : Resolves edition un
   rewriting-rewritten = rw (annotated-rewritten, written-rewritten (annotated s) under)
 
   -- it is sound where it was
-  pub sound-rewritten : slotSound s ≡ true → slotSound (rewrittenSlot under s) ≡ true
-  unfolding w writtenOf
+  pub sound-rewritten : slotSound edition s ≡ true → slotSound edition (rewrittenSlot under s) ≡ true
+  unfolding w writtenOf rule10
   sound-rewritten e =
-      let listed = written-listed (annotationOf (annotated s) under) in
-      rw slot-is (sound-annotated s (w .converted) (w .logical) (w .a) (w .b) (h .long) (listed .0) (listed .1) e)
+      let listed = written-listed edition (annotationOf (annotated s) under) (ten-timely edition (annotated s) under (h .ten)) in
+      rw slot-is (sound-annotated s (w .converted) (w .logical) (w .a) (w .b) (h .long) edition (listed .0) (listed .1) e)
 
   -- and has what is rewritten
   pub holds-rewritten : Holds (rewriting under s) (rewrittenSlot under s)

@@ -11,7 +11,7 @@ use Rattle.parquet.specs.Repetition as repetition
 use Rattle.parquet.specs.Converted as converted
 use Rattle.parquet.specs.Logical as logical
 use Rattle.annotation.specs.Rewriting.{rewritten as rewrittenNumbers}
-use Rattle.annotation.proofs.PlacementLaws.{ten-parts}
+use Rattle.annotation.proofs.PlacementLaws.{ten-placed}
 use Rattle.annotation.proofs.RewritingLaws.{written-plain, decimal-rewritten}
 use Rattle.annotation.specs.declared.resolution.Kind.{Kind}
 use Rattle.annotation.specs.declared.slot.Annotated.{Annotated}
@@ -152,7 +152,7 @@ module _ (edition : ℕ) (p : Standing) (s : SlotBytes) (fs : Fields) (long : ch
   decimal-kept : (either : Bool) → (eqb (convertedOf s) converted.DECIMAL || eqb (logicalOf s) logical.DECIMAL) ≡ either → decimalShape (convertedOf copy) (logicalOf copy) (scale copy) (precision copy) ≡ true
   unfolding decimalShape numbersOf annotated rule9 rule10
   decimal-kept true e =
-      rw (logical-is, decimal-rewritten (annotated s) (underMap p) (h .agreement) (ten-parts edition (annotated s) (underMap p) (h .placement) .1) e, or-true (eqb (convertedOf copy) converted.DECIMAL))
+      rw (logical-is, decimal-rewritten (annotated s) (underMap p) (h .agreement) (ten-placed edition (annotated s) (underMap p) (h .placement)) e, or-true (eqb (convertedOf copy) converted.DECIMAL))
   decimal-kept false e =
       rw (same .scale-is, same .precision-is, rw e at (shape-parts .2), or-true (eqb (convertedOf copy) converted.DECIMAL || eqb (logicalOf copy) logical.DECIMAL))
 

@@ -22,7 +22,7 @@ use Rattle.annotation.specs.Kinds.{PLAIN-LEAF, PLAIN-GROUP, bareKind, kindAs, k
 use Rattle.annotation.specs.Rewriting.{writtenAs, writtenOf}
 use Rattle.annotation.specs.declared.slot.Annotated.{Annotated}
 use Rattle.annotation.specs.declared.resolution.Kind.{Kind}
-use Rattle.annotation.proofs.PlacementLaws.{kind-logical, code-stands, groupKind, ten-parts, group-kind}
+use Rattle.annotation.proofs.PlacementLaws.{kind-logical, code-stands, groupKind, ten-placed, group-kind}
 use Rattle.sheet.specs.Block.{totalOf}
 use Rattle.sheet.specs.Slot.{childCountAt, physical, converted as convertedOf, logical as logicalOf, parameterA, parameterB, numbersOf, slotAt, slots}
 use Rattle.sheet.proofs.SlotLaws.{slotAt-length, slots-at}
@@ -87,6 +87,8 @@ no-interval LogicalType.Unknown = refl
 no-interval LogicalType.Json = refl
 no-interval LogicalType.Bson = refl
 no-interval LogicalType.Uuid = refl
+no-interval LogicalType.Geometry = refl
+no-interval (LogicalType.Geography edge) = refl
 
 decimal-unused : (l : LogicalType) → codeOf l ≡ logical.DECIMAL → (aOf l ≡ UNUSED) × (bOf l ≡ UNUSED)
 decimal-unused LogicalType.String e = (refl, refl)
@@ -102,6 +104,8 @@ decimal-unused LogicalType.Unknown e = (refl, refl)
 decimal-unused LogicalType.Json e = (refl, refl)
 decimal-unused LogicalType.Bson e = (refl, refl)
 decimal-unused LogicalType.Uuid e = (refl, refl)
+decimal-unused LogicalType.Geometry e = (refl, refl)
+decimal-unused (LogicalType.Geography edge) e = absurd (eqb-false logical.GEOGRAPHY logical.DECIMAL refl e)
 
 module _ (l : LogicalType) (n : Annotated) (s : SlotBytes) (h : Written (Annotation.Logical l) s) where
   abbrev K : Kind
@@ -206,7 +210,7 @@ module _ (edition : ℕ) (b : List ℕ) (t : Tree) (sound : Sound edition b) (tr
   layer-kind h =
       let layer = own .map-child (subst IsKeyValueLayer (own .stands) h) in
       let code = kind under s .kind in
-      let some-kind : groupKind code ≡ true = group-kind (annotated s) under (ten-parts edition (annotated s) under (own .keeps .placement) .1) (layer .1) in
+      let some-kind : groupKind code ≡ true = group-kind (annotated s) under (ten-placed edition (annotated s) under (own .keeps .placement)) (layer .1) in
       by-test (eqb code PLAIN-GROUP) (λ e. eqb-true code PLAIN-GROUP e)
       (λ e. absurd (true≢false (sym (rw (e, no-list edition (own .standing) s (own .fields) (own .keeps) (layer .0)) at some-kind) ∙ no-map edition (own .standing) s (own .fields) (own .keeps) (layer .0))))
 

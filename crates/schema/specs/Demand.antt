@@ -37,7 +37,7 @@ pub record IsTreeOf (edition : ℕ) (bytes : List ℕ) (t : Tree) : Type 0 where
 pub record Sound (edition : ℕ) (bytes : List ℕ) : Type 0 where
   pub known : isKnown edition ≡ true
   pub blocks : BlocksSound bytes
-  pub slots : SlotsSound bytes
+  pub slots : SlotsSound edition bytes
 
 -- output is enough where 14 does not hold
 unfoldable pub EnoughOutput : List ℕ → ℕ → Type 0

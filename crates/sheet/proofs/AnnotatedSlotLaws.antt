@@ -114,8 +114,8 @@ module _ (slot : List ℕ) (conv log a b : ℕ) where
     parameterB-annotated = getD-set-same l₃ parameterBAt b 0 (simp length-set (omega arith))
 
     -- it is sound where it was, and the annotations are listed
-    pub sound-annotated : convertedListed conv ≡ true → logicalListed log ≡ true → slotSound slot ≡ true → slotSound (annotatedSlot slot conv log a b) ≡ true
+    pub sound-annotated : (edition : ℕ) → convertedListed conv ≡ true → logicalListed edition log ≡ true → slotSound edition slot ≡ true → slotSound edition (annotatedSlot slot conv log a b) ≡ true
     unfolding slotSound codesListed nameRight reservedZero tailZero
-    sound-annotated c l s =
+    sound-annotated edition c l s =
         rw (physical-annotated, repetition-annotated, converted-annotated, logical-annotated, nameLength-annotated, drop-annotated reservedAt (omega arith), drop-annotated (nameAt + nameLength slot) (omega arith), c, l)
-        (listed-kept (physicalListed (physical slot)) (repetitionListed (repetition slot)) (convertedListed (converted slot)) (logicalListed (logical slot)) _ s)
+        (listed-kept (physicalListed (physical slot)) (repetitionListed (repetition slot)) (convertedListed (converted slot)) (logicalListed edition (logical slot)) _ s)

@@ -14,6 +14,7 @@ pub mod SoundLaws
 pub mod HeaderLaws
 pub mod FirstLaws
 pub mod OpeningLaws
+pub mod EditionLaws
 pub mod NameLaws
 pub mod Examples
 pub mod BytesLaws

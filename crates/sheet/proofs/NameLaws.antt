@@ -23,8 +23,8 @@ unfolding name
 name-length sheet k = simp (length-take, length-drop, slotAt-length sheet k)
 
 -- the name of a sound slot has the length that the slot says
-pub name-length-sound : (sheet : List ℕ) (k : ℕ) → slotSound (slotAt sheet k) ≡ true → length (name (slotAt sheet k)) ≡ nameLength (slotAt sheet k)
-name-length-sound sheet k sound = omega (arith, name-length sheet k, sound-nameLength-most (slotAt sheet k) sound)
+pub name-length-sound : (edition : ℕ) (sheet : List ℕ) (k : ℕ) → slotSound edition (slotAt sheet k) ≡ true → length (name (slotAt sheet k)) ≡ nameLength (slotAt sheet k)
+name-length-sound edition sheet k sound = omega (arith, name-length sheet k, sound-nameLength-most edition (slotAt sheet k) sound)
 
 -- a slot that the bytes do not reach has no name
 pub name-nowhere : (sheet : List ℕ) (k : ℕ) → reaches sheet k ≡ false → name (slotAt sheet k) ≡ []

@@ -58,7 +58,7 @@ module _ (edition : ℕ) (sheet : List ℕ) (known : isKnown edition ≡ true) (
     unfolding openOf
     openOf-header h = rw (known, right) (atFirst-none _ _ _ _ check-is checks ∙ atFirst-at _ _ _ _ header-is h)
 
-    module _ (headers : blockCount sheet ≤ header) {slot : ℕ} (slot-is : slot ≡ firstWrong (slotRight sheet) (slotsInBlock * blockCount sheet)) where
+    module _ (headers : blockCount sheet ≤ header) {slot : ℕ} (slot-is : slot ≡ firstWrong (slotRight edition sheet) (slotsInBlock * blockCount sheet)) where
       -- then a wrong slot
       pub openOf-slot : slot < slotsInBlock * blockCount sheet → openOf edition sheet ≡ Counted.Refused (refusal SLOT slot)
       unfolding openOf
@@ -104,7 +104,7 @@ module _ (edition : ℕ) (sheet : List ℕ) (t : ℕ) (opened : openOf edition s
 
   past-length : atFirst (checkRight sheet) (blockCount sheet) BLOCK-CHECK
       (atFirst (headerRight sheet) (blockCount sheet) BLOCK-HEADER
-      (atFirst (slotRight sheet) (slotsInBlock * blockCount sheet) SLOT
+      (atFirst (slotRight edition sheet) (slotsInBlock * blockCount sheet) SLOT
       (Counted.Count (totalOf sheet))))
       ≡ Counted.Count t
   unfolding openOf
@@ -112,16 +112,16 @@ module _ (edition : ℕ) (sheet : List ℕ) (t : ℕ) (opened : openOf edition s
 
   past-checks : ((i : ℕ) → i < blockCount sheet → checkRight sheet i ≡ true)
       × (atFirst (headerRight sheet) (blockCount sheet) BLOCK-HEADER
-      (atFirst (slotRight sheet) (slotsInBlock * blockCount sheet) SLOT
+      (atFirst (slotRight edition sheet) (slotsInBlock * blockCount sheet) SLOT
       (Counted.Count (totalOf sheet)))
       ≡ Counted.Count t)
   past-checks = atFirst-nodes _ _ _ _ t past-length
 
   past-headers : ((i : ℕ) → i < blockCount sheet → headerRight sheet i ≡ true)
-      × (atFirst (slotRight sheet) (slotsInBlock * blockCount sheet) SLOT (Counted.Count (totalOf sheet)) ≡ Counted.Count t)
+      × (atFirst (slotRight edition sheet) (slotsInBlock * blockCount sheet) SLOT (Counted.Count (totalOf sheet)) ≡ Counted.Count t)
   past-headers = atFirst-nodes _ _ _ _ t (past-checks .1)
 
-  past-slots : ((k : ℕ) → k < slotsInBlock * blockCount sheet → slotRight sheet k ≡ true) × (Counted.Count (totalOf sheet) ≡ Counted.Count t)
+  past-slots : ((k : ℕ) → k < slotsInBlock * blockCount sheet → slotRight edition sheet k ≡ true) × (Counted.Count (totalOf sheet) ≡ Counted.Count t)
   past-slots = atFirst-nodes _ _ _ _ t (past-headers .1)
 
   -- a sheet that opens has sound blocks
@@ -129,7 +129,7 @@ module _ (edition : ℕ) (sheet : List ℕ) (t : ℕ) (opened : openOf edition s
   openOf-blocks = record { length-right = openOf-length-right; checks-right = past-checks .0; headers-right = past-headers .0 }
 
   -- and sound slots
-  pub openOf-slots : SlotsSound sheet
+  pub openOf-slots : SlotsSound edition sheet
   openOf-slots = record { slots-right = past-slots .0 }
 
   -- and as many nodes as block 0 says
@@ -164,12 +164,12 @@ module _ (edition : ℕ) (sheet : List ℕ) (t : ℕ) (opened : openOf edition s
   openOf-slots-length = slots-length sheet ∙ sym openOf-total
 
   -- each of them is sound
-  pub openOf-sound : (k : ℕ) → k < t → slotSound (slotAt sheet k) ≡ true
+  pub openOf-sound : (k : ℕ) → k < t → slotSound edition (slotAt sheet k) ≡ true
   openOf-sound k h =
-      sym (slotRight-used sheet k (omega (arith, openOf-total))) ∙ past-slots .0 k (omega (arith, openOf-within))
+      sym (slotRight-used edition sheet k (omega (arith, openOf-total))) ∙ past-slots .0 k (omega (arith, openOf-within))
 
 -- a sheet of sound blocks and slots opens in a known edition
-pub openOf-accepts : (edition : ℕ) (sheet : List ℕ) → isKnown edition ≡ true → BlocksSound sheet → SlotsSound sheet → openOf edition sheet ≡ Counted.Count (totalOf sheet)
+pub openOf-accepts : (edition : ℕ) (sheet : List ℕ) → isKnown edition ≡ true → BlocksSound sheet → SlotsSound edition sheet → openOf edition sheet ≡ Counted.Count (totalOf sheet)
 openOf-accepts edition sheet known blocks slots-sound =
     openOf-nodes edition sheet known (blocks .length-right) refl (le-of-eq (sym (firstWrong-none _ _ (blocks .checks-right))))
     refl (le-of-eq (sym (firstWrong-none _ _ (blocks .headers-right))))
@@ -179,8 +179,3 @@ openOf-accepts edition sheet known blocks slots-sound =
 pub with-outcome : (edition : ℕ) (sheet : List ℕ) (r : Counted) → r ≡ openOf edition sheet → (r ≡ openOf edition sheet) × (outcomeOf sheet r ≡ outcome edition sheet)
 unfolding outcome
 with-outcome edition sheet r e = (e, ap (outcomeOf sheet) e)
-
--- opening answers the same in every known edition
-pub openOf-edition : (edition other : ℕ) (sheet : List ℕ) → isKnown edition ≡ true → isKnown other ≡ true → openOf edition sheet ≡ openOf other sheet
-unfolding openOf
-openOf-edition edition other sheet known known′ = rw (known, known′)

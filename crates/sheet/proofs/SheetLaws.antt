@@ -89,7 +89,7 @@ module _ (edition : ℕ) (sheet : List ℕ) (t : ℕ) (bytes : Bytes sheet) (ope
       cases (yes l) = slots-at sheet k emptySlot l
       cases (no l) =
           List·getD-eq-default (slots sheet) emptySlot {n = k} (omega (arith, slots-length sheet))
-          ∙ sym (zeros-empty (slotAt sheet k) (slotAt-length sheet k) (sym (slotRight-unused sheet k (omega arith)) ∙ openOf-slots edition sheet t opened .slots-right k h))
+          ∙ sym (zeros-empty (slotAt sheet k) (slotAt-length sheet k) (sym (slotRight-unused edition sheet k (omega arith)) ∙ openOf-slots edition sheet t opened .slots-right k h))
 
   -- block i, field by field
   module _ (i : ℕ) (h : i < blockCount sheet) where
@@ -154,14 +154,14 @@ module _ (edition : ℕ) (sheet : List ℕ) (t : ℕ) (bytes : Bytes sheet) (ope
 -- ---- the sheet of sound slots opens, and has them
 
 -- slots that a sheet can be made from: 1 to 896, each whole, of bytes and sound
-pub record SheetSlots (used : List (List ℕ)) : Type 0 where
+pub record SheetSlots (edition : ℕ) (used : List (List ℕ)) : Type 0 where
   pub least : 1 ≤ length used
   pub most : length used ≤ mostNodes
   pub whole : (k : ℕ) → k < length used → length (getD used k emptySlot) ≡ slotSize
   pub bytes : (k : ℕ) → k < length used → Bytes (getD used k emptySlot)
-  pub sound : (k : ℕ) → k < length used → slotSound (getD used k emptySlot) ≡ true
+  pub sound : (k : ℕ) → k < length used → slotSound edition (getD used k emptySlot) ≡ true
 
-module _ (used : List (List ℕ)) (given : SheetSlots used) where
+module _ (edition : ℕ) (used : List (List ℕ)) (given : SheetSlots edition used) where
   -- behind them stand empty slots
   empty-behind : (k : ℕ) → length used ≤ k → getD used k emptySlot ≡ emptySlot
   empty-behind k h = List·getD-eq-default used emptySlot {n = k} h
@@ -317,18 +317,18 @@ module _ (used : List (List ℕ)) (given : SheetSlots used) where
       total-right : totalRight (totalOf (sheetOf used)) (blockCount (sheetOf used)) ≡ true
       total-right = rw (sheetOf-total, sheetOf-blocks) (totalRight-true (length used) blocks-of (given .least) (given .most) refl)
 
-  sheetOf-slots-sound : SlotsSound (sheetOf used)
+  sheetOf-slots-sound : SlotsSound edition (sheetOf used)
   sheetOf-slots-sound = record { slots-right = λ k h. cases k (omega (arith, sheetOf-blocks)) (decLt k (length used)) }
     where
-      cases : (k : ℕ) → k < slotsInBlock * blocks-of → Dec (k < length used) → slotRight (sheetOf used) k ≡ true
+      cases : (k : ℕ) → k < slotsInBlock * blocks-of → Dec (k < length used) → slotRight edition (sheetOf used) k ≡ true
       cases k h (yes l) =
-          slotRight-used (sheetOf used) k (omega (arith, sheetOf-total)) ∙ ap slotSound (sheetOf-slot k h) ∙ given .sound k l
+          slotRight-used edition (sheetOf used) k (omega (arith, sheetOf-total)) ∙ ap (slotSound edition) (sheetOf-slot k h) ∙ given .sound k l
       cases k h (no l) =
-          slotRight-unused (sheetOf used) k (omega (arith, sheetOf-total)) ∙ ap allZero (sheetOf-slot k h ∙ empty-behind k (omega arith)) ∙ emptySlot-zero
+          slotRight-unused edition (sheetOf used) k (omega (arith, sheetOf-total)) ∙ ap allZero (sheetOf-slot k h ∙ empty-behind k (omega arith)) ∙ emptySlot-zero
 
-  -- the sheet of sound slots opens in a known edition
-  pub openOf-sheetOf : (edition : ℕ) → isKnown edition ≡ true → openOf edition (sheetOf used) ≡ Counted.Count (length used)
-  openOf-sheetOf edition known = openOf-accepts edition (sheetOf used) known sheetOf-blocks-sound sheetOf-slots-sound ∙ ap Counted.Count sheetOf-total
+  -- the sheet of slots that are sound in a known edition opens in it
+  pub openOf-sheetOf : isKnown edition ≡ true → openOf edition (sheetOf used) ≡ Counted.Count (length used)
+  openOf-sheetOf known = openOf-accepts edition (sheetOf used) known sheetOf-blocks-sound sheetOf-slots-sound ∙ ap Counted.Count sheetOf-total
 
   -- it has these slots
   pub slots-sheetOf : slots (sheetOf used) ≡ used

@@ -13,18 +13,17 @@ use Rattle.sheet.specs.Slot.{physical, repetition, converted, logical, n
 use Rattle.parquet.specs.Physical as physical
 use Rattle.parquet.specs.Repetition as repetition
 use Rattle.parquet.specs.Converted as converted
-use Rattle.parquet.specs.Logical as logical
 use Rattle.sheet.specs.Sound.{listed, physicalListed, repetitionListed, convertedListed, logicalListed, mostNameLength, nameLengthRight, allZero, reservedZero, tailZero, codesListed, nameRight, slotSound, slotRight}
 
 -- the slot of a node is right where it is sound
-pub slotRight-used : (sheet : List ℕ) (k : ℕ) → k < totalOf sheet → slotRight sheet k ≡ slotSound (slotAt sheet k)
+pub slotRight-used : (edition : ℕ) (sheet : List ℕ) (k : ℕ) → k < totalOf sheet → slotRight edition sheet k ≡ slotSound edition (slotAt sheet k)
 unfolding slotRight
-slotRight-used sheet k h = rw (lt-ltb k (totalOf sheet) h)
+slotRight-used edition sheet k h = rw (lt-ltb k (totalOf sheet) h)
 
 -- any other where it is zero
-pub slotRight-unused : (sheet : List ℕ) (k : ℕ) → totalOf sheet ≤ k → slotRight sheet k ≡ allZero (slotAt sheet k)
+pub slotRight-unused : (edition : ℕ) (sheet : List ℕ) (k : ℕ) → totalOf sheet ≤ k → slotRight edition sheet k ≡ allZero (slotAt sheet k)
 unfolding slotRight
-slotRight-unused sheet k h = rw (le-ltb k (totalOf sheet) h)
+slotRight-unused edition sheet k h = rw (le-ltb k (totalOf sheet) h)
 
 listed-beside : (last beside code : ℕ) → last < code → listed last beside code ≡ eqb code beside
 unfolding listed
@@ -38,30 +37,16 @@ listed-cases last beside code e = cases (decLe code last)
     cases (yes h) = inl h
     cases (no h) = inr (eqb-true code beside (sym (listed-beside last beside code (omega arith)) ∙ e))
 
-logicalListed-upper : (code : ℕ) → logical.TIMESTAMP < code → logicalListed code ≡ leb logical.INTEGER code && leb code logical.UUID
-unfolding logicalListed
-logicalListed-upper code h = rw (lt-leb code logical.TIMESTAMP h)
-
--- a logical type's code, taken apart
-pub logicalListed-cases : (code : ℕ) → logicalListed code ≡ true → (code ≤ logical.TIMESTAMP) ⊎ ((logical.INTEGER ≤ code) × (code ≤ logical.UUID))
-logicalListed-cases code e = cases (decLe code logical.TIMESTAMP)
-  where
-    cases : Dec (code ≤ logical.TIMESTAMP) → (code ≤ logical.TIMESTAMP) ⊎ ((logical.INTEGER ≤ code) × (code ≤ logical.UUID))
-    cases (yes h) = inl h
-    cases (no h) =
-        let both = and-eq-true-iff (leb logical.INTEGER code) (leb code logical.UUID) .0 (sym (logicalListed-upper code (omega arith)) ∙ e) in
-        inr (leb-true logical.INTEGER code (both .0), leb-true code logical.UUID (both .1))
-
 -- a sound slot, taken apart
-module _ (slot : List ℕ) (sound : slotSound slot ≡ true) where
-  halves : So (codesListed slot) × So (nameRight slot)
+module _ (edition : ℕ) (slot : List ℕ) (sound : slotSound edition slot ≡ true) where
+  halves : So (codesListed edition slot) × So (nameRight slot)
   unfolding slotSound
-  halves = and-eq-true-iff (codesListed slot) (nameRight slot) .0 sound
+  halves = and-eq-true-iff (codesListed edition slot) (nameRight slot) .0 sound
 
-  codes : So (physicalListed (physical slot) && repetitionListed (repetition slot) && convertedListed (converted slot)) × So (logicalListed (logical slot))
+  codes : So (physicalListed (physical slot) && repetitionListed (repetition slot) && convertedListed (converted slot)) × So (logicalListed edition (logical slot))
   unfolding codesListed
   codes =
-      and-eq-true-iff (physicalListed (physical slot) && repetitionListed (repetition slot) && convertedListed (converted slot)) (logicalListed (logical slot)) .0
+      and-eq-true-iff (physicalListed (physical slot) && repetitionListed (repetition slot) && convertedListed (converted slot)) (logicalListed edition (logical slot)) .0
       (halves .0)
 
   listed-two : So (physicalListed (physical slot) && repetitionListed (repetition slot)) × So (convertedListed (converted slot))
@@ -93,9 +78,6 @@ module _ (slot : List ℕ) (sound : slotSound slot ≡ true) where
   pub sound-converted : (converted slot ≤ converted.INTERVAL) ⊎ (converted slot ≡ converted.NONE)
   unfolding convertedListed
   sound-converted = listed-cases converted.INTERVAL converted.NONE (converted slot) (listed-two .1)
-
-  pub sound-logical : (logical slot ≤ logical.TIMESTAMP) ⊎ ((logical.INTEGER ≤ logical slot) × (logical slot ≤ logical.UUID))
-  sound-logical = logicalListed-cases (logical slot) (codes .1)
 
   pub sound-nameLength-least : 1 ≤ nameLength slot
   sound-nameLength-least = leb-true 1 (nameLength slot) (name-bounds .0)

@@ -21,13 +21,6 @@ differs {answer} {x} {y} e n = ne-eqb x y (λ q. n (e ∙ q))
 pub agrees : {answer x y : ℕ} → answer ≡ x → answer ≡ y → eqb x y ≡ true
 agrees {answer} {x} {y} e q = eq-eqb x y (sym e ∙ q)
 
--- two tests that pass together are one
-pub same-test : (s t : Bool) → (s ≡ true → t ≡ true) → (t ≡ true → s ≡ true) → s ≡ t
-same-test true true f g = refl
-same-test true false f g = sym (f refl)
-same-test false true f g = g refl
-same-test false false f g = refl
-
 -- a test that passes only where another does fails where that fails
 pub fails-with : (s t : Bool) → (t ≡ true → s ≡ true) → s ≡ false → t ≡ false
 fails-with s true f e = sym (f refl) ∙ e

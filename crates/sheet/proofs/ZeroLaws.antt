@@ -13,7 +13,7 @@ use Rattle.sheet.specs.Number.{numberAt}
 use Rattle.sheet.specs.Sound.{allZero}
 use Rattle.sheet.specs.Steps.{stretchZero}
 use Rattle.sheet.proofs.NumberLaws.{Zeros, numberAt-zero, numberAt-none}
-use Rattle.sheet.proofs.TestLaws.{same-test}
+use Rattle.laws.proofs.BoolLaws.{same-test}
 
 allZero-true : (bytes : List ℕ) → ((k : ℕ) → k < length bytes → getD bytes k 0 ≡ 0) → allZero bytes ≡ true
 unfolding allZero

@@ -27,7 +27,7 @@ openOf edition sheet =
     (cond (lengthRight (length sheet))
     (atFirst (checkRight sheet) (blockCount sheet) BLOCK-CHECK
     (atFirst (headerRight sheet) (blockCount sheet) BLOCK-HEADER
-    (atFirst (slotRight sheet) (slotsInBlock * blockCount sheet) SLOT
+    (atFirst (slotRight edition sheet) (slotsInBlock * blockCount sheet) SLOT
     (Counted.Count (totalOf sheet)))))
     (Counted.Refused (unplaced SHEET-LENGTH)))
     (Counted.Refused unknownEdition)
@@ -39,8 +39,8 @@ pub record BlocksSound (sheet : List ℕ) : Type 0 where
   pub headers-right : (i : ℕ) → i < blockCount sheet → headerRight sheet i ≡ true
 
 -- "node slots where 4 doesn't"
-pub record SlotsSound (sheet : List ℕ) : Type 0 where
-  pub slots-right : (k : ℕ) → k < slotsInBlock * blockCount sheet → slotRight sheet k ≡ true
+pub record SlotsSound (edition : ℕ) (sheet : List ℕ) : Type 0 where
+  pub slots-right : (k : ℕ) → k < slotsInBlock * blockCount sheet → slotRight edition sheet k ≡ true
 
 -- what an opened sheet has: T, and the used slots
 pub record Nodes : Type 0 where

@@ -1,4 +1,4 @@
--- When a slot is sound: its codes stand in the lists of document 01, its name has a length, and zeros stand where zeros must.
+-- When a slot is sound in an edition: its codes stand in the lists of document 01 and of the edition, its name has a length, and zeros stand where zeros must.
 use Prim.Native.Nat.{ℕ, _+_, _-_}
 use mathlib.Core.Bool.{Bool, true, cond, _&&_, _||_}
 use mathlib.Core.List.{List, [], _∷_}
@@ -8,6 +8,8 @@ use Rattle.parquet.specs.Physical as physical
 use Rattle.parquet.specs.Repetition as repetition
 use Rattle.parquet.specs.Converted as converted
 use Rattle.parquet.specs.Logical as logical
+use Rattle.parquet.specs.Logical.{isGeospatial}
+use Rattle.edition.specs.Editions.{hasGeospatial}
 use Rattle.sheet.specs.Block.{totalOf}
 use Rattle.sheet.specs.Slot.{physical, repetition, converted, logical, nameLength, reservedAt, nameAt, slotAt}
 
@@ -27,9 +29,11 @@ repetitionListed code = listed repetition.REPEATED repetition.NONE code
 unfoldable pub convertedListed : ℕ → Bool
 convertedListed code = listed converted.INTERVAL converted.NONE code
 
--- "logical (1-8, 10-14, none 0)", 8 being TIMESTAMP, 10 INTEGER and 14 UUID
-unfoldable pub logicalListed : ℕ → Bool
-logicalListed code = leb code logical.TIMESTAMP || (leb logical.INTEGER code && leb code logical.UUID)
+-- "logical (1-8, 10-14, none 0)", 8 being TIMESTAMP, 10 INTEGER and 14 UUID; and GEOMETRY and GEOGRAPHY in the editions that have them: "In editions 1 and 2
+-- these codes stay 4" (document 02, R-11)
+unfoldable pub logicalListed : ℕ → ℕ → Bool
+logicalListed edition code =
+    leb code logical.TIMESTAMP || (leb logical.INTEGER code && leb code logical.UUID) || (isGeospatial code && hasGeospatial edition)
 
 -- "name length 1-48"
 abbrev pub mostNameLength : ℕ
@@ -52,21 +56,21 @@ unfoldable pub tailZero : List ℕ → Bool
 tailZero slot = allZero (drop (nameAt + nameLength slot) slot)
 
 -- no "slot code outside the lists above"
-unfoldable pub codesListed : List ℕ → Bool
-codesListed slot =
+unfoldable pub codesListed : ℕ → List ℕ → Bool
+codesListed edition slot =
     physicalListed (physical slot)
     && repetitionListed (repetition slot)
     && convertedListed (converted slot)
-    && logicalListed (logical slot)
+    && logicalListed edition (logical slot)
 
 -- no "name length or zero bytes wrong"
 unfoldable pub nameRight : List ℕ → Bool
 nameRight slot = nameLengthRight (nameLength slot) && reservedZero slot && tailZero slot
 
--- a slot in use is sound; its other fields may hold anything
-unfoldable pub slotSound : List ℕ → Bool
-slotSound slot = codesListed slot && nameRight slot
+-- a slot in use is sound in an edition; its other fields may hold anything
+unfoldable pub slotSound : ℕ → List ℕ → Bool
+slotSound edition slot = codesListed edition slot && nameRight slot
 
 -- the slot of number k is sound where k is a node's, and zero where it is not
-unfoldable pub slotRight : List ℕ → ℕ → Bool
-slotRight sheet k = cond (ltb k (totalOf sheet)) (slotSound (slotAt sheet k)) (allZero (slotAt sheet k))
+unfoldable pub slotRight : ℕ → List ℕ → ℕ → Bool
+slotRight edition sheet k = cond (ltb k (totalOf sheet)) (slotSound edition (slotAt sheet k)) (allZero (slotAt sheet k))

@@ -50,7 +50,7 @@ pub fn open(edition: u32, sheet: &[u8]) -> Counted
         });
     }
     let slots = layout::SLOTS_IN_BLOCK * blocks;
-    let slot = first_bad_slot(sheet, slots, total);
+    let slot = first_bad_slot(edition, sheet, slots, total);
     if slot < slots {
         return Counted::Refused(Refusal {
             number: numbers::SLOT,
@@ -102,15 +102,15 @@ fn first_bad_header(sheet: &[u8], blocks: usize, total: usize) -> usize
     blocks
 }
 
-fn first_bad_slot(sheet: &[u8], slots: usize, total: usize) -> usize
+fn first_bad_slot(edition: u32, sheet: &[u8], slots: usize, total: usize) -> usize
     requires { ⌜ length (now sheet) ≤ mostBytes ⌝ }
     requires { ⌜ slots ≡ slotsInBlock * blockCount (now sheet) ⌝ }
     requires { ⌜ total ≡ totalOf (now sheet) ⌝ }
-    ensures { λ r. ⌜ r ≡ firstWrong (slotRight (now (sheet .entry))) slots ⌝ }
+    ensures { λ r. ⌜ r ≡ firstWrong (slotRight edition (now (sheet .entry))) slots ⌝ }
 {
     let mut k = 0;
     while k < slots {
-        if !slot_right(sheet, k, total) {
+        if !slot_right(edition, sheet, k, total) {
             return k;
         }
         k += 1;

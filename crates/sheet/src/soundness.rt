@@ -1,4 +1,4 @@
-// Whether a slot is sound: its codes stand in the lists of document 01, and zeros stand where zeros must.
+// Whether a slot is sound in an edition: its codes stand in the lists of document 01 and of the edition, and zeros stand where zeros must.
 ghost use mathlib.Core.Path.{_≡_};
 ghost use Prim.Native.Nat.{_+_, _≤_, _<_};
 ghost use lib.ListN.{length, drop};
@@ -10,6 +10,7 @@ use crate::layout;
 use crate::number::number32;
 use crate::number::number64;
 use crate::slots::slot_start;
+use edition::has_geospatial;
 use parquet::converted;
 use parquet::logical;
 use parquet::physical;
@@ -26,33 +27,33 @@ const LAST_PAIR: usize = layout::SLOT_SIZE - PAIR;
 const PAIR_BEFORE: usize = LAST_PAIR - PAIR;
 
 // Whether the slot of number k is sound where k is a node's, and zero where it is not.
-pub(crate) fn slot_right(sheet: &[u8], k: usize, total: usize) -> bool
+pub(crate) fn slot_right(edition: u32, sheet: &[u8], k: usize, total: usize) -> bool
     requires { ⌜ k < mostNodes ⌝ }
     requires { ⌜ slotStart k + slotSize ≤ length (now sheet) ⌝ }
     requires { ⌜ total ≡ totalOf (now sheet) ⌝ }
-    ensures { λ r. ⌜ r ≡ slotRight (now (sheet .entry)) k ⌝ }
+    ensures { λ r. ⌜ r ≡ slotRight edition (now (sheet .entry)) k ⌝ }
 {
     let start = slot_start(k);
     let slot = &sheet[start..start + layout::SLOT_SIZE];
     if k < total {
-        return slot_sound(slot);
+        return slot_sound(edition, slot);
     }
     slot_zero(slot)
 }
 
-fn slot_sound(slot: &[u8]) -> bool
+fn slot_sound(edition: u32, slot: &[u8]) -> bool
     requires { ⌜ length (now slot) ≡ slotSize ⌝ }
-    ensures { λ r. ⌜ r ≡ slotSound (now (slot .entry)) ⌝ }
+    ensures { λ r. ⌜ r ≡ slotSound edition (now (slot .entry)) ⌝ }
 {
-    if !codes_listed(slot) {
+    if !codes_listed(edition, slot) {
         return false;
     }
     name_right(slot)
 }
 
-fn codes_listed(slot: &[u8]) -> bool
+fn codes_listed(edition: u32, slot: &[u8]) -> bool
     requires { ⌜ length (now slot) ≡ slotSize ⌝ }
-    ensures { λ r. ⌜ r ≡ codesListed (now (slot .entry)) ⌝ }
+    ensures { λ r. ⌜ r ≡ codesListed edition (now (slot .entry)) ⌝ }
 {
     if !listed(
         physical::FIXED_LEN_BYTE_ARRAY,
@@ -75,7 +76,7 @@ fn codes_listed(slot: &[u8]) -> bool
     ) {
         return false;
     }
-    logical_listed(slot[layout::LOGICAL])
+    logical_listed(edition, slot[layout::LOGICAL])
 }
 
 // Whether the name length, the zero bytes behind it and those behind the name are right. The length and the bytes behind it are
@@ -168,9 +169,9 @@ fn listed(last: u8, beside: u8, code: u8) -> bool
     code == beside
 }
 
-// Whether a code is that of a logical type, or of none.
-fn logical_listed(code: u8) -> bool
-    ensures { λ r. ⌜ r ≡ logicalListed code ⌝ }
+// Whether a code is that of a logical type of the edition, or of none.
+fn logical_listed(edition: u32, code: u8) -> bool
+    ensures { λ r. ⌜ r ≡ logicalListed edition code ⌝ }
 {
     if code <= logical::TIMESTAMP {
         return true;
@@ -178,5 +179,8 @@ fn logical_listed(code: u8) -> bool
     if code < logical::INTEGER {
         return false;
     }
-    code <= logical::UUID
+    if code <= logical::UUID {
+        return true;
+    }
+    ((code == logical::GEOMETRY) | (code == logical::GEOGRAPHY)) & has_geospatial(edition)
 }

@@ -1,27 +1,30 @@
--- The rules in the editions: a tree that keeps the first's keeps the second's, and so does one that keeps the third's. Of a tree that keeps the second's, the first
--- refuses with 11 each DECIMAL whose scale equals its precision, and nothing else. Of any slots the third answers what the second does, or 10 at the first INT96.
+-- The rules in the editions: a tree that keeps the first's keeps the second's. Of a tree that keeps the second's, the first refuses with 11 each DECIMAL whose scale
+-- equals its precision, and nothing else. Of any slots without GEOMETRY and GEOGRAPHY the third answers what the second does, or 10 at the first INT96.
 use Prim.Native.Nat.{ℕ, zero, suc, _+_, _<_}
 use mathlib.Core.Path.{_≡_, refl, sym, ap, ap₂, subst, _∙_}
-use mathlib.Core.Bool.{Bool, true, false, not, cond, _&&_}
+use mathlib.Core.Bool.{Bool, true, false, true≢false, not, cond, _&&_}
 use mathlib.Core.Logic.{_⊎_, inl, inr}
 use mathlib.Core.List.{List, [], _∷_, _++_, map, map-append}
 use native.Mathlib.Omega.{arith}
 use lib.Dec.{eqb}
 use lib.ListN.{length, getD}
-use Rattle.laws.proofs.BoolLaws.{and-right, by-test}
+use Rattle.laws.proofs.BoolLaws.{by-test}
 use Rattle.edition.specs.Editions.{FIRST, SECOND, THIRD}
-use Rattle.edition.proofs.EditionLaws.{second, third, known-of}
-use Rattle.refusal.specs.Numbers.{SHAPE, DISAGREEMENT, MISPLACED}
+use Rattle.refusal.specs.Numbers.{SLOT, SHAPE, DISAGREEMENT, MISPLACED}
 use Rattle.refusal.specs.Outcome.{refusal}
 use Rattle.refusal.specs.declared.answers.Counted.{Counted}
 use Rattle.refusal.specs.declared.answers.Refusal.{Refusal}
 use Rattle.refusal.specs.declared.answers.Verdict.{Verdict}
 use Rattle.parquet.specs.Physical.{INT96}
-use Rattle.sheet.specs.Slot.{physical, numbersOf, slots}
+use Rattle.parquet.specs.Logical.{isGeospatial}
+use Rattle.sheet.specs.Slot.{physical, logical, numbersOf, slotAt, slots}
 use Rattle.sheet.specs.Opening.{openOf, outcome, outcomeOf}
-use Rattle.sheet.proofs.OpeningLaws.{openOf-edition}
+use Rattle.sheet.proofs.SlotLaws.{slots-at}
+use Rattle.sheet.proofs.OpeningLaws.{openOf-total, openOf-slots-length, openOf-sound}
+use Rattle.sheet.proofs.EditionLaws.{sound-other, FirstGeospatial, Opened, openOf-third}
+use Rattle.annotation.specs.Rule10.{isPlaced}
 use Rattle.annotation.specs.declared.resolution.Kind.{Kind}
-use Rattle.annotation.proofs.EditionLaws.{isEqual, eleven-second, eleven-first, ten-second, ten-third, eleven-third}
+use Rattle.annotation.proofs.EditionLaws.{isEqual, eleven-second, eleven-first, ten-second, ten-before, ten-third, not-said, eleven-third}
 use Rattle.tree.specs.Annotated.{annotated, kind, rule9, rule10, rule11}
 use Rattle.tree.specs.Tree.{SlotBytes, Tree, Fields, node, empty, field, listing, listings}
 use Rattle.tree.specs.Rules.{underMap, standingBelow, rule8, KeepsAt, Keeps, KeepsAll, judgedKinds, runKinds}
@@ -34,19 +37,7 @@ use Rattle.tree.proofs.FaultLaws.{none-orElse}
 use Rattle.tree.proofs.TreeOfLaws.{fills-listing, accepted-fills}
 use Rattle.tree.proofs.JudgementLaws.{treeRefusal-places}
 
--- what keeps another edition's rules keeps the second's --------------------------------------------------------------------
-
--- where it is so at each node
-module _ (other : ℕ) (at : (p : Standing) (s : SlotBytes) (fs : Fields) → KeepsAt other p s fs → KeepsAt SECOND p s fs) where
-  mutual
-    unfolding Keeps
-
-    keeps-too : (t : Tree) (p : Standing) → Keeps other p t → Keeps SECOND p t
-    keeps-too (node s fs) p h = (at p s fs (h .0), keepsAll-too fs (standingBelow p s) (h .1))
-
-    keepsAll-too : (fs : Fields) (p : Standing) → KeepsAll other p fs → KeepsAll SECOND p fs
-    keepsAll-too empty p h = tt
-    keepsAll-too (field t fs) p h = (keeps-too t p (h .0), keepsAll-too fs p (h .1))
+-- what keeps the first edition's rules keeps the second's ------------------------------------------------------------------
 
 first-second : (p : Standing) (s : SlotBytes) (fs : Fields) → KeepsAt FIRST p s fs → KeepsAt SECOND p s fs
 unfolding rule10 rule11
@@ -60,23 +51,15 @@ first-second p s fs h =
       maps = h .maps;
     }
 
-third-second : (p : Standing) (s : SlotBytes) (fs : Fields) → KeepsAt THIRD p s fs → KeepsAt SECOND p s fs
-unfolding rule10 rule11
-third-second p s fs h =
-    record {
-      shape = h .shape;
-      agreement = h .agreement;
-      placement = and-right (not (eqb (annotated s .physical) INT96)) _ (sym (ten-third (annotated s) (underMap p)) ∙ h .placement);
-      decimals = sym (eleven-third (annotated s) (underMap p)) ∙ h .decimals;
-      lists = h .lists;
-      maps = h .maps;
-    }
+mutual
+  unfolding Keeps
 
-pub keeps-second : (t : Tree) (p : Standing) → Keeps FIRST p t → Keeps SECOND p t
-keeps-second = keeps-too FIRST first-second
+  pub keeps-second : (t : Tree) (p : Standing) → Keeps FIRST p t → Keeps SECOND p t
+  keeps-second (node s fs) p h = (first-second p s fs (h .0), keepsAll-second fs (standingBelow p s) (h .1))
 
-pub keeps-third : (t : Tree) (p : Standing) → Keeps THIRD p t → Keeps SECOND p t
-keeps-third = keeps-too THIRD third-second
+  keepsAll-second : (fs : Fields) (p : Standing) → KeepsAll FIRST p fs → KeepsAll SECOND p fs
+  keepsAll-second empty p h = tt
+  keepsAll-second (field t fs) p h = (keeps-second t p (h .0), keepsAll-second fs p (h .1))
 
 -- marks ---------------------------------------------------------------------------------------------------------------------
 
@@ -156,33 +139,46 @@ mutual
 abbrev pub isInt96 : SlotBytes → Bool
 isInt96 s = eqb (physical s) INT96
 
+-- its logical type is GEOMETRY or GEOGRAPHY
+abbrev pub isPlaceType : SlotBytes → Bool
+isPlaceType s = isGeospatial (logical s)
+
 -- rule 10 there
-ten-is : (under : Bool) (s : SlotBytes) → rule10 THIRD under s ≡ (not (isInt96 s) && rule10 SECOND under s)
+ten-is : (under : Bool) (s : SlotBytes) → rule10 THIRD under s ≡ (not (isInt96 s) && isPlaced (annotated s) under)
 unfolding rule10 annotated numbersOf
 ten-is under s = ten-third (annotated s) under
+
+ten-other : (under : Bool) (s : SlotBytes) → isPlaceType s ≡ false → rule10 SECOND under s ≡ isPlaced (annotated s) under
+unfolding rule10 annotated numbersOf
+ten-other under s e = ten-before (annotated s) under ∙ ap (λ (said : Bool). not said && isPlaced (annotated s) under) (not-said (annotated s) under e)
 
 eleven-is : (under : Bool) (s : SlotBytes) → rule11 THIRD under s ≡ rule11 SECOND under s
 unfolding rule11
 eleven-is under s = eleven-third (annotated s) under
 
--- an INT96 breaks rule 10 where it keeps 8 and 9, and any other node breaks what it does in the second
-pub broken-third : (p : Standing) (s : SlotBytes) (fs : Fields) → broken THIRD p s fs ≡ cond (isInt96 s) (cond (rule8 p s fs) (cond (rule9 s) MISPLACED DISAGREEMENT) SHAPE) (broken SECOND p s fs)
+-- an INT96 breaks rule 10 where it keeps 8 and 9
+pub broken-int96 : (p : Standing) (s : SlotBytes) (fs : Fields) → isInt96 s ≡ true → broken THIRD p s fs ≡ cond (rule8 p s fs) (cond (rule9 s) MISPLACED DISAGREEMENT) SHAPE
 unfolding broken
-broken-third p s fs =
-    rw (ten-is (underMap p) s, eleven-is (underMap p) s) (by-test (isInt96 s) (λ t. rw t) (λ f. rw f))
+broken-int96 p s fs t = rw (ten-is (underMap p) s, t)
 
--- what a node breaks in the second edition and in the third: the same where it is no INT96; where it is one, the same rule, or 10
+-- and any other node but GEOMETRY and GEOGRAPHY breaks what it does in the second
+broken-other : (p : Standing) (s : SlotBytes) (fs : Fields) → isInt96 s ≡ false → isPlaceType s ≡ false → broken THIRD p s fs ≡ broken SECOND p s fs
+unfolding broken
+broken-other p s fs f g = rw (ten-is (underMap p) s, f, eleven-is (underMap p) s, ten-other (underMap p) s g)
+
+-- what a node breaks in the second edition and in the third: the same where it is no INT96; where it is one, the same rule, or 10; and of GEOMETRY and GEOGRAPHY
+-- that it breaks some rule where it is an INT96
 abbrev Third : SlotBytes → ℕ → ℕ → Type 0
-Third s m n = ((isInt96 s ≡ false) × (n ≡ m)) ⊎ (((0 < n) × (n ≡ m)) ⊎ ((isInt96 s ≡ true) × (n ≡ MISPLACED)))
+Third s m n = ((isInt96 s ≡ false) × (n ≡ m)) ⊎ (((0 < n) × (n ≡ m)) ⊎ (((isInt96 s ≡ true) × (n ≡ MISPLACED)) ⊎ ((isPlaceType s ≡ true) × (isInt96 s ≡ true → 0 < n))))
 
 node-third : (p : Standing) (s : SlotBytes) (fs : Fields) → Third s (broken SECOND p s fs) (broken THIRD p s fs)
 unfolding broken
 node-third p s fs =
     by-test (isInt96 s)
     (λ t. by-test (rule8 p s fs)
-    (λ e. by-test (rule9 s) (λ n. inr (inr (t, broken-third p s fs ∙ rw (t, e, n)))) (λ n. inr (inl (positive 8 (broken-third p s fs ∙ rw (t, e, n)), broken-third p s fs ∙ rw (t, e, n)))))
-    (λ e. inr (inl (positive 7 (broken-third p s fs ∙ rw (t, e)), broken-third p s fs ∙ rw (t, e)))))
-    (λ f. inl (f, broken-third p s fs ∙ rw f))
+    (λ e. by-test (rule9 s) (λ n. inr (inr (inl (t, broken-int96 p s fs t ∙ rw (e, n))))) (λ n. inr (inl (positive 8 (broken-int96 p s fs t ∙ rw (e, n)), broken-int96 p s fs t ∙ rw (e, n)))))
+    (λ e. inr (inl (positive 7 (broken-int96 p s fs t ∙ rw e), broken-int96 p s fs t ∙ rw e))))
+    (λ f. by-test (isPlaceType s) (λ g. inr (inr (inr (g, λ t. absurd (true≢false (sym t ∙ f)))))) (λ g. inl (f, broken-other p s fs f g)))
   where
     positive : {n : ℕ} (m : ℕ) → n ≡ suc m → 0 < n
     positive m e = omega (arith, e)
@@ -218,9 +214,13 @@ mutual
 abbrev pub FirstInt96 : List SlotBytes → ℕ → Type 0
 FirstInt96 ss j = FirstMarked isInt96 0 [] ss j
 
--- what the third edition answers of nodes from the k-th on: what the second does, or 10 at the first INT96
+-- one of some slots is GEOMETRY or GEOGRAPHY
+abbrev SomePlaceType : List SlotBytes → Type 0
+SomePlaceType ss = (j : ℕ) × (j < length ss) × (isPlaceType (getD ss j []) ≡ true)
+
+-- what the third edition answers of nodes from the k-th on, where none is: what the second does, or 10 at the first INT96
 abbrev SameOr : List SlotBytes → ℕ → Verdict → Verdict → Type 0
-SameOr ss k v w = (v ≡ w) ⊎ ((j : ℕ) × (v ≡ Verdict.Refused (refusal MISPLACED (k + j))) × FirstInt96 ss j)
+SameOr ss k v w = (v ≡ w) ⊎ (((j : ℕ) × (v ≡ Verdict.Refused (refusal MISPLACED (k + j))) × FirstInt96 ss j) ⊎ SomePlaceType ss)
 
 first-thirds : (ss : List SlotBytes) (ms ns : List ℕ) (k : ℕ) → Thirds ss ms ns → SameOr ss k (firstFault k ns) (firstFault k ms)
 unfolding firstFault
@@ -233,8 +233,9 @@ first-thirds (s ∷ ss) (m ∷ ms) (n ∷ ns) k h = at (h .0) (first-thirds ss m
   where
     later : isInt96 s ≡ false → SameOr ss (suc k) (firstFault (suc k) ns) (firstFault (suc k) ms) → SameOr (s ∷ ss) k (firstFault (suc k) ns) (firstFault (suc k) ms)
     later f (inl e) = inl e
-    later f (inr r) =
-        inr (suc (r .0), r .1 ∙ ap (λ (i : ℕ). Verdict.Refused (refusal MISPLACED i)) (omega arith), record { below = omega (arith, r .2 .below); here = r .2 .here; earlier = earlier (r .0) (r .2 .earlier) })
+    later f (inr (inr g)) = inr (inr (suc (g .0), omega (arith, g .1), g .2))
+    later f (inr (inl r)) =
+        inr (inl (suc (r .0), r .1 ∙ ap (λ (i : ℕ). Verdict.Refused (refusal MISPLACED i)) (omega arith), record { below = omega (arith, r .2 .below); here = r .2 .here; earlier = earlier (r .0) (r .2 .earlier) }))
       where
         earlier : (j : ℕ) → ((i : ℕ) → i < j → isInt96 (getD ss i []) ≡ false) → (i : ℕ) → i < suc j → isInt96 (getD (s ∷ ss) i []) ≡ false
         earlier j before zero l = f
@@ -251,8 +252,9 @@ first-thirds (s ∷ ss) (m ∷ ms) (n ∷ ns) k h = at (h .0) (first-thirds ss m
     at : Third s m n → SameOr ss (suc k) (firstFault (suc k) ns) (firstFault (suc k) ms) → SameOr (s ∷ ss) k (firstFault k (n ∷ ns)) (firstFault k (m ∷ ms))
     at (inl h) rest = rw (h .1) (same m (h .0) rest)
     at (inr (inl h)) rest = inl (told n (h .0) ∙ ap (λ (x : ℕ). firstFault k (x ∷ ms)) (h .1))
-    at (inr (inr h)) rest =
-        inr (0, ap (λ (x : ℕ). firstFault k (x ∷ ns)) (h .1) ∙ ap (λ (i : ℕ). Verdict.Refused (refusal MISPLACED i)) (omega arith), record { below = omega arith; here = h .0; earlier = λ i l. absurd (omega arith) })
+    at (inr (inr (inl h))) rest =
+        inr (inl (0, ap (λ (x : ℕ). firstFault k (x ∷ ns)) (h .1) ∙ ap (λ (i : ℕ). Verdict.Refused (refusal MISPLACED i)) (omega arith), record { below = omega arith; here = h .0; earlier = λ i l. absurd (omega arith) }))
+    at (inr (inr (inr h))) rest = inr (inr (0, omega arith, h .0))
 
 -- and where it refuses none, none is one
 none-thirds : (ss : List SlotBytes) (ms ns : List ℕ) (k : ℕ) → Thirds ss ms ns → firstFault k ns ≡ Verdict.Lawful → (j : ℕ) → j < length ss → isInt96 (getD ss j []) ≡ false
@@ -266,7 +268,8 @@ none-thirds (s ∷ ss) (m ∷ ms) (zero ∷ ns) k h e zero l = other (h .0)
     other : Third s m 0 → isInt96 s ≡ false
     other (inl q) = q .0
     other (inr (inl q)) = absurd (omega (arith, q .0))
-    other (inr (inr q)) = absurd (omega (arith, q .1))
+    other (inr (inr (inl q))) = absurd (omega (arith, q .1))
+    other (inr (inr (inr q))) = by-test (isInt96 s) (λ t. absurd (omega (arith, q .1 t))) (λ f. f)
 none-thirds (s ∷ ss) (m ∷ ms) (zero ∷ ns) k h e (suc j) l = none-thirds ss ms ns (suc k) (h .1) e j (omega arith)
 
 pub keeps-none : (t : Tree) → unlawful THIRD t ≡ Verdict.Lawful → (j : ℕ) → j < length (listing t) → isInt96 (getD (listing t) j []) ≡ false
@@ -292,18 +295,29 @@ slots-third ss = rw (treeRefusal-places THIRD ss, treeRefusal-places SECOND ss) 
     places (Verdict.Refused r) e = inl refl
     places Verdict.Lawful e = deeper (tooDeep (treeOf ss)) (fills e)
 
--- and of any sheet
+-- and of any sheet, which the second edition may refuse with 4 at the first of the two
 abbrev pub Answered : List ℕ → Verdict → Verdict → Type 0
-Answered bytes v w = (v ≡ w) ⊎ ((j : ℕ) × (v ≡ Verdict.Refused (refusal MISPLACED j)) × FirstInt96 (slots bytes) j)
+Answered bytes v w =
+    (v ≡ w)
+    ⊎ (((j : ℕ) × (v ≡ Verdict.Refused (refusal MISPLACED j)) × FirstInt96 (slots bytes) j)
+    ⊎ ((j : ℕ) × (w ≡ Verdict.Refused (refusal SLOT j)) × FirstGeospatial bytes j))
 
 pub judgement-third : (bytes : List ℕ) → Answered bytes (judgement THIRD bytes) (judgement SECOND bytes)
 unfolding judgement judgedAs outcome outcomeOf
-judgement-third bytes = rw (openOf-edition THIRD SECOND bytes (known-of third) (known-of second)) (on (openOf SECOND bytes))
+judgement-third bytes = opened (openOf-third bytes)
   where
-    from-first : {v w : Verdict} → SameOr (slots bytes) 0 v w → Answered bytes v w
-    from-first (inl e) = inl e
-    from-first (inr r) = inr (r .0, r .1 ∙ ap (λ (i : ℕ). Verdict.Refused (refusal MISPLACED i)) (omega arith), r .2)
+    -- a sheet that the second opens has none of the two
+    from-first : (t : ℕ) → openOf SECOND bytes ≡ Counted.Count t → {v w : Verdict} → SameOr (slots bytes) 0 v w → Answered bytes v w
+    from-first t e (inl q) = inl q
+    from-first t e (inr (inl r)) = inr (inl (r .0, r .1 ∙ ap (λ (i : ℕ). Verdict.Refused (refusal MISPLACED i)) (omega arith), r .2))
+    from-first t e (inr (inr g)) =
+        let low : g .0 < t = omega (arith, g .1, openOf-slots-length SECOND bytes t e) in
+        absurd (true≢false (sym (g .2) ∙ ap isPlaceType (slots-at bytes (g .0) [] (omega (arith, low, openOf-total SECOND bytes t e))) ∙ sound-other (slotAt bytes (g .0)) (openOf-sound SECOND bytes t e (g .0) low)))
 
-    on : (c : Counted) → Answered bytes (judgedAs THIRD (outcomeOf bytes c)) (judgedAs SECOND (outcomeOf bytes c))
-    on (Counted.Count t) = from-first (slots-third (slots bytes))
-    on (Counted.Refused r) = inl refl
+    on : (c : Counted) → openOf SECOND bytes ≡ c → Answered bytes (judgedAs THIRD (outcomeOf bytes c)) (judgedAs SECOND (outcomeOf bytes c))
+    on (Counted.Count t) e = from-first t e (slots-third (slots bytes))
+    on (Counted.Refused r) e = inl refl
+
+    opened : Opened bytes (openOf THIRD bytes) (openOf SECOND bytes) → Answered bytes (judgedAs THIRD (outcomeOf bytes (openOf THIRD bytes))) (judgedAs SECOND (outcomeOf bytes (openOf SECOND bytes)))
+    opened (inl e) = rw e (on (openOf SECOND bytes) refl)
+    opened (inr r) = inr (inr (r .0, ap (λ (c : Counted). judgedAs SECOND (outcomeOf bytes c)) (r .1), r .2))

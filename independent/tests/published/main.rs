@@ -2,12 +2,13 @@
 
 mod tables;
 
+use independent::boxes::bounds_of;
 use independent::edition::FIRST;
 use independent::int96::{count_of, of_parts, value_of};
 use independent::sheet::{assemble, Sheet, Slot, BLOCK};
 use independent::{
-    decimal, decode, encode, order, read, resolve, rewrite, utf8, ColumnType, Fields, PairRefusal, Refusal, Value,
-    ROW_WIDTH,
+    decimal, decode, encode, inside, order, read, resolve, rewrite, utf8, ColumnType, Fields, PairRefusal, Refusal,
+    Value, ROW_WIDTH,
 };
 use tables::*;
 
@@ -62,6 +63,16 @@ fn int96_times() {
         let (of_day, julian_day) = int96_of_meeus(hour, halves);
         let expected = encode(3, &fields([year, month, day, hour, 0, 0, 0]));
         assert_eq!(count_of(&of_parts(of_day, julian_day)), expected, "{year}-{month}-{day}");
+    }
+}
+
+#[test]
+fn boxes_of_points() {
+    for (kind, points, expected) in BOXES {
+        assert_eq!(bounds_of(kind, points), expected.map_err(refused), "{kind}: {points:?}");
+    }
+    for (kind, bounds, [x, y], expected) in INSIDE {
+        assert_eq!(inside(kind, bounds, x, y), expected.map_err(refused), "{kind}: {bounds:?}, {x} {y}");
     }
 }
 

@@ -1,6 +1,6 @@
 //! Published vectors, each under its source, and those of each edition. Data alone: whoever runs them brings the reader.
 
-/// Document 02, R-4 and R-10: the known editions, and numbers of none.
+/// Document 02, R-4, R-10 and R-11: the known editions, and numbers of none.
 pub const KNOWN_EDITIONS: [u32; 3] = [1, 2, 3];
 pub const UNKNOWN_EDITIONS: [u32; 4] = [0, 4, 5, u32::MAX];
 
@@ -148,6 +148,60 @@ pub fn int96_of_meeus(hour: i64, halves: i64) -> (u64, u32) {
     (hour as u64 * (NANOS_OF_DAY / 24), ((halves + 1) / 2) as u32)
 }
 
+/// A kind, coordinates, and their box, or no box, or the number of the refusal.
+pub type Points = (u32, &'static [f64], Result<Option<[f64; 4]>, u32>);
+
+/// Document 02, R-11, sentence by sentence: NaN coordinates are skipped one by one, no box results exactly if an axis
+/// has none, the range of GEOGRAPHY and of it alone, and which refusal comes first.
+pub const BOXES: [Points; 16] = [
+    (17, &[1.0, 2.0, -3.0, 4.0], Ok(Some([-3.0, 1.0, 2.0, 4.0]))),
+    (18, &[1.0, 2.0, -3.0, 4.0], Ok(Some([-3.0, 1.0, 2.0, 4.0]))),
+    (17, &[f64::NAN, 2.0, -3.0, f64::NAN], Ok(Some([-3.0, -3.0, 2.0, 2.0]))),
+    (17, &[f64::NAN, 2.0, f64::NAN, 4.0], Ok(None)),
+    (18, &[1.0, f64::NAN], Ok(None)),
+    (17, &[], Ok(None)),
+    (18, &[-180.0, -90.0, 180.0, 90.0], Ok(Some([-180.0, 180.0, -90.0, 90.0]))),
+    (18, &[180.00000000000003, 0.0], Err(16)),
+    (18, &[0.0, -90.00000000000001], Err(16)),
+    (
+        17,
+        &[180.00000000000003, -90.00000000000001],
+        Ok(Some([180.00000000000003, 180.00000000000003, -90.00000000000001, -90.00000000000001])),
+    ),
+    (18, &[f64::NAN, 90.00000000000001], Err(16)),
+    (
+        17,
+        &[f64::INFINITY, f64::NEG_INFINITY],
+        Ok(Some([f64::INFINITY, f64::INFINITY, f64::NEG_INFINITY, f64::NEG_INFINITY])),
+    ),
+    (18, &[200.0], Err(15)),
+    (17, &[1.0, 2.0, 3.0], Err(15)),
+    (16, &[200.0], Err(20)),
+    (0, &[], Err(20)),
+];
+
+/// A kind, a box, a point, and whether it is inside, or the number of the refusal.
+pub type Tested = (u32, [f64; 4], [f64; 2], Result<bool, u32>);
+
+/// Document 02, R-11: xmin above xmax, the bounds themselves, boxes that are none, and points of GEOGRAPHY out of its
+/// range.
+pub const INSIDE: [Tested; 14] = [
+    (17, [0.0, 1.0, 0.0, 1.0], [1.0, 0.0], Ok(true)),
+    (17, [0.0, 1.0, 0.0, 1.0], [2.0, 0.0], Ok(false)),
+    (18, [170.0, -170.0, 0.0, 1.0], [180.0, 1.0], Ok(true)),
+    (18, [170.0, -170.0, 0.0, 1.0], [-175.0, 0.5], Ok(true)),
+    (17, [170.0, -170.0, 0.0, 1.0], [0.0, 0.5], Ok(false)),
+    (17, [1.0, 0.0, 0.0, 1.0], [500.0, 0.5], Ok(true)),
+    (17, [0.0, 1.0, 1.0, 0.0], [0.5, 0.5], Err(16)),
+    (17, [f64::NAN, 1.0, 0.0, 1.0], [0.5, 0.5], Err(16)),
+    (18, [0.0, 181.0, 0.0, 1.0], [0.5, 0.5], Err(16)),
+    (17, [0.0, 181.0, 0.0, 1.0], [0.5, 0.5], Ok(true)),
+    (18, [0.0, 1.0, 0.0, 1.0], [0.5, 91.0], Err(16)),
+    (17, [0.0, 1.0, 0.0, 1.0], [f64::NAN, 0.5], Ok(false)),
+    (18, [0.0, 1.0, 0.0, 1.0], [0.5, f64::NAN], Ok(false)),
+    (15, [f64::NAN, 1.0, 0.0, 1.0], [0.5, 91.0], Err(20)),
+];
+
 /// A text, and where whole valid sequences stop in it.
 pub type Text = (&'static [u8], usize);
 
@@ -209,8 +263,8 @@ const READS: [(Column, &[u8], Read); 16] = [
 ];
 
 /// Document 02, R-4: scale equal to precision on each physical type, at its greatest precision; and no precision. R-10: INT96, also under
-/// UNKNOWN, which no value is.
-const READS_BY_EDITION: [(Column, &[u8], ByEdition<Read>); 10] = [
+/// UNKNOWN, which no value is. R-11: GEOMETRY and GEOGRAPHY, of any bytes, with their edge rules and one that is none.
+const READS_BY_EDITION: [(Column, &[u8], ByEdition<Read>); 16] = [
     ([6, 0, 5, 3, 3], b"\x01", since_second(Err(20), Ok((5, [0, 1])))),
     ([1, 0, 5, 9, 9], b"\xFF\xFF\xFF\xFF", since_second(Err(20), Ok((1, [u64::MAX, 0])))),
     ([2, 0, 5, 18, 18], b"\x01\0\0\0\0\0\0\0", since_second(Err(20), Ok((1, [1, 0])))),
@@ -221,6 +275,12 @@ const READS_BY_EDITION: [(Column, &[u8], ByEdition<Read>); 10] = [
     ([3, 0, 0, 0, 0], &[0; 11], until_third(Err(15), Err(20))),
     ([3, 0, 11, 0, 0], &[0; 12], until_third(Err(16), Err(20))),
     ([3, 0, 8, 3, 0], &[0; 12], [Err(20); 3]),
+    ([6, 0, 17, 0, 0], b"\xFF", until_third(Err(20), Ok((5, [0, 1])))),
+    ([6, 0, 18, 0, 0], b"", until_third(Err(20), Ok((5, [0, 0])))),
+    ([6, 0, 18, 4, 0], b"\x80", until_third(Err(20), Ok((5, [0, 1])))),
+    ([6, 0, 18, 5, 0], b"", [Err(20); 3]),
+    ([6, 0, 17, 1, 0], b"", [Err(20); 3]),
+    ([6, 0, 16, 0, 0], b"", [Err(20); 3]),
 ];
 
 /// Every value that is read, with what an edition answers.
@@ -251,11 +311,14 @@ const ORDERS: [Ordered<Order>; 10] = [
 ];
 
 /// Document 02, R-4: decimals whose scale equals their precision. R-10: INT96, which has no order and then no column.
-const ORDERS_BY_EDITION: [Ordered<ByEdition<Order>>; 4] = [
+/// GEOMETRY and GEOGRAPHY, which have no column and then no order.
+const ORDERS_BY_EDITION: [Ordered<ByEdition<Order>>; 6] = [
     ([6, 0, 5, 3, 3], b"\x80", b"\x7F", since_second(Err(20), Ok(0))),
     ([1, 0, 5, 1, 1], b"\x09\0\0\0", b"\xF7\xFF\xFF\xFF", since_second(Err(20), Ok(2))),
     ([3, 0, 0, 0, 0], &[0; 12], &[0; 12], until_third(Err(17), Err(20))),
     ([3, 0, 11, 0, 0], b"", b"", until_third(Err(17), Err(20))),
+    ([6, 0, 17, 0, 0], b"a", b"b", until_third(Err(20), Err(17))),
+    ([6, 0, 18, 4, 0], b"a", b"a", until_third(Err(20), Err(17))),
 ];
 
 /// Every two values that are ordered, with what an edition answers.
@@ -477,10 +540,11 @@ const SHEETS: [Sheet; 19] = [
     ),
 ];
 
-/// Document 01's point "scale = precision", and document 02, R-4: the same on each physical type, at its greatest precision, by one annotation
-/// and by both; no precision; a scale above the precision. R-10: an INT96 leaf, plain, under UNKNOWN, behind a scale that equals its precision,
-/// and with a fault that comes before.
-const SHEETS_BY_EDITION: [(&str, &[Slot], ByEdition<Rows>); 12] = [
+/// Document 01's point "scale = precision", and document 02, R-4: the same on each physical type, at its greatest
+/// precision, by one annotation and by both; no precision; a scale above the precision. R-10: an INT96 leaf, plain,
+/// under UNKNOWN, behind a scale that equals its precision, and with a fault that comes before. R-11: GEOMETRY and
+/// GEOGRAPHY, with parameters that they have not, on another physical type, and beside a converted type.
+const SHEETS_BY_EDITION: [(&str, &[Slot], ByEdition<Rows>); 18] = [
     (
         "scale = precision",
         &[ROOT_OF_ONE, ([1, 0, 255, 5, 0, 0, 0, 0, 3, 3], "d")],
@@ -537,6 +601,32 @@ const SHEETS_BY_EDITION: [(&str, &[Slot], ByEdition<Rows>); 12] = [
     ),
     ("a type length on INT96", &[ROOT_OF_ONE, ([3, 0, 255, 0, 0, 0, 0, 12, 0, 0], "t")], [Err((8, 1)); 3]),
     ("UTF8 beside ENUM on INT96", &[ROOT_OF_ONE, ([3, 0, 0, 4, 0, 0, 0, 0, 0, 0], "t")], [Err((9, 1)); 3]),
+    (
+        "GEOMETRY",
+        &[ROOT_OF_ONE, ([6, 0, 255, 17, 0, 0, 0, 0, 0, 0], "p")],
+        until_third(Err((4, 1)), Ok(&[ROW_OF_ONE, [6, 0, 0, 17, 0, 0, 0, 2, 0, 0, 0]])),
+    ),
+    (
+        "GEOGRAPHY(KARNEY)",
+        &[ROOT_OF_ONE, ([6, 1, 255, 18, 4, 0, 0, 0, 0, 0], "p")],
+        until_third(Err((4, 1)), Ok(&[ROW_OF_ONE, [6, 0, 1, 18, 4, 0, 0, 2, 0, 1, 0]])),
+    ),
+    (
+        "GEOGRAPHY of a sixth edge rule",
+        &[ROOT_OF_ONE, ([6, 0, 255, 18, 5, 0, 0, 0, 0, 0], "p")],
+        until_third(Err((4, 1)), Err((10, 1))),
+    ),
+    (
+        "GEOMETRY on FIXED",
+        &[ROOT_OF_ONE, ([7, 0, 255, 17, 0, 0, 0, 21, 0, 0], "p")],
+        until_third(Err((4, 1)), Err((10, 1))),
+    ),
+    (
+        "UTF8 beside GEOMETRY",
+        &[ROOT_OF_ONE, ([6, 0, 0, 17, 0, 0, 0, 0, 0, 0], "p")],
+        until_third(Err((4, 1)), Err((9, 1))),
+    ),
+    ("logical 16", &[ROOT_OF_ONE, ([6, 0, 255, 16, 0, 0, 0, 0, 0, 0], "p")], [Err((4, 1)); 3]),
 ];
 
 /// Every sheet, with what an edition answers.

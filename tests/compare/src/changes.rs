@@ -49,7 +49,7 @@ fn change_slot(random: &mut Random, sheet: &mut [u8]) {
     });
     let node = near.filter(|_| random.percent(50)).unwrap_or(any);
     let slot = &mut sheet[slot_start(node)..][..SLOT];
-    match random.below(25) {
+    match random.below(26) {
         0 => slot[0] = random.pick(&[0, 1, 2, 3, 4, 5, 6, 7, 8, 9, 254, physical::GROUP, physical::GROUP]),
         1..4 => slot[1] = random.pick(&[0, 1, 2, 2, 3, 254, 255]),
         4 => {
@@ -57,10 +57,10 @@ fn change_slot(random: &mut Random, sheet: &mut [u8]) {
             slot[2] = random.pick(&[any, any, converted::NONE, 254, converted::MAP_KEY_VALUE]);
         }
         5 => {
-            let any = random.between(0, 15) as u8;
+            let any = random.between(0, 19) as u8;
             slot[3] = random.pick(&[any, any, logical::NONE, 9, 255]);
         }
-        6 => slot[4] = random.pick(&[0, 1, 2, 3, 4, 8, 16, 32, 64, 65, 255]),
+        6 => slot[4] = random.pick(&[0, 1, 2, 3, 4, 5, 8, 16, 32, 64, 65, 255]),
         7 => slot[5] = random.pick(&[0, 1, 2, 255]),
         8..10 => {
             let claimed = u16::from_le_bytes([slot[6], slot[7]]);
@@ -85,6 +85,7 @@ fn change_slot(random: &mut Random, sheet: &mut [u8]) {
         17 => slot[random.between(24, SLOT - 1)] = random.byte(),
         18..21 => rename(random, slot),
         21 => make_int96(random, slot),
+        22 => make_geospatial(random, slot),
         _ => {
             // Another annotation, whole.
             let any = Annotation::Logical(random_logical(random));
@@ -161,6 +162,23 @@ fn make_int96(random: &mut Random, slot: &mut [u8]) {
     ]));
     slot[8..20].fill(0);
     slot[8] = random.pick(&[0, 0, 0, 12]);
+}
+
+/// Makes a slot a leaf of GEOMETRY or GEOGRAPHY, or of a code beside theirs, at times with a fault.
+fn make_geospatial(random: &mut Random, slot: &mut [u8]) {
+    slot[0] =
+        random.pick(&[physical::BYTE_ARRAY, physical::BYTE_ARRAY, physical::BYTE_ARRAY, physical::FIXED, slot[0]]);
+    let code = random.pick(&[logical::GEOMETRY, logical::GEOGRAPHY, logical::GEOGRAPHY, 16, 19]);
+    let a = random.pick(&[0, 1, 2, 3, 4, 5, 5, 5]);
+    slot[2..6].copy_from_slice(&random.pick(&[
+        [converted::NONE, code, 0, 0],
+        [converted::NONE, code, a, 0],
+        [converted::NONE, code, a, 1],
+        [converted::UTF8, code, a, 0],
+        [converted::BSON, code, 0, 0],
+    ]));
+    slot[8..20].fill(0);
+    slot[8] = random.pick(&[0, 0, 0, 21]);
 }
 
 /// Gives a slot another name, of those that rule 12 looks at.

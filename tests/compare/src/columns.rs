@@ -23,6 +23,10 @@ pub fn column(random: &mut Random) -> Column {
             column[at] = other_number(random, column[at]);
         }
     }
+    if column[2] == logical::GEOGRAPHY.into() && random.percent(10) {
+        // The last edge rule, and one that there is not.
+        column[3] = random.pick(&[4, 5]);
+    }
     column
 }
 

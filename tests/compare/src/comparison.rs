@@ -3,6 +3,7 @@
 use std::fmt;
 use std::hint::black_box;
 
+use independent::boxes::WIDTH;
 use independent::compare::{ENTRY, ONLY_IN_FIRST, ONLY_IN_SECOND, PLACES};
 use independent::int96::SIZE;
 use independent::refusal::{is_of_a_sheet, OUTPUT, UNKNOWN_EDITION};
@@ -21,6 +22,7 @@ pub struct Comparison<'a> {
     bytes: Lent<u8>,
     words: Lent<u64>,
     numbers: Lent<i64>,
+    bounds: Lent<f64>,
     /// What was counted.
     pub tally: Tally,
 }
@@ -50,6 +52,10 @@ pub struct Tally {
     pub codes: [u64; CODES],
     /// Comparisons of sheets refused, by the sheet at fault.
     pub sheet_faults: [u64; 3],
+    /// Boxes asked for: there is none, there is one.
+    pub boxes: [u64; 2],
+    /// Points tested: outside, inside.
+    pub tested: [u64; 2],
 }
 
 /// Where the sides differ, or a promise is broken by both.
@@ -112,8 +118,8 @@ impl Answers {
 impl<'a> Comparison<'a> {
     /// A comparison of two sides.
     pub fn new(left: &'a dyn Side, right: &'a dyn Side) -> Self {
-        let (rows, bytes, words, numbers) = Default::default();
-        Comparison { left, right, rows, bytes, words, numbers, tally: Tally::new() }
+        let (rows, bytes, words, numbers, bounds) = Default::default();
+        Comparison { left, right, rows, bytes, words, numbers, bounds, tally: Tally::new() }
     }
 
     fn count(&mut self, answer: u64) {
@@ -323,6 +329,46 @@ impl<'a> Comparison<'a> {
     pub fn int96(&self) -> [u8; SIZE] {
         *self.bytes.held().first_chunk().expect("twelve bytes were written")
     }
+
+    /// Finds the box of points, with so many numbers lent. Bounds are compared as numbers: zeros are equal.
+    pub fn box_of(&mut self, kind: u32, points: &[f64], lent: usize) -> Result<u64, Difference> {
+        // No mark is a NaN or a zero, so equal marks have the same bits.
+        self.bounds.prepare(lent, |at| f64::from_bits(0x5A5A_5A5A_0000_0001 ^ (at as u64) << 8));
+        let mut copy = points.to_vec();
+        let left = self.left.box_of(kind, &copy, self.bounds.left());
+        let right = self.right.box_of(kind, points, self.bounds.right());
+        let written = if left == WIDTH as u64 { WIDTH } else { 0 };
+        let answers = Answers { entry: "box_of", left, right };
+        answers.check(Some((&self.bounds, 0, written)), || format!("kind {kind}, {lent} lent, points {points:?}"))?;
+        // The compiler may not take it that the copy is as it was.
+        if !black_box(&mut copy).iter().map(|number| number.to_bits()).eq(points.iter().map(|number| number.to_bits()))
+        {
+            return Err(written_to("box_of"));
+        }
+        self.count(left);
+        if refusal_of(left) == 0 {
+            self.tally.boxes[usize::from(written > 0)] += 1;
+        }
+        Ok(left)
+    }
+
+    /// The box that the last finding of one wrote.
+    pub fn bounds(&self) -> [f64; WIDTH] {
+        *self.bounds.held().first_chunk().expect("four bounds were written")
+    }
+
+    /// Tests whether a point is inside a box.
+    pub fn inside(&mut self, kind: u32, bounds: [f64; WIDTH], x: f64, y: f64) -> Result<u64, Difference> {
+        let left = self.left.inside(kind, bounds, x, y);
+        let right = self.right.inside(kind, bounds, x, y);
+        let answers = Answers { entry: "inside", left, right };
+        answers.check::<u8>(None, || format!("kind {kind}, box {bounds:?}, point {x:?} {y:?}"))?;
+        self.count(left);
+        if refusal_of(left) == 0 {
+            self.tally.tested[value_of(left) as usize % 2] += 1;
+        }
+        Ok(left)
+    }
 }
 
 /// Whether an order is answered by what reading answers for its two values: the refusal of the first that is refused, with its number and
@@ -391,6 +437,8 @@ impl Tally {
             faults: [0; 3],
             codes: [0; CODES],
             sheet_faults: [0; 3],
+            boxes: [0; 2],
+            tested: [0; 2],
         }
     }
 
@@ -404,7 +452,7 @@ impl Tally {
     /// What was met less often than it must be.
     pub fn missing(&self, least: u64) -> Vec<String> {
         /// The kinds that rows have: plain leaf, logical types, INTERVAL, plain group.
-        const KINDS: [usize; 16] = [0, 1, 2, 3, 4, 5, 6, 7, 8, 10, 11, 12, 13, 14, 21, 30];
+        const KINDS: [usize; 18] = [0, 1, 2, 3, 4, 5, 6, 7, 8, 10, 11, 12, 13, 14, 17, 18, 21, 30];
         let all = [
             ("refusal", (1..=REFUSALS).map(|n| (n, self.refusals[n])).collect::<Vec<_>>()),
             ("kind", KINDS.iter().map(|&n| (n, self.kinds[n])).collect()),
@@ -414,6 +462,8 @@ impl Tally {
             ("value at fault", self.faults.iter().copied().enumerate().collect()),
             ("code of an entry", self.codes()),
             ("sheet at fault", self.sheet_faults.iter().copied().enumerate().collect()),
+            ("answer of a box", self.boxes.iter().copied().enumerate().collect()),
+            ("answer of a point", self.tested.iter().copied().enumerate().collect()),
         ];
         let mut missing = Vec::new();
         for (what, counts) in all {
@@ -442,7 +492,9 @@ impl fmt::Display for Tally {
         write!(f, "\ncodes of entries")?;
         self.codes().iter().try_for_each(|(n, count)| write!(f, " {n}:{count}"))?;
         write!(f, "; sheets at fault")?;
-        self.sheet_faults.iter().enumerate().try_for_each(|(n, count)| write!(f, " {n}:{count}"))
+        self.sheet_faults.iter().enumerate().try_for_each(|(n, count)| write!(f, " {n}:{count}"))?;
+        let ([no_box, boxes], [outside, inside]) = (self.boxes, self.tested);
+        write!(f, "\nboxes {boxes}, no box {no_box}; points inside {inside}, outside {outside}")
     }
 }
 

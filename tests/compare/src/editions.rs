@@ -1,6 +1,7 @@
 //! A question asked in every edition, and the answers of the known ones held to one another.
 
-use independent::codes::{logical, physical};
+use independent::codes::logical::{self, is_geospatial};
+use independent::codes::physical;
 use independent::edition::{FIRST, SECOND, THIRD};
 use independent::refusal;
 use independent::sheet::{slot_at, slot_start};
@@ -45,7 +46,7 @@ impl Comparison<'_> {
             1 => is_not_of_the_first(first, answer),
             _ => is_not_of_the_first(second, answer),
         };
-        let in_third = |answer| int96_in_either([first, second], answer);
+        let in_third = |answer| third_of_either([first, second], answer);
         held("compare", &known, is_first_alone, in_third, || [first, second].concat())
     }
 
@@ -78,35 +79,49 @@ fn in_all<T>(mut ask: impl FnMut(u32) -> Result<(u64, T), Difference>) -> Result
 /// Holds the editions to one another on a sheet.
 fn held_on_sheet<T: PartialEq>(entry: &'static str, known: &Known<T>, sheet: &[u8]) -> Result<(), Difference> {
     let is_first_alone = |first| is_not_of_the_first(sheet, first);
-    held(entry, known, is_first_alone, |second| int96_in(sheet, second), || sheet.to_vec())
+    held(entry, known, is_first_alone, |second| third_of(sheet, second), || sheet.to_vec())
 }
 
-/// Holds the editions to one another on a column type: in the third INT96 is none.
+/// What the third edition answers, by what the second does.
+enum Third {
+    AsSecond,
+    Refused(u64),
+    /// Nothing is said of it: GEOMETRY and GEOGRAPHY are the third edition's own.
+    Own,
+}
+
+/// Holds the editions to one another on a column type: in the third INT96 is none, and GEOMETRY and GEOGRAPHY are its
+/// own.
 fn held_on_column<T: PartialEq>(
     entry: &'static str,
     known: &Known<T>,
     column: Column,
     input: impl FnOnce() -> Vec<u8>,
 ) -> Result<(), Difference> {
-    let is_int96 = column[0] == physical::INT96.into();
-    let in_third = |_| is_int96.then_some(refused(refusal::COLUMN_TYPE, 0));
+    let [physical, _, kind, ..] = column;
+    let in_third = |_| match u8::try_from(kind) {
+        Ok(kind) if is_geospatial(kind) => Third::Own,
+        _ if physical == physical::INT96.into() => Third::Refused(refused(refusal::COLUMN_TYPE, 0)),
+        _ => Third::AsSecond,
+    };
     held(entry, known, |first| is_no_column_of_the_first(column, first), in_third, input)
 }
 
 /// Holds the second edition to what the first answers and leaves, unless that is a refusal that the second need not give; and the third to
-/// what the second answers and leaves, or to the refusal that it gives in place of that.
+/// what the second answers and leaves, or to the refusal that it gives in place of that, where it is said.
 fn held<T: PartialEq>(
     entry: &'static str,
     known: &Known<T>,
     is_first_alone: impl FnOnce(u64) -> bool,
-    in_third: impl FnOnce(u64) -> Option<u64>,
+    in_third: impl FnOnce(u64) -> Third,
     input: impl FnOnce() -> Vec<u8>,
 ) -> Result<(), Difference> {
     let [first, second, third] = known;
     let of_second = first == second || first.0 != second.0 && is_first_alone(first.0);
     let of_third = match in_third(second.0) {
-        Some(refusal) => third.0 == refusal,
-        None => third == second,
+        Third::AsSecond => third == second,
+        Third::Refused(refusal) => third.0 == refusal,
+        Third::Own => true,
     };
     if of_second && of_third {
         return Ok(());
@@ -116,30 +131,44 @@ fn held<T: PartialEq>(
     Err(broken(entry, what, &input()))
 }
 
-/// The refusal of the third edition for an INT96 leaf in a sheet, in place of what the second answers: the first such leaf, where the second
-/// finds nothing wrong up to it. At the leaf itself 8 and 9 come before.
-fn int96_in(sheet: &[u8], second: u64) -> Option<u64> {
+/// The answer of the third edition on a sheet: a refusal for the first INT96 leaf, where the second finds nothing wrong
+/// up to it, and at the leaf itself 8 and 9 come before; its own, where the second stops at the code of GEOMETRY or
+/// GEOGRAPHY; else that of the second.
+fn third_of(sheet: &[u8], second: u64) -> Third {
+    let place = value_of(second) as usize;
     let judged = match refusal_of(second) {
         0 | refusal::OUTPUT => total_of(sheet),
-        refusal::SHAPE..=refusal::MAP => value_of(second) as usize,
-        _ => return None,
+        refusal::SHAPE..=refusal::MAP => place,
+        refusal::SLOT if slot_at(sheet, place).is_some_and(|(_, slot)| is_geospatial(slot.logical)) => {
+            return Third::Own
+        }
+        _ => return Third::AsSecond,
     };
-    let leaf = (0..judged).find(|&node| sheet[slot_start(node)] == physical::INT96)?;
-    Some(refused(refusal::ANNOTATION, leaf as u32))
+    match (0..judged).find(|&node| sheet[slot_start(node)] == physical::INT96) {
+        Some(leaf) => Third::Refused(refused(refusal::ANNOTATION, leaf as u32)),
+        None => Third::AsSecond,
+    }
 }
 
 /// The same for two sheets that are compared, with the sheet at fault.
-fn int96_in_either(sheets: [&[u8]; 2], second: u64) -> Option<u64> {
+fn third_of_either(sheets: [&[u8]; 2], second: u64) -> Third {
     let accepted = Some(0);
     let judged = match (refusal_of(second), fault_of(second)) {
         (_, 1) => [Some(second), None],
         (_, 2) => [accepted, Some(second)],
         _ => [accepted; 2],
     };
-    (1..).zip(sheets).zip(judged).find_map(|((number, sheet), judged)| {
-        let refusal = int96_in(sheet, judged?)?;
-        Some(pair_refused(number, refusal_of(refusal), value_of(refusal)))
-    })
+    for ((number, sheet), judged) in (1..).zip(sheets).zip(judged) {
+        let Some(judged) = judged else { break };
+        match third_of(sheet, judged) {
+            Third::AsSecond => {}
+            Third::Refused(refusal) => {
+                return Third::Refused(pair_refused(number, refusal_of(refusal), value_of(refusal)))
+            }
+            Third::Own => return Third::Own,
+        }
+    }
+    Third::AsSecond
 }
 
 /// Whether the first edition refuses a sheet for a leaf whose scale equals its precision.

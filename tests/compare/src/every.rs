@@ -1,11 +1,14 @@
-//! Every case of what has few: codes beside codes, lengths beside precisions, small trees beside one another, octets beside octets, days.
+//! Every case of what has few: codes beside codes, lengths beside precisions, small trees beside one another, octets
+//! beside octets, days, and boxes of special numbers.
 
+use independent::boxes::WIDTH;
 use independent::codes::physical::{BOOLEAN, BYTE_ARRAY, DOUBLE, FIXED, FLOAT, GROUP, INT32, INT64, INT96};
 use independent::codes::{converted, logical, repetition};
 use independent::decimal::{greatest_precision, MAX_LENGTH};
 use independent::int96::{self, of_parts, SIZE};
 use independent::{refusal, sheet, ROW_WIDTH};
 
+use crate::boxes;
 use crate::columns::Column;
 use crate::comparison::{broken, Comparison, Difference};
 use crate::int96::{from_and_back, to_and_back, DAY, FIRST_DAY, LAST_DAY};
@@ -33,7 +36,7 @@ const COLUMNS: [(u8, i32); 11] = [
 ];
 
 /// Parameters that some logical type takes, and some that none does.
-const PARAMETERS: [(u8, u8); 19] = [
+const PARAMETERS: [(u8, u8); 21] = [
     (0, 0),
     (1, 0),
     (0, 1),
@@ -42,7 +45,9 @@ const PARAMETERS: [(u8, u8); 19] = [
     (2, 1),
     (3, 0),
     (3, 1),
+    (4, 0),
     (4, 1),
+    (5, 0),
     (1, 2),
     (8, 0),
     (8, 1),
@@ -58,6 +63,7 @@ const PARAMETERS: [(u8, u8); 19] = [
 /// Compares both sides on all of it.
 pub fn run(comparison: &mut Comparison) -> Result<(), Difference> {
     codes(comparison)?;
+    column_types(comparison)?;
     lengths(comparison)?;
     digits(comparison)?;
     precisions(comparison)?;
@@ -66,7 +72,9 @@ pub fn run(comparison: &mut Comparison) -> Result<(), Difference> {
     octets(comparison)?;
     plain_texts(comparison)?;
     julian_days(comparison)?;
-    int96_bytes(comparison)
+    int96_bytes(comparison)?;
+    boxes_of_few(comparison)?;
+    points_in_boxes(comparison)
 }
 
 /// A node of a sheet: its codes and parameters, its numbers, and how many children it has.
@@ -119,13 +127,13 @@ fn judged(comparison: &mut Comparison, nodes: &[Node]) -> Result<(), Difference>
     comparison.rewrite_in_all(&sheet, sheet.len(), 0)
 }
 
-/// Every converted code and one outside the list, beside every logical code and two outside it, with every parameter and on every physical
-/// type; on a group also as the one child of a MAP.
+/// Every converted code and one outside the list, beside every logical code and those between and behind them, with
+/// every parameter and on every physical type; on a group also as the one child of a MAP.
 fn codes(comparison: &mut Comparison) -> Result<(), Difference> {
     let layer = Node { physical: GROUP, repetition: repetition::REPEATED, children: 1, ..PLAIN };
     let map = Node { physical: GROUP, logical: logical::MAP, children: 1, ..PLAIN };
     for converted in (0..=22).chain([converted::NONE]) {
-        for logical in 0..=15 {
+        for logical in 0..=19 {
             for parameters in PARAMETERS {
                 for (physical, type_length) in COLUMNS {
                     let node =
@@ -140,6 +148,23 @@ fn codes(comparison: &mut Comparison) -> Result<(), Difference> {
                     judged(comparison, &[ROOT, node])?;
                     judged(comparison, &[ROOT, Node { scale: 0, precision: 0, ..node }])?;
                 }
+            }
+        }
+    }
+    Ok(())
+}
+
+/// Every kind up to one that none has, with every parameter and on every physical type, as a column type: a value read,
+/// and ordered.
+fn column_types(comparison: &mut Comparison) -> Result<(), Difference> {
+    for kind in (0..=32).chain([255, 256 + 17, 256 + 18, 1 << 31 | 17, u32::MAX]) {
+        for (a, b) in PARAMETERS {
+            for (physical, type_length) in COLUMNS {
+                let column = [physical.into(), type_length as u32, kind, a.into(), b.into()];
+                for value in [&[0; 12][..], &[0xFF; 16], b""] {
+                    comparison.read_in_all(column, value, 2)?;
+                }
+                comparison.order_in_all(column, &[0; 12], &[0xFF; 16])?;
             }
         }
     }
@@ -349,6 +374,77 @@ fn int96_bytes(comparison: &mut Comparison) -> Result<(), Difference> {
     for count in [i64::MIN, -1, 0, i64::MAX] {
         for lent in 0..=3 * SIZE {
             to_and_back(comparison, count, lent)?;
+        }
+    }
+    Ok(())
+}
+
+/// Numbers at which a reader of boxes may go wrong: NaN of both signs, both zeros, the least and the greatest numbers,
+/// infinities, both ends of each range and the numbers beside them.
+fn special_numbers() -> Vec<f64> {
+    let tiny = f64::from_bits(1);
+    let positive = [0.0, tiny, 1.0, f64::MAX, f64::INFINITY, f64::NAN];
+    let ends = boxes::ENDS.into_iter().flat_map(|end| [end.next_down(), end, end.next_up()]);
+    positive.into_iter().chain(ends).flat_map(|number| [number, -number]).collect()
+}
+
+/// Every two special numbers as a point, every two such points of a few of them, and each length about a few points
+/// with each output that is too short or somewhat longer; by both kinds, and by those beside them.
+fn boxes_of_few(comparison: &mut Comparison) -> Result<(), Difference> {
+    let special = special_numbers();
+    let few = [-1.0, -0.0, 0.0, 1.0, f64::NAN, f64::INFINITY, 90.0_f64.next_up(), -180.0];
+    for kind in boxes::KINDS {
+        for &x in &special {
+            for &y in &special {
+                for points in [&[x, y][..], &[x, y, 2.0, 3.0], &[f64::NAN, 3.0, x, y], &[2.0, f64::NAN, x, y]] {
+                    boxes::found(comparison, kind, points, WIDTH)?;
+                }
+            }
+        }
+        for x in few {
+            for y in few {
+                for (other_x, other_y) in few.into_iter().flat_map(|x| few.map(|y| (x, y))) {
+                    boxes::found(comparison, kind, &[x, y, other_x, other_y], WIDTH)?;
+                }
+            }
+        }
+    }
+    for kind in (0..=32).chain([255, 256 + 17, 256 + 18, 1 << 31 | 17, u32::MAX]) {
+        for filled in [1.0, -0.0, 91.0, 181.0, f64::NAN, f64::INFINITY] {
+            for length in 0..=7 {
+                for lent in 0..=5 {
+                    boxes::found(comparison, kind, &vec![filled; length], lent)?;
+                }
+            }
+            boxes::tested(comparison, kind, [0.0, 1.0, 0.0, filled], [1.0, filled])?;
+        }
+    }
+    Ok(())
+}
+
+/// Every three special numbers as the bounds and a coordinate of one axis, with the other axis right, outside, a NaN,
+/// out of range and turned round.
+fn points_in_boxes(comparison: &mut Comparison) -> Result<(), Difference> {
+    let special = special_numbers();
+    let others = [
+        [0.0, 2.0, 1.0],
+        [0.0, 2.0, 3.0],
+        [0.0, 2.0, f64::NAN],
+        [0.0, 200.0, 1.0],
+        [0.0, 2.0, -200.0],
+        [2.0, 0.0, 1.0],
+    ];
+    for kind in boxes::KINDS {
+        for &least in &special {
+            for &greatest in &special {
+                for &number in &special {
+                    for [other_least, other_greatest, other] in others {
+                        let [x, y] = [[least, greatest], [other_least, other_greatest]];
+                        boxes::tested(comparison, kind, [x[0], x[1], y[0], y[1]], [number, other])?;
+                        boxes::tested(comparison, kind, [y[0], y[1], x[0], x[1]], [other, number])?;
+                    }
+                }
+            }
         }
     }
     Ok(())

@@ -1,6 +1,7 @@
 //! Two readers run side by side on the same inputs: the linked library through its C interface, and the independent one.
 #![deny(unsafe_code)]
 
+pub mod boxes;
 pub mod changes;
 pub mod columns;
 pub mod comparison;
@@ -37,9 +38,10 @@ pub fn reference() -> (&'static dyn Side, &'static str) {
     return (&Independent, "itself as it is");
 }
 
-/// Compares each of some wrong versions of the independent reader with the reference, and tells how each was found; fails
-/// where one shows no difference within so many rounds, or where the reader as it is shows one in the rounds that were needed.
-pub fn hunt(wrong: &[(&str, &dyn Side)], most_rounds: u64) -> ExitCode {
+/// Compares each of some wrong versions of the independent reader with the reference, and tells how each was found;
+/// fails where one shows no difference within so many rounds, or where the reader as it is, or a version that is free
+/// to be another, shows one in the rounds that were needed or in what is stored.
+pub fn hunt(wrong: &[(&str, &dyn Side)], free: &[(&str, &dyn Side)], most_rounds: u64) -> ExitCode {
     const SEED: u64 = 1;
     let (reference, name) = reference();
     println!("wrong versions of the independent reader beside {name}, seed {SEED}");
@@ -60,13 +62,20 @@ pub fn hunt(wrong: &[(&str, &dyn Side)], most_rounds: u64) -> ExitCode {
             }
         }
     }
-    let as_it_is = first_difference(&Independent, needed);
-    match &as_it_is {
-        Some((round, difference)) => println!("the reader as it is differs: round {round}, {difference}"),
-        None => println!("the reader as it is: no difference in {needed} rounds"),
+    let mut differing = 0;
+    for &(title, side) in [("the reader as it is", &Independent as &dyn Side)].iter().chain(free) {
+        let of_round = first_difference(side, needed).map(|(round, difference)| format!("round {round}, {difference}"));
+        let of_stored = || stored::ALL.iter().find_map(|stored| stored.check(side, &stored::folder()).err());
+        match of_round.or_else(of_stored) {
+            Some(difference) => {
+                differing += 1;
+                println!("{title}: DIFFERS: {difference}");
+            }
+            None => println!("{title}: no difference in {needed} rounds and in what is stored"),
+        }
     }
     println!("{} wrong versions, {missed} not found", wrong.len());
-    if missed == 0 && as_it_is.is_none() {
+    if missed == 0 && differing == 0 {
         ExitCode::SUCCESS
     } else {
         ExitCode::FAILURE

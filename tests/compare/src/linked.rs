@@ -45,4 +45,12 @@ impl Side for Linked {
     fn to_int96(&self, count: i64, value: &mut [u8]) -> u64 {
         boundary::to_int96(count, value)
     }
+
+    fn box_of(&self, kind: u32, points: &[f64], bounds: &mut [f64]) -> u64 {
+        boundary::box_of(kind, points, bounds)
+    }
+
+    fn inside(&self, kind: u32, bounds: [f64; 4], x: f64, y: f64) -> u64 {
+        boundary::inside(kind, bounds, x, y)
+    }
 }

@@ -2,13 +2,15 @@
 
 use std::collections::{HashMap, HashSet};
 
+use independent::codes::logical::is_geospatial;
 use independent::compare::{differences, Entry, ENTRY, ONLY_IN_FIRST, ONLY_IN_SECOND};
-use independent::edition::SECOND;
-use independent::sheet::{Sheet, SLOT};
+use independent::edition::{SECOND, THIRD};
+use independent::sheet::{slot_at, Sheet, SLOT};
 use independent::tree::Tree;
 use independent::{rebuild, refusal};
 
 use crate::comparison::{broken, Comparison, Difference};
+use crate::sheets::total_of;
 use crate::side::refusal_of;
 
 /// Compares two sheets both ways round in every edition, with so many bytes lent for so many as the list has, and holds their lists to what
@@ -24,14 +26,14 @@ pub fn compare(
     hold(comparison, sheets)
 }
 
-/// Compares two sheets both ways round in the second edition, and holds their lists to what is said of them: the order of the entries,
-/// which nodes match, that a list is empty exactly where the sheets are equal, that the second sheet can be rebuilt, and that both lists
-/// tell the same.
+/// Compares two sheets both ways round in an edition that takes both, and holds their lists to what is said of them:
+/// the order of the entries, which nodes match, that a list is empty exactly where the sheets are equal, that the
+/// second sheet can be rebuilt, and that both lists tell the same.
 fn hold(comparison: &mut Comparison, sheets: [&[u8]; 2]) -> Result<(), Difference> {
     let mut lists = Vec::new();
     for [first, second] in both_ways(sheets) {
         let wrong = |what: &str| Err(broken("compare", what.to_string(), &[first, second].concat()));
-        let answer = comparison.compare(SECOND, first, second, needed([first, second]))?;
+        let answer = comparison.compare(edition_of(sheets), first, second, needed([first, second]))?;
         match refusal_of(answer) {
             0 => {}
             refusal::OUTPUT => return wrong("refused with enough lent"),
@@ -66,7 +68,19 @@ fn both_ways([first, second]: [&[u8]; 2]) -> [[&[u8]; 2]; 2] {
 
 /// How many bytes the list of two sheets has, or a few entries where they are refused.
 fn needed([first, second]: [&[u8]; 2]) -> usize {
-    ENTRY * differences(SECOND, first, second).map_or(3, |list| list.len())
+    ENTRY * differences(edition_of([first, second]), first, second).map_or(3, |list| list.len())
+}
+
+/// The second edition, or the third where a leaf is its own.
+fn edition_of([first, second]: [&[u8]; 2]) -> u32 {
+    let is_own = |sheet: &&[u8]| {
+        (0..total_of(sheet)).any(|node| slot_at(sheet, node).is_some_and(|(_, slot)| is_geospatial(slot.logical)))
+    };
+    if [first, second].iter().any(is_own) {
+        THIRD
+    } else {
+        SECOND
+    }
 }
 
 fn entries(list: &[u8]) -> impl Iterator<Item = Entry> + '_ {
@@ -85,7 +99,7 @@ fn unmatched(sheets: [&[u8]; 2]) -> Option<[Vec<usize>; 2]> {
     // The number of each path; the root's is 0.
     let mut numbers: HashMap<(usize, &[u8], usize), usize> = HashMap::new();
     let mut paths = |sheet| {
-        let tree = Sheet::open(SECOND, sheet).and_then(Tree::read).ok()?;
+        let tree = Sheet::open(THIRD, sheet).and_then(Tree::read).ok()?;
         let mut paths = vec![0];
         let mut before: HashMap<(usize, &[u8]), usize> = HashMap::new();
         for node in 1..tree.node_count() {

@@ -65,7 +65,7 @@ fn run(options: &Options) -> Result<(), String> {
     let mut comparison = Comparison::new(left, &Independent);
     every::run(&mut comparison).map_err(|difference| difference.to_string())?;
     println!(
-        "every case of codes, precisions, small trees, octets and days: {} comparisons, no difference",
+        "every case of codes, precisions, small trees, octets, days and special numbers: {} comparisons, no difference",
         comparison.tally.comparisons
     );
     let mut comparison = Comparison::new(left, &Independent);

@@ -1,5 +1,6 @@
-//! Trees near one another: a lawful one, and the same with fields of its slots changed and with nodes taken out, put in, doubled and moved.
-//! What is changed keeps the rules of the second edition, but where a node gets too deep or nodes get too many.
+//! Trees near one another: a lawful one, and the same with fields of its slots changed and with nodes taken out, put
+//! in, doubled and moved. What is changed keeps the rules of the second edition or of the third, but where a node gets
+//! too deep, nodes get too many, or a leaf of INT96 and one of GEOMETRY or GEOGRAPHY come together.
 
 use independent::codes::repetition::{self, OPTIONAL, REPEATED, REQUIRED};
 use independent::codes::{converted, logical, physical};

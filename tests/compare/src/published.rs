@@ -1,5 +1,6 @@
-//! Published vectors run against a side: document 01's points, calendars, the UTF-8 examples.
+//! Published vectors run against a side: document 01's points, calendars, the UTF-8 examples, document 02's boxes.
 
+use independent::boxes::WIDTH;
 use independent::int96::{of_parts, SIZE};
 use independent::ROW_WIDTH;
 
@@ -46,6 +47,20 @@ pub fn run(side: &dyn Side) -> Result<usize, String> {
         let expected = if answer == 1 { Ok(count[0]) } else { Err(19) };
         let right = is_int96(side, &of_parts(of_day, julian_day), expected);
         hold(format!("INT96 of {of_day} in day {julian_day}, {year}-{month}-{day}"), right)?;
+    }
+    for (kind, points, expected) in BOXES {
+        let mut bounds = [9.0; WIDTH + 1];
+        let answer = side.box_of(kind, points, &mut bounds);
+        let right = match expected {
+            Ok(Some(expected)) => answer == WIDTH as u64 && bounds[..WIDTH] == expected && bounds[WIDTH] == 9.0,
+            Ok(None) => answer == 0 && bounds == [9.0; WIDTH + 1],
+            Err(number) => answer == refused(number, 0) && bounds == [9.0; WIDTH + 1],
+        };
+        hold(format!("box of kind {kind}, points {points:?}"), right)?;
+    }
+    for (kind, bounds, [x, y], expected) in INSIDE {
+        let right = expected.map_or_else(|number| refused(number, 0), u64::from);
+        hold(format!("kind {kind}, box {bounds:?}, point {x:?} {y:?}"), side.inside(kind, bounds, x, y) == right)?;
     }
     for edition in editions() {
         by_edition(side, edition, &mut hold)?;

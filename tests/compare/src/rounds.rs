@@ -2,6 +2,7 @@
 
 use std::iter;
 
+use independent::boxes::WIDTH;
 use independent::compare::ENTRY;
 use independent::edition::{FIRST, SECOND, THIRD};
 use independent::int96::SIZE;
@@ -10,6 +11,7 @@ use independent::sheet::{self, MAX_NODES};
 use independent::tree::MAX_DEPTH;
 use independent::ROW_WIDTH;
 
+use crate::boxes;
 use crate::changes::{change, change_nodes};
 use crate::columns::{column, is_text, second_value, value};
 use crate::comparison::{broken, Comparison, Difference};
@@ -20,7 +22,7 @@ use crate::near::near_trees;
 use crate::random::Random;
 use crate::sheets::{assemble, random_bytes, store_unreduced, total_of};
 use crate::side::{refusal_of, refused, shown, value_of};
-use crate::trees::{deep_tree, is_fraction, is_int96, tree, Slot};
+use crate::trees::{deep_tree, is_fraction, is_geospatial, is_int96, tree, Slot};
 
 /// Runs one round.
 pub fn run(comparison: &mut Comparison, seed: u64, round: u64) -> Result<(), Difference> {
@@ -35,6 +37,7 @@ pub fn run(comparison: &mut Comparison, seed: u64, round: u64) -> Result<(), Dif
     for _ in 0..8 {
         instants(comparison, random)?;
         int96_times(comparison, random)?;
+        points_and_boxes(comparison, random)?;
     }
     for _ in 0..2 {
         pairs(comparison, random)?;
@@ -120,20 +123,23 @@ fn size(random: &mut Random) -> usize {
     }
 }
 
-/// A sheet that the second edition must accept, the first where no scale equals its precision, and the third where no leaf is INT96: what
-/// rewriting it gives is held to what document 01 says of it.
+/// A sheet that the third edition must accept where no leaf is INT96, the second where none is GEOMETRY or GEOGRAPHY,
+/// and the first where no scale equals its precision either: what rewriting it gives is held to what document 01 says
+/// of it.
 fn accepted(comparison: &mut Comparison, random: &mut Random, slots: &[Slot]) -> Result<(), Difference> {
     let sheet = &assemble(slots);
-    let of_second = slots.iter().position(is_fraction);
+    let of_second = slots.iter().position(is_fraction).map(|node| (refusal::DECIMAL, node));
+    let of_third = slots.iter().position(is_geospatial).map(|node| (refusal::SLOT, node));
     let total = slots.len();
-    if let Some(node) = of_second {
+    if let Some((number, node)) = of_third.or(of_second) {
         let answer = comparison.resolve(FIRST, sheet, ROW_WIDTH * total)?;
-        if answer != refused(refusal::DECIMAL, node as u32) {
-            return Err(broken("resolve", format!("scale as precision at {node}: {}", shown(answer)), sheet));
+        if answer != refused(number, node as u32) {
+            return Err(broken("resolve", format!("a leaf of a later edition at {node}: {}", shown(answer)), sheet));
         }
     }
-    let mut editions = vec![SECOND];
-    editions.extend(of_second.is_none().then_some(FIRST));
+    let mut editions = Vec::new();
+    editions.extend(of_third.or(of_second).is_none().then_some(FIRST));
+    editions.extend(of_third.is_none().then_some(SECOND));
     editions.extend((!slots.iter().any(is_int96)).then_some(THIRD));
     let edition = random.pick(&editions);
     let answer = comparison.resolve(edition, sheet, ROW_WIDTH * total)?;
@@ -265,4 +271,18 @@ fn int96_times(comparison: &mut Comparison, random: &mut Random) -> Result<(), D
     let number = count(random);
     let lent = if random.percent(10) { random.below(SIZE) } else { random.pick(&[SIZE, SIZE, SIZE + 1, 40]) };
     int96::to_and_back(comparison, number, lent)
+}
+
+/// The box of points with enough lent or not, and a point in a box.
+fn points_and_boxes(comparison: &mut Comparison, random: &mut Random) -> Result<(), Difference> {
+    let points = boxes::points(random);
+    let lent = if random.percent(15) { random.below(WIDTH) } else { random.pick(&[WIDTH, WIDTH, WIDTH + 1, 40]) };
+    let kind = boxes::kind(random);
+    boxes::found(comparison, kind, &points, lent)?;
+    let bounds = boxes::bounds(random);
+    let kind = boxes::kind(random);
+    for _ in 0..3 {
+        boxes::tested(comparison, kind, bounds, boxes::point(random, bounds))?;
+    }
+    Ok(())
 }

@@ -1,10 +1,10 @@
-//! A side of the comparison: the nine entries in the shape of the C interface.
+//! A side of the comparison: the eleven entries in the shape of the C interface.
 
 use independent::refusal::{is_of_a_sheet, Refusal};
 
-/// The entries of the C interface; all but those of times take an edition first. An answer has a refusal's number in bits 32 to 39, 0 for a
-/// result, and its place or the result's value in bits 0 to 31. The refusal of an order has in bits 40 to 47 the value at fault, that of
-/// a comparison the sheet at fault.
+/// The entries of the C interface; all but those of times and of boxes take an edition first. An answer has a refusal's
+/// number in bits 32 to 39, 0 for a result, and its place or the result's value in bits 0 to 31. The refusal of an
+/// order has in bits 40 to 47 the value at fault, that of a comparison the sheet at fault.
 pub trait Side {
     /// T.
     fn resolve(&self, edition: u32, sheet: &[u8], rows: &mut [u32]) -> u64;
@@ -24,6 +24,10 @@ pub trait Side {
     fn from_int96(&self, value: &[u8], count: &mut [i64]) -> u64;
     /// 12; so many bytes are written.
     fn to_int96(&self, count: i64, value: &mut [u8]) -> u64;
+    /// 4; xmin, xmax, ymin and ymax are written. Or 0: there is no box.
+    fn box_of(&self, kind: u32, points: &[f64], bounds: &mut [f64]) -> u64;
+    /// 1 inside, 0 outside.
+    fn inside(&self, kind: u32, bounds: [f64; 4], x: f64, y: f64) -> u64;
 }
 
 /// The number of an answer's refusal, 0 for a result.
@@ -157,6 +161,14 @@ macro_rules! side {
 
             fn to_int96(&self, count: i64, value: &mut [u8]) -> u64 {
                 $crate::side!(@answer $library::to_int96(count, value))
+            }
+
+            fn box_of(&self, kind: u32, points: &[f64], bounds: &mut [f64]) -> u64 {
+                $crate::side!(@answer $library::box_of(kind, points, bounds))
+            }
+
+            fn inside(&self, kind: u32, bounds: [f64; 4], x: f64, y: f64) -> u64 {
+                $crate::side!(@answer $library::inside(kind, bounds, x, y))
             }
         }
     };

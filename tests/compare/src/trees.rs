@@ -1,6 +1,6 @@
 //! Random trees that keep every rule, of every shape and kind.
 
-use independent::annotation::Logical;
+use independent::annotation::{EdgeRule, Logical};
 use independent::codes::physical::{self, BYTE_ARRAY, FIXED, GROUP, INT32, INT64, INT96};
 use independent::codes::repetition::{self, OPTIONAL, REPEATED, REQUIRED};
 use independent::codes::{converted, logical};
@@ -44,10 +44,12 @@ struct Grower<'a> {
     has_fractions: bool,
     /// Whether a leaf may be INT96.
     has_int96: bool,
+    /// Whether a leaf may be GEOMETRY or GEOGRAPHY. One of both is not.
+    has_geospatial: bool,
 }
 
-/// The slots of a random tree of so many nodes that keeps every rule of the second edition; half the time also those of the first, and half
-/// the time also those of the third.
+/// The slots of a random tree of so many nodes that keeps every rule of the second edition or of the third, and often
+/// of both; half the time no scale equals its precision, as in the first.
 pub fn tree(random: &mut Random, size: usize) -> Vec<Slot> {
     let shape = random.pick(&[Shape::Any, Shape::Any, Shape::Any, Shape::Flat, Shape::Deep]);
     grown(random, size, MAX_DEPTH, shape)
@@ -61,9 +63,11 @@ pub fn deep_tree(random: &mut Random, size: usize, max_depth: usize) -> Vec<Slot
 
 fn grown(random: &mut Random, size: usize, max_depth: usize, shape: Shape) -> Vec<Slot> {
     let favour = random.pick(&[Favour::None, Favour::None, Favour::Lists, Favour::Maps, Favour::Groups]);
-    let (has_fractions, has_int96) = (random.percent(50), random.percent(50));
+    let has_fractions = random.percent(50);
+    let (has_int96, has_geospatial) =
+        random.pick(&[(true, false), (true, false), (false, false), (false, true), (false, true)]);
     let slots = Vec::with_capacity(size);
-    let mut grower = Grower { random, slots, max_depth, shape, favour, has_fractions, has_int96 };
+    let mut grower = Grower { random, slots, max_depth, shape, favour, has_fractions, has_int96, has_geospatial };
     let name = grower.name();
     grower.push(GROUP, repetition::NONE, NO_ANNOTATION, &name);
     grower.fields(0, size - 1, 1, 0);
@@ -244,6 +248,7 @@ impl Grower<'_> {
             self.number(node, 8, 12);
         } else {
             let logical = random_logical(self.random);
+            let logical = self.unless_geospatial(logical);
             let physical = random_physical(self.random, logical);
             let physical = self.unless_int96(physical);
             let (a, b) = logical.parameters();
@@ -270,6 +275,15 @@ impl Grower<'_> {
             INT64
         } else {
             physical
+        }
+    }
+
+    /// A logical type, or BSON in place of GEOMETRY and GEOGRAPHY where no leaf may be that.
+    fn unless_geospatial(&self, logical: Logical) -> Logical {
+        if logical::is_geospatial(logical.code()) && !self.has_geospatial {
+            Logical::Bson
+        } else {
+            logical
         }
     }
 
@@ -346,11 +360,16 @@ pub fn is_int96(slot: &Slot) -> bool {
     slot[0] == INT96
 }
 
+/// Whether a slot is a leaf of GEOMETRY or GEOGRAPHY.
+pub fn is_geospatial(slot: &Slot) -> bool {
+    logical::is_geospatial(slot[3])
+}
+
 /// A logical type of a leaf with any of its parameters.
 pub fn random_logical(random: &mut Random) -> Logical {
     let unit = random.pick(&[Unit::Millis, Unit::Micros, Unit::Nanos]);
     let is_adjusted_to_utc = random.percent(50);
-    match random.below(11) {
+    match random.below(13) {
         0 => Logical::String,
         1 => Logical::Enum,
         2 => Logical::Decimal,
@@ -361,7 +380,9 @@ pub fn random_logical(random: &mut Random) -> Logical {
         7 => Logical::Unknown,
         8 => Logical::Json,
         9 => Logical::Bson,
-        _ => Logical::Uuid,
+        10 => Logical::Uuid,
+        11 => Logical::Geometry,
+        _ => Logical::Geography { edge_rule: random.pick(&EdgeRule::ALL) },
     }
 }
 

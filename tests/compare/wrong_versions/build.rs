@@ -1,4 +1,4 @@
-//! Writes the wrong versions of the independent reader, all into one file of modules.
+//! Writes the wrong versions of the independent reader, and those that are not wrong, all into one file of modules.
 //!
 //! A version has its own copy of the changed module and of those that use it, directly or not; its other modules are the reader's.
 
@@ -29,8 +29,10 @@ fn write_versions() -> Result<(), String> {
     println!("cargo::rerun-if-changed={}", folder.display());
     let mut sources = sources(folder)?;
     let library = sources.remove("lib").ok_or("the reader has no lib.rs")?;
-    let (mut text, mut list) = (String::new(), String::new());
-    for (number, wrong) in wrong::ALL.iter().enumerate() {
+    let mut text = String::new();
+    let mut lists = [String::new(), String::new()];
+    let all = wrong::ALL.iter().map(|wrong| (0, wrong)).chain(wrong::FREE.iter().map(|free| (1, free)));
+    for (number, (list, wrong)) in all.enumerate() {
         let name = format!("wrong_{number:02}");
         let changed_module = wrong.file.trim_end_matches(".rs");
         let mut changed = sources.clone();
@@ -38,13 +40,16 @@ fn write_versions() -> Result<(), String> {
         *module = with_change(wrong, module)?;
         text += &version(&name, &library, &changed, &with_users(changed_module, &sources));
         writeln!(text, "compare::side!(Side{number:02}, {name});").expect("a string takes any text");
-        writeln!(list, "    ({:?}, &Side{number:02}),", wrong.title).expect("a string takes any text");
+        writeln!(lists[list], "    ({:?}, &Side{number:02}),", wrong.title).expect("a string takes any text");
     }
-    write!(
-        text,
-        "/// What is wrong with each version, and it.\npub const ALL: &[(&str, &dyn compare::Side)] = &[\n{list}];\n"
-    )
-    .expect("a string takes any text");
+    let [all, free] = lists;
+    for (comment, name, list) in [
+        ("What is wrong with each version, and it.", "ALL", all),
+        ("What is another in each version that is not wrong, and it.", "FREE", free),
+    ] {
+        write!(text, "/// {comment}\npub const {name}: &[(&str, &dyn compare::Side)] = &[\n{list}];\n")
+            .expect("a string takes any text");
+    }
     let out = env::var("OUT_DIR").map_err(|fault| format!("OUT_DIR: {fault}"))?;
     fs::write(Path::new(&out).join("versions.rs"), text).map_err(|fault| fault.to_string())
 }

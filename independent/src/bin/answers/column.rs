@@ -4,7 +4,9 @@
 use std::fmt::Write;
 
 use independent::codes::kind::{INTERVAL, PLAIN_LEAF};
-use independent::codes::logical::{BSON, DATE, DECIMAL, ENUM, INTEGER, JSON, STRING, TIME, TIMESTAMP, UNKNOWN, UUID};
+use independent::codes::logical::{
+    BSON, DATE, DECIMAL, ENUM, GEOGRAPHY, GEOMETRY, INTEGER, JSON, STRING, TIME, TIMESTAMP, UNKNOWN, UUID,
+};
 use independent::codes::physical::{BOOLEAN, BYTE_ARRAY, DOUBLE, FIXED, FLOAT, INT32, INT64, INT96};
 use independent::decimal::greatest_precision;
 use independent::edition::FIRST;
@@ -16,7 +18,7 @@ use crate::editions::Editions;
 use crate::{plain_text, wide};
 
 const PHYSICAL: [&str; 8] = ["BOOLEAN", "INT32", "INT64", "INT96", "FLOAT", "DOUBLE", "BYTE_ARRAY", "FIXED"];
-const KINDS: [(u8, &str); 13] = [
+const KINDS: [(u8, &str); 15] = [
     (PLAIN_LEAF, "plain"),
     (STRING, "STRING"),
     (ENUM, "ENUM"),
@@ -29,6 +31,8 @@ const KINDS: [(u8, &str); 13] = [
     (JSON, "JSON"),
     (BSON, "BSON"),
     (UUID, "UUID"),
+    (GEOMETRY, "GEOMETRY"),
+    (GEOGRAPHY, "GEOGRAPHY"),
     (INTERVAL, "INTERVAL"),
 ];
 const TICKS_PER_DAY: [i128; 4] = [0, 86_400_000, 86_400_000_000, 86_400_000_000_000];
@@ -431,7 +435,9 @@ pub fn edges(column: ColumnType) -> Vec<Bytes> {
         (DOUBLE, _) => values.extend(DOUBLES.map(|bits| Bytes::all(bits.to_le_bytes().to_vec()))),
         (FIXED, DECIMAL) => values.extend(around_power(column.p1, column.type_length as usize)),
         (BYTE_ARRAY, DECIMAL) => values.extend(byte_decimals(column.p1)),
-        (BYTE_ARRAY, STRING | ENUM | JSON | PLAIN_LEAF) => values.extend(TEXTS.map(|text| Bytes::all(text.to_vec()))),
+        (BYTE_ARRAY, STRING | ENUM | JSON | PLAIN_LEAF | GEOMETRY | GEOGRAPHY) => {
+            values.extend(TEXTS.map(|text| Bytes::all(text.to_vec())))
+        }
         _ => {}
     }
     // Of values that are alike the last stands, at the place of the first.

@@ -1,8 +1,8 @@
 //! Values by edition: those of `column` that the known editions answer otherwise, those of decimals whose scale equals their precision,
-//! those of INT96, and what unknown editions are asked too.
+//! those of INT96, those of GEOMETRY and GEOGRAPHY, and what unknown editions are asked too.
 
 use independent::codes::kind::INTERVAL;
-use independent::codes::logical::{DECIMAL, STRING, TIMESTAMP, UNKNOWN};
+use independent::codes::logical::{DECIMAL, GEOGRAPHY, GEOMETRY, STRING, TIMESTAMP, UNKNOWN};
 use independent::codes::physical::{BOOLEAN, BYTE_ARRAY, FIXED, INT32, INT64, INT96};
 use independent::decimal::greatest_precision;
 use independent::edition::SECOND;
@@ -16,6 +16,7 @@ pub fn input() -> Vec<u8> {
     let mut vectors = asked_in(&KNOWN, otherwise());
     vectors.extend(asked_in(&KNOWN, decimals()));
     vectors.extend(asked_in(&KNOWN, int96()));
+    vectors.extend(asked_in(&KNOWN, geospatial()));
     vectors.extend(asked_in(&KNOWN_AND_OTHERS, of_any_edition()));
     column::packed(Editions::BeforeEach, &vectors)
 }
@@ -86,6 +87,47 @@ fn int96() -> Vectors {
     vectors
 }
 
+/// GEOMETRY and GEOGRAPHY on each physical type, with each edge rule and with parameters that neither has, and kinds
+/// beside theirs: values at the edges of a length and of a text read, and ordered.
+fn geospatial() -> Vectors {
+    let mut vectors = Vectors::default();
+    let of_kind = |physical, kind: u32, p1| ColumnType { kind, p1, ..plain(physical) };
+    let (geometry, geography) = (u32::from(GEOMETRY), u32::from(GEOGRAPHY));
+    for column in
+        [of_kind(BYTE_ARRAY, geometry, 0), of_kind(BYTE_ARRAY, geography, 0), of_kind(BYTE_ARRAY, geography, 4)]
+    {
+        edges(column).iter().for_each(|value| vectors.add(column, value, None));
+    }
+    let (point, none) = (Bytes::all(vec![1; 21]), Bytes::all(vec![]));
+    let both = |vectors: &mut Vectors, column| {
+        vectors.add(column, &point, None);
+        vectors.add(column, &point, Some(&none));
+    };
+    for kind in [9, 15, 16, 17, 18, 19, 20, 273, 274, 1 << 31 | 17, u32::MAX] {
+        both(&mut vectors, of_kind(BYTE_ARRAY, kind, 0));
+    }
+    for p1 in (1..=5).chain([255, 256, 260, u32::MAX]) {
+        both(&mut vectors, of_kind(BYTE_ARRAY, geometry, p1));
+        both(&mut vectors, of_kind(BYTE_ARRAY, geography, p1));
+    }
+    for kind in [geometry, geography] {
+        for p2 in [1, 2, 256, u32::MAX] {
+            both(&mut vectors, ColumnType { p2, ..of_kind(BYTE_ARRAY, kind, 0) });
+        }
+        both(&mut vectors, ColumnType { type_length: 21, ..of_kind(BYTE_ARRAY, kind, 0) });
+        for physical in (BOOLEAN..=FIXED).filter(|&physical| physical != BYTE_ARRAY).chain([8, 255]) {
+            let type_length = if physical == FIXED { 21 } else { 0 };
+            both(&mut vectors, ColumnType { type_length, ..of_kind(physical, kind, 0) });
+        }
+        // There is no order, whatever the values are.
+        let longest = edges(of_kind(BYTE_ARRAY, kind, 0)).pop().expect("a value");
+        for value in [&none, &point, &longest] {
+            vectors.add(of_kind(BYTE_ARRAY, kind, 0), value, Some(value));
+        }
+    }
+    vectors
+}
+
 fn decimal(physical: u8, type_length: u32, precision: u32, scale: u32) -> ColumnType {
     ColumnType { type_length, kind: DECIMAL.into(), p1: precision, p2: scale, ..plain(physical) }
 }
@@ -102,6 +144,7 @@ fn of_any_edition() -> Vectors {
         (plain(8), all(&[]), all(&[])),
         (plain(INT96), all(&[0; 12]), all(&[])),
         (plain(INT64), all(&[]), all(&[0; 9])),
+        (ColumnType { kind: GEOMETRY.into(), ..plain(BYTE_ARRAY) }, all(&[0xFF]), all(&[])),
         (text, all(b"a\xFF"), all(b"ab")),
     ] {
         vectors.add(column, &first, None);

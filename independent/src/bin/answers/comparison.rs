@@ -260,7 +260,8 @@ fn refusals(vectors: &mut Vectors) {
     }
 }
 
-/// What unknown editions are asked too: lists, no list, a scale that equals its precision or an INT96 leaf in either sheet, and refusals.
+/// What unknown editions are asked too: lists, no list, a scale that equals its precision, an INT96 leaf or one of
+/// GEOMETRY or GEOGRAPHY in either sheet, and refusals.
 fn of_any_edition() -> Vec<Vector> {
     let mut vectors = Vectors::default();
     let plain = sheet_of(&root([int32()]));
@@ -280,6 +281,23 @@ fn of_any_edition() -> Vec<Vector> {
     vectors.lend("scale as precision in the first, INT96 in the second", &fraction, &int96, 9 * ENTRY);
     vectors.lend("INT96 in the first, no bytes in the second", &int96, &[], 0);
     vectors.lend("no bytes in the first, INT96 in the second", &[], &int96, 0);
+    let geospatial = |code, a| sheet_of(&root([leaf(BYTE_ARRAY).logical(code).parameters(a, 0)]));
+    let (geometry, geography) = (geospatial(logical::GEOMETRY, 0), geospatial(logical::GEOGRAPHY, 4));
+    let text = geospatial(logical::STRING, 0);
+    vectors.lend("GEOMETRY in the second", &text, &geometry, 3 * ENTRY);
+    vectors.lend("GEOMETRY in the first", &geometry, &text, 3 * ENTRY);
+    vectors.lend("GEOMETRY in both", &geometry, &geometry, 0);
+    vectors.lend("GEOMETRY in the first, GEOGRAPHY in the second", &geometry, &geography, 3 * ENTRY);
+    vectors.lend("two edge rules", &geography, &geospatial(logical::GEOGRAPHY, 0), ENTRY);
+    vectors.lend("GEOGRAPHY in the first, too little lent", &geography, &text, 0);
+    vectors.lend("GEOGRAPHY in the first, INT96 in the second", &geography, &int96, 9 * ENTRY);
+    vectors.lend("INT96 in the first, GEOGRAPHY in the second", &int96, &geography, 9 * ENTRY);
+    vectors.lend(
+        "GEOGRAPHY in the first, no such edge rule in the second",
+        &geography,
+        &geospatial(logical::GEOGRAPHY, 5),
+        0,
+    );
     vectors.lend("no bytes twice", &[], &[], 0);
     vectors.lend("no bytes in the second", &plain, &[], 0);
     in_each(&KNOWN_AND_OTHERS, &vectors.0, |vector, edition| Vector {

@@ -6,6 +6,7 @@
 //! `answers --check REPOSITORY` makes all anew and compares it with what is stored there.
 #![forbid(unsafe_code)]
 
+mod boxes;
 mod bytes;
 mod column;
 mod column_editions;
@@ -75,7 +76,7 @@ const fn stored(name: &'static str, place: Place, questions: Option<fn() -> Vec<
     Stored { name, place, questions, answers }
 }
 
-const ALL: [Stored; 11] = [
+const ALL: [Stored; 12] = [
     stored("sheet_vectors", PROGRAM, Some(sheet_vectors::input), InEdition(sheet_vectors::answers)),
     stored("sheet_slots", PROGRAM, Some(sheet_slots::input), InEdition(sheet_slots::answers)),
     stored("schema_rows", PROGRAM, Some(schema_programs::input), InEdition(schema_programs::rows)),
@@ -87,6 +88,7 @@ const ALL: [Stored; 11] = [
     stored("column_editions", LIBRARY, Some(column_editions::input), AsAsked(column_editions::answers)),
     stored("timestamp", LIBRARY, None, AsAsked(timestamp::answers)),
     stored("int96", LIBRARY, None, AsAsked(int96::answers)),
+    stored("boxes", LIBRARY, None, AsAsked(boxes::answers)),
 ];
 
 fn main() -> ExitCode {

@@ -1,9 +1,10 @@
 //! Sheets by edition: those of `schema` that the known editions answer otherwise, decimals whose scale equals their precision, INT96
-//! leaves, and what unknown editions are asked too.
+//! leaves, leaves of GEOMETRY and GEOGRAPHY, and what unknown editions are asked too.
 
 use std::borrow::Cow;
 
-use independent::codes::physical::{BOOLEAN, BYTE_ARRAY, FIXED, INT32, INT64, INT96};
+use independent::annotation::EdgeRule;
+use independent::codes::physical::{BOOLEAN, BYTE_ARRAY, FIXED, GROUP, INT32, INT64, INT96};
 use independent::codes::repetition::{NONE, OPTIONAL, REPEATED};
 use independent::codes::{converted, logical};
 use independent::decimal::greatest_precision;
@@ -19,6 +20,7 @@ pub fn input() -> Vec<u8> {
     let mut vectors = asked_in(&KNOWN, otherwise());
     vectors.extend(asked_in(&KNOWN, decimals()));
     vectors.extend(asked_in(&KNOWN, int96_leaves()));
+    vectors.extend(asked_in(&KNOWN, geospatial_leaves()));
     vectors.extend(asked_in(&KNOWN_AND_OTHERS, of_any_edition()));
     let rewrites: Vec<Rewrite> = vectors.iter().enumerate().map(rewrite).collect();
     schema::packed(Editions::BeforeEach, &vectors, &rewrites)
@@ -167,7 +169,87 @@ fn int96_leaves() -> Vectors {
     vectors
 }
 
-/// A lawful sheet, one that the first edition refuses, one that the third does, and one of each refusal that comes early or last.
+fn geospatial(code: u8) -> Node {
+    leaf(BYTE_ARRAY).logical(code)
+}
+
+/// Leaves of GEOMETRY and GEOGRAPHY: of each repetition, with each edge rule and with parameters that neither has, on
+/// each physical type, beside each converted type, with another fault of their own, beside other faults, in lists, maps
+/// and groups; and codes beside theirs.
+fn geospatial_leaves() -> Vectors {
+    let mut vectors = Vectors::default();
+    for code in [9, 15, 16, 17, 18, 19, 20, 254, 255] {
+        vectors.field(format!("logical {code}"), geospatial(code));
+    }
+    let both = [("GEOMETRY", logical::GEOMETRY), ("GEOGRAPHY", logical::GEOGRAPHY)];
+    for (name, code) in both {
+        vectors.field(format!("{name}, optional"), geospatial(code).repetition(OPTIONAL));
+        vectors.field(format!("{name}, repeated"), geospatial(code).repetition(REPEATED));
+        for (a, b) in [(1, 0), (2, 0), (3, 0), (4, 0), (5, 0), (255, 0), (0, 1), (4, 1), (5, 1), (0, 255)] {
+            vectors.field(format!("{name} ({a}, {b})"), geospatial(code).parameters(a, b));
+        }
+        for physical in (BOOLEAN..=FIXED).filter(|&physical| physical != BYTE_ARRAY) {
+            vectors.field(format!("{name} on physical {physical}"), leaf(physical).logical(code));
+        }
+        vectors.field(format!("{name} on a group"), group([int32()]).logical(code));
+        vectors.field(format!("{name} on a list"), list([layer([int32()])]).logical(code));
+        vectors.field(format!("{name} (5, 0) on INT32"), int32().logical(code).parameters(5, 0));
+        for converted in 0..=converted::INTERVAL {
+            let digits = if converted == converted::DECIMAL { (4, 1) } else { (0, 0) };
+            let node = geospatial(code).converted(converted).digits(digits.0, digits.1);
+            vectors.field(format!("{name} beside converted {converted}"), node);
+        }
+        for (title, node) in [
+            ("a type length", geospatial(code).length(21)),
+            ("a precision", geospatial(code).digits(4, 0)),
+            ("no repetition", geospatial(code).repetition(NONE)),
+            ("a child", geospatial(code).having([int32()])),
+            ("UTF8 and a parameter", geospatial(code).converted(converted::UTF8).parameters(5, 0)),
+            ("UTF8 and INT32", int32().logical(code).converted(converted::UTF8)),
+            ("UTF8 and a type length", geospatial(code).converted(converted::UTF8).length(21)),
+            ("a precision and DECIMAL", geospatial(code).converted(converted::DECIMAL).digits(4, 4)),
+        ] {
+            vectors.field(format!("{name} with {title}"), node);
+        }
+    }
+    let terminal = || geospatial(logical::GEOGRAPHY).parameters(4, 0);
+    let faults = [
+        ("8", int32().length(1)),
+        ("9", int32().converted(converted::UTF8).logical(logical::DATE)),
+        ("10", int32().logical(logical::STRING)),
+        ("INT96", int96()),
+        ("scale as precision", decimal(3, 3)),
+        ("12", list([int32()])),
+        ("13", map([int32()])),
+        ("logical 16", geospatial(16)),
+        ("GEOMETRY (1, 0)", geospatial(logical::GEOMETRY).parameters(1, 0)),
+    ];
+    for (title, fault) in faults {
+        vectors.fields(format!("GEOGRAPHY, then {title}"), [terminal(), fault.clone()]);
+        vectors.fields(format!("{title}, then GEOGRAPHY"), [fault, terminal()]);
+    }
+    let all = EdgeRule::ALL.map(|edge_rule| geospatial(logical::GEOGRAPHY).parameters(edge_rule as u8, 0));
+    vectors.fields("every edge rule", all);
+    vectors.field("GEOGRAPHY in a group of a group", group([group([terminal()])]));
+    vectors.field("GEOGRAPHY as a list's layer", list([terminal().repetition(REPEATED)]));
+    vectors.field("GEOGRAPHY as a list's element", list([layer([terminal().repetition(OPTIONAL)])]));
+    vectors.field("GEOGRAPHY as a map's key", map([key_value([terminal().named("key"), int32().named("value")])]));
+    vectors.field("GEOGRAPHY as a map's value", map([key_value([key(), terminal().named("value")])]));
+    vectors.sheet("GEOMETRY on the root", sheet_of(&root([int32()]).logical(logical::GEOMETRY)));
+    vectors.sheet("GEOMETRY on a root alone", sheet_of(&root([]).logical(logical::GEOMETRY)));
+    let leafless = Node { physical: GROUP, ..geospatial(logical::GEOMETRY) };
+    vectors.field("GEOMETRY on a group without fields", leafless);
+    let sheet = sheet_of(&root([terminal()]));
+    vectors.lend("GEOGRAPHY, too little lent", sheet.clone(), 21);
+    vectors.lend("GEOGRAPHY, nothing lent", sheet.clone(), 0);
+    vectors.sheet("GEOGRAPHY and a wrong check", [&sheet[..511], &[0xFF]].concat());
+    vectors.sheet("a node missing behind GEOGRAPHY", sheet_of(&root([terminal()]).claiming(2)));
+    vectors.sheet("a node left over behind GEOGRAPHY", sheet_of(&root([terminal(), int32()]).claiming(1)));
+    vectors
+}
+
+/// A lawful sheet, one that the first edition refuses, one that the third does, one that only that takes, and one of
+/// each refusal that comes early or last.
 fn of_any_edition() -> Vectors {
     let mut vectors = Vectors::default();
     let sample = sheet_of(&example());
@@ -175,6 +257,7 @@ fn of_any_edition() -> Vectors {
     vectors.lend("example, nothing lent", sample.clone(), 0);
     vectors.sheet("scale as precision", sheet_of(&root([decimal(3, 3)])));
     vectors.sheet("INT96", sheet_of(&root([int96()])));
+    vectors.sheet("GEOMETRY", sheet_of(&root([geospatial(logical::GEOMETRY)])));
     vectors.sheet("no bytes", Vec::new());
     vectors.sheet("511 bytes", sample[..511].to_vec());
     vectors.sheet("zeros", vec![0; 512]);

@@ -1,6 +1,7 @@
 //! Questions and answers stored in `tests/stored`: a side is asked the questions, and what it answers is held, byte for byte and in
 //! the text in which they are stored, to the answers.
 
+mod boxes;
 mod changed;
 mod column;
 mod comparison;
@@ -32,7 +33,7 @@ pub struct Stored {
 type Compare = fn(&mut Comparison, &[u8]) -> Result<(), String>;
 
 /// All that is stored.
-pub const ALL: [Stored; 7] = [
+pub const ALL: [Stored; 8] = [
     Stored {
         name: "schema",
         is_one_file: false,
@@ -60,6 +61,7 @@ pub const ALL: [Stored; 7] = [
     },
     Stored { name: "timestamp", is_one_file: true, ask: timestamp::ask, compare: None },
     Stored { name: "int96", is_one_file: true, ask: int96::ask, compare: None },
+    Stored { name: "boxes", is_one_file: true, ask: boxes::ask, compare: None },
 ];
 
 /// Asks both sides of a comparison every stored question in every edition.

@@ -1,5 +1,5 @@
 //! Shows that the comparisons find what is wrong: wrong versions of the independent reader and changed copies of the stored files, each of which
-//! must be found.
+//! must be found; and versions that are not wrong, which must not be.
 //!
 //! The versions, which `build.rs` writes, are compared with the linked library (or the reader itself, where none is linked). It ends with
 //! status 1 where something is not found.
@@ -24,5 +24,5 @@ fn main() -> ExitCode {
             return ExitCode::FAILURE;
         }
     }
-    compare::hunt(versions::ALL, ROUNDS)
+    compare::hunt(versions::ALL, versions::FREE, ROUNDS)
 }

@@ -19,7 +19,15 @@ returns-3 c = rw (c .before .match .keys3, c .is-fixed .ensures)
 
 returns-4 : tie.Need-returns-4
 unfolding ownOn
-returns-4 c = search ne-eqb
+returns-4 c = rw (c .before .match .keys4, c .geospatial-on .ensures)
+
+returns-5 : tie.Need-returns-5
+unfolding ownOn
+returns-5 c = rw (c .before .match .keys5, c .geospatial-on2 .ensures)
+
+returns-6 : tie.Need-returns-6
+unfolding ownOn
+returns-6 c = search ne-eqb
 
 pub own-on-spec : {M : Type 1} → statement M
 own-on-spec =
@@ -28,7 +36,11 @@ own-on-spec =
     (λ c κs. tt)
     (λ c κs. tt)
     (λ c κs. tt)
+    (λ c κs. tt)
+    (λ c κs. tt)
     returns
     returns-2
     returns-3
-    returns-4)
+    returns-4
+    returns-5
+    returns-6)

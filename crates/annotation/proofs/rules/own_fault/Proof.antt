@@ -10,7 +10,7 @@ use Rattle.annotation.proofs.rules.own_fault.Statement.{statement}
 use Rattle.annotation.proofs.rules.own_fault.Tie as tie
 
 -- what rule 10 answered, where it is kept
-placed : (c : tie.Else1) → let a = c .before .before .args in ownOn (a .logical) (a .physical) (a .length) ≡ true
+placed : (c : tie.Else1) → let a = c .before .before .args in ownOn (a .edition) (a .logical) (a .physical) (a .length) ≡ true
 placed c = sym (c .before .own-on .ensures) ∙ not-false _ (c .if1 .left)
 
 -- what rule 11 answers, where it has been asked: precision and scale are passed as bits, whose numbers they are again

@@ -8,13 +8,14 @@ use Rattle.annotation.proofs.PairLaws.{unused-pair}
 use Rattle.annotation.proofs.spelling.with_parameters.Statement.{statement}
 use Rattle.annotation.proofs.spelling.with_parameters.Tie as tie
 
-returns-4 : tie.Need-returns-4
+returns-5 : tie.Need-returns-5
 unfolding statedOf validParameters packedOf
-returns-4 c =
+returns-5 c =
     rw (
-      ne-eqb _ _ (c .match .rest .1),
-      ne-eqb _ _ (c .match .rest .0 .0 .1),
       ne-eqb _ _ (c .match .rest .0 .1),
+      ne-eqb _ _ (c .match .rest .0 .0 .0 .1),
+      ne-eqb _ _ (c .match .rest .0 .0 .1),
+      ne-eqb _ _ (c .match .rest .1),
       unused-pair _ (c .before .pre),
     )
 
@@ -25,7 +26,9 @@ with-parameters-spec =
     (λ c κs. tt)
     (λ c κs. tt)
     (λ c κs. tt)
+    (λ c κs. c .before .pre)
     (λ c. rw (c .before .match .keys1, c .time .ensures))
     (λ c. rw (c .before .match .keys2, c .timestamp .ensures))
     (λ c. rw (c .before .match .keys3, c .integer .ensures))
-    returns-4)
+    (λ c. rw (c .before .match .keys4, c .geography .ensures))
+    returns-5)

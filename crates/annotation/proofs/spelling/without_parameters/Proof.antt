@@ -2,7 +2,7 @@
 -- Assumes nothing.
 use mathlib.Core.Path.{_≡_, refl, ap}
 use mathlib.Core.Bool.{Bool, true, false, cond}
-use Rattle.logical_type.specs.Parameters.{UNUSED, validParameters}
+use Rattle.logical_type.specs.Parameters.{UNUSED, edgeOf, validParameters}
 use Rattle.logical_type.specs.Spelling.{logicalTable, namedOf, statedOf}
 use Rattle.annotation.specs.Packed.{packedOf}
 use Rattle.logical_type.specs.declared.types.Annotation.{Annotation}
@@ -16,7 +16,7 @@ unreadable-either true says e = e
 unreadable-either false says e = refl
 
 pub without-parameters-spec : {M : Type 1} → statement M
-unfolding statedOf validParameters namedOf packedOf
+unfolding statedOf validParameters namedOf edgeOf packedOf
 without-parameters-spec =
     tie.close
     (tie.spec
@@ -33,4 +33,6 @@ without-parameters-spec =
     (λ c. rw (c .match .keys11))
     (λ c. rw (c .match .keys12))
     (λ c. rw (c .match .keys13))
+    (λ c. rw (c .match .keys14))
+    (λ c. rw (c .match .keys15))
     (λ c. ap packedOf (unreadable-either (validParameters (c .before .args .logical) UNUSED UNUSED) _ (lookup-default (c .before .args .logical) (logicalTable UNUSED UNUSED) Annotation.Unreadable (c .match .rest)))))

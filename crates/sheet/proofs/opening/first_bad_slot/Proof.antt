@@ -13,10 +13,10 @@ use Rattle.sheet.proofs.opening.first_bad_slot.Statement.{statement}
 use Rattle.sheet.proofs.opening.first_bad_slot.Tie as tie
 
 abbrev Inv-loop : tie.InvT-loop
-Inv-loop sheet slots total k₀ k = (k ≤ slots) × ((j : ℕ) → j < k → slotRight sheet j ≡ true)
+Inv-loop edition sheet slots total k₀ k = (k ≤ slots) × ((j : ℕ) → j < k → slotRight edition sheet j ≡ true)
 
 abbrev μ-loop : tie.MeasureT-loop
-μ-loop sheet slots total k₀ k = slots - k
+μ-loop edition sheet slots total k₀ k = slots - k
 
 loop-holds : tie.Need-loop-holds Inv-loop μ-loop
 loop-holds c = (search needs, below-none _)

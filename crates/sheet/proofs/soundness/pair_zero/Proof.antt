@@ -7,7 +7,8 @@ use borrow.Author.Needs.{needs}
 use borrow.Author.Tests.{eq-eqb, eqb-true}
 use Rattle.sheet.specs.Steps.{pairSize}
 use Rattle.sheet.proofs.NumberLaws.{numberAt-zero, numberAt-none}
-use Rattle.sheet.proofs.TestLaws.{differs, same-test, fails-with}
+use Rattle.laws.proofs.BoolLaws.{same-test}
+use Rattle.sheet.proofs.TestLaws.{differs, fails-with}
 use Rattle.sheet.proofs.ZeroLaws.{stretch-true, stretch-zeros, zeros-join}
 use Rattle.sheet.proofs.soundness.pair_zero.Statement.{statement}
 use Rattle.sheet.proofs.soundness.pair_zero.Tie as tie

@@ -33,7 +33,7 @@ returns c =
     let a = start .args in
     let there = reaches-true (a .sheet .now) (a .k) (start .pre .0) (start .pre .1 .0) in
     let slot = slotAt-slice (a .sheet .now) (a .k) _ (at-slot-start .slot-start .ensures) there in
-    c .slot-sound .ensures ∙ ap slotSound slot ∙ sym (slotRight-used (a .sheet .now) (a .k) (omega arith))
+    c .slot-sound .ensures ∙ ap (slotSound (a .edition)) slot ∙ sym (slotRight-used (a .edition) (a .sheet .now) (a .k) (omega arith))
 
 slot-zero-requires : tie.Need-slot-zero-requires
 slot-zero-requires c κs = search needs
@@ -45,7 +45,7 @@ returns-2 c =
     let a = start .args in
     let there = reaches-true (a .sheet .now) (a .k) (start .pre .0) (start .pre .1 .0) in
     let slot = slotAt-slice (a .sheet .now) (a .k) _ (at-slot-start .slot-start .ensures) there in
-    c .slot-zero .ensures ∙ ap allZero slot ∙ sym (slotRight-unused (a .sheet .now) (a .k) (omega arith))
+    c .slot-zero .ensures ∙ ap allZero slot ∙ sym (slotRight-unused (a .edition) (a .sheet .now) (a .k) (omega arith))
 
 pub slot-right-spec : {M : Type 1} → statement M
 slot-right-spec =

@@ -5,7 +5,8 @@ use borrow.Author.Needs.{needs}
 use Rattle.sheet.specs.Block.{slotSize}
 use Rattle.sheet.specs.Slot.{nameAt}
 use Rattle.sheet.specs.Steps.{pairSize}
-use Rattle.sheet.proofs.TestLaws.{failed, passed, same-test, fails-with}
+use Rattle.laws.proofs.BoolLaws.{same-test}
+use Rattle.sheet.proofs.TestLaws.{failed, passed, fails-with}
 use Rattle.sheet.proofs.ZeroLaws.{stretch-zeros, rest-true, rest-zeros, rest-stretch, zeros-join}
 use Rattle.sheet.proofs.soundness.slot_zero.Statement.{statement}
 use Rattle.sheet.proofs.soundness.slot_zero.Tie as tie

@@ -3,7 +3,8 @@ use mathlib.Core.Path.{sym, _∙_}
 use native.Mathlib.Omega.{arith}
 use borrow.Author.Needs.{needs}
 use Rattle.sheet.specs.Steps.{pairSize}
-use Rattle.sheet.proofs.TestLaws.{failed, passed, same-test, fails-with}
+use Rattle.laws.proofs.BoolLaws.{same-test}
+use Rattle.sheet.proofs.TestLaws.{failed, passed, fails-with}
 use Rattle.sheet.proofs.ZeroLaws.{stretch-zeros, rest-true, rest-stretch, zeros-join}
 use Rattle.sheet.proofs.soundness.zero_from.Statement.{statement}
 use Rattle.sheet.proofs.soundness.zero_from.Tie as tie

@@ -1,0 +1,2 @@
+-- Laws of calls on boxes.
+pub mod PromiseLaws
