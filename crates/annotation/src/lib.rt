@@ -2,6 +2,8 @@
 //
 // A slot is document 01's word for the bytes of one node of a sheet. Nothing here knows bytes or trees: `Annotated` has the
 // numbers of a slot that say its type.
+#![tactic(auto)]
+
 mod agreement; // rule 9: converted and logical agree
 mod conversion; // what a converted type that stands alone means
 mod decimals; // rule 11: precision and scale

@@ -1,4 +1,6 @@
 // Bounding boxes of points: made of a list of points, and asked whether a point is inside.
+#![tactic(auto)]
+
 mod bounding_box; // bounding_box.rt: a box, and the kinds and degrees that it may have
 mod membership; // membership.rt: whether a point is inside
 mod points; // points.rt: the box of a list of points

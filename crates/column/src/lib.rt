@@ -1,4 +1,6 @@
 // Single values: one value of a column, checked for refusals 21, 20, 15 and 16 and read.
+#![tactic(auto)]
+
 mod annotations; // annotations.rt: which values keep the annotation of their column
 pub mod codes; // codes.rt: the codes of a column type
 mod floats; // floats.rt: the floats of bit patterns

@@ -1,4 +1,6 @@
 // The order of two single values of a column, by refusals 20 and 17 and those of the values.
+#![tactic(auto)]
+
 pub mod answer; // answer.rt: what ordering answers
 mod decimals; // decimals.rt: the order of two decimals in bytes
 pub mod ordering; // ordering.rt: ordering two values

@@ -1,5 +1,7 @@
 // Reads one value of a column. The arguments are the five numbers of its column type, and standard input is the value. The edition may stand
 // before them; without it, it is the first.
+#![tactic(auto)]
+
 ghost use Rattle.std.specs.Prelude.{◌≡◌, ◌≤◌};
 
 use column::MOST_BYTES;

@@ -1,5 +1,7 @@
 // Decimals by their bytes, big-endian two's complement: how many there can be and which precision they hold, and numbers of any length
 // compared and held to a precision.
+#![tactic(auto)]
+
 mod fit; // fit.rt: whether |number| < 10^precision
 mod number; // number.rt: the sign of a number, and the bytes that it needs
 mod order; // order.rt: the order of two numbers of any two lengths

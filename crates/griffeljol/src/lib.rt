@@ -1,5 +1,7 @@
 // The C library: every entry under a plain name, with a pointer and a length for each slice and one number for an answer. What an entry
 // does stands in the crate of its family: `c_sheets`, `c_values`, `c_timestamps`, `c_boxes`.
+#![tactic(auto)]
+
 mod exports; // exports.rt: the entries
 
 pub use exports::{

@@ -1,4 +1,6 @@
 // Which nodes of two sheets match: the roots, and the fields of matched nodes by name, of one name the first with the first, and so on.
+#![tactic(auto)]
+
 mod candidates; // candidates.rt: of a node's fields the first that a field of the other sheet may take
 mod ends; // ends.rt: where the tree of each node ends
 mod fields; // fields.rt: the fields of two matched nodes matched

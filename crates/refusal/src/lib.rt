@@ -1,4 +1,6 @@
 // What every entry answers where it gives no result: a numbered refusal and its place. Each number stands once here, and once in `specs/`.
+#![tactic(auto)]
+
 pub mod numbers; // numbers.rt: the refusals' numbers
 mod answers; // answers.rt: a refusal, and the answers that several crates give
 

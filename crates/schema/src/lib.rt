@@ -1,4 +1,6 @@
 // What a sheet is resolved into: the rows of its tree, and the rewritten sheet.
+#![tactic(auto)]
+
 mod levels; // levels.rt: what a node adds to the levels
 mod rewriting; // rewriting.rt: the rewritten sheet, or the refusal
 mod resolving; // resolving.rt: a sheet's rows, or the refusal

@@ -1,5 +1,7 @@
 // Reads a sheet from standard input and writes the rewritten sheet to standard output, or prints the refusal and nothing else. Its argument
 // is the edition, the first without one.
+#![tactic(auto)]
+
 use libc::{STDIN_FILENO, STDOUT_FILENO};
 use refusal::{Counted, Refusal};
 use sheet::MOST_BYTES;

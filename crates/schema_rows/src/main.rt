@@ -1,5 +1,7 @@
 // Reads a sheet from standard input and prints the rows of its nodes, a line for each, or the refusal. Its argument is the edition, the first
 // without one.
+#![tactic(auto)]
+
 use libc::{STDIN_FILENO, STDOUT_FILENO};
 use schema_text::{MOST_NUMBERS, MOST_TEXT_BYTES};
 use sheet::MOST_BYTES;

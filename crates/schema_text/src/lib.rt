@@ -1,4 +1,6 @@
 // A sheet's rows, or its refusal, as the text that document 01's program prints.
+#![tactic(auto)]
+
 mod answers; // answers.rt: what resolving answered, as text
 mod rows; // rows.rt: rows as text
 mod sheets; // sheets.rt: a sheet as text

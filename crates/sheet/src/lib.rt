@@ -1,4 +1,6 @@
 // The sheet: bytes are sound blocks and slots, or the one refusal of 1 to 4 that document 01 names.
+#![tactic(auto)]
+
 mod layout; // layout.rt: where each field of a block and of a slot lies
 mod number; // number.rt: little-endian numbers in bytes
 mod block; // block.rt: whether a block's check and header are right

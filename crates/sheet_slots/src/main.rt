@@ -1,5 +1,7 @@
 // Reads a sheet from standard input and lists its slots, a line for each, or prints the refusal. Its argument is the edition, the first
 // without one.
+#![tactic(auto)]
+
 ghost use Rattle.std.specs.Prelude.{◌≡◌, false};
 ghost use Rattle.sheet.specs.Opening.{open_of};
 ghost use Rattle.sheet_reader.specs.declared.stepping.Step.TheVariants.{End};

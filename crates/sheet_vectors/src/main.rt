@@ -3,6 +3,8 @@
 //
 // Standard input is a count, and then each sheet as the length of its bytes, the node, the other node, the length of the
 // text, the text and the bytes. Each number is four bytes, the least first.
+#![tactic(auto)]
+
 use edition::is_known;
 use libc::{STDIN_FILENO, STDOUT_FILENO};
 use refusal::{Counted, unknown_edition};

@@ -2,6 +2,8 @@
 //
 // A function answers the position after its text. Where the text does not fit from its position on, nothing is written and
 // the answer is one past the buffer's end, where nothing fits: so a caller may store text after text and test the last answer.
+#![tactic(auto)]
+
 mod lines; // lines.rt: numbers on a line
 mod numbers; // numbers.rt: numbers in decimal and hexadecimal digits
 mod placing; // placing.rt: bytes at a position

@@ -1,4 +1,6 @@
 // Timestamps: counts of ticks since 1 January 1970 in three units, and the dates and times that they stand for.
+#![tactic(auto)]
+
 mod calendar; // calendar.rt: which dates there are, and their day numbers
 mod clock; // clock.rt: the time of a day
 pub mod decoding; // decoding.rt: from a count to the fields of its date and time

@@ -1,4 +1,6 @@
 // The tree of a sheet, judged by refusals 5 to 13 behind 21 and 1 to 4.
+#![tactic(auto)]
+
 mod faults; // faults.rt: the least rule that a node breaks
 mod judgement; // judgement.rt: a sheet judged by refusals 21 and 1 to 13
 mod judging; // judging.rt: a tree and its run judged, too deep or at fault

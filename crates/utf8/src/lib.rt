@@ -1,4 +1,6 @@
 // UTF-8 as RFC 3629 has it: where whole sequences, read from the start of a slice, stop.
+#![tactic(auto)]
+
 ghost use Rattle.std.specs.Prelude.{ℕ, suc, ◌+◌, ◌≤◌, ◌<◌, cond, List, ◌∷◌, ◌≡◌, length, take, drop, get_or, replicate};
 ghost use Rattle.utf8.specs.Sequence.{◌to◌, tail, inside, spells};
 ghost use Rattle.utf8.specs.Valid.{leading, valid_up_to, Stops};
