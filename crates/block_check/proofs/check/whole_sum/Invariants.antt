@@ -1,0 +1,18 @@
+-- `block_check::check::whole_sum` meets its contract. The invariant: the sums over the chunks passed weigh what the bytes of those
+use Rattle.std.proofs.Common.{◌≡◌, ℕ, ◌+◌, ◌-◌, ◌*◌, ◌≤◌, List, length, take, drop, sym, refl, ap, ◌∙◌, subst, arith, length-drop, length-take, rules}
+use native.Mathlib.Nat.{add-sub_cancel_left}
+use Rattle.laws.specs.Bytes.{Bytes}
+use Rattle.block_check.specs.Check.{block_size, sum_below, weighted}
+use Rattle.block_check.specs.Steps.{chunk_size, chunks, low_of, pair_weight, AtMost, ChunkAdded}
+use Rattle.block_check.proofs.LaneLaws.{none_most, most_most, LanesWeighed, chunk_more}
+use Rattle.block_check.proofs.check.whole_sum.Given as goal
+
+abbrev pub invariant-loop-chunk : goal.invariant-loop-chunk
+invariant-loop-chunk l =
+    (l.chunk ≤ chunks)
+    × AtMost (255 * l.chunk) l.plain l.plain_highs
+    × AtMost (255 * chunks * l.chunk) l.cumulative l.cumulative_highs
+    × LanesWeighed l.block (chunk_size * l.chunk) l.plain l.plain_highs l.cumulative l.cumulative_highs
+
+abbrev pub decreases-loop-chunk : goal.decreases-loop-chunk
+decreases-loop-chunk l = chunks - l.chunk

@@ -1,0 +1,114 @@
+-- `decimal_bytes::fit::fits_exactly` meets its contract: the order against the power of ten, or its negative, is judged. Assumes nothing.
+use mathlib.Core.Path.{◌≡◌, refl, sym, ap, ap₂, subst, ◌∙◌}
+use mathlib.Core.Bool.{Bool, true, false, cond}
+use mathlib.Core.List.{List, ◌++◌}
+use Prim.Native.Nat.{ℕ, ◌^◌, ◌≤◌}
+use native.Mathlib.Nat.{le_trans, pow-le-pow_right}
+use native.Mathlib.Omega.{arith}
+use lib.IntN.{pos, neg_ℤ}
+use lib.ListN.{length, take, drop, length-append}
+use lib.Seq.{length-take-le, take_at}
+use borrow.Author.Rules.{rules}
+use Rattle.decimal_bytes.specs.declared.order.Order.{Order}
+use Rattle.decimal_bytes.specs.Precision.{is_length, greatest_number}
+use Rattle.decimal_bytes.specs.Number.{is_negative, number}
+use Rattle.decimal_bytes.specs.Order.{order_of}
+use Rattle.decimal_bytes.specs.Fit.{fit_of}
+use Rattle.decimal_bytes.proofs.PrecisionLaws.{is_length_bounds, greatest_precision_low}
+use Rattle.decimal_bytes.proofs.UnsignedLaws.{each_get_d}
+use Rattle.decimal_bytes.proofs.FitLaws.{judged, fit_of_judged}
+use Rattle.decimal_bytes.proofs.fit.fits_exactly.Goals as goal
+use Rattle.decimal_bytes.proofs.fit.fits_exactly.Goals.{After-compare_by_bytes, After-room-bound, After-write_power, Start}
+
+-- the number's length holds the power of ten
+held : (c : Start) → 10 ^ c.args.precision ≤ greatest_number (length c.args.number.now)
+held c =
+    let bounds = is_length_bounds (length c.args.number.now) c.requires.0 in
+    le_trans (pow-le-pow_right (omega arith) c.requires.1) (greatest_precision_low (length c.args.number.now) bounds.0 bounds.1)
+
+-- the room that is lent is as long as the number
+module _ (c : After-room-bound) where
+  abbrev n : ℕ
+  n = length c.args.number.now
+
+  within : n ≤ length c.room-bound.result
+  within = omega (arith, is_length_bounds n c.requires.0)
+
+  length_lent : length (take n c.room-bound.result) ≡ n
+  length_lent = length-take-le n c.room-bound.result within
+
+-- and so is what is written there
+module _ (c : After-write_power) where
+  abbrev power : List ℕ
+  power = c.write_power.new.bytes
+
+  abbrev left : List ℕ
+  left = drop (n c.before.before) c.room-bound.result
+
+  length_power : length power ≡ n c.before.before
+  length_power = c.write_power.auto.0 ∙ length_lent c.before.before
+
+  front : n c.before.before ≤ length (power ++ left)
+  front = omega (arith, length_power, length-append power left)
+
+-- what the order says of the number
+module _ (c : After-compare_by_bytes) where
+  abbrev bs : List ℕ
+  bs = c.args.number.now
+
+  abbrev precision : ℕ
+  precision = c.args.precision
+
+  abbrev bound : List ℕ
+  bound = power c.before.before.before
+
+  compared : c.compare_by_bytes.result ≡ order_of bs bound
+  compared = c.compare_by_bytes.ensures ∙ ap (order_of bs) (take_at bound (left c.before.before.before) (length bs) (length_power c.before.before.before))
+
+  value : number bound ≡ cond (is_negative bs) (neg_ℤ (pos (10 ^ precision))) (pos (10 ^ precision))
+  value =
+      c.write_power.ensures
+      ∙ ap (λ (t : Bool). cond t (neg_ℤ (pos (10 ^ precision))) (pos (10 ^ precision))) c.is_negative-negative.ensures
+
+  answer : (o : Order) (negative : Bool) → c.compare_by_bytes.result ≡ o → c.is_negative-negative.result ≡ negative → judged negative o ≡ fit_of bs precision
+  answer o negative e s =
+      ap₂ judged (sym s ∙ c.is_negative-negative.ensures) (sym e ∙ compared)
+      ∙ fit_of_judged bs bound precision c.requires.0 (ap is_length (length_power c.before.before.before) ∙ c.requires.0)
+      (each_get_d bs (λ k. (c.type_inv.number k).fits)) value
+
+pub slice_bounds-bound-end : goal.slice_bounds-bound-end
+slice_bounds-bound-end c = within c
+
+pub slice_bounds-write_power-end : goal.slice_bounds-write_power-end
+slice_bounds-write_power-end c = sym (length_lent (goal.at.slice_bounds-write_power-end c).After-room-bound)
+
+pub write_power-requires : goal.write_power-requires
+write_power-requires c =
+    let long = sym (length_lent (goal.at.write_power-requires c).After-room-bound) in (
+      subst (λ (m : ℕ). 1 ≤ m) long (is_length_bounds _ c.requires.0).0,
+      subst (λ (m : ℕ). 10 ^ c.args.precision ≤ greatest_number m) long (held (goal.at.write_power-requires c).Start),
+    )
+
+pub slice_bounds-bound-end-2 : goal.slice_bounds-bound-end-2
+slice_bounds-bound-end-2 c = front (goal.at.slice_bounds-bound-end-2 c).After-write_power
+
+pub slice_bounds-compare_by_bytes-end : goal.slice_bounds-compare_by_bytes-end
+slice_bounds-compare_by_bytes-end c = sym (length-take-le _ _ (front (goal.at.slice_bounds-compare_by_bytes-end c).After-write_power))
+
+pub returns-then-negative : goal.returns-then-negative
+returns-then-negative c = answer (goal.at.returns-then-negative c).After-compare_by_bytes Order.Less true c.in-Less.is c.if-negative.true
+
+pub returns-then-negative-2 : goal.returns-then-negative-2
+returns-then-negative-2 c = answer (goal.at.returns-then-negative-2 c).After-compare_by_bytes Order.Greater true c.in-Greater.is c.if-negative-2.true
+
+pub returns-else-negative : goal.returns-else-negative
+returns-else-negative c = answer (goal.at.returns-else-negative c).After-compare_by_bytes Order.Less false c.in-Less.is c.if-negative.false
+
+pub returns-in-Equal : goal.returns-in-Equal
+returns-in-Equal c = answer (goal.at.returns-in-Equal c).After-compare_by_bytes Order.Equal _ c.in-Equal.is refl
+
+pub returns-else-negative-2 : goal.returns-else-negative-2
+returns-else-negative-2 c = answer (goal.at.returns-else-negative-2 c).After-compare_by_bytes Order.Greater false c.in-Greater.is c.if-negative-2.false
+
+pub returns-in-WrongLength : goal.returns-in-WrongLength
+returns-in-WrongLength c = answer (goal.at.returns-in-WrongLength c).After-compare_by_bytes Order.WrongLength _ c.in-WrongLength.is refl

@@ -1,0 +1,16 @@
+-- `decimal_bytes::order::compare_alike` meets its contract. The loop's invariant: the two numbers, with their sign in front up to one
+use mathlib.Core.Path.{◌≡◌, refl, sym}
+use mathlib.Core.List.{◌++◌}
+use Prim.Native.Nat.{◌-◌, ◌≤◌}
+use native.Mathlib.Omega.{arith}
+use lib.ListN.{take, replicate}
+use borrow.Author.Rules.{rules}
+use Rattle.decimal_bytes.proofs.UnsignedLaws.{each_get_d}
+use Rattle.decimal_bytes.proofs.OrderLaws.{Alike, widened_less, widened_greater, widened_equal, widened_next}
+use Rattle.decimal_bytes.proofs.order.compare_alike.Given as goal
+
+abbrev pub invariant-loop-at : goal.invariant-loop-at
+invariant-loop-at l = (l.at ≤ l.width) × (take l.at (replicate l.before_a l.sign ++ l.a) ≡ take l.at (replicate l.before_b l.sign ++ l.b))
+
+abbrev pub decreases-loop-at : goal.decreases-loop-at
+decreases-loop-at l = l.width - l.at

@@ -1,0 +1,34 @@
+-- `decimal_bytes::power::scale_by_power` meets its contract. The loop's invariant: the bytes are scaled by the power of ten that is not
+use mathlib.Core.Path.{◌≡◌, refl, ap, ◌∙◌}
+use Prim.Native.Nat.{ℕ, ◌≤◌, ◌*◌, ◌-◌, ◌^◌, ◌%◌}
+use native.Mathlib.Omega.{arith}
+use lib.ListN.{length}
+use borrow.Author.Rules.{rules}
+use Rattle.decimal_bytes.specs.Number.{unsigned}
+use Rattle.decimal_bytes.proofs.UnsignedLaws.{each_get_d, unsigned-<}
+use Rattle.decimal_bytes.proofs.PowerLaws.{power_held, power_bounds, power_more, power_none}
+use Rattle.decimal_bytes.proofs.power.scale_by_power.Goals as goal
+
+pub loop-left-init : goal.loop-left-init
+loop-left-init c = (omega arith, refl, power_none _ _ _ (unsigned-< c.args.bytes.now (each_get_d c.args.bytes.now (λ k. (c.type_inv.bytes k).fits))))
+
+pub scale-requires : goal.scale-requires
+scale-requires c = omega (arith, c.power_of_ten.ensures)
+
+pub loop-left-preserved : goal.loop-left-preserved
+loop-left-preserved c = (
+  omega arith,
+  c.scale.auto.0 ∙ c.loop-left.invariant.1,
+  c.scale.ensures
+      ∙ ap (λ (n : ℕ). unsigned c.loop-left.bytes * c.power_of_ten.result % 256 ^ n) c.loop-left.invariant.1
+      ∙ power_more _ _ _ _ (c.args.exponent - c.loop-left.left) 16 _ c.loop-left.invariant.2 c.power_of_ten.ensures (omega arith),
+)
+
+pub scale-requires-2 : goal.scale-requires-2
+scale-requires-2 c = omega (arith, power_held _ _ c.power_of_ten-2.ensures (omega arith), power_bounds c.loop-left.left (omega arith))
+
+pub returns : goal.returns
+returns c =
+    c.scale-2.ensures
+    ∙ ap (λ (n : ℕ). unsigned c.loop-left.bytes * c.power_of_ten-2.result % 256 ^ n) c.loop-left.invariant.1
+    ∙ power_more _ _ _ _ (c.args.exponent - c.loop-left.left) c.loop-left.left _ c.loop-left.invariant.2 (power_held _ _ c.power_of_ten-2.ensures (omega arith)) (omega arith)

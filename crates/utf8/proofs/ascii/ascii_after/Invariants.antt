@@ -1,0 +1,16 @@
+-- `utf8::ascii::ascii_after` meets its contract. The loop's invariant is what is promised of the octets passed; the measure is what is left of the length.
+use Prim.Native.Nat.{◌+◌, ◌-◌}
+use mathlib.Core.Path.{sym, ◌∙◌}
+use native.Mathlib.Omega.{arith}
+use borrow.Author.Rules.{rules}
+use lib.ListN.{length}
+use Rattle.utf8.specs.Steps.{Passes, NoAscii}
+use Rattle.utf8.proofs.ValidLaws.{passes_none, passes_on}
+use Rattle.utf8.proofs.AsciiLaws.{passes_ended, passes_clear}
+use Rattle.utf8.proofs.ascii.ascii_after.Given as goal
+
+abbrev pub invariant-loop-at : goal.invariant-loop-at
+invariant-loop-at l = Passes l.text l.from l.at
+
+abbrev pub decreases-loop-at : goal.decreases-loop-at
+decreases-loop-at l = length l.text - l.at
