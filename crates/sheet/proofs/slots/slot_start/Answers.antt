@@ -1,0 +1,8 @@
+-- `sheet::slots::slot_start` meets its contract: below 896 nodes the product over 2^16 is the number of the block, and 512 for each block with 72 for
+use borrow.Author.Rules.{rules}
+use Rattle.sheet.specs.Slot.{slot_start}
+use Rattle.sheet.proofs.slots.slot_start.Goals as goal
+
+pub returns : goal.returns
+unfolding slot_start
+returns c = search rules

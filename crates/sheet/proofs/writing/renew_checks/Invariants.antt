@@ -1,0 +1,16 @@
+-- `sheet::writing::renew_checks` meets its contract. The invariant: the checks of the blocks passed are stored.
+use mathlib.Core.Path.{◌≡◌, refl, ap, ◌∙◌}
+use mathlib.Core.List.{List}
+use Prim.Native.Nat.{ℕ, ◌*◌, ◌-◌, ◌≤◌}
+use native.Mathlib.Numerals.{add-one}
+use native.Mathlib.Omega.{arith}
+use lib.ListN.{length}
+use Rattle.sheet.specs.Block.{block_size, block_count}
+use Rattle.sheet.specs.Check.{with_check, with_checks, renewed}
+use Rattle.sheet.proofs.writing.renew_checks.Given as goal
+
+abbrev pub invariant-loop-i : goal.invariant-loop-i
+invariant-loop-i l = (l.i ≤ l.blocks) × (block_size * l.blocks ≤ length l.sheet) × (length l.sheet ≡ length l.initial.sheet) × (l.sheet ≡ with_checks l.initial.sheet l.i)
+
+abbrev pub decreases-loop-i : goal.decreases-loop-i
+decreases-loop-i l = l.blocks - l.i
