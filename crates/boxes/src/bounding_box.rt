@@ -5,7 +5,7 @@ ghost use Rattle.parquet.specs.Logical.{is_geospatial};
 use parquet::logical;
 
 // From the least to the greatest x, and from the least to the greatest y.
-#[derive(Drop)]
+#[derive(Clone, Copy)]
 pub struct BoundingBox {
     pub xmin: f64,
     pub xmax: f64,

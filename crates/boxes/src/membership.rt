@@ -9,7 +9,7 @@ use crate::refusals::{not_allowed, unknown_kind};
 use refusal::Refusal;
 
 // Whether a point is inside, or the refusal.
-#[derive(Drop)]
+#[derive(Clone, Copy)]
 pub enum Tested {
     Inside(bool),
     Refused(Refusal),

@@ -11,7 +11,7 @@ use crate::refusals::{not_allowed, odd_run, unknown_kind};
 use refusal::Refusal;
 
 // What the box of a list of points is: a box, none where no coordinate of an axis counts, or the refusal.
-#[derive(Drop)]
+#[derive(Clone, Copy)]
 pub enum Boxed {
     Box(BoundingBox),
     NoBox,

@@ -48,7 +48,7 @@ const DOUBLE_NAN: u64 = 0x7ff8_0000_0000_0000;
 const GREATEST: u64 = 0xffff_ffff_ffff_ffff;
 
 // A value's case, and the two numbers that are written of it.
-#[derive(Drop)]
+#[derive(Clone, Copy)]
 struct ValueNumbers {
     case: u32,
     first: u64,

@@ -2,7 +2,7 @@
 use refusal::Refusal;
 
 // A value. The stretch of a bytes value is counted in the bytes that were read.
-#[derive(Drop)]
+#[derive(Clone, Copy)]
 pub enum Value {
     Truth(bool),
     Signed(i64),
@@ -13,14 +13,14 @@ pub enum Value {
 }
 
 // What reading a value answers: the value, or the first refusal that holds.
-#[derive(Drop)]
+#[derive(Clone, Copy)]
 pub enum Read {
     Value(Value),
     Refused(Refusal),
 }
 
 // What reading two values of one column type answers.
-#[derive(Drop)]
+#[derive(Clone, Copy)]
 pub struct Both {
     pub first: Read,
     pub second: Read,

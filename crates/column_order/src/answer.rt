@@ -8,7 +8,7 @@ use float_order::Relation;
 use refusal::{Fault, NEITHER, Refusal, numbers};
 
 // How the first value stands to the second, or the first refusal that holds.
-#[derive(Drop)]
+#[derive(Clone, Copy)]
 pub enum Order {
     Related(Relation),
     Refused(Fault),

@@ -8,7 +8,7 @@ use crate::{order, words};
 use decimal_bytes::{Fit, Order};
 
 // The first number against the second, or the first refusal that holds.
-#[derive(Drop)]
+#[derive(Clone, Copy)]
 pub enum Compared {
     Less,
     Equal,

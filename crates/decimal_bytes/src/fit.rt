@@ -8,7 +8,7 @@ use crate::order::Order;
 use crate::{number, order, power, precision};
 
 // |number| < 10^precision, or not. A length outside 1 to 256 is wrong.
-#[derive(Drop)]
+#[derive(Clone, Copy)]
 pub enum Fit {
     Within,
     Beyond,

@@ -7,7 +7,7 @@ ghost use Rattle.decimal_bytes.specs.Order.{order, order_of};
 use crate::{number, precision};
 
 // The first number against the second. A length outside 1 to 256 is wrong, in either.
-#[derive(Drop)]
+#[derive(Clone, Copy)]
 pub enum Order {
     Less,
     Equal,

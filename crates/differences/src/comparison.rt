@@ -16,7 +16,7 @@ use sheet::MOST_NODES;
 use tree::judge;
 
 // How many entries the list has, or the refusal, with the sheet at fault.
-#[derive(Drop)]
+#[derive(Clone, Copy)]
 pub enum Compared {
     Entries(usize),
     Refused(Fault),

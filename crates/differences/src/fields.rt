@@ -14,7 +14,7 @@ const PLACES: u8 = 72;
 const BYTE: u32 = 256;
 
 // A field of a slot: its code, which is its first byte, and how many bytes it has.
-#[derive(Drop)]
+#[derive(Clone, Copy)]
 pub struct Field {
     pub code: usize,
     pub width: usize,

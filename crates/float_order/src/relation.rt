@@ -1,7 +1,7 @@
 // How one value stands to another.
 
 // The first value against the second.
-#[derive(Drop)]
+#[derive(Clone, Copy)]
 pub enum Relation {
     Less,
     Equal,

@@ -17,7 +17,7 @@ const NANOS_SIZE: usize = 8;
 const DAY_OF_1970: i64 = 2_440_588;
 
 // What decoding answers: the nanoseconds from the start of 1 January 1970, negative before it, or the refusal.
-#[derive(Drop)]
+#[derive(Clone, Copy)]
 pub enum Converted {
     Count(i64),
     Refused(Refusal),

@@ -1,14 +1,14 @@
 // Logical types with their parameters, how they are spelled, and what the annotations of a slot say. Contracts speak of these, the code
 // goes by numbers.
 
-#[derive(Drop)]
+#[derive(Clone, Copy)]
 pub enum TimeUnit {
     Millis,
     Micros,
     Nanos,
 }
 
-#[derive(Drop)]
+#[derive(Clone, Copy)]
 pub enum BitWidth {
     Bits8,
     Bits16,
@@ -17,7 +17,7 @@ pub enum BitWidth {
 }
 
 // How the edges between a GEOGRAPHY's points run.
-#[derive(Drop)]
+#[derive(Clone, Copy)]
 pub enum EdgeRule {
     Spherical,
     Vincenty,
@@ -26,7 +26,7 @@ pub enum EdgeRule {
     Karney,
 }
 
-#[derive(Drop)]
+#[derive(Clone, Copy)]
 pub enum LogicalType {
     String,
     Map,
@@ -57,7 +57,7 @@ pub enum LogicalType {
 }
 
 // The numbers of a slot that spell its logical type.
-#[derive(Drop)]
+#[derive(Clone, Copy)]
 pub struct Spelling {
     pub logical: u8,
     pub a: u8,
@@ -65,7 +65,7 @@ pub struct Spelling {
 }
 
 // What the annotations of a slot say of its node.
-#[derive(Drop)]
+#[derive(Clone, Copy)]
 pub enum Annotation {
     // None.
     Plain,

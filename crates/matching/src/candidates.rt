@@ -6,14 +6,14 @@ ghost use Rattle.sheet.specs.Name.{same_bytes};
 ghost use Rattle.matching.specs.Steps.{Ends, Prints, print_of, Stands, fields_from, untaken, first_free, found_of, FoundWithin};
 
 // A field of a node: its number, and its place among its siblings.
-#[derive(Drop)]
+#[derive(Clone, Copy)]
 pub struct Candidate {
     pub number: usize,
     pub place: usize,
 }
 
 // The field that is found, or none.
-#[derive(Drop)]
+#[derive(Clone, Copy)]
 pub enum Found {
     At(Candidate),
     Nothing,

@@ -15,7 +15,7 @@ use sheet::MOST_NODES;
 use tree::judge;
 
 // How many nodes both sheets have, or the refusal, with the sheet at fault.
-#[derive(Drop)]
+#[derive(Clone, Copy)]
 pub enum Matched {
     Nodes(usize, usize),
     Refused(Fault),

@@ -5,7 +5,7 @@ ghost use Rattle.refusal.specs.Outcome.{short_output, unknown_edition};
 use crate::numbers;
 
 // A refusal: its number, and the block, node or byte that it names, or 0 where it names none.
-#[derive(Drop)]
+#[derive(Clone, Copy)]
 pub struct Refusal {
     pub number: u8,
     pub place: usize,
@@ -19,21 +19,21 @@ pub const FIRST: u8 = 1;
 pub const SECOND: u8 = 2;
 
 // A refusal of one of two things, with its side.
-#[derive(Drop)]
+#[derive(Clone, Copy)]
 pub struct Fault {
     pub side: u8,
     pub refusal: Refusal,
 }
 
 // Whether anything is refused.
-#[derive(Drop)]
+#[derive(Clone, Copy)]
 pub enum Verdict {
     Lawful,
     Refused(Refusal),
 }
 
 // How many there are of what was asked for, nodes or bytes, or the refusal.
-#[derive(Drop)]
+#[derive(Clone, Copy)]
 pub enum Counted {
     Count(usize),
     Refused(Refusal),

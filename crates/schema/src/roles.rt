@@ -9,7 +9,7 @@ use sheet::Slot;
 use tree::{Layer, layer_of, named_element};
 
 // What a node's parent is to it, as far as roles go.
-#[derive(Drop)]
+#[derive(Clone, Copy)]
 pub enum Parent {
     // Neither LIST nor MAP, and no layer of one.
     Other,

@@ -20,7 +20,7 @@ pub const ROW_WIDTH: usize = 11;
 const END: usize = 7;
 
 // A node's row.
-#[derive(Drop)]
+#[derive(Clone, Copy)]
 struct Row {
     physical: u32,
     type_length: u32,

@@ -8,7 +8,7 @@ use crate::number::wide;
 use crate::slots::slot_start;
 
 // A part of the sheet's bytes.
-#[derive(Drop)]
+#[derive(Clone, Copy)]
 pub struct Stretch {
     pub start: usize,
     pub len: usize,

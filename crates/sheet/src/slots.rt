@@ -15,7 +15,7 @@ const SEVENTH: usize = 9363;
 const PARTS: usize = 65536;
 
 // A slot's numbers, as its bytes have them.
-#[derive(Drop)]
+#[derive(Clone, Copy)]
 pub struct Slot {
     pub physical: u8,
     pub repetition: u8,

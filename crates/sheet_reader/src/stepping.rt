@@ -6,7 +6,7 @@ use refusal::Counted;
 use sheet::{Slot, Stretch};
 
 // What a step hands out.
-#[derive(Drop)]
+#[derive(Clone, Copy)]
 pub enum Step {
     // A slot's numbers, and where its name stands in the sheet.
     Slot(Slot, Stretch),

@@ -29,7 +29,7 @@ const FEBRUARY: u32 = 2;
 // The day of February that only a leap year has.
 const LEAP_DAY: u32 = 29;
 
-#[derive(Drop)]
+#[derive(Clone, Copy)]
 pub(crate) struct Date {
     pub(crate) year: i64,
     pub(crate) month: u32,
@@ -74,7 +74,7 @@ pub(crate) fn day_number(date: Date) -> i64
 }
 
 // A month: its days in a common year, and the day number of the day before its first in the year from 1 March of year 0 on.
-#[derive(Drop)]
+#[derive(Clone, Copy)]
 pub(crate) struct Month {
     pub(crate) days: u32,
     pub(crate) offset: i64,

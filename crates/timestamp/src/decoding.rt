@@ -18,7 +18,7 @@ use crate::units::{FoundUnit, Micros, Millis, Nanos, find_unit};
 use refusal::Refusal;
 
 // What decoding answers.
-#[derive(Drop)]
+#[derive(Clone, Copy)]
 pub enum Decoded {
     Fields(Fields),
     Refused(Refusal),

@@ -10,7 +10,7 @@ ghost use Rattle.timestamp.specs.FloorDivision.{FloorDivision};
 use crate::signed::{folded, is_negative, signed};
 
 // Whole days since 1 January 1970, negative before it, and the ticks of the day that have passed.
-#[derive(Drop)]
+#[derive(Clone, Copy)]
 pub struct Division {
     pub day: i64,
     pub rest: u64,

@@ -18,7 +18,7 @@ use crate::units::{FoundUnit, Micros, Millis, Nanos, find_unit};
 
 // What encoding answers. A refusal is a case of its own here: a count and a refusal that shared a word would cost each count a sixth more
 // instructions.
-#[derive(Drop)]
+#[derive(Clone, Copy)]
 pub enum Encoded {
     Count(i64),
     // Refusal 18: the fields form no date or time.

@@ -41,7 +41,7 @@ const MARCH: u32 = 3;
 const MONTHS_TO_JANUARY: u64 = 10;
 
 // A date of year 0 or later.
-#[derive(Drop)]
+#[derive(Clone, Copy)]
 pub(crate) struct EraDate {
     pub(crate) year: u64,
     pub(crate) month: u32,
@@ -49,7 +49,7 @@ pub(crate) struct EraDate {
 }
 
 // A year that begins in March, and a day of it, from 0.
-#[derive(Drop)]
+#[derive(Clone, Copy)]
 struct YearDay {
     year: u64,
     day: u64,

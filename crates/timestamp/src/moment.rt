@@ -10,7 +10,7 @@ use crate::signed::folded;
 use crate::units::SECONDS_PER_DAY;
 
 // What fields are, whatever their fraction is.
-#[derive(Drop)]
+#[derive(Clone, Copy)]
 pub(crate) enum Moment {
     // So many seconds since 1 January 1970.
     Second(i64),

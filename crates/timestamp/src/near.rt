@@ -18,7 +18,7 @@ const FIRST_YEAR: u64 = 1_680;
 
 const LAST_YEAR: u64 = 2_260;
 
-#[derive(Drop)]
+#[derive(Clone, Copy)]
 pub(crate) enum Near {
     // So many seconds since 1 January 1970.
     Second(i64),

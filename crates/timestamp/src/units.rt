@@ -22,7 +22,7 @@ use refusal::Refusal;
 pub(crate) const SECONDS_PER_DAY: u64 = 86_400;
 
 // Thousandths of a second.
-#[derive(Drop)]
+#[derive(Clone, Copy)]
 pub struct Millis;
 
 impl Millis {
@@ -65,7 +65,7 @@ impl Millis {
 }
 
 // Millionths of a second.
-#[derive(Drop)]
+#[derive(Clone, Copy)]
 pub struct Micros;
 
 impl Micros {
@@ -108,7 +108,7 @@ impl Micros {
 }
 
 // Thousand-millionths of a second.
-#[derive(Drop)]
+#[derive(Clone, Copy)]
 pub struct Nanos;
 
 impl Nanos {
@@ -158,7 +158,7 @@ impl Nanos {
 }
 
 // The unit that a number names, or that it names none.
-#[derive(Drop)]
+#[derive(Clone, Copy)]
 pub(crate) enum FoundUnit {
     Millis,
     Micros,
@@ -183,7 +183,7 @@ pub(crate) fn find_unit(number: u32) -> FoundUnit
 }
 
 // Whether a day has a tick.
-#[derive(Drop)]
+#[derive(Clone, Copy)]
 pub enum InDay {
     Within,
     Beyond,

@@ -21,7 +21,7 @@ pub(crate) const NO_FAULT: u32 = 0;
 
 // What judging a tree finds: the first node that is too deep; or where the next tree and the root's last field stand, and the
 // first fault.
-#[derive(Drop)]
+#[derive(Clone, Copy)]
 pub enum TreeJudged {
     Deep(usize),
     Judged {
@@ -32,7 +32,7 @@ pub enum TreeJudged {
 }
 
 // What judging a run finds: the same of its last field, with where the last field of that field stands.
-#[derive(Drop)]
+#[derive(Clone, Copy)]
 pub enum RunJudged {
     Deep(usize),
     Judged {

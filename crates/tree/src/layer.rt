@@ -4,7 +4,7 @@ ghost use Rattle.tree.specs.Layer.{layer_of};
 
 use parquet::repetition;
 
-#[derive(Drop)]
+#[derive(Clone, Copy)]
 pub enum Layer {
     // Of several fields, or of one that is repeated: it is the element.
     Element,

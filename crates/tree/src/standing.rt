@@ -4,7 +4,7 @@ ghost use Rattle.tree.specs.Rules.{under_map_of, standing_under};
 
 use parquet::logical;
 
-#[derive(Drop)]
+#[derive(Clone, Copy)]
 pub enum Standing {
     Root,
     // A field of a node that is no resolved MAP.

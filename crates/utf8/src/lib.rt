@@ -129,7 +129,7 @@ fn within(octet: u8, low: u8, high: u8) -> bool
 }
 
 // What follows the first octet of a sequence of three or four.
-#[derive(Drop)]
+#[derive(Clone, Copy)]
 struct Rest {
     // The least second octet ..
     low: u8,
