@@ -2,5 +2,3 @@
 pub mod StepLaws
 pub mod ReaderLaws
 pub mod Examples
-pub mod Lent
-pub mod ReaderCalls

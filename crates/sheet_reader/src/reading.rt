@@ -1,5 +1,4 @@
-// The reader. It holds a reference, so the borrow checker covers no function over it, and each is proved by hand; what they do is
-// left to functions on plain parameters.
+// The reader: it keeps hold of the lent sheet and its next node. What it does is left to functions on plain parameters.
 ghost use Rattle.std.specs.Prelude.{◌≡◌};
 ghost use Rattle.sheet_reader.specs.Reading.{opened_on, step_of, moved_on, step_after};
 

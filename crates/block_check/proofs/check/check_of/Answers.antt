@@ -1,5 +1,5 @@
 -- `block_check::check::check_of` meets its contract: the sum over a block is reduced.
-use Rattle.std.proofs.Common.{ℕ, ◌%◌, sym, ap, ◌∙◌, rules, ne_eqb}
+use Rattle.std.proofs.Common.{ℕ, ◌%◌, sym, ap, ◌∙◌, ne_eqb}
 use Rattle.block_check.specs.Check.{check_modulus, check, check_of}
 use Rattle.block_check.proofs.CheckLaws.{check_of_block}
 use Rattle.block_check.proofs.check.check_of.Goals as goal

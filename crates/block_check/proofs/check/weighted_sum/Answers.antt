@@ -1,5 +1,5 @@
 -- `block_check::check::weighted_sum` meets its contract: of the sum over the whole block, what the bytes of the stored check add is taken off.
-use Rattle.std.proofs.Common.{◌≡◌, ℕ, ◌+◌, ◌*◌, List, get_or, arith, rules}
+use Rattle.std.proofs.Common.{◌≡◌, ℕ, ◌+◌, ◌*◌, List, get_or, arith}
 use Rattle.block_check.specs.Check.{block_size, check_at, sum_below, weighted}
 use Rattle.block_check.proofs.SumLaws.{sum_below_more}
 use Rattle.block_check.proofs.check.weighted_sum.Goals as goal

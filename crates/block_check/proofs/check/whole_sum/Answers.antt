@@ -1,9 +1,9 @@
 -- `block_check::check::whole_sum` meets its contract. The invariant: the sums over the chunks passed weigh what the bytes of those
-use Rattle.std.proofs.Common.{◌≡◌, ℕ, ◌+◌, ◌-◌, ◌*◌, ◌≤◌, List, length, take, drop, sym, refl, ap, ◌∙◌, subst, arith, length-drop, length-take, rules}
+use Rattle.std.proofs.Common.{◌≡◌, ℕ, ◌+◌, ◌-◌, ◌*◌, ◌≤◌, List, length, take, drop, sym, refl, ap, ◌∙◌, subst, arith, length-drop, length-take}
 use native.Mathlib.Nat.{add-sub_cancel_left}
 use Rattle.laws.specs.Bytes.{Bytes}
 use Rattle.block_check.specs.Check.{block_size, sum_below, weighted}
-use Rattle.block_check.specs.Steps.{chunk_size, chunks, low_of, pair_weight, AtMost, ChunkAdded}
+use Rattle.block_check.specs.Steps.{chunk_size, chunks, low_of, pair_weight, ChunkAdded}
 use Rattle.block_check.proofs.LaneLaws.{none_most, most_most, LanesWeighed, chunk_more}
 use Rattle.block_check.proofs.check.whole_sum.Goals as goal
 use Rattle.block_check.proofs.check.whole_sum.Goals.{After-unweighted_sum}

@@ -1,10 +1,7 @@
 -- `block_check::check::whole_sum` meets its contract. The invariant: the sums over the chunks passed weigh what the bytes of those
-use Rattle.std.proofs.Common.{◌≡◌, ℕ, ◌+◌, ◌-◌, ◌*◌, ◌≤◌, List, length, take, drop, sym, refl, ap, ◌∙◌, subst, arith, length-drop, length-take, rules}
-use native.Mathlib.Nat.{add-sub_cancel_left}
-use Rattle.laws.specs.Bytes.{Bytes}
-use Rattle.block_check.specs.Check.{block_size, sum_below, weighted}
-use Rattle.block_check.specs.Steps.{chunk_size, chunks, low_of, pair_weight, AtMost, ChunkAdded}
-use Rattle.block_check.proofs.LaneLaws.{none_most, most_most, LanesWeighed, chunk_more}
+use Rattle.std.proofs.Common.{◌-◌, ◌*◌, ◌≤◌}
+use Rattle.block_check.specs.Steps.{chunk_size, chunks, AtMost}
+use Rattle.block_check.proofs.LaneLaws.{LanesWeighed}
 use Rattle.block_check.proofs.check.whole_sum.Given as goal
 
 abbrev pub invariant-loop-chunk : goal.invariant-loop-chunk

@@ -1,7 +1,6 @@
 -- `block_check::lanes::add` meets its contract. The invariant: the lanes passed have been added to.
-use Rattle.std.proofs.Common.{ℕ, ◌+◌, ◌-◌, ◌%◌, ◌^◌, ◌≤◌, List, arith, rules}
-use Rattle.block_check.specs.Steps.{lanes, lane_of}
-use Rattle.block_check.proofs.LaneLaws.{FilledTo, filled_none, filled_more}
+use Rattle.std.proofs.Common.{arith}
+use Rattle.block_check.proofs.LaneLaws.{filled_none, filled_more}
 use Rattle.block_check.proofs.lanes.add.Invariants.{sum_of}
 use Rattle.block_check.proofs.lanes.add.Goals as goal
 

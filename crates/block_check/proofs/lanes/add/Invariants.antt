@@ -1,7 +1,7 @@
 -- `block_check::lanes::add` meets its contract. The invariant: the lanes passed have been added to.
-use Rattle.std.proofs.Common.{ℕ, ◌+◌, ◌-◌, ◌%◌, ◌^◌, ◌≤◌, List, arith, rules}
+use Rattle.std.proofs.Common.{ℕ, ◌+◌, ◌-◌, ◌%◌, ◌^◌, ◌≤◌, List}
 use Rattle.block_check.specs.Steps.{lanes, lane_of}
-use Rattle.block_check.proofs.LaneLaws.{FilledTo, filled_none, filled_more}
+use Rattle.block_check.proofs.LaneLaws.{FilledTo}
 use Rattle.block_check.proofs.lanes.add.Given as goal
 
 unfoldable pub sum_of : List ℕ → List ℕ → ℕ → ℕ

@@ -1,8 +1,7 @@
 -- `block_check::lanes::unweighted_sum` meets its contract. The invariant: the sum so far is that of the lanes passed, and bounded.
-use Rattle.std.proofs.Common.{◌≡◌, ◌+◌, ◌-◌, ◌*◌, ◌≤◌, sym, ap, ◌∙◌, ap₂, arith, rules}
+use Rattle.std.proofs.Common.{◌≡◌, ◌-◌, ◌*◌, ◌≤◌}
 use Rattle.block_check.specs.Check.{sum_below}
 use Rattle.block_check.specs.Steps.{lanes, lane_of, lows_of, pair_of}
-use Rattle.block_check.proofs.SumLaws.{sum_below_more}
 use Rattle.block_check.proofs.lanes.unweighted_sum.Given as goal
 
 abbrev pub invariant-loop-j : goal.invariant-loop-j

@@ -1,5 +1,5 @@
 -- `block_check::lanes::weigh` meets its contract: the sum is its own remainder, and the product is small.
-use Rattle.std.proofs.Common.{◌≡◌, ℕ, ◌+◌, ◌*◌, ◌≤◌, ap, le_trans, mul-le-mul_right, mul-le-mul_left, arith, rules}
+use Rattle.std.proofs.Common.{◌≡◌, ℕ, ◌+◌, ◌*◌, ◌≤◌, ap, le_trans, mul-le-mul_right, mul-le-mul_left, arith}
 use Rattle.block_check.specs.Check.{block_size}
 use Rattle.block_check.specs.Steps.{chunk_size, chunks}
 use Rattle.block_check.proofs.lanes.weigh.Goals as goal

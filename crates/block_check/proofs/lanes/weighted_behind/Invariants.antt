@@ -1,8 +1,7 @@
 -- `block_check::lanes::weighted_behind` meets its contract. The invariant: the sum so far is that of the lanes passed, and bounded.
-use Rattle.std.proofs.Common.{◌≡◌, ℕ, ◌+◌, ◌-◌, ◌*◌, ◌≤◌, sym, ap, ◌∙◌, ap₂, arith, rules}
+use Rattle.std.proofs.Common.{◌≡◌, ℕ, ◌+◌, ◌-◌, ◌*◌, ◌≤◌}
 use Rattle.block_check.specs.Check.{block_size, sum_below}
 use Rattle.block_check.specs.Steps.{chunk_size, chunks, lanes, lane_of, lows_of, pair_weight}
-use Rattle.block_check.proofs.SumLaws.{sum_below_more}
 use Rattle.block_check.proofs.lanes.weighted_behind.Given as goal
 
 -- what a lane adds at most

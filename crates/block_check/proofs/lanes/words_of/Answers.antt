@@ -1,7 +1,6 @@
 -- `block_check::lanes::words_of` meets its contract. The invariant: the lanes passed hold the words.
-use Rattle.std.proofs.Common.{ℕ, ◌-◌, ◌*◌, ◌≤◌, List, refl, arith}
-use Rattle.block_check.specs.Steps.{lanes, word_at}
-use Rattle.block_check.proofs.LaneLaws.{FilledTo, filled_none, filled_more}
+use Rattle.std.proofs.Common.{refl, arith}
+use Rattle.block_check.proofs.LaneLaws.{filled_none, filled_more}
 use Rattle.block_check.proofs.lanes.words_of.Invariants.{word_of}
 use Rattle.block_check.proofs.lanes.words_of.Goals as goal
 

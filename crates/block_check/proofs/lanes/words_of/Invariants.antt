@@ -1,7 +1,7 @@
 -- `block_check::lanes::words_of` meets its contract. The invariant: the lanes passed hold the words.
-use Rattle.std.proofs.Common.{ℕ, ◌-◌, ◌*◌, ◌≤◌, List, refl, arith}
+use Rattle.std.proofs.Common.{ℕ, ◌-◌, ◌*◌, ◌≤◌, List}
 use Rattle.block_check.specs.Steps.{lanes, word_at}
-use Rattle.block_check.proofs.LaneLaws.{FilledTo, filled_none, filled_more}
+use Rattle.block_check.proofs.LaneLaws.{FilledTo}
 use Rattle.block_check.proofs.lanes.words_of.Given as goal
 
 unfoldable pub word_of : List ℕ → ℕ → ℕ

@@ -1,7 +1,6 @@
 -- `little_endian::numbers::number` meets its contract: of up to eight bytes the first eight are all.
 use native.Mathlib.Omega.{arith}
 use mathlib.Core.Path.{sym, ap, ◌∙◌}
-use borrow.Author.Rules.{rules}
 use lib.ListN.{length-take}
 use lib.Seq.{take_all}
 use Rattle.laws.specs.Bytes.{little}

@@ -3,7 +3,7 @@ use Prim.Native.Nat.{ℕ, ◌-◌, ◌^◌, ◌<◌}
 use native.Mathlib.Nat.{lt_of_lt_of_le, pow-le-pow_right}
 use native.Mathlib.Omega.{arith}
 use mathlib.Core.Path.{sym, subst}
-use Rattle.little_endian.proofs.NumberLaws.{Read, read_end, read_back, read_start}
+use Rattle.little_endian.proofs.NumberLaws.{read_end, read_back, read_start}
 use Rattle.little_endian.proofs.numbers.number_of.Goals as goal
 use Rattle.little_endian.proofs.numbers.number_of.Goals.{After-wide, In-loop-at}
 

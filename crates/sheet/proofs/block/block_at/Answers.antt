@@ -1,5 +1,4 @@
 -- `sheet::block::block_at` meets its contract: the slice is the block, whole.
-use borrow.Author.Rules.{rules}
 use mathlib.Core.Path.{ap, ◌∙◌}
 use Prim.Native.Nat.{◌*◌}
 use native.Mathlib.Omega.{arith}

@@ -1,5 +1,4 @@
 -- `sheet::block::fields_right` meets its contract: the tests on the way are those of the definition.
-use borrow.Author.Rules.{rules}
 use mathlib.Core.Path.{◌≡◌, sym, ap₂, ◌∙◌}
 use mathlib.Core.Bool.{true}
 use mathlib.Core.List.{List}

@@ -1,5 +1,4 @@
 -- `sheet::block::nodes_in` meets its contract: the lesser of two numbers, by cases.
-use borrow.Author.Rules.{rules}
 use native.Mathlib.Omega.{arith}
 use Rattle.sheet.specs.Header.{nodes_in}
 use Rattle.sheet.proofs.block.nodes_in.Goals as goal

@@ -1,5 +1,4 @@
 -- `sheet::block::total_of` meets its contract: T is read from block 0.
-use borrow.Author.Rules.{rules}
 use mathlib.Core.Path.{ap, ◌∙◌}
 use mathlib.Core.List.{List}
 use Prim.Native.Nat.{ℕ}

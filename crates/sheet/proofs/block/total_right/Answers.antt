@@ -1,5 +1,4 @@
 -- `sheet::block::total_right` meets its contract: the tests on the way are those of the definition.
-use borrow.Author.Rules.{rules}
 use borrow.Author.Tests.{le-leb, lt-leb}
 use Rattle.sheet.specs.Header.{total_right, blocks_for}
 use Rattle.sheet.proofs.block.total_right.Goals as goal

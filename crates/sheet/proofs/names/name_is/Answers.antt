@@ -1,5 +1,4 @@
 -- `sheet::names::name_is` meets its contract, by those of what it calls.
-use borrow.Author.Rules.{rules}
 use mathlib.Core.Path.{ap, ◌∙◌}
 use mathlib.Core.List.{List}
 use Prim.Native.Nat.{ℕ}

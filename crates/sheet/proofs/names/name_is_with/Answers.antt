@@ -1,5 +1,4 @@
 -- `sheet::names::name_is_with` meets its contract: a name is a front and a suffix where its beginning is the front and its rest the suffix.
-use borrow.Author.Rules.{rules}
 use mathlib.Core.Path.{◌≡◌, sym, ap, ap₂, ◌∙◌}
 use mathlib.Core.Bool.{Bool, true, false, ◌&&◌}
 use mathlib.Core.Logic.{◌⊎◌, inl, inr, ⊎_elim}

@@ -1,5 +1,4 @@
 -- `sheet::names::name_of` meets its contract: the stretch lies within the sheet, and its bytes are the name.
-use borrow.Author.Rules.{rules}
 use mathlib.Core.Path.{ap, sym, subst, ◌∙◌}
 use Prim.Native.Nat.{◌+◌, ◌≤◌}
 use native.Mathlib.Omega.{arith}

@@ -1,5 +1,4 @@
 -- `sheet::names::name_stretch` meets its contract: the tests on the way say whether the bytes reach the slot.
-use borrow.Author.Rules.{rules}
 use mathlib.Core.Path.{◌≡◌, sym, ap, ◌∙◌}
 use mathlib.Core.Bool.{true}
 use Prim.Native.Nat.{ℕ, ◌+◌}

@@ -1,13 +1,7 @@
 -- `sheet::names::same` meets its contract. The invariant: every byte passed is the same in both.
-use mathlib.Core.Path.{◌≡◌, sym, ap}
-use mathlib.Core.List.{List}
+use mathlib.Core.Path.{◌≡◌}
 use Prim.Native.Nat.{ℕ, ◌≤◌, ◌<◌, ◌-◌}
-use native.Mathlib.Omega.{arith}
 use lib.ListN.{length, get_or}
-use lib.Seq.{ext_get_or}
-use borrow.Author.Count.{below_none, below_more}
-use borrow.Author.Rules.{rules}
-use Rattle.sheet.proofs.NameLaws.{same_bytes_true, same_bytes_false}
 use Rattle.sheet.proofs.names.same.Given as goal
 
 abbrev pub invariant-loop-i : goal.invariant-loop-i

@@ -1,5 +1,4 @@
 -- `sheet::number::number16` meets its contract: two bytes, each below 256.
-use borrow.Author.Rules.{rules}
 use native.Mathlib.Omega.{arith}
 use Rattle.sheet.proofs.NumberLaws.{number_at_two}
 use Rattle.sheet.proofs.number.number16.Goals as goal

@@ -1,5 +1,4 @@
 -- `sheet::number::number32` meets its contract: four bytes, each below 256.
-use borrow.Author.Rules.{rules}
 use native.Mathlib.Omega.{arith}
 use Rattle.sheet.proofs.NumberLaws.{number_at_four}
 use Rattle.sheet.proofs.number.number32.Goals as goal

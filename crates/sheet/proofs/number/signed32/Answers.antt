@@ -6,7 +6,6 @@ use lib.IntN.{ℤ, pos, negsuc, ◌-ℤ◌}
 use mir.Syntax.{w32, w64}
 use mir.Val.{SFits, to_z, of_z}
 use mir.Facts.{to_z_pos, to_z-of_z}
-use borrow.Author.Rules.{rules}
 use borrow.Author.Tests.{lt-ltb}
 use Rattle.sheet.proofs.NumberLaws.{signed32_low, signed32_high}
 use Rattle.sheet.proofs.number.signed32.Goals as goal

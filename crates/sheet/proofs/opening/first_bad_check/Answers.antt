@@ -1,11 +1,8 @@
 -- `sheet::opening::first_bad_check` meets its contract. The invariant: every place passed is right.
-use mathlib.Core.Path.{◌≡◌, sym}
-use mathlib.Core.Bool.{true}
-use Prim.Native.Nat.{ℕ, ◌≤◌, ◌<◌, ◌-◌}
+use mathlib.Core.Path.{sym}
 use native.Mathlib.Omega.{arith}
 use borrow.Author.Count.{below_none, below_more}
 use borrow.Author.Rules.{rules}
-use Rattle.sheet.specs.Check.{check_right}
 use Rattle.sheet.proofs.FirstLaws.{first_wrong_at, first_wrong_none}
 use Rattle.sheet.proofs.TestLaws.{failed, passed}
 use mathlib.Core.Path.{ap}

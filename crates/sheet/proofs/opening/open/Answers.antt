@@ -1,5 +1,4 @@
 -- `sheet::opening::open` meets its contract: each test on the way says which case of the definition holds.
-use borrow.Author.Rules.{rules}
 use mathlib.Core.Path.{◌≡◌, refl, sym, ap, ◌∙◌}
 use mathlib.Core.Bool.{true}
 use lib.ListN.{length}

@@ -1,5 +1,4 @@
 -- `sheet::slots::slot_at` meets its contract: the slice is the slot where the bytes reach it.
-use borrow.Author.Rules.{rules}
 use mathlib.Core.Path.{ap, sym, ◌∙◌}
 use native.Mathlib.Omega.{arith}
 use Rattle.sheet.specs.Slot.{numbers_of}

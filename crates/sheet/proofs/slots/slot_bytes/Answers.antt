@@ -1,5 +1,4 @@
 -- `sheet::slots::slot_bytes` meets its contract: the slice is the slot where the bytes reach it.
-use borrow.Author.Rules.{rules}
 use mathlib.Core.Path.{sym, ◌∙◌}
 use native.Mathlib.Omega.{arith}
 use Rattle.sheet.proofs.SlotLaws.{slot_start_most, reaches_true, reaches_past, reaches_short, slot_at_slice, slot_bytes_at_there, slot_bytes_at_none}

@@ -1,5 +1,4 @@
 -- `sheet::soundness::codes_listed` meets its contract: the tests on the way are those of the definition.
-use borrow.Author.Rules.{rules}
 use Rattle.sheet.specs.Slot.{physical, repetition, converted, logical}
 use Rattle.sheet.specs.Sound.{codes_listed, physical_listed, repetition_listed, converted_listed}
 use Rattle.sheet.proofs.TestLaws.{failed, passed}

@@ -1,5 +1,4 @@
 -- `sheet::soundness::slot_right` meets its contract: the slice is the slot, and the test on the way says whether it is used.
-use borrow.Author.Rules.{rules}
 use mathlib.Core.Path.{ap, sym, ◌∙◌}
 use native.Mathlib.Omega.{arith}
 use Rattle.sheet.specs.Sound.{all_zero, slot_sound}

@@ -1,5 +1,4 @@
 -- `sheet::soundness::slot_sound` meets its contract: the tests on the way are those of the definition.
-use borrow.Author.Rules.{rules}
 use Rattle.sheet.specs.Sound.{slot_sound}
 use Rattle.sheet.proofs.TestLaws.{failed, passed}
 use mathlib.Core.Path.{ap}

@@ -1,7 +1,6 @@
 -- `sheet::soundness::slot_zero` meets its contract: the two pairs of words and the rest are all of the slot.
 use mathlib.Core.Path.{sym, ◌∙◌}
 use native.Mathlib.Omega.{arith}
-use borrow.Author.Rules.{rules}
 use Rattle.sheet.specs.Block.{slot_size}
 use Rattle.sheet.specs.Slot.{name_at}
 use Rattle.sheet.specs.Steps.{pair_size}

@@ -1,7 +1,6 @@
 -- `sheet::soundness::zero_from` meets its contract: each pair of words lies in the rest, and together they are all of it.
 use mathlib.Core.Path.{sym, ◌∙◌}
 use native.Mathlib.Omega.{arith}
-use borrow.Author.Rules.{rules}
 use Rattle.sheet.specs.Steps.{pair_size}
 use Rattle.laws.proofs.BoolLaws.{same_test}
 use Rattle.sheet.proofs.TestLaws.{failed, passed, fails_with}

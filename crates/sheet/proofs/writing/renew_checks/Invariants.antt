@@ -1,12 +1,9 @@
 -- `sheet::writing::renew_checks` meets its contract. The invariant: the checks of the blocks passed are stored.
-use mathlib.Core.Path.{◌≡◌, refl, ap, ◌∙◌}
-use mathlib.Core.List.{List}
-use Prim.Native.Nat.{ℕ, ◌*◌, ◌-◌, ◌≤◌}
-use native.Mathlib.Numerals.{add-one}
-use native.Mathlib.Omega.{arith}
+use mathlib.Core.Path.{◌≡◌}
+use Prim.Native.Nat.{◌*◌, ◌-◌, ◌≤◌}
 use lib.ListN.{length}
-use Rattle.sheet.specs.Block.{block_size, block_count}
-use Rattle.sheet.specs.Check.{with_check, with_checks, renewed}
+use Rattle.sheet.specs.Block.{block_size}
+use Rattle.sheet.specs.Check.{with_checks}
 use Rattle.sheet.proofs.writing.renew_checks.Given as goal
 
 abbrev pub invariant-loop-i : goal.invariant-loop-i

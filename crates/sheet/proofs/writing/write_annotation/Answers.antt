@@ -4,7 +4,6 @@ use native.Mathlib.Omega.{arith}
 use lib.ListN.{length-set}
 use Rattle.sheet.proofs.SlotLaws.{slot_start_most, reaches_true, reaches_past, reaches_short}
 use Rattle.sheet.proofs.AnnotationLaws.{annotated_there, annotated_nowhere}
-use borrow.Author.Rules.{rules}
 use Rattle.sheet.proofs.writing.write_annotation.Goals as goal
 
 pub returns-then-node-ge-MOST_NODES : goal.returns-then-node-ge-MOST_NODES
