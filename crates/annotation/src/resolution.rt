@@ -11,7 +11,7 @@ use crate::slot::{Annotated, annotation_of, is_plain, precision, scale};
 use parquet::{converted, logical, physical};
 
 // A kind and its parameters, as a row has them: precision and scale, or a and b, else 0.
-#[derive(Drop)]
+#[derive(Clone, Copy)]
 pub struct Kind {
     pub kind: u32,
     pub p1: u32,
@@ -19,7 +19,7 @@ pub struct Kind {
 }
 
 // What resolving answers for the numbers of a slot: their kind, or the number of the refusal, 9, 10 or 11.
-#[derive(Drop)]
+#[derive(Clone, Copy)]
 pub enum Resolution {
     Resolved(Kind),
     Refused(u32),
@@ -27,7 +27,7 @@ pub enum Resolution {
 
 // What judging the numbers of a slot finds: the number of the refusal, 9, 10 or 11, or 0 where they resolve; and the logical type that
 // they say, whatever else is wrong with them.
-#[derive(Drop)]
+#[derive(Clone, Copy)]
 pub struct Judged {
     pub refusal: u32,
     pub logical: u8,

@@ -8,7 +8,7 @@ use crate::rules::{NO_REFUSAL, fault};
 use crate::slot::{Annotated, annotation_of};
 
 // The annotation numbers of a rewritten slot.
-#[derive(Drop)]
+#[derive(Clone, Copy)]
 pub struct Written {
     pub converted: u8,
     pub logical: u8,
@@ -17,7 +17,7 @@ pub struct Written {
 }
 
 // What rewriting answers for the numbers of a slot: its annotation numbers, or the number of the refusal, 9, 10 or 11.
-#[derive(Drop)]
+#[derive(Clone, Copy)]
 pub enum Rewriting {
     Written(Written),
     Refused(u32),

@@ -16,7 +16,7 @@ use logical_type::parameters;
 use parquet::{converted, logical};
 
 // Physical GROUP is a group, converted NONE and logical NONE are no annotation; any other number may stand in a field.
-#[derive(Drop)]
+#[derive(Clone, Copy)]
 pub struct Annotated {
     pub physical: u8,
     pub type_length: i32,

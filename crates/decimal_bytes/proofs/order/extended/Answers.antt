@@ -1,4 +1,5 @@
 -- `decimal_bytes::order::extended` meets its contract: a place before the number holds its sign, and any other a byte of the number.
+-- Assumes nothing.
 use mathlib.Core.Path.{◌≡◌, sym, ap, ◌∙◌}
 use mathlib.Core.List.{List, ◌++◌}
 use Prim.Native.Nat.{ℕ, ◌+◌, ◌-◌, ◌≤◌, ◌<◌}
