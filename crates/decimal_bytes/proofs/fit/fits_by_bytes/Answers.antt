@@ -10,7 +10,6 @@ use Rattle.decimal_bytes.specs.Significant.{significant}
 use Rattle.decimal_bytes.specs.Fit.{fit_of}
 use Rattle.decimal_bytes.proofs.FitLaws.{fit_of_significant, fit_of_wrong, is_length_significant}
 use Rattle.decimal_bytes.proofs.NumberLaws.{significant_idem}
-use borrow.Author.Rules.{rules}
 use mathlib.Core.Bool.{not}
 use Rattle.decimal_bytes.proofs.fit.fits_by_bytes.Goals as goal
 use Rattle.decimal_bytes.proofs.fit.fits_by_bytes.Goals.{Else-not-is_length}

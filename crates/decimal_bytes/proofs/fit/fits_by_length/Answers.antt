@@ -6,7 +6,6 @@ use Rattle.decimal_bytes.proofs.PrecisionLaws.{is_length_bounds}
 use Rattle.laws.proofs.ByteLaws.{EachByte}
 use Rattle.decimal_bytes.proofs.UnsignedLaws.{each_get_d}
 use Rattle.decimal_bytes.proofs.FitLaws.{longer_within, shorter_beyond}
-use borrow.Author.Rules.{rules}
 use Rattle.decimal_bytes.proofs.fit.fits_by_length.Goals as goal
 use Rattle.decimal_bytes.proofs.fit.fits_by_length.Goals.{After-shared_slice_known-1}
 

@@ -8,9 +8,8 @@ use native.Mathlib.Omega.{arith}
 use lib.IntN.{pos, neg_ℤ}
 use lib.ListN.{length, take, drop, length-append}
 use lib.Seq.{length-take-le, take_at}
-use borrow.Author.Rules.{rules}
 use Rattle.decimal_bytes.specs.declared.order.Order.{Order}
-use Rattle.decimal_bytes.specs.Precision.{is_length, greatest_number}
+use Rattle.decimal_bytes.specs.Precision.{is_length, greatest_length, greatest_number}
 use Rattle.decimal_bytes.specs.Number.{is_negative, number}
 use Rattle.decimal_bytes.specs.Order.{order_of}
 use Rattle.decimal_bytes.specs.Fit.{fit_of}
@@ -27,29 +26,22 @@ held c =
     le_trans (pow-le-pow_right (omega arith) c.requires.1) (greatest_precision_low (length c.args.number.now) bounds.0 bounds.1)
 
 -- the room that is lent is as long as the number
-module _ (c : After-room-bound) where
-  abbrev n : ℕ
-  n = length c.args.number.now
-
-  within : n ≤ length c.room-bound.result
-  within = omega (arith, is_length_bounds n c.requires.0)
-
-  length_lent : length (take n c.room-bound.result) ≡ n
-  length_lent = length-take-le n c.room-bound.result within
+within : (n : ℕ) (room : List ℕ) → is_length n ≡ true → length room ≡ greatest_length → n ≤ length room
+within n room e h = omega (arith, (is_length_bounds n e).1)
 
 -- and so is what is written there
+front : (n : ℕ) (power left : List ℕ) → length power ≡ n → n ≤ length (power ++ left)
+front n power left e = omega (arith, length-append power left)
+
+module _ (c : After-room-bound) where
+  length_lent : length (take (length c.args.number.now) c.room-bound.result) ≡ length c.args.number.now
+  length_lent = length-take-le _ c.room-bound.result (within _ c.room-bound.result c.requires.0 c.room-bound.ensures)
+
 module _ (c : After-write_power) where
-  abbrev power : List ℕ
-  power = c.write_power.new.bytes
-
-  abbrev left : List ℕ
-  left = drop (n c.before.before) c.room-bound.result
-
-  length_power : length power ≡ n c.before.before
-  length_power = c.write_power.auto.0 ∙ length_lent c.before.before
-
-  front : n c.before.before ≤ length (power ++ left)
-  front = omega (arith, length_power, length-append power left)
+  length_power : length c.write_power.new.bytes ≡ length c.args.number.now
+  length_power =
+      c.write_power.auto.bytes
+      ∙ length-take-le _ c.room-bound.result (within _ c.room-bound.result c.requires.0 c.room-bound.ensures)
 
 -- what the order says of the number
 module _ (c : After-compare_by_bytes) where
@@ -60,10 +52,15 @@ module _ (c : After-compare_by_bytes) where
   precision = c.args.precision
 
   abbrev bound : List ℕ
-  bound = power c.before.before.before
+  bound = c.write_power.new.bytes
+
+  length_bound : length bound ≡ length bs
+  length_bound =
+      c.write_power.auto.bytes
+      ∙ length-take-le _ c.room-bound.result (within _ c.room-bound.result c.requires.0 c.room-bound.ensures)
 
   compared : c.compare_by_bytes.result ≡ order_of bs bound
-  compared = c.compare_by_bytes.ensures ∙ ap (order_of bs) (take_at bound (left c.before.before.before) (length bs) (length_power c.before.before.before))
+  compared = c.compare_by_bytes.ensures ∙ ap (order_of bs) (take_at bound (drop (length bs) c.room-bound.result) (length bs) length_bound)
 
   value : number bound ≡ cond (is_negative bs) (neg_ℤ (pos (10 ^ precision))) (pos (10 ^ precision))
   value =
@@ -73,11 +70,11 @@ module _ (c : After-compare_by_bytes) where
   answer : (o : Order) (negative : Bool) → c.compare_by_bytes.result ≡ o → c.is_negative-negative.result ≡ negative → judged negative o ≡ fit_of bs precision
   answer o negative e s =
       ap₂ judged (sym s ∙ c.is_negative-negative.ensures) (sym e ∙ compared)
-      ∙ fit_of_judged bs bound precision c.requires.0 (ap is_length (length_power c.before.before.before) ∙ c.requires.0)
+      ∙ fit_of_judged bs bound precision c.requires.0 (ap is_length (length_bound) ∙ c.requires.0)
       (each_get_d bs (λ k. (c.type_inv.number k).fits)) value
 
 pub slice_bounds-bound-end : goal.slice_bounds-bound-end
-slice_bounds-bound-end c = within c
+slice_bounds-bound-end c = within _ _ c.requires.0 c.room-bound.ensures
 
 pub slice_bounds-write_power-end : goal.slice_bounds-write_power-end
 slice_bounds-write_power-end c = sym (length_lent (goal.at.slice_bounds-write_power-end c).After-room-bound)
@@ -90,10 +87,10 @@ write_power-requires c =
     )
 
 pub slice_bounds-bound-end-2 : goal.slice_bounds-bound-end-2
-slice_bounds-bound-end-2 c = front (goal.at.slice_bounds-bound-end-2 c).After-write_power
+slice_bounds-bound-end-2 c = front _ _ _ (length_power (goal.at.slice_bounds-bound-end-2 c).After-write_power)
 
 pub slice_bounds-compare_by_bytes-end : goal.slice_bounds-compare_by_bytes-end
-slice_bounds-compare_by_bytes-end c = sym (length-take-le _ _ (front (goal.at.slice_bounds-compare_by_bytes-end c).After-write_power))
+slice_bounds-compare_by_bytes-end c = sym (length-take-le _ _ (front _ _ _ (length_power (goal.at.slice_bounds-compare_by_bytes-end c).After-write_power)))
 
 pub returns-then-negative : goal.returns-then-negative
 returns-then-negative c = answer (goal.at.returns-then-negative c).After-compare_by_bytes Order.Less true c.in-Less.is c.if-negative.true

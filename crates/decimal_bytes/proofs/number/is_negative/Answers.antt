@@ -6,7 +6,6 @@ use Prim.Native.Nat.{ℕ}
 use native.Mathlib.Nat.{suc-ne-zero}
 use lib.ListN.{length}
 use Rattle.decimal_bytes.specs.Number.{is_negative}
-use borrow.Author.Rules.{rules}
 use Rattle.decimal_bytes.proofs.number.is_negative.Goals as goal
 
 none : (bs : List ℕ) → length bs ≡ 0 → false ≡ is_negative bs

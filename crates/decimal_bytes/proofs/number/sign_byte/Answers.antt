@@ -1,7 +1,6 @@
 -- `decimal_bytes::number::sign_byte` meets its contract. Assumes nothing.
 use mathlib.Core.Path.{sym, ap, ◌∙◌}
 use mathlib.Core.Bool.{Bool, cond}
-use borrow.Author.Rules.{rules}
 use Rattle.decimal_bytes.proofs.number.sign_byte.Goals as goal
 
 pub returns-then-is_negative : goal.returns-then-is_negative

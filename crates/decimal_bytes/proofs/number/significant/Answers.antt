@@ -1,13 +1,13 @@
 -- `decimal_bytes::number::significant` meets its contract. The loop's invariant: the bytes that are needed are those that are needed
+-- from `at` on. The measure is what is left of the length. Assumes nothing.
 use mathlib.Core.Path.{◌≡◌, refl, sym, ap, ◌∙◌}
 use mathlib.Core.List.{List}
-use Prim.Native.Nat.{ℕ, ◌+◌, ◌≤◌, ◌-◌}
+use Prim.Native.Nat.{ℕ, ◌+◌, ◌-◌}
 use native.Mathlib.Nat.{le_of_eq}
 use native.Mathlib.Omega.{arith}
 use lib.ListN.{length, take, drop, length-drop}
 use lib.Seq.{take_all}
-use borrow.Author.Rules.{rules}
-use Rattle.decimal_bytes.specs.Significant.{sign_byte, significant}
+use Rattle.decimal_bytes.specs.Significant.{sign_byte}
 use Rattle.decimal_bytes.proofs.NumberLaws.{significant_short, significant_next, significant_stop}
 use Rattle.decimal_bytes.proofs.number.significant.Goals as goal
 use Rattle.decimal_bytes.proofs.number.significant.Goals.{After-sign_byte}

@@ -1,14 +1,9 @@
 -- `decimal_bytes::number::significant` meets its contract. The loop's invariant: the bytes that are needed are those that are needed
-use mathlib.Core.Path.{◌≡◌, refl, sym, ap, ◌∙◌}
-use mathlib.Core.List.{List}
-use Prim.Native.Nat.{ℕ, ◌+◌, ◌≤◌, ◌-◌}
-use native.Mathlib.Nat.{le_of_eq}
-use native.Mathlib.Omega.{arith}
-use lib.ListN.{length, take, drop, length-drop}
-use lib.Seq.{take_all}
-use borrow.Author.Rules.{rules}
-use Rattle.decimal_bytes.specs.Significant.{sign_byte, significant}
-use Rattle.decimal_bytes.proofs.NumberLaws.{significant_short, significant_next, significant_stop}
+-- from `at` on. The measure is what is left of the length. Assumes nothing.
+use mathlib.Core.Path.{◌≡◌}
+use Prim.Native.Nat.{◌≤◌, ◌-◌}
+use lib.ListN.{length, drop}
+use Rattle.decimal_bytes.specs.Significant.{significant}
 use Rattle.decimal_bytes.proofs.number.significant.Given as goal
 
 abbrev pub invariant-loop-at : goal.invariant-loop-at

@@ -1,10 +1,7 @@
 -- `decimal_bytes::order::compare_alike` meets its contract. The loop's invariant: the two numbers, with their sign in front up to one
-use mathlib.Core.Path.{◌≡◌, refl, sym}
-use mathlib.Core.List.{◌++◌}
-use Prim.Native.Nat.{◌-◌, ◌≤◌}
+-- width, agree before `at`. The measure is what is left of the width. Assumes nothing.
+use mathlib.Core.Path.{refl, sym}
 use native.Mathlib.Omega.{arith}
-use lib.ListN.{take, replicate}
-use borrow.Author.Rules.{rules}
 use Rattle.decimal_bytes.proofs.UnsignedLaws.{each_get_d}
 use Rattle.decimal_bytes.proofs.OrderLaws.{Alike, widened_less, widened_greater, widened_equal, widened_next}
 use Rattle.decimal_bytes.proofs.order.compare_alike.Goals as goal
@@ -31,13 +28,13 @@ loop-at-init c = (omega arith, refl)
 
 pub returns-then-x-y : goal.returns-then-x-y
 returns-then-x-y c =
-    sym (widened_less (start (goal.at.returns-then-x-y c).After-greater-width).fits.sign.fits (alike_a (goal.at.returns-then-x-y c).After-greater-width) (alike_b (goal.at.returns-then-x-y c).After-greater-width) c.loop-at.at
+    sym (widened_less c.ranges.sign.fits (alike_a (goal.at.returns-then-x-y c).After-greater-width) (alike_b (goal.at.returns-then-x-y c).After-greater-width) c.loop-at.at
     c.loop-at-test.true c.loop-at.invariant.1
     (omega arith))
 
 pub returns-then-x-y-2 : goal.returns-then-x-y-2
 returns-then-x-y-2 c =
-    sym (widened_greater (start (goal.at.returns-then-x-y-2 c).After-greater-width).fits.sign.fits (alike_a (goal.at.returns-then-x-y-2 c).After-greater-width) (alike_b (goal.at.returns-then-x-y-2 c).After-greater-width) c.loop-at.at
+    sym (widened_greater c.ranges.sign.fits (alike_a (goal.at.returns-then-x-y-2 c).After-greater-width) (alike_b (goal.at.returns-then-x-y-2 c).After-greater-width) c.loop-at.at
     c.loop-at-test.true c.loop-at.invariant.1
     (omega arith))
 

@@ -1,12 +1,9 @@
 -- `decimal_bytes::order::compare_alike` meets its contract. The loop's invariant: the two numbers, with their sign in front up to one
-use mathlib.Core.Path.{◌≡◌, refl, sym}
+-- width, agree before `at`. The measure is what is left of the width. Assumes nothing.
+use mathlib.Core.Path.{◌≡◌}
 use mathlib.Core.List.{◌++◌}
 use Prim.Native.Nat.{◌-◌, ◌≤◌}
-use native.Mathlib.Omega.{arith}
 use lib.ListN.{take, replicate}
-use borrow.Author.Rules.{rules}
-use Rattle.decimal_bytes.proofs.UnsignedLaws.{each_get_d}
-use Rattle.decimal_bytes.proofs.OrderLaws.{Alike, widened_less, widened_greater, widened_equal, widened_next}
 use Rattle.decimal_bytes.proofs.order.compare_alike.Given as goal
 
 abbrev pub invariant-loop-at : goal.invariant-loop-at

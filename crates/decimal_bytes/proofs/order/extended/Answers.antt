@@ -1,11 +1,11 @@
 -- `decimal_bytes::order::extended` meets its contract: a place before the number holds its sign, and any other a byte of the number.
+-- Assumes nothing.
 use mathlib.Core.Path.{◌≡◌, sym, ap, ◌∙◌}
 use mathlib.Core.List.{List, ◌++◌}
 use Prim.Native.Nat.{ℕ, ◌+◌, ◌-◌, ◌≤◌, ◌<◌}
 use native.Mathlib.Omega.{arith}
 use lib.ListN.{length, get_or, replicate, get_or-replicate, length-replicate, get_or-append}
 use lib.Seq.{get_or-append-add}
-use borrow.Author.Rules.{rules}
 use Rattle.decimal_bytes.proofs.order.extended.Goals as goal
 
 module _ (before sign : ℕ) (bs : List ℕ) (at : ℕ) where

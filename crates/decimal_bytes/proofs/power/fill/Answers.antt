@@ -1,12 +1,12 @@
 -- `decimal_bytes::power::fill` meets its contract. The loop's invariant: the bytes before `at` are filled, and the others are as they
+-- were. The measure is what is left of the length. Assumes nothing.
 use mathlib.Core.Path.{◌≡◌, refl, ap, ◌∙◌}
 use mathlib.Core.List.{List, ◌++◌, append-nil}
-use Prim.Native.Nat.{ℕ, ◌≤◌, ◌-◌}
+use Prim.Native.Nat.{ℕ}
 use native.Mathlib.Omega.{arith}
 use lib.ListN.{length, drop, set, replicate, length-set}
 use lib.Seq.{drop-length}
 use borrow.Author.Fill.{fill_more}
-use borrow.Author.Rules.{rules}
 use Rattle.decimal_bytes.proofs.power.fill.Goals as goal
 
 filled : (d : List ℕ) (v at : ℕ) → at ≡ length d → replicate at v ++ drop at d ≡ replicate (length d) v

@@ -1,12 +1,9 @@
 -- `decimal_bytes::power::fill` meets its contract. The loop's invariant: the bytes before `at` are filled, and the others are as they
-use mathlib.Core.Path.{◌≡◌, refl, ap, ◌∙◌}
-use mathlib.Core.List.{List, ◌++◌, append-nil}
-use Prim.Native.Nat.{ℕ, ◌≤◌, ◌-◌}
-use native.Mathlib.Omega.{arith}
-use lib.ListN.{length, drop, set, replicate, length-set}
-use lib.Seq.{drop-length}
-use borrow.Author.Fill.{fill_more}
-use borrow.Author.Rules.{rules}
+-- were. The measure is what is left of the length. Assumes nothing.
+use mathlib.Core.Path.{◌≡◌}
+use mathlib.Core.List.{◌++◌}
+use Prim.Native.Nat.{◌≤◌, ◌-◌}
+use lib.ListN.{length, drop, replicate}
 use Rattle.decimal_bytes.proofs.power.fill.Given as goal
 
 abbrev pub invariant-loop-at : goal.invariant-loop-at

@@ -1,10 +1,6 @@
 -- `decimal_bytes::power::scale` meets its contract. The loop's invariant: the bytes from `at` on are scaled, but for the carry. The
-use mathlib.Core.Path.{subst}
-use Prim.Native.Nat.{◌*◌, ◌≤◌, ◌-◌}
-use native.Mathlib.Nat.{mul-le-mul_right}
-use native.Mathlib.Omega.{arith}
-use borrow.Author.Rules.{rules}
-use Rattle.decimal_bytes.proofs.PowerLaws.{Scaled, scaled_none, scaled_step, scaled_all}
+-- measure is `at`. Assumes nothing.
+use Rattle.decimal_bytes.proofs.PowerLaws.{Scaled}
 use Rattle.decimal_bytes.proofs.power.scale.Given as goal
 
 abbrev pub invariant-loop-at : goal.invariant-loop-at

@@ -1,9 +1,8 @@
 -- `decimal_bytes::power::scale_by_power` meets its contract. The loop's invariant: the bytes are scaled by the power of ten that is not
-use mathlib.Core.Path.{◌≡◌, refl, ap, ◌∙◌}
-use Prim.Native.Nat.{ℕ, ◌≤◌, ◌*◌, ◌-◌, ◌^◌, ◌%◌}
+-- left. The measure is what is left. Assumes nothing.
+use mathlib.Core.Path.{refl, ap, ◌∙◌}
+use Prim.Native.Nat.{ℕ, ◌*◌, ◌-◌, ◌^◌, ◌%◌}
 use native.Mathlib.Omega.{arith}
-use lib.ListN.{length}
-use borrow.Author.Rules.{rules}
 use Rattle.decimal_bytes.specs.Number.{unsigned}
 use Rattle.decimal_bytes.proofs.UnsignedLaws.{each_get_d, unsigned-<}
 use Rattle.decimal_bytes.proofs.PowerLaws.{power_held, power_bounds, power_more, power_none}
@@ -18,7 +17,7 @@ scale-requires c = omega (arith, c.power_of_ten.ensures)
 pub loop-left-preserved : goal.loop-left-preserved
 loop-left-preserved c = (
   omega arith,
-  c.scale.auto.0 ∙ c.loop-left.invariant.1,
+  c.scale.auto.bytes ∙ c.loop-left.invariant.1,
   c.scale.ensures
       ∙ ap (λ (n : ℕ). unsigned c.loop-left.bytes * c.power_of_ten.result % 256 ^ n) c.loop-left.invariant.1
       ∙ power_more _ _ _ _ (c.args.exponent - c.loop-left.left) 16 _ c.loop-left.invariant.2 c.power_of_ten.ensures (omega arith),

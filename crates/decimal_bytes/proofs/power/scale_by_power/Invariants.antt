@@ -1,12 +1,9 @@
 -- `decimal_bytes::power::scale_by_power` meets its contract. The loop's invariant: the bytes are scaled by the power of ten that is not
-use mathlib.Core.Path.{◌≡◌, refl, ap, ◌∙◌}
-use Prim.Native.Nat.{ℕ, ◌≤◌, ◌*◌, ◌-◌, ◌^◌, ◌%◌}
-use native.Mathlib.Omega.{arith}
+-- left. The measure is what is left. Assumes nothing.
+use mathlib.Core.Path.{◌≡◌}
+use Prim.Native.Nat.{◌≤◌, ◌*◌, ◌-◌, ◌^◌, ◌%◌}
 use lib.ListN.{length}
-use borrow.Author.Rules.{rules}
 use Rattle.decimal_bytes.specs.Number.{unsigned}
-use Rattle.decimal_bytes.proofs.UnsignedLaws.{each_get_d, unsigned-<}
-use Rattle.decimal_bytes.proofs.PowerLaws.{power_held, power_bounds, power_more, power_none}
 use Rattle.decimal_bytes.proofs.power.scale_by_power.Given as goal
 
 abbrev pub invariant-loop-left : goal.invariant-loop-left

@@ -9,14 +9,13 @@ use Rattle.decimal_bytes.specs.Precision.{greatest_number}
 use Rattle.decimal_bytes.specs.Number.{unsigned}
 use Rattle.decimal_bytes.proofs.UnsignedLaws.{each_get_d}
 use Rattle.decimal_bytes.proofs.BoundLaws.{number_scaled}
-use borrow.Author.Rules.{rules}
 use Rattle.decimal_bytes.proofs.power.write_power.Goals as goal
 
 pub returns : goal.returns
 returns c =
     let a = c.args in
-    let scaled : length c.scale_by_power.new.bytes ≡ length c.write_unit.new.bytes = c.scale_by_power.auto.0 in
-    let whole : length c.scale_by_power.new.bytes ≡ length a.bytes.now = scaled ∙ c.write_unit.auto.0 in
+    let scaled : length c.scale_by_power.new.bytes ≡ length c.write_unit.new.bytes = c.scale_by_power.auto.bytes in
+    let whole : length c.scale_by_power.new.bytes ≡ length a.bytes.now = scaled ∙ c.write_unit.auto.bytes in
     number_scaled a.negative c.scale_by_power.new.bytes (10 ^ a.exponent) (unsigned c.write_unit.new.bytes)
     (each_get_d c.scale_by_power.new.bytes (λ k. (c.type_inv.bytes k).fits))
     (subst (λ (n : ℕ). 1 ≤ n) (sym whole) c.requires.0)

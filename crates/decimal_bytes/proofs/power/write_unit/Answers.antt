@@ -1,6 +1,5 @@
 -- `decimal_bytes::power::write_unit` meets its contract: -1 has every bit set, and 1 the last alone. Assumes nothing.
 use Rattle.decimal_bytes.proofs.BoundLaws.{unsigned_all_set, unsigned_last_set}
-use borrow.Author.Rules.{rules}
 use Rattle.decimal_bytes.proofs.power.write_unit.Goals as goal
 
 pub returns-then-negative : goal.returns-then-negative

@@ -1,6 +1,5 @@
 -- `decimal_bytes::precision::greatest_precision` meets its contract: the table's entry of a length that it has. Assumes nothing.
 use mathlib.Core.Path.{sym, ◌∙◌}
-use borrow.Author.Rules.{rules}
 use borrow.Author.Tests.{not-true, not-false}
 use Rattle.decimal_bytes.specs.Precision.{greatest_precision}
 use Rattle.decimal_bytes.proofs.PrecisionLaws.{is_length_bounds}
