@@ -29,7 +29,7 @@ const FEBRUARY: u32 = 2;
 // The day of February that only a leap year has.
 const LEAP_DAY: u32 = 29;
 
-#[derive(Drop)]
+#[derive(Clone, Copy)]
 pub(crate) struct Date {
     pub(crate) year: i64,
     pub(crate) month: u32,

@@ -12,7 +12,7 @@ const MINUTES_PER_HOUR: u32 = 60;
 
 const SECONDS_PER_MINUTE: u32 = 60;
 
-#[derive(Drop)]
+#[derive(Clone, Copy)]
 pub(crate) struct Time {
     pub(crate) hour: u32,
     pub(crate) minute: u32,

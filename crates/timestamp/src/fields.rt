@@ -1,7 +1,7 @@
 // The fields of a date and time.
 
 // A date and time, as fields that may each hold any number of its type.
-#[derive(Drop)]
+#[derive(Clone, Copy)]
 pub struct Fields {
     pub year: i64,
     // From 1.
