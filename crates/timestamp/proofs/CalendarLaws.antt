@@ -28,10 +28,6 @@ leap_tests y n e = ap (λ (x : ℕ). divides 4 x && (not (divides 100 x) || divi
 abbrev pub common_days : ℕ → ℕ
 common_days m = get_or (0 ∷ months false) m 0
 
--- a number from 1 on that is none of twelve is past them
-pub past_each : {k m : ℕ} → k ≤ m → (m ≡ k → ⊥) → suc k ≤ m
-past_each h f = omega arith
-
 pub no_days : (m : ℕ) → (1 ≤ m → m ≤ 12 → ⊥) → 0 ≡ common_days m
 no_days zero f = refl
 no_days (suc m) f = let past : 12 ≤ m = below? m 12 (λ h. absurd (f (omega arith) (omega arith))) (λ h. h) in sym (get_or-eq_default (months false) 0 past)
@@ -82,17 +78,17 @@ leap_date y m d e = by_test (is_date y m d) (λ p. held (date_parts y m d p) ∙
 
     held : Date y m d → (eqb m 2 && eqb d 29 && is_leap y) ≡ true
     held p =
-        let more = month_more (is_leap y) (m - 1) (omega (arith, common, p.day-last)) in
-        let last : d ≤ get_or (months true) 1 0 = subst (λ (b : Bool). d ≤ get_or (months b) 1 0) more.1 (subst (λ (i : ℕ). d ≤ get_or (months (is_leap y)) i 0) more.0 p.day-last) in
+        let more = month_more (is_leap y) (m - 1) (omega (arith, common, p.day_last)) in
+        let last : d ≤ get_or (months true) 1 0 = subst (λ (b : Bool). d ≤ get_or (months b) 1 0) more.1 (subst (λ (i : ℕ). d ≤ get_or (months (is_leap y)) i 0) more.0 p.day_last) in
         let least : get_or (months false) 1 0 < d = subst (λ (i : ℕ). get_or (months false) i 0 < d) more.0 common in
-        both_and (eqb m 2 && eqb d 29) (is_leap y) (both_and (eqb m 2) (eqb d 29) (eq-eqb m 2 (omega (arith, more.0, p.month-first))) (eq-eqb d 29 (omega arith))) more.1
+        both_and (eqb m 2 && eqb d 29) (is_leap y) (both_and (eqb m 2) (eqb d 29) (eq-eqb m 2 (omega (arith, more.0, p.month_first))) (eq-eqb d 29 (omega arith))) more.1
       where
         from_one : (k : ℕ) → 1 ≤ k → common_days k ≡ get_or (months false) (k - 1) 0
         from_one zero h = absurd (omega arith)
         from_one (suc k) h = let same : k ≡ suc k - 1 = omega arith in ap (λ (i : ℕ). get_or (months false) i 0) same
 
         common : get_or (months false) (m - 1) 0 < d
-        common = by_test (leb d (common_days m)) (λ t. absurd (true≢false (sym (both_and (leb 1 d) (leb d (common_days m)) (le-leb 1 d p.day-first) t) ∙ e))) (λ t. omega (arith, leb-false d (common_days m) t, from_one m p.month-first))
+        common = by_test (leb d (common_days m)) (λ t. absurd (true≢false (sym (both_and (leb 1 d) (leb d (common_days m)) (le-leb 1 d p.day_first) t) ∙ e))) (λ t. omega (arith, leb-false d (common_days m) t, from_one m p.month_first))
 
 -- ---- day numbers
 

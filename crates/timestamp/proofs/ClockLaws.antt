@@ -37,9 +37,9 @@ unfolding is_time
 parts_time t h m s f p =
     both_and (ltb h hours_per_day && ltb m minutes_per_hour && ltb s seconds_per_minute) (ltb f t)
     (both_and (ltb h hours_per_day && ltb m minutes_per_hour) (ltb s seconds_per_minute)
-    (both_and (ltb h hours_per_day) (ltb m minutes_per_hour) (lt-ltb h 24 p.hour-below) (lt-ltb m 60 p.minute-below))
+    (both_and (ltb h hours_per_day) (ltb m minutes_per_hour) (lt-ltb h 24 p.hour_below) (lt-ltb m 60 p.minute_below))
     (lt-ltb s 60 p.second_below))
-    (lt-ltb f t p.fraction-below)
+    (lt-ltb f t p.fraction_below)
 
 -- the second of the day
 abbrev second_of_day : ℕ → ℕ → ℕ → ℕ
@@ -49,8 +49,8 @@ second_of_day h m s = (h * minutes_per_hour + m) * seconds_per_minute + s
 pub tick_below : (t h m s f : ℕ) → Time t h m s f → tick_of_day t h m s f < ticks_per_day_of t
 unfolding tick_of_day
 tick_below t h m s f p =
-    let whole : suc (second_of_day h m s) * t ≤ 86400 * t = mul-le-mul_right t (omega (arith, p.hour-below, p.minute-below, p.second_below)) in
-    omega (arith, whole, suc_times (second_of_day h m s) t, p.fraction-below)
+    let whole : suc (second_of_day h m s) * t ≤ 86400 * t = mul-le-mul_right t (omega (arith, p.hour_below, p.minute_below, p.second_below)) in
+    omega (arith, whole, suc_times (second_of_day h m s) t, p.fraction_below)
 
 -- and is one of one time
 pub time_one : (t h m s f h' m' s' f' : ℕ) → Time t h m s f → Time t h' m' s' f' → tick_of_day t h m s f ≡ tick_of_day t h' m' s' f' → (h ≡ h') × ((m ≡ m') × ((s ≡ s') × (f ≡ f')))
@@ -58,16 +58,16 @@ unfolding tick_of_day
 time_one t h m s f h' m' s' f' p q e = (hours, (minutes, (seconds, one.1)))
   where
     one : (second_of_day h m s ≡ second_of_day h' m' s') × (f ≡ f')
-    one = steps_one (λ (n : ℕ). n * t) (λ (n : ℕ). t) (λ (n : ℕ). suc_times n t) (second_of_day h m s) (second_of_day h' m' s') f f' p.fraction-below q.fraction-below e
+    one = steps_one (λ (n : ℕ). n * t) (λ (n : ℕ). t) (λ (n : ℕ). suc_times n t) (second_of_day h m s) (second_of_day h' m' s') f f' p.fraction_below q.fraction_below e
 
     hours : h ≡ h'
-    hours = omega (arith, one.0, p.minute-below, p.second_below, q.minute-below, q.second_below)
+    hours = omega (arith, one.0, p.minute_below, p.second_below, q.minute_below, q.second_below)
 
     minutes : m ≡ m'
-    minutes = omega (arith, one.0, p.minute-below, p.second_below, q.minute-below, q.second_below)
+    minutes = omega (arith, one.0, p.minute_below, p.second_below, q.minute_below, q.second_below)
 
     seconds : s ≡ s'
-    seconds = omega (arith, one.0, p.minute-below, p.second_below, q.minute-below, q.second_below)
+    seconds = omega (arith, one.0, p.minute_below, p.second_below, q.minute_below, q.second_below)
 
 -- the time at a tick, by quotients and rests
 pub seconds_below : (t tick : ℕ) → 0 < t → tick < ticks_per_day_of t → tick / t < 86400

@@ -40,9 +40,9 @@ unfolding is_date
 parts_date y m d p =
     both_and (leb 1 m && leb m months_per_year && leb 1 d) (leb d (days_of_month y m))
     (both_and (leb 1 m && leb m months_per_year) (leb 1 d)
-    (both_and (leb 1 m) (leb m months_per_year) (le-leb 1 m p.month-first) (le-leb m 12 p.month-last))
-    (le-leb 1 d p.day-first))
-    (le-leb d (days_of_month y m) p.day-last)
+    (both_and (leb 1 m) (leb m months_per_year) (le-leb 1 m p.month_first) (le-leb m 12 p.month_last))
+    (le-leb 1 d p.day_first))
+    (le-leb d (days_of_month y m) p.day_last)
 
 -- ---- the day of a date
 
@@ -90,13 +90,13 @@ day_number_era y n e m d q = ap₂ (λ (a b : ℤ). a -ℤ b) (day_of_era y n e 
 -- a date's place in its year
 pub place_in_year : (y : ℤ) (m d : ℕ) → Date y m d → days_before_month y m + (d - 1) < days_of_year y
 unfolding days_before_month days_of_year days_of_month
-place_in_year y m d p = month_within (is_leap y) (m - 1) (d - 1) (omega (arith, p.month-first, p.month-last)) (omega (arith, p.day-first, p.day-last))
+place_in_year y m d p = month_within (is_leap y) (m - 1) (d - 1) (omega (arith, p.month_first, p.month_last)) (omega (arith, p.day_first, p.day_last))
 
 month_day_one : (n m d m' d' : ℕ) → Date (pos n) m d → Date (pos n) m' d' → days_before_month (pos n) m + (d - 1) ≡ days_before_month (pos n) m' + (d' - 1) → (m ≡ m') × (d ≡ d')
 unfolding days_before_month days_of_month
 month_day_one n m d m' d' p q e =
-    let one = month_one (is_leap (pos n)) (m - 1) (m' - 1) (d - 1) (d' - 1) (omega (arith, p.day-first, p.day-last)) (omega (arith, q.day-first, q.day-last)) e in
-    (omega (arith, p.month-first, q.month-first, one.0), omega (arith, p.day-first, q.day-first, one.1))
+    let one = month_one (is_leap (pos n)) (m - 1) (m' - 1) (d - 1) (d' - 1) (omega (arith, p.day_first, p.day_last)) (omega (arith, q.day_first, q.day_last)) e in
+    (omega (arith, p.month_first, q.month_first, one.0), omega (arith, p.day_first, q.day_first, one.1))
 
 era_date_one : (n m d n' m' d' : ℕ) → Date (pos n) m d → Date (pos n') m' d' → era_day_of n m d ≡ era_day_of n' m' d' → (n ≡ n') × ((m ≡ m') × (d ≡ d'))
 unfolding era_day_of
@@ -104,7 +104,7 @@ era_date_one n m d n' m' d' p q e = (years.0, month_day_one n m d m' d' p (same 
   where
     years : (n ≡ n') × (days_before_month (pos n) m + (d - 1) ≡ days_before_month (pos n') m' + (d' - 1))
     years =
-        steps_one elapsed (λ (k : ℕ). days_of_year (pos k)) elapsed_suc n n' (days_before_month (pos n) m + (d - 1)) (days_before_month (pos n') m' + (d' - 1)) (place_in_year (pos n) m d p) (place_in_year (pos n') m' d' q) (omega (arith, p.day-first, q.day-first))
+        steps_one elapsed (λ (k : ℕ). days_of_year (pos k)) elapsed_suc n n' (days_before_month (pos n) m + (d - 1)) (days_before_month (pos n') m' + (d' - 1)) (place_in_year (pos n) m d p) (place_in_year (pos n') m' d' q) (omega (arith, p.day_first, q.day_first))
 
     same : Date (pos n') m' d' → Date (pos n) m' d'
     same = subst (λ (k : ℕ). Date (pos k) m' d') (sym years.0)

@@ -13,7 +13,6 @@ use mir.Val.{SFits, to_z, of_z}
 use mir.ValLaws.{to_z-of_z}
 use Rattle.refusal.specs.Outcome.{Outcome}
 use Rattle.timestamp.specs.declared.fields.Fields.{Fields}
-use Rattle.timestamp.specs.declared.moment.Moment
 use Rattle.timestamp.specs.declared.moment.Moment.{Moment}
 use Rattle.timestamp.specs.Calendar.{is_date, day_number}
 use Rattle.timestamp.specs.Clock.{minutes_per_hour, seconds_per_minute, seconds_per_day, is_time, tick_of_day}

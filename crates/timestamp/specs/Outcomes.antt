@@ -7,13 +7,10 @@ use Rattle.refusal.specs.Outcome.{Outcome, given, refused, unplaced}
 -- a type of the code: the seven fields, as `Count` has them
 use Rattle.timestamp.specs.declared.fields.Fields.{Fields}
 -- what decode answers: `Fields`, which holds them, or `Refused`, which holds a refusal
-use Rattle.timestamp.specs.declared.decoding.Decoded
 use Rattle.timestamp.specs.declared.decoding.Decoded.{Decoded}
 -- what encode answers: `Count`, which holds a signed 64-bit number, `NoDateTime`, `NotRepresentable` or `UnknownUnit`
-use Rattle.timestamp.specs.declared.encoding.Encoded
 use Rattle.timestamp.specs.declared.encoding.Encoded.{Encoded}
 -- what in_day answers: `Within`, `Beyond` or `Refused`
-use Rattle.timestamp.specs.declared.units.InDay
 use Rattle.timestamp.specs.declared.units.InDay.{InDay}
 use Rattle.logical_type.specs.declared.types.TimeUnit.{TimeUnit}
 use Rattle.timestamp.specs.Units.{ticks_per_second_of, ticks_per_day_of}

@@ -7,12 +7,9 @@ use Rattle.refusal.specs.Outcome.{Outcome}
 -- types of the code: a month's `days`, an unsigned 32-bit number, and its `offset`, a signed 64-bit one
 use Rattle.timestamp.specs.declared.calendar.Month.{Month}
 -- near fields' `Second`, which holds a signed 64-bit number, or `Other`; a moment's `Second`, which holds one, `Far` or `NoDateTime`
-use Rattle.timestamp.specs.declared.near.Near
 use Rattle.timestamp.specs.declared.near.Near.{Near}
-use Rattle.timestamp.specs.declared.moment.Moment
 use Rattle.timestamp.specs.declared.moment.Moment.{Moment}
 -- the unit that was found: `Millis`, `Micros`, `Nanos` or `Unknown`
-use Rattle.timestamp.specs.declared.units.FoundUnit
 use Rattle.timestamp.specs.declared.units.FoundUnit.{FoundUnit}
 use Rattle.timestamp.specs.declared.fields.Fields.{Fields}
 use Rattle.timestamp.specs.Calendar.{months, is_date, day_number}

@@ -1,11 +1,7 @@
 -- `utf8::letters_after` meets its contract. The loop's invariant is what is promised of the octets passed; the measure is what is left of the length.
-use Prim.Native.Nat.{◌+◌, ◌-◌}
-use mathlib.Core.Path.{sym, ◌∙◌}
-use native.Mathlib.Omega.{arith}
-use borrow.Author.Rules.{rules}
+use Prim.Native.Nat.{◌-◌}
 use lib.ListN.{length}
 use Rattle.utf8.specs.Steps.{Passes}
-use Rattle.utf8.proofs.ValidLaws.{passes_none, passes_sequence}
 use Rattle.utf8.proofs.letters_after.Given as goal
 
 abbrev pub invariant-loop-at : goal.invariant-loop-at

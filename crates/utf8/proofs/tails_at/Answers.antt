@@ -1,10 +1,9 @@
 -- `utf8::tails_at` meets its contract. The loop's invariant: the octets asked for are of UTF8-tail where those not yet looked at are.
-use Prim.Native.Nat.{◌+◌, ◌-◌, ◌≤◌}
+use Prim.Native.Nat.{◌+◌, ◌-◌}
 use mathlib.Core.Bool.{◌&&◌}
 use mathlib.Core.Path.{◌≡◌, sym, ◌∙◌}
 use native.Mathlib.Omega.{arith}
 use native.Mathlib.Nat.{add-zero, sub-zero}
-use borrow.Author.Rules.{rules}
 use borrow.Author.Tests.{not-true, not-false}
 use lib.ListN.{take, drop, replicate}
 use Rattle.utf8.specs.Sequence.{tail, spells}

@@ -1,11 +1,10 @@
 -- `utf8::valid_up_to` meets its contract. The loop's invariant: reading passes what stands before `at`. The measure is what is left of the length.
-use Prim.Native.Nat.{ℕ, ◌-◌, ◌<◌}
+use Prim.Native.Nat.{ℕ, ◌<◌}
 use mathlib.Core.List.{List}
 use mathlib.Core.Logic.{⊎_elim}
 use mathlib.Core.Path.{◌≡◌}
 use native.Mathlib.Nat.{eq-or-lt_of_le}
 use native.Mathlib.Omega.{arith}
-use borrow.Author.Rules.{rules}
 use lib.ListN.{length, drop, length-drop}
 use Rattle.utf8.specs.Valid.{leading, valid_up_to, Stops}
 use Rattle.utf8.specs.Steps.{Passes}
@@ -31,8 +30,13 @@ passed c = passes_on c.loop-at.invariant (passes_on c.ascii_after-from.ensures.p
 
 pub returns-then-to-from : goal.returns-then-to-from
 returns-then-to-from c =
-    let ascii = (c.ascii_after-from.ensures.passes, c.ascii_after-from.ensures.no_ascii) in
-    let letters = (c.letters_after-to.ensures.passes, c.letters_after-to.ensures.no_letter) in record { value = (answer _ _ (passed (goal.at.returns-then-to-from c).After-letters_after-to) (λ inside. letters.1 inside (rw c.if-to-from.true (ascii.1 (omega arith))))).0; stops = (answer _ _ (passed (goal.at.returns-then-to-from c).After-letters_after-to) (λ inside. letters.1 inside (rw c.if-to-from.true (ascii.1 (omega arith))))).1 }
+    let ascii = c.ascii_after-from.ensures in
+    let letters = c.letters_after-to.ensures in
+    let done =
+    answer _ _ (passed (goal.at.returns-then-to-from c).After-letters_after-to)
+    (λ inside. letters.no_letter inside (rw c.if-to-from.true (ascii.no_ascii (omega arith))))
+    in
+    record { value = done.0; stops = done.1 }
 
 pub loop-at-smaller : goal.loop-at-smaller
 loop-at-smaller c =
@@ -44,4 +48,6 @@ pub loop-at-preserved : goal.loop-at-preserved
 loop-at-preserved c = passed (goal.at.loop-at-preserved c).After-letters_after-to
 
 pub returns : goal.returns
-returns c = record { value = (answer _ _ c.loop-at.invariant (λ inside. absurd (omega arith))).0; stops = (answer _ _ c.loop-at.invariant (λ inside. absurd (omega arith))).1 }
+returns c =
+    let done = answer _ _ c.loop-at.invariant (λ inside. absurd (omega arith)) in
+    record { value = done.0; stops = done.1 }

@@ -1,11 +1,7 @@
 -- `utf8::ascii::doubles_after` meets its contract. The loop's invariant is what is promised of the octets passed; the measure is what is left of the length.
-use Prim.Native.Nat.{◌-◌}
 use mathlib.Core.Path.{sym, ◌∙◌}
 use native.Mathlib.Omega.{arith}
-use borrow.Author.Rules.{rules}
 use borrow.Author.Tests.{eqb-true, not-false}
-use lib.ListN.{length}
-use Rattle.utf8.specs.Steps.{Passes}
 use Rattle.utf8.proofs.ValidLaws.{passes_none}
 use Rattle.utf8.proofs.AsciiLaws.{passes_clear}
 use mathlib.Core.Path.{ap}

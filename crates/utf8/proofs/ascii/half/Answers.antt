@@ -1,6 +1,5 @@
 -- `utf8::ascii::half` meets its contract: four octets are below 2^32. Assumes nothing.
 use native.Mathlib.Omega.{arith}
-use borrow.Author.Rules.{rules}
 use Rattle.utf8.proofs.AsciiLaws.{high_bits_four}
 use Rattle.utf8.proofs.ascii.half.Goals as goal
 

@@ -1,5 +1,4 @@
 -- `utf8::ascii::high_bits` meets its contract: the mask has the highest bit of each octet. Assumes nothing.
-use borrow.Author.Rules.{rules}
 use Rattle.utf8.proofs.AsciiLaws.{high_bits_eight}
 use Rattle.utf8.proofs.ascii.high_bits.Goals as goal
 

@@ -1,5 +1,4 @@
 -- `utf8::ascii::is_ascii_double` meets its contract: no highest bit is set in it where none is in either half. Assumes nothing.
-use borrow.Author.Rules.{rules}
 use Rattle.utf8.proofs.AsciiLaws.{high_bits_twice}
 use Rattle.utf8.proofs.ascii.is_ascii_double.Goals as goal
 

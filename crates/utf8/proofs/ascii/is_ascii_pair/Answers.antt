@@ -1,5 +1,4 @@
 -- `utf8::ascii::is_ascii_pair` meets its contract: no highest bit of two words is set where none of either is. Assumes nothing.
-use borrow.Author.Rules.{rules}
 use Rattle.utf8.proofs.AsciiLaws.{high_bits_twice}
 use Rattle.utf8.proofs.ascii.is_ascii_pair.Goals as goal
 
