@@ -1,12 +1,12 @@
 -- Where a text is stored in lent bytes, what they hold, and texts stored one after the other.
 -- Assumes nothing.
 use Prim.Native.Nat.{ℕ, suc, ◌+◌, ◌-◌, ◌≤◌, ◌<◌}
-use mathlib.Core.List.{List, [], ◌∷◌, ◌++◌, append_assoc, append-nil}
+use mathlib.Core.List.{List, [], ◌∷◌, ◌++◌, append_assoc}
 use mathlib.Core.Path.{◌≡◌, refl, sym, ap, ◌∙◌}
 use native.Mathlib.Nat.{add_assoc}
 use native.Mathlib.Omega.{arith}
-use lib.ListN.{length, take, drop, length-append, length-take, take-append-drop, drop_of_length-le}
-use lib.Seq.{take-length, length-take-le, take_at, drop_at}
+use lib.ListN.{length, take, drop, length-append, take-append-drop}
+use lib.Seq.{length-take-le, take_at, drop_at}
 use borrow.Author.Tests.{le-leb, lt-leb}
 use borrow.Rule.Slice.PartMut.{put_mid, Post-is}
 use Rattle.laws.proofs.DifferenceLaws.{below?}
@@ -75,13 +75,10 @@ pub put_as : (lent : List ℕ) (at : ℕ) {next : ℕ} {held us vs : List ℕ} �
 put_as lent at e put = (put.0 ∙ ap (position_after (length lent) at) e, put.1 ∙ ap (placed_text lent at) e)
 
 -- a text copied into the part of the bytes that it takes
-pub copied_placed : (lent : List ℕ) (at next : ℕ) (text part : List ℕ) → next ≡ at + length text → next ≤ length lent
-    → part ≡ take (length text) text ++ drop (length text) (take (next - at) (drop at lent))
+pub copied_placed : (lent : List ℕ) (at next : ℕ) (text part : List ℕ) → next ≡ at + length text → next ≤ length lent → part ≡ text
     → put_mid at (next - at) lent part ≡ placed_text lent at text
 unfolding stretched
-copied_placed lent at next text part e h q =
-    let whole : part ≡ text =
-    q ∙ rw (take-length text, drop_of_length-le (take (next - at) (drop at lent)) {i = length text} (simp length-take (omega arith))) (append-nil text) in
+copied_placed lent at next text part e h whole =
     ap (λ (after : List ℕ). take at lent ++ (part ++ after)) (Post-is at next lent (omega arith))
     ∙ rw (whole, e) (sym (append_assoc (take at lent) text (drop (at + length text) lent)))
     ∙ sym (placed_fits lent at text (omega arith))

@@ -6,7 +6,6 @@ use lib.ListN.{length, length-append}
 use mir.Syntax.{w64}
 use mir.Val.{Fits}
 use Rattle.refusal.specs.declared.answers.Refusal.{Refusal}
-use Rattle.text.specs.Characters.{ascii}
 use Rattle.text.specs.Numbers.{decimal_text}
 use Rattle.text.specs.Refusals.{refusal_text, most_refusal}
 use Rattle.text.proofs.NumberLaws.{digits_below, decimal_most}

@@ -9,7 +9,7 @@ pub fn put(out: &mut [u8], at: usize, text: &[u8]) -> usize
 {
     let next = after(out, at, text.len());
     if next <= out.len() {
-        bytes::copy(text, &mut out[at..next]);
+        out[at..next].copy_from_slice(text);
     }
     next
 }
