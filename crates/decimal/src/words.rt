@@ -14,7 +14,7 @@ const BYTE_BITS: usize = 8;
 const WORD_BITS: usize = 64;
 
 // A number plus 2^127, which has no sign and keeps its order: high * 2^64 + low.
-#[derive(Drop)]
+#[derive(Clone, Copy)]
 pub(crate) struct Words {
     pub(crate) high: u64,
     pub(crate) low: u64,
