@@ -1,7 +1,7 @@
 -- Laws of numbers of up to 16 bytes, as two words: their value, their distance from 0, and their order. Assumes nothing.
 use mathlib.Core.Path.{◌≡◌, refl, sym, ap, ap₂, subst, ◌∙◌}
 use mathlib.Core.Bool.{Bool, true, false, ◌&&◌, and-true}
-use mathlib.Core.List.{List, [], ◌∷◌, ◌++◌}
+use mathlib.Core.List.{List, [], ◌∷◌}
 use Prim.Native.Nat.{ℕ, zero, suc, ◌+◌, ◌*◌, ◌-◌, ◌/◌, ◌^◌, ◌≤◌, ◌<◌}
 use native.Mathlib.Nat.{one-mul, le_refl, le_trans, le_of_lt, lt_of_le_of_lt, lt_of_lt_of_le, pow-le-pow_right, pow-suc, mul-div_cancel, min-eq_left}
 use native.Mathlib.Numerals.{add-one}
@@ -13,7 +13,7 @@ use lib.IntN.{nat_abs, sub_ℕ}
 use lib.ListN.{length, get_or, take, drop, length-take, length-drop, take-append-drop}
 use lib.Pow.{pow-add, pow_mono, pow_pos}
 use lib.Seq.{get_or-take, get_or-drop, take_all, take-suc}
-use borrow.Author.Tests.{le-leb, lt-leb, leb-true, lt-ltb, ltb-true, ltb-false}
+use borrow.Author.Tests.{le-leb, lt-leb, leb-true, lt-ltb}
 use Rattle.decimal_bytes.specs.Number.{unsigned, is_negative, number}
 use Rattle.decimal.specs.Words.{four_bytes, eight_bytes}
 use Rattle.decimal_bytes.specs.Precision.{is_length}
@@ -128,6 +128,7 @@ sign_flipped n h =
 
 -- half of what so many bytes hold
 power_sign : (count : ℕ) → 1 ≤ count → 256 ^ count ≡ 2 * sign_weight count
+power_sign zero h = absurd (omega arith)
 power_sign (suc n) h = omega (arith, pow-suc 256 n, sign_bit n)
 
 pub sign-≤ : (count : ℕ) → count ≤ 8 → sign_weight count ≤ 2 ^ 63

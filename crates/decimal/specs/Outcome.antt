@@ -2,9 +2,7 @@
 use Rattle.std.specs.Prelude.{ℕ, List}
 use Rattle.refusal.specs.Numbers.{WRONG_LENGTH, BREAKS_ANNOTATION}
 use Rattle.refusal.specs.Outcome.{Outcome, given, refused, unplaced}
-use Rattle.decimal_bytes.specs.declared.order.Order
 use Rattle.decimal_bytes.specs.declared.order.Order.{Order}
-use Rattle.decimal_bytes.specs.declared.fit.Fit
 use Rattle.decimal_bytes.specs.declared.fit.Fit.{Fit}
 use Rattle.decimal_bytes.specs.Order.{order_of}
 use Rattle.decimal_bytes.specs.Fit.{fit_of}

@@ -1,11 +1,8 @@
 -- The order of two decimals that are both held to a precision: the first that is refused, and else their order.
 use Rattle.std.specs.Prelude.{ℕ, List}
 use Rattle.refusal.specs.Outcome.{Outcome, given}
-use Rattle.decimal_bytes.specs.declared.fit.Fit
 use Rattle.decimal_bytes.specs.declared.fit.Fit.{Fit}
-use Rattle.decimal_bytes.specs.declared.order.Order
 use Rattle.decimal_bytes.specs.declared.order.Order.{Order}
-use Rattle.decimal.specs.declared.within.Compared
 use Rattle.decimal.specs.declared.within.Compared.{Compared}
 use Rattle.decimal_bytes.specs.Fit.{fit_of}
 use Rattle.decimal_bytes.specs.Order.{order_of}

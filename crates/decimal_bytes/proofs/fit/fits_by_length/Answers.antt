@@ -3,20 +3,15 @@ use mathlib.Core.Path.{sym}
 use native.Mathlib.Omega.{arith}
 use lib.ListN.{length}
 use Rattle.decimal_bytes.proofs.PrecisionLaws.{is_length_bounds}
-use Rattle.laws.proofs.ByteLaws.{EachByte}
 use Rattle.decimal_bytes.proofs.UnsignedLaws.{each_get_d}
 use Rattle.decimal_bytes.proofs.FitLaws.{longer_within, shorter_beyond}
 use Rattle.decimal_bytes.proofs.fit.fits_by_length.Goals as goal
-use Rattle.decimal_bytes.proofs.fit.fits_by_length.Goals.{After-shared_slice_known-1}
-
-bytes : (c : After-shared_slice_known-1) → EachByte c.args.number.now
-bytes c = each_get_d c.args.number.now (λ k. (c.type_inv.number k).fits)
 
 pub overflow_cast-length : goal.overflow_cast-length
 overflow_cast-length c = record { fits = omega (arith, (is_length_bounds (length c.args.number.now) c.requires.0).1) }
 
 pub returns-then-precision-greatest_precision : goal.returns-then-precision-greatest_precision
-returns-then-precision-greatest_precision c = sym (longer_within c.args.number.now c.args.precision c.requires.0 (bytes (goal.at.returns-then-precision-greatest_precision c).After-shared_slice_known-1) (omega arith))
+returns-then-precision-greatest_precision c = sym (longer_within c.args.number.now c.args.precision c.requires.0 (each_get_d _ (λ k. (c.type_inv.number k).fits)) (omega arith))
 
 pub returns-then-precision-greatest_precision-2 : goal.returns-then-precision-greatest_precision-2
-returns-then-precision-greatest_precision-2 c = sym (shorter_beyond c.args.number.now c.args.precision c.requires.0 (bytes (goal.at.returns-then-precision-greatest_precision-2 c).After-shared_slice_known-1) c.requires.1 c.if-length-gt1.true (omega arith))
+returns-then-precision-greatest_precision-2 c = sym (shorter_beyond c.args.number.now c.args.precision c.requires.0 (each_get_d _ (λ k. (c.type_inv.number k).fits)) c.requires.1 c.if-length-gt1.true (omega arith))

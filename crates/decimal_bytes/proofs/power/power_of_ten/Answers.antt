@@ -3,6 +3,7 @@ use mathlib.Core.Path.{◌≡◌}
 use mathlib.Core.Logic.{◌≢◌}
 use Prim.Native.Nat.{ℕ, ◌≤◌, min, zero-le}
 use native.Mathlib.Omega.{arith}
+use borrow.Author.Rules.{rules}
 use Rattle.decimal_bytes.proofs.PowerLaws.{past}
 use Rattle.decimal_bytes.proofs.power.power_of_ten.Goals as goal
 
@@ -69,8 +70,7 @@ last n k a = omega arith
 pub returns-in_default : goal.returns-in_default
 returns-in_default c =
     let n = c.args.exponent in
-    let rest = c.in_default.in_default-own.rest in
-    let six = past n 0 zero-le rest.0.0.0.0.0.0.0.0.0.0.0.0.0.0.0.0.0.0.1 rest.0.0.0.0.0.0.0.0.0.0.0.0.0.0.0.0.0.1 rest.0.0.0.0.0.0.0.0.0.0.0.0.0.0.0.0.1 rest.0.0.0.0.0.0.0.0.0.0.0.0.0.0.0.1 rest.0.0.0.0.0.0.0.0.0.0.0.0.0.0.1 rest.0.0.0.0.0.0.0.0.0.0.0.0.0.1 in
-    let twelve = past n 6 six rest.0.0.0.0.0.0.0.0.0.0.0.0.1 rest.0.0.0.0.0.0.0.0.0.0.0.1 rest.0.0.0.0.0.0.0.0.0.0.1 rest.0.0.0.0.0.0.0.0.0.1 rest.0.0.0.0.0.0.0.0.1 rest.0.0.0.0.0.0.0.1 in
-    let eighteen = past n 12 twelve rest.0.0.0.0.0.0.1 rest.0.0.0.0.0.1 rest.0.0.0.0.1 rest.0.0.0.1 rest.0.0.1 rest.0.1 in
-    rw (last n eighteen rest.1)
+    let six = past n 0 zero-le (search rules) (search rules) (search rules) (search rules) (search rules) (search rules) in
+    let twelve = past n 6 six (search rules) (search rules) (search rules) (search rules) (search rules) (search rules) in
+    let eighteen = past n 12 twelve (search rules) (search rules) (search rules) (search rules) (search rules) (search rules) in
+    rw (last n eighteen (search rules))
