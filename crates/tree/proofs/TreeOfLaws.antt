@@ -7,8 +7,6 @@ use Rattle.refusal.specs.declared.answers.Verdict.TheVariants.{Lawful, Refused}
 use mathlib.Core.List.{List, append-nil}
 use native.Mathlib.Omega.{arith}
 use lib.ListN.{length}
-use Rattle.sheet.specs.Opening as sheet
-use Rattle.sheet.specs.Slot.{slots}
 use Rattle.tree.specs.Tree.{SlotBytes, Tree, Fields, empty, field, listing, listings, count, Claims, ClaimsAll}
 use Rattle.tree.specs.Reading.{trees, first_tree, tree_of}
 use Rattle.tree.specs.Judgement.{or_else, left_over, missing, too_deep, unlawful, tree_refusal}

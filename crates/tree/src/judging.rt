@@ -44,7 +44,7 @@ pub enum RunJudged {
 }
 
 // Judges the run of so many fields at a number, one after the other.
-#[cycle(judge_fields_judge_run_judge_tree)]
+#[cycle(judging)]
 pub(crate) fn judge_run(
     edition: u32,
     sheet: &[u8],
@@ -91,7 +91,7 @@ pub(crate) fn judge_run(
 }
 
 // Judges the tree at a number, its root's standing known, with so many depths allowed.
-#[cycle(judge_fields_judge_run_judge_tree)]
+#[cycle(judging)]
 fn judge_tree(
     edition: u32,
     sheet: &[u8],
@@ -138,7 +138,7 @@ fn judge_tree(
 }
 
 // Judges the run of so many fields at a number: most nodes have none, and are judged without a call.
-#[cycle(judge_fields_judge_run_judge_tree)]
+#[cycle(judging)]
 fn judge_fields(
     edition: u32,
     sheet: &[u8],
