@@ -1,5 +1,5 @@
 -- Answers whose numbers and places fit their bits are taken apart again.
-use Prim.Native.Nat.{ℕ, ◌≤◌, ◌<◌, ◌^◌}
+use Prim.Native.Nat.{ℕ, ◌<◌, ◌^◌}
 use mathlib.Core.Path.{◌≡◌, refl}
 use mathlib.Core.Bool.{Bool, true, false, cond}
 use mathlib.Core.List.{List}
@@ -50,7 +50,7 @@ short_packs {A} lent (given g) p = on (ltb lent (length g.numbers))
 
 -- a result's answer has no number
 result_none : {answered value : ℕ} → PacksResult answered value → RESULT < number_in answered → ⊥
-result_none p h = omega (arith, p.number-in)
+result_none p h = omega (arith, p.number_in_lem)
 
 -- where an answer has a number, it is a refusal's
 pub counted_refused : (c : Counted) → PacksCounted c → RESULT < number_in (counted_answer c) → (r : Refusal) × (c ≡ Counted.Refused r)

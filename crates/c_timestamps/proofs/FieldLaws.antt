@@ -133,12 +133,12 @@ module _ (numbers : List ℤ) where
       let date : Date f.year f.month f.day = date_parts f.year f.month f.day parts.0 in
       let time : Time t f.hour f.minute f.second f.fraction = time_parts t f.hour f.minute f.second f.fraction parts.1 in
       record {
-        month_in = field_ranged 1 12 (at numbers 1) e.month-is date.month_first date.month_last;
-        day_in_lem = field_ranged 0 31 (at numbers 2) e.day-is (omega arith) (omega (arith, date.day_last, days_most f.year f.month));
-        hour_in = field_ranged 0 23 (at numbers 3) e.hour-is (omega arith) (omega (arith, time.hour_below));
-        minute_in = field_ranged 0 59 (at numbers 4) e.minute-is (omega arith) (omega (arith, time.minute_below));
+        month_in = field_ranged 1 12 (at numbers 1) e.month_is date.month_first date.month_last;
+        day_in_lem = field_ranged 0 31 (at numbers 2) e.day_is (omega arith) (omega (arith, date.day_last, days_most f.year f.month));
+        hour_in = field_ranged 0 23 (at numbers 3) e.hour_is (omega arith) (omega (arith, time.hour_below));
+        minute_in = field_ranged 0 59 (at numbers 4) e.minute_is (omega arith) (omega (arith, time.minute_below));
         second_in = field_ranged 0 59 (at numbers 5) e.second_is (omega arith) (omega (arith, time.second_below));
-        fraction_in = field_ranged 0 999999999 (at numbers 6) e.fraction-is (omega arith) (omega (arith, time.fraction_below, ticks_most unit));
+        fraction_in = field_ranged 0 999999999 (at numbers 6) e.fraction_is (omega arith) (omega (arith, time.fraction_below, ticks_most unit));
       }
 
   -- numbers that are no fields in range are encoded as no numbers are

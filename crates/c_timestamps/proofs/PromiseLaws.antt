@@ -33,7 +33,7 @@ decode_one : (unit : ℕ) (count : ℤ) (lent : List ℤ) (r s : ℕ) (k l : Lis
 decode_one unit count lent r s k l d e =
     let o = d.some_outcome.0 in
     let p = d.some_outcome.1 in
-    (d.every_answer o p ∙ sym (e.every-answer o p), d.every_left o p ∙ sym (e.every-left o p))
+    (d.every_answer o p ∙ sym (e.every_answer o p), d.every_left o p ∙ sym (e.every_left o p))
 
 -- ---- INT96 values
 

@@ -6,7 +6,6 @@ use Rattle.refusal.specs.declared.answers.Counted.{Counted}
 use Rattle.timestamp.specs.Outcomes.{counting}
 use Rattle.int96.specs.Value.{VALUE_BYTES, NANOS_PER_DAY, nanos_in, count_of, value_of}
 -- what decode answers: `Count`, which holds a signed 64-bit number, or `Refused`, which holds a refusal
-use Rattle.int96.specs.declared.conversion.Converted
 use Rattle.int96.specs.declared.conversion.Converted.{Converted}
 
 -- what each answer of decode stands for

@@ -4,15 +4,14 @@ ghost use Rattle.std.specs.Prelude.{◌≡◌};
 ghost use Rattle.refusal.specs.Numbers.{UNKNOWN_TYPE};
 ghost use Rattle.refusal.specs.Outcome.{unplaced};
 
-use refusal::Refusal;
-use refusal::numbers::UNKNOWN_TYPE;
+use refusal::{Refusal, numbers};
 
 // The unit is not 1 to 3.
 pub(crate) fn unknown_unit() -> Refusal
     ensures { result ≡ unplaced UNKNOWN_TYPE }
 {
     Refusal {
-        number: UNKNOWN_TYPE,
+        number: numbers::UNKNOWN_TYPE,
         place: 0,
     }
 }

@@ -3,7 +3,6 @@ use Prim.Native.Nat.{ℕ, suc, ◌-◌, ◌<◌, ◌^◌}
 use native.Mathlib.Omega.{arith}
 use mathlib.Core.Path.{◌≡◌, sym, ap, subst, ◌∙◌}
 use mathlib.Core.List.{List}
-use borrow.Author.Rules.{rules}
 use lib.Dec.{lit<}
 use lib.IntN.{ℤ, pos, negsuc, ◌+ℤ◌, ◌-ℤ◌}
 use lib.ListN.{length, take, drop, length-drop}
@@ -15,10 +14,10 @@ use mir.ValLaws.{to_z_pos}
 use Rattle.laws.specs.Bytes.{little}
 use Rattle.laws.proofs.SignedLaws.{read_back}
 use Rattle.timestamp.proofs.CalendarLaws.{difference_most}
-use Rattle.int96.specs.Value.{VALUE_BYTES, DAY_OF_1970, day_in}
+use Rattle.int96.specs.Value.{VALUE_BYTES, day_of_1970, day_in}
 use Rattle.int96.proofs.ValueLaws.{day_small, days_fit}
-use Rattle.int96.proofs.conversion.day_in.Statement.{statement}
-use Rattle.int96.proofs.conversion.day_in.Tie as tie
+use Rattle.int96.proofs.conversion.day_in.Goals as goal
+use Rattle.int96.proofs.conversion.day_in.Goals.{After-number}
 
 -- the bytes behind the nanoseconds are the day's
 behind : (v : List ℕ) → length v ≡ VALUE_BYTES → little (take 8 (take (length v - 8) (drop 8 v))) ≡ day_in v
@@ -28,15 +27,13 @@ behind v long =
     let all : take (length v - 8) (drop 8 v) ≡ drop 8 v = take_all (length v - 8) (drop 8 v) (omega (arith, four)) in
     ap (λ (bs : List ℕ). little (take 8 bs)) all ∙ ap little (take_all 8 (drop 8 v) (omega (arith, four, long)))
 
-day_is : (c : tie.After-number) → c.number.result ≡ day_in c.before.before.before.args.value.now
+day_is : (c : After-number) → c.number.result ≡ day_in c.args.value.now
 day_is c =
-    let start = c.before.before.before in
-    c.number.ensures ∙ behind start.args.value.now start.requires
+    c.number.ensures ∙ behind c.args.value.now c.requires
 
-day_fits : (c : tie.After-number) → c.number.result < 2 ^ 63
+day_fits : (c : After-number) → c.number.result < 2 ^ 63
 day_fits c =
-    let at-known = c.before.before in
-    omega (arith, day_is c, day_small at-known.before.args.value.now (λ i. (at-known.shared-slice-known.given i).fits) at-known.before.requires)
+    omega (arith, day_is c, day_small c.args.value.now (λ i. (c.type_inv.value i).fits) c.requires)
 
 -- whatever day they are counted from, the days to it have 64 bits
 less_fits : (n k : ℕ) → n < 2 ^ 63 → k < 2 ^ 62 → SFits w64 (to_z w64 n +ℤ negsuc k)
@@ -44,20 +41,17 @@ less_fits n k h l =
     subst (λ (z : ℤ). SFits w64 (z +ℤ negsuc k)) (sym (to_z_pos w64 n h)) (record { sfits = difference_most n (suc k) (2 ^ 63) h (omega arith) })
 
 -- the days from 1 January 1970 to it
-days_are : (c : tie.After-number) → to_z w64 c.number.result -ℤ pos DAY_OF_1970 ≡ pos (day_in c.before.before.before.args.value.now) -ℤ pos DAY_OF_1970
-days_are c = ap (λ (z : ℤ). z -ℤ pos DAY_OF_1970) (to_z_pos w64 c.number.result (day_fits c) ∙ ap pos (day_is c))
+days_are : (c : After-number) → to_z w64 c.number.result -ℤ pos day_of_1970 ≡ pos (day_in c.args.value.now) -ℤ pos day_of_1970
+days_are c = ap (λ (z : ℤ). z -ℤ pos day_of_1970) (to_z_pos w64 c.number.result (day_fits c) ∙ ap pos (day_is c))
 
-few : (c : tie.After-number) → mag (pos (day_in c.before.before.before.args.value.now) -ℤ pos DAY_OF_1970) < 2 ^ 63
-few c = let at-known = c.before.before in days_fit _ (λ i. (at-known.shared-slice-known.given i).fits) at-known.before.requires
+few : (c : After-number) → mag (pos (day_in c.args.value.now) -ℤ pos day_of_1970) < 2 ^ 63
+few c = days_fit _ (λ i. (c.type_inv.value i).fits) c.requires
 
-pub day_in_spec : {M : Type 1} → statement M
-day_in_spec =
-    tie.close
-    (tie.spec
-    (λ c. search rules)
-    (λ c. search rules)
-    (λ c. search rules)
-    (λ c κs. search rules)
-    (λ c. record { sfits = day_fits c })
-    (λ c. less_fits c.number.result _ (day_fits c) (lit< tt))
-    (λ c. read_back (days_are c) (few c)))
+pub overflow_cast-result : goal.overflow_cast-result
+overflow_cast-result c = record { sfits = day_fits c }
+
+pub overflow_sub-result : goal.overflow_sub-result
+overflow_sub-result c = less_fits c.number.result _ (day_fits c) (lit< tt)
+
+pub returns : goal.returns
+returns c = read_back (days_are c) (few c)

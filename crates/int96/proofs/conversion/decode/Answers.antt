@@ -1,0 +1,41 @@
+-- `int96::conversion::decode` meets its contract: the length first, then by what joining the day and the nanoseconds answers.
+use mathlib.Core.Path.{◌≡◌, sym, ap, ap₂, ◌∙◌}
+use borrow.Author.Rules.{sfits_of}
+use lib.IntN.{pos, ◌-ℤ◌}
+use mir.Syntax.{w64}
+use mir.ValLaws.{to_z-of_z}
+use Rattle.refusal.specs.Outcome.{given, refused}
+use Rattle.laws.proofs.SignedLaws.{read_back}
+use Rattle.timestamp.specs.Outcomes.{encoded, joining}
+use Rattle.timestamp.specs.declared.encoding.Encoded.{Encoded}
+use Rattle.int96.specs.Value.{day_of_1970, NANOS_PER_DAY, nanos_in, day_in}
+use Rattle.int96.specs.Outcomes.{decoding}
+use Rattle.int96.proofs.ValueLaws.{days_fit, decoding_15}
+use Rattle.int96.proofs.JoiningLaws.{meant, joined_told}
+use Rattle.int96.proofs.conversion.decode.Goals as goal
+use Rattle.int96.proofs.conversion.decode.Goals.{After-join}
+
+pub returns-then-value-ne-VALUE_SIZE : goal.returns-then-value-ne-VALUE_SIZE
+returns-then-value-ne-VALUE_SIZE c = ap refused c.wrong_length.ensures ∙ sym (decoding_15 _ c.if-value-ne-VALUE_SIZE.true)
+
+-- the day and the nanoseconds that are joined are those of the value
+joined_is : (c : After-join) → let v = c.args.value.now in encoded c.join.result ≡ joining NANOS_PER_DAY (pos (day_in v) -ℤ pos day_of_1970) (nanos_in v)
+joined_is c =
+    let few = days_fit _ (λ i. (c.type_inv.value i).fits) c.if-value-ne-VALUE_SIZE.false in
+    c.join.ensures ∙ ap₂ (joining NANOS_PER_DAY) (read_back c.day_in.ensures few) c.nanos_in.ensures
+
+-- so an answer that was told is that of decoding
+told : (c : After-join) (k : Encoded) → c.join.result ≡ k → meant k ≡ decoding c.args.value.now
+told c k e = joined_told _ c.if-value-ne-VALUE_SIZE.false k (sym (ap encoded e) ∙ joined_is c)
+
+pub returns-in-Count : goal.returns-in-Count
+returns-in-Count c = ap given (to_z-of_z w64 _ (search sfits_of)) ∙ told (goal.at.returns-in-Count c).After-join (Encoded.Count _) c.in-Count.is
+
+pub returns-in-NoDateTime : goal.returns-in-NoDateTime
+returns-in-NoDateTime c = ap refused c.beyond_day.ensures ∙ told (goal.at.returns-in-NoDateTime c).After-join Encoded.NoDateTime c.in-NoDateTime.is
+
+pub returns-in-NotRepresentable : goal.returns-in-NotRepresentable
+returns-in-NotRepresentable c = ap refused c.not_representable.ensures ∙ told (goal.at.returns-in-NotRepresentable c).After-join Encoded.NotRepresentable c.in-NotRepresentable.is
+
+pub returns-in-UnknownUnit : goal.returns-in-UnknownUnit
+returns-in-UnknownUnit c = ap refused c.not_representable-in-UnknownUnit.ensures ∙ told (goal.at.returns-in-UnknownUnit c).After-join Encoded.UnknownUnit c.in-UnknownUnit.is
