@@ -27,7 +27,7 @@ use Rattle.annotation.specs.Rule11 as eleven
 use Rattle.annotation.specs.declared.slot.Annotated.{Annotated}
 use Rattle.annotation.specs.declared.resolution.Kind.{Kind}
 use Rattle.annotation.proofs.PlacementLaws.{kind_logical, readable, ten_placed}
-use Rattle.sheet.specs.Slot.{physical, scale, precision, numbers_of}
+use Rattle.sheet.specs.Slot.{physical, numbers_of}
 use Rattle.tree.specs.Annotated.{annotated, kind, rule10, rule11}
 use Rattle.tree.specs.Tree.{SlotBytes, Tree, listing, size}
 use Rattle.tree.specs.Rules.{under_map_of, Keeps}

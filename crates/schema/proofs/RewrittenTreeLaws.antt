@@ -17,7 +17,7 @@ use Rattle.annotation.specs.declared.resolution.Kind.{Kind}
 use Rattle.annotation.specs.declared.slot.Annotated.{Annotated}
 use Rattle.annotation.specs.declared.rewriting.Written.{Written}
 use Rattle.annotation.specs.declared.rewriting.Written.{Written}
-use Rattle.tree.specs.Annotated.{annotated, kind, rule9, rule10}
+use Rattle.tree.specs.Annotated.{annotated, rule9, rule10}
 use Rattle.tree.specs.Tree.{SlotBytes, Tree, Fields, node, empty, field, count, depths, run_depths, Claims, ClaimsAll}
 use Rattle.tree.specs.Rules.{is_group, is_required_or_optional, under_map_of, is_list, is_map, standing_under, standing_below, root_shape, standing_shape, length_shape, decimal_shape, shape, rule8, named_element, is_repeated, is_element_group, holds_element, list_child, list_run, list_kept, rule12, key_value, map_run, map_kept, rule13, KeepsAt, Keeps, KeepsAll}
 use Rattle.schema.specs.Rewriting.{rewritings, run_rewritings}

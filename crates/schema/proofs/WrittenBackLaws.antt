@@ -24,7 +24,7 @@ use Rattle.annotation.specs.declared.slot.Annotated.{Annotated}
 use Rattle.annotation.specs.declared.resolution.Kind.{Kind}
 use Rattle.annotation.proofs.PlacementLaws.{kind_logical, code_stands, group_kind, ten_placed, group_kind_lem}
 use Rattle.sheet.specs.Block.{total_of}
-use Rattle.sheet.specs.Slot.{child_count_at, physical, converted as convertedOf, logical as logicalOf, parameter_a, parameter_b, numbers_of, slot_at, slots}
+use Rattle.sheet.specs.Slot.{child_count_at, converted as convertedOf, logical as logicalOf, parameter_a, parameter_b, numbers_of, slot_at, slots}
 use Rattle.sheet.proofs.SlotLaws.{slot_at_length, slots_at_lem}
 use Rattle.tree.specs.Annotated.{annotated, kind, rule10}
 use Rattle.tree.specs.Tree.{SlotBytes, Tree, listing, size}
@@ -40,7 +40,7 @@ use Rattle.schema.specs.Roles.{ascent, IsKeyValueLayer}
 use Rattle.schema.specs.Demand.{IsTreeOf, Sound, kind_in, Bare, WithLogical, WrittenBack}
 use Rattle.schema.proofs.DemandLaws.{sound_judgement, tree_accepted, size_is}
 use Rattle.schema.proofs.RepeatedFieldLaws.{no_list, no_map}
-use Rattle.schema.proofs.RewrittenSlotLaws.{rewritten_slot, Holds, holds_rewritten}
+use Rattle.schema.proofs.RewrittenSlotLaws.{Holds, holds_rewritten}
 use Rattle.schema.proofs.RewrittenTreeLaws.{rewritten_tree, resolves}
 use Rattle.schema.proofs.RewriteDemandLaws.{slots_are, total_is}
 use Rattle.schema.proofs.NodeRowLaws.{NodeRow, node_row, row_kind}

@@ -37,7 +37,7 @@ struct Row {
 
 // Writes the rows of the run of so many fields at a number, one field after the other, with so many depths allowed, under the
 // node at up, which has this definition and this repetition level, and answers where the next tree stands.
-#[cycle(write_fields_write_run_write_tree)]
+#[cycle(writing)]
 pub(crate) fn write_run(
     sheet: &[u8],
     rows: &mut [u32],
@@ -81,7 +81,7 @@ pub(crate) fn write_run(
 
 // Writes the rows of the tree at a number, with so many depths allowed, under the parent, which has this definition and this
 // repetition level, and answers where the next tree stands.
-#[cycle(write_fields_write_run_write_tree)]
+#[cycle(writing)]
 fn write_tree(
     sheet: &[u8],
     rows: &mut [u32],
@@ -145,7 +145,7 @@ fn write_tree(
 
 // Writes the rows of the run of so many fields at a number, with so many depths allowed, under the parent of some kind, role,
 // definition and repetition level, and answers where the next tree stands: most nodes have no field, and are written without a call.
-#[cycle(write_fields_write_run_write_tree)]
+#[cycle(writing)]
 fn write_fields(
     sheet: &[u8],
     rows: &mut [u32],
