@@ -1,6 +1,5 @@
 -- `c_timestamps::timestamps::fields_of` meets its contract: each number but the year is one of 32 bits.
 use Prim.Native.Nat.{ℕ}
-use native.Mathlib.Omega.{arith}
 use mathlib.Core.Path.{◌≡◌, sym, ap, subst}
 use mathlib.Core.Bool.{true}
 use mathlib.Core.List.{List}
@@ -23,41 +22,20 @@ back i numbers h = to_z-of_z w64 (at numbers i) h
 cast : (i : ℕ) (numbers : List ℤ) → SFits w64 (at numbers i) → is_field (at numbers i) ≡ true → T (non_neg (to_z w64 (of_z w64 (at numbers i)))) × Fits w32 (nat_abs (to_z w64 (of_z w64 (at numbers i))))
 cast i numbers h e = subst (λ (z : ℤ). T (non_neg z) × Fits w32 (nat_abs z)) (sym (back i numbers h)) (field_cast (at numbers i) e)
 
-pub bounds-fields-0 : goal.bounds-fields-0
-bounds-fields-0 c = omega (arith, (each c.args.fields.now c.requires).enough)
-
-pub bounds-fields-1 : goal.bounds-fields-1
-bounds-fields-1 c = omega (arith, (each c.args.fields.now c.requires).enough)
-
 pub overflow_cast-result : goal.overflow_cast-result
 overflow_cast-result c = cast 1 c.args.fields.now (search sfits_of) (each c.args.fields.now c.requires).month_is
-
-pub bounds-fields-2 : goal.bounds-fields-2
-bounds-fields-2 c = omega (arith, (each c.args.fields.now c.requires).enough)
 
 pub overflow_cast-result-2 : goal.overflow_cast-result-2
 overflow_cast-result-2 c = cast 2 c.args.fields.now (search sfits_of) (each c.args.fields.now c.requires).day_is
 
-pub bounds-fields-3 : goal.bounds-fields-3
-bounds-fields-3 c = omega (arith, (each c.args.fields.now c.requires).enough)
-
 pub overflow_cast-result-3 : goal.overflow_cast-result-3
 overflow_cast-result-3 c = cast 3 c.args.fields.now (search sfits_of) (each c.args.fields.now c.requires).hour_is
-
-pub bounds-fields-4 : goal.bounds-fields-4
-bounds-fields-4 c = omega (arith, (each c.args.fields.now c.requires).enough)
 
 pub overflow_cast-result-4 : goal.overflow_cast-result-4
 overflow_cast-result-4 c = cast 4 c.args.fields.now (search sfits_of) (each c.args.fields.now c.requires).minute_is
 
-pub bounds-fields-5 : goal.bounds-fields-5
-bounds-fields-5 c = omega (arith, (each c.args.fields.now c.requires).enough)
-
 pub overflow_cast-result-5 : goal.overflow_cast-result-5
 overflow_cast-result-5 c = cast 5 c.args.fields.now (search sfits_of) (each c.args.fields.now c.requires).second_is
-
-pub bounds-fields-6 : goal.bounds-fields-6
-bounds-fields-6 c = omega (arith, (each c.args.fields.now c.requires).enough)
 
 pub overflow_cast-result-6 : goal.overflow_cast-result-6
 overflow_cast-result-6 c = cast 6 c.args.fields.now (search sfits_of) (each c.args.fields.now c.requires).fraction_is
