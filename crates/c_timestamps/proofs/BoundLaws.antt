@@ -1,6 +1,4 @@
 -- Every refusal of a timestamp has a number of at most 20, and the place 0.
-use Prim.Native.Nat.{ℕ}
-use mathlib.Core.Path.{◌≡◌, refl, sym, ◌∙◌, subst}
 use mathlib.Core.Bool.{Bool, true, false, cond}
 use mathlib.Core.List.{List}
 use mathlib.Core.Option.{Option, none, some}
@@ -8,7 +6,6 @@ use native.Mathlib.Omega.{arith}
 use lib.IntN.{ℤ}
 use Rattle.refusal.specs.Numbers.{NO_DATE_TIME, NOT_REPRESENTABLE, UNKNOWN_TYPE}
 use Rattle.refusal.specs.Outcome.{Outcome, given, refused, unplaced}
-use Rattle.refusal.specs.declared.answers.Refusal.{Refusal}
 use Rattle.logical_type.specs.declared.types.TimeUnit.{TimeUnit}
 use Rattle.timestamp.specs.Units.{ticks_per_second_of}
 use Rattle.timestamp.specs.Count.{is_date_time, count_of}

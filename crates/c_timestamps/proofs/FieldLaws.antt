@@ -190,6 +190,10 @@ unformed_left unit lent kept = of (unit_of unit)
     of none = refl
     of (some unit) = rw (no_numbers unit)
 
+-- fields are at least seven numbers
+pub fields_enough : (numbers : List ℤ) → are_fields numbers ≡ true → 7 ≤ length numbers
+fields_enough numbers e = (each numbers e).enough
+
 -- ---- answers
 
 -- the fields of a count as they are stored

@@ -124,6 +124,7 @@ fn is_within(x: i64, least: i64, most: i64) -> bool
 }
 
 // The fields of seven numbers.
+#[tactic(auto, using(crate::proofs::FieldLaws::fields_enough))]
 fn fields_of(fields: &[i64]) -> Fields
     requires { are_fields fields.now ≡ true }
     ensures { result ≡ fields_of fields.now }
