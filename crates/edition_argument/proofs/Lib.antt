@@ -1,2 +1,3 @@
--- What is proved of editions in digits.
+-- What is proved of editions in digits, and of a room that is filled.
 pub mod SpellingLaws
+pub mod InputLaws

@@ -2,7 +2,9 @@
 ghost use Rattle.std.specs.Prelude.{ℕ, ◌≡◌, List};
 ghost use Rattle.edition_argument.specs.Spelling.{Spelled, Given};
 
+use crate::words::{word, word_count};
 use edition::{FIRST, is_known};
+use std::env::Env;
 
 // The program's name alone, and one argument behind it.
 const ALONE: usize = 1;
@@ -16,12 +18,12 @@ const ROOM: usize = 2;
 const NONE: u32 = 0;
 
 // The edition of the program that runs. What its words are, no contract tells.
-pub fn given() -> u32
+pub fn given(rt: &impl Env) -> u32
     ensures { (words : ℕ) × ((text : List ℕ) × Given words text result) }
 {
-    let words = os::arg_count();
+    let words = word_count(rt, ONE_ARGUMENT + 1);
     let mut text = [0u8; ROOM];
-    let length = os::arg(1, &mut text);
+    let length = word(rt, 1, &mut text);
     given_by(words, &text[..length])
 }
 
@@ -40,11 +42,11 @@ pub fn given_by(words: usize, text: &[u8]) -> u32
 }
 
 // The edition that an argument spells.
-pub fn at(i: usize) -> u32
+pub fn at(rt: &impl Env, i: usize) -> u32
     ensures { (text : List ℕ) × Spelled text result }
 {
     let mut text = [0u8; ROOM];
-    let length = os::arg(i, &mut text);
+    let length = word(rt, i, &mut text);
     edition_of(&text[..length])
 }
 
