@@ -7,8 +7,12 @@ use Rattle.slot_text.proofs.opened.put_opened.Goals as goal
 
 pub returns-in-Count : goal.returns-in-Count
 unfolding opened_text
-returns-in-Count c = let told = sym c.in-Count.is in record { value = (put_opened_as _ _ told (c.put.ensures.value, c.put.ensures.out_after) (omega arith)).0; out_after = (put_opened_as _ _ told (c.put.ensures.value, c.put.ensures.out_after) (omega arith)).1.0; opened_len_bound = (put_opened_as _ _ told (c.put.ensures.value, c.put.ensures.out_after) (omega arith)).1.1 }
+returns-in-Count c =
+    let put = put_opened_as _ _ (sym c.in-Count.is) (c.put.ensures.value, c.put.ensures.out_after) (omega arith) in
+    record { value = put.0; out_after = put.1.0; opened_len_bound = put.1.1 }
 
 pub returns-in-Refused : goal.returns-in-Refused
 unfolding opened_text
-returns-in-Refused c = let told = sym c.in-Refused.is in record { value = (put_opened_as _ _ told (c.put_refusal.ensures.value, c.put_refusal.ensures.out_after) c.put_refusal.ensures.refusal_len_bound).0; out_after = (put_opened_as _ _ told (c.put_refusal.ensures.value, c.put_refusal.ensures.out_after) c.put_refusal.ensures.refusal_len_bound).1.0; opened_len_bound = (put_opened_as _ _ told (c.put_refusal.ensures.value, c.put_refusal.ensures.out_after) c.put_refusal.ensures.refusal_len_bound).1.1 }
+returns-in-Refused c =
+    let put = put_opened_as _ _ (sym c.in-Refused.is) (c.put_refusal.ensures.value, c.put_refusal.ensures.out_after) c.put_refusal.ensures.refusal_len_bound in
+    record { value = put.0; out_after = put.1.0; opened_len_bound = put.1.1 }

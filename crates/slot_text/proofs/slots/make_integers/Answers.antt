@@ -21,7 +21,7 @@ pub loop-i-init : goal.loop-i-init
 loop-i-init c =
     let zs = c.args.numbers.now in
     let z = get_or zs 0 (pos 0) in
-    let fits : SFits w64 z = record { sfits = c.put_signed-arg-2-1.given } in
+    let fits : SFits w64 z = record { sfits = omega arith } in
     let alone = integers_first zs (omega arith) in
     let most : length (integers_text (take 1 zs)) ≤ 20 = omega (arith, signed_most z fits, ap length alone) in
     let put = put_as c.args.room.now 0 (ap signed_text (to_z-of_z w64 z fits) ∙ alone) (c.put_signed-next.ensures.value, c.put_signed-next.ensures.out_after) in
@@ -34,7 +34,7 @@ loop-i-preserved c =
     let i = c.loop-i.i in
     let inv = c.loop-i.invariant in
     let z = get_or zs i (pos 0) in
-    let fits : SFits w64 z = record { sfits = c.put_signed-arg-in-loop-i-2-1.given } in
+    let fits : SFits w64 z = record { sfits = omega arith } in
     let most : length (signed_text z) ≤ 20 = signed_most z fits in
     let later = integers_later zs i inv.0 (omega arith) in
     let longer : length (integers_text (take i zs)) + 1 + length (signed_text z) ≡ length (integers_text (take (suc i) zs)) = sym (simp length-append) ∙ ap length later in
