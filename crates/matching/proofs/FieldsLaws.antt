@@ -133,7 +133,7 @@ module _ (first second : List ℕ) (node partner n m : ℕ) (numbers₀ takers n
       spread_indexed all s taker heads x = record { start = at (partner + 1) 0; headed = x; stands = s; before = p.passed ++ passed'.front; split = sym all ∙ split' }
 
       is_passed' : AllTaken takers (node + 1) (p.passed ++ passed'.front)
-      is_passed' = all_taken_append takers (node + 1) p.passed passed'.front p.is-passed passed'.taken
+      is_passed' = all_taken_append takers (node + 1) p.passed passed'.front p.is_passed passed'.taken
 
       -- the first that is free is the one that it matches
       found_is : first_free takers (node + 1) (name (slot_at first number)) (fields_from second from' m) ≡ nth (name (slot_at first number)) (alike (name (slot_at first number)) p.before) (others second partner)
@@ -157,7 +157,7 @@ module _ (first second : List ℕ) (node partner n m : ℕ) (numbers₀ takers n
         within d e = (subst (FoundWithin (total_of second) m) (found_what ∙ ap found_of e) w).0
 
         within_takers : (d : Sibling) → what ≡ some d → d.number < length takers
-        within_takers d e = omega (arith, within d e, k, p.takers-most.long)
+        within_takers d e = omega (arith, within d e, k, p.takers_most.long)
 
         code_is : (c : Option Sibling) → found_code place (found_of c) ≡ code_of (match_of place c)
         code_is none = refl
@@ -176,17 +176,17 @@ module _ (first second : List ℕ) (node partner n m : ℕ) (numbers₀ takers n
         named_next i (no e) = rw (get_or-set_other numbers number i (found_code place found) 0 e) (p.names.number_at i)
 
         taker_next : (x : Found) (i : ℕ) → get_or (taken_by (node + 1) x takers) i 0 ≤ suc node
-        taker_next Found.Nothing i = p.takers-most.taker-at i
+        taker_next Found.Nothing i = p.takers_most.taker_at i
         taker_next (Found.At c) i = cases (ℕ_discrete i c.number) (dec_lt i (length takers))
           where
             cases : Dec (i ≡ c.number) → Dec (i < length takers) → get_or (set takers c.number (node + 1)) i 0 ≤ suc node
             cases (yes e) (yes b) = rw (e, get_or-set_same takers c.number (node + 1) 0 (omega (arith, e))) (omega arith)
             cases (yes e) (no b) = rw (get_d_past (set takers c.number (node + 1)) i (omega (arith, length-set takers c.number (node + 1)))) (omega arith)
-            cases (no e) b = rw (get_or-set_other takers c.number i (node + 1) 0 e) (p.takers-most.taker-at i)
+            cases (no e) b = rw (get_or-set_other takers c.number i (node + 1) 0 e) (p.takers_most.taker_at i)
 
         long_next : (x : Found) → length (taken_by (node + 1) x takers) ≡ most_nodes
-        long_next Found.Nothing = p.takers-most.long
-        long_next (Found.At c) = length-set takers c.number (node + 1) ∙ p.takers-most.long
+        long_next Found.Nothing = p.takers_most.long
+        long_next (Found.At c) = length-set takers c.number (node + 1) ∙ p.takers_most.long
 
         spread_taken : Spread first second node partner n m numbers₀ (taken_by (node + 1) found takers) (set numbers number (found_code place found)) from' next (place + 1)
         spread_taken = record {
