@@ -1,7 +1,6 @@
 -- `matching::candidates::is_free` meets its contract: names of unlike prints are unlike.
 use mathlib.Core.Path.{sym, ◌∙◌}
 use borrow.Author.Tests.{eq-eqb, ne_eqb}
-use borrow.Author.Rules.{rules}
 use Rattle.matching.proofs.CandidateLaws.{prints_unlike, free_taken, free_untaken}
 use Rattle.matching.proofs.candidates.is_free.Goals as goal
 

@@ -1,10 +1,7 @@
 -- `matching::candidates::skip_taken` meets its contract: what is passed over is taken.
-use mathlib.Core.Path.{sym, ◌∙◌}
 use Prim.Native.Nat.{◌-◌}
-use native.Mathlib.Omega.{arith}
-use borrow.Author.Rules.{rules}
 use Rattle.matching.specs.Steps.{untaken}
-use Rattle.matching.proofs.CandidateLaws.{at, below_most, read_at, end_read, end_below, fields_from_end, Passed, passed_start, passed_next, passed_end, untaken_taken, untaken_none, untaken_stop}
+use Rattle.matching.proofs.CandidateLaws.{at, Passed}
 use Rattle.matching.proofs.candidates.skip_taken.Given as goal
 
 abbrev pub invariant-loop-place : goal.invariant-loop-place

@@ -1,8 +1,7 @@
 -- `matching::ends::end_of` meets its contract: a node's tree ends where the last of its fields does.
 use native.Mathlib.Omega.{arith}
-use borrow.Author.Rules.{rules}
 use Rattle.tree.proofs.VisitLaws.{children_claimed, tree_end}
-use Rattle.matching.proofs.EndLaws.{Ended, ended_start, ended_most, ended_read, ended_next_most, ended_next, ended_last}
+use Rattle.matching.proofs.EndLaws.{ended_start, ended_most, ended_read, ended_next_most, ended_next, ended_last}
 use Rattle.matching.proofs.ends.end_of.Goals as goal
 
 pub overflow_add-at : goal.overflow_add-at

@@ -1,8 +1,5 @@
 -- `matching::ends::end_of` meets its contract: a node's tree ends where the last of its fields does.
-use native.Mathlib.Omega.{arith}
-use borrow.Author.Rules.{rules}
-use Rattle.tree.proofs.VisitLaws.{children_claimed, tree_end}
-use Rattle.matching.proofs.EndLaws.{Ended, ended_start, ended_most, ended_read, ended_next_most, ended_next, ended_last}
+use Rattle.matching.proofs.EndLaws.{Ended}
 use Rattle.matching.proofs.ends.end_of.Given as goal
 
 abbrev pub invariant-loop-left : goal.invariant-loop-left

@@ -1,11 +1,9 @@
 -- `matching::ends::write_ends` meets its contract: the last node's end is found first.
 use mathlib.Core.Path.{sym, ◌∙◌}
-use Prim.Native.Nat.{◌-◌, ◌≤◌, ◌<◌}
+use Prim.Native.Nat.{◌-◌, ◌<◌}
 use native.Mathlib.Omega.{arith}
-use borrow.Author.Rules.{rules}
 use Rattle.sheet.specs.Block.{total_of, most_nodes}
 use Rattle.tree.proofs.VisitLaws.{tree_within}
-use Rattle.matching.specs.Steps.{EndsFrom}
 use Rattle.matching.proofs.EndLaws.{ends_none, ends_more, ends_back, ends_all}
 use Rattle.matching.proofs.ends.write_ends.Goals as goal
 

@@ -1,9 +1,7 @@
 -- `matching::fields::match_below` meets its contract: the nodes passed, and those that are left, are all.
 use mathlib.Core.Path.{sym, ◌∙◌}
-use Prim.Native.Nat.{◌-◌}
 use native.Mathlib.Omega.{arith}
-use Rattle.matching.specs.Steps.{HeadsMost}
-use Rattle.matching.proofs.NodesLaws.{Stepped, stepped_start, stepped_next, stepped_end}
+use Rattle.matching.proofs.NodesLaws.{stepped_start, stepped_next, stepped_end}
 use Rattle.matching.proofs.fields.match_below.Goals as goal
 
 pub loop-node-init : goal.loop-node-init

@@ -2,7 +2,6 @@
 use mathlib.Core.Path.{sym, ap, ◌∙◌, subst}
 use native.Mathlib.Omega.{arith}
 use lib.ListN.{set}
-use borrow.Author.Rules.{rules}
 use Rattle.sheet.specs.Block.{most_nodes}
 use Rattle.matching.specs.Steps.{FoundWithin, taken_by, found_code}
 use Rattle.matching.specs.declared.candidates.Found.{Found}

@@ -1,5 +1,4 @@
 -- `matching::heads::skip_unlike` meets its contract: what is passed over has another print.
-use borrow.Author.Rules.{rules}
 use Rattle.matching.proofs.HeadLaws.{leads_none, leads_from, leads_head}
 use Rattle.matching.proofs.heads.skip_unlike.Goals as goal
 

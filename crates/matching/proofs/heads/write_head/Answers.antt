@@ -1,5 +1,4 @@
 -- `matching::heads::write_head` meets its contract.
-use borrow.Author.Rules.{rules}
 use Rattle.matching.proofs.HeadLaws.{head_kept, head_written}
 use Rattle.matching.proofs.heads.write_head.Goals as goal
 

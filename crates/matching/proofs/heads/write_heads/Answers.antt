@@ -1,11 +1,10 @@
 -- `matching::heads::write_heads` meets its contract: each field passed has its head, or an earlier one of its rest has.
 use mathlib.Core.Path.{sym, ap, ◌∙◌}
-use Prim.Native.Nat.{◌-◌, ◌%◌}
+use Prim.Native.Nat.{◌%◌}
 use native.Mathlib.Omega.{arith}
-use borrow.Author.Rules.{rules}
 use Rattle.matching.specs.Steps.{head_count}
-use Rattle.matching.proofs.CandidateLaws.{at, below, below_most, read_at, end_read, end_below}
-use Rattle.matching.proofs.HeadLaws.{HeadsTo, heads_to_start, heads_to_written, heads_to_end}
+use Rattle.matching.proofs.CandidateLaws.{below, below_most, read_at, end_read, end_below}
+use Rattle.matching.proofs.HeadLaws.{heads_to_start, heads_to_written, heads_to_end}
 use Rattle.matching.proofs.heads.write_heads.Goals as goal
 
 pub loop-place-init : goal.loop-place-init

@@ -1,10 +1,7 @@
 -- `matching::prints::print_of` meets its contract: the bytes passed, and those that are left, give the print.
-use mathlib.Core.Path.{◌≡◌}
-use Prim.Native.Nat.{◌+◌, ◌-◌, ◌%◌}
+use Prim.Native.Nat.{◌+◌}
 use native.Mathlib.Omega.{arith}
-use lib.ListN.{length}
-use borrow.Author.Rules.{rules}
-use Rattle.matching.proofs.PrintLaws.{Printed, printed_start, printed_next, printed_last, printed_end}
+use Rattle.matching.proofs.PrintLaws.{printed_start, printed_next, printed_last, printed_end}
 use Rattle.matching.proofs.prints.print_of.Goals as goal
 
 pub loop-i-init : goal.loop-i-init

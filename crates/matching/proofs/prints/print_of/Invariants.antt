@@ -1,10 +1,8 @@
 -- `matching::prints::print_of` meets its contract: the bytes passed, and those that are left, give the print.
 use mathlib.Core.Path.{◌≡◌}
-use Prim.Native.Nat.{◌+◌, ◌-◌, ◌%◌}
-use native.Mathlib.Omega.{arith}
+use Prim.Native.Nat.{◌-◌, ◌%◌}
 use lib.ListN.{length}
-use borrow.Author.Rules.{rules}
-use Rattle.matching.proofs.PrintLaws.{Printed, printed_start, printed_next, printed_last, printed_end}
+use Rattle.matching.proofs.PrintLaws.{Printed}
 use Rattle.matching.proofs.prints.print_of.Given as goal
 
 abbrev pub invariant-loop-i : goal.invariant-loop-i

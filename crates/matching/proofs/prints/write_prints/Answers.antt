@@ -1,9 +1,7 @@
 -- `matching::prints::write_prints` meets its contract.
 use mathlib.Core.Path.{ap, ◌∙◌}
-use Prim.Native.Nat.{◌-◌, ◌≤◌}
 use native.Mathlib.Omega.{arith}
-use borrow.Author.Rules.{rules}
-use Rattle.matching.specs.Steps.{Prints, print_of}
+use Rattle.matching.specs.Steps.{print_of}
 use Rattle.matching.proofs.PrintLaws.{prints_none, prints_more, prints_all}
 use Rattle.matching.proofs.prints.write_prints.Goals as goal
 

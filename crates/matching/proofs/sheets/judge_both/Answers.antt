@@ -1,7 +1,6 @@
 -- `matching::sheets::judge_both` meets its contract, case by case.
 use mathlib.Core.Path.{◌≡◌, sym, ap, ◌∙◌}
 use mathlib.Core.Bool.{true}
-use borrow.Author.Rules.{rules}
 use borrow.Author.Tests.{not-true, not-false}
 use Rattle.refusal.specs.Faults.{NEITHER, fault}
 use Rattle.refusal.specs.declared.answers.Refusal.{Refusal}

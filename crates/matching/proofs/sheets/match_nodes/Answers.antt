@@ -1,7 +1,6 @@
 -- `matching::sheets::match_nodes` meets its contract: all that the loop over the nodes asks for is made first.
 use mathlib.Core.Path.{refl, ◌∙◌}
 use native.Mathlib.Omega.{arith}
-use borrow.Author.Rules.{rules}
 use Rattle.matching.proofs.PrintLaws.{prints_all}
 use Rattle.matching.proofs.NodesLaws.{takers_none, heads_none, names_root, matched_nodes}
 use Rattle.matching.proofs.sheets.match_nodes.Goals as goal

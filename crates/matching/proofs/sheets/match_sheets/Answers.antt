@@ -1,6 +1,5 @@
 -- `matching::sheets::match_sheets` meets its contract.
 use mathlib.Core.Path.{sym, ◌∙◌}
-use borrow.Author.Rules.{rules}
 use Rattle.tree.proofs.JudgementLaws.{judged_total}
 use Rattle.matching.proofs.OutcomeLaws.{both_counted, one_tree, matching_is, none_matched}
 use Rattle.matching.proofs.sheets.match_sheets.Goals as goal
