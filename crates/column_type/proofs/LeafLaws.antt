@@ -9,7 +9,7 @@ use borrow.Author.Tests.{eq-eqb, le-leb}
 use lib.ListN.{length, get_or, drop}
 use Rattle.laws.specs.Bytes.{Bytes}
 use Rattle.sheet.specs.Block.{total_of}
-use Rattle.sheet.specs.Slot.{physical, type_length_of, scale, precision, numbers_of, slot_at, slots}
+use Rattle.sheet.specs.Slot.{physical, type_length_of, numbers_of, slot_at}
 use Rattle.parquet.specs.Physical as physical
 use Rattle.sheet.specs.Sound.{slot_sound}
 use Rattle.sheet.proofs.FieldLaws.{physical_lt, type_length_mag, scale_mag, precision_mag}

@@ -18,7 +18,7 @@ use Rattle.annotation.specs.Rule11 as eleven
 use Rattle.annotation.specs.Kinds.{PLAIN_GROUP, kind_of}
 use Rattle.annotation.specs.declared.slot.Annotated.{Annotated}
 use Rattle.annotation.proofs.PlacementLaws.{ten_placed, leaf_kind}
-use Rattle.sheet.specs.Number.{number_at, signed32}
+use Rattle.sheet.specs.Number.{number_at}
 use Rattle.sheet.specs.Slot as slot
 use Rattle.sheet.specs.Slot.{numbers_of}
 use Rattle.tree.specs.Annotated.{annotated, kind, rule9, rule10, rule11}
