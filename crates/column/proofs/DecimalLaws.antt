@@ -6,7 +6,6 @@ use Prim.Native.Nat.{ℕ, ◌^◌}
 use lib.Dec.{ltb}
 use lib.IntN.{nat_abs}
 use lib.ListN.{length}
-use Rattle.decimal_bytes.specs.declared.fit.Fit
 use Rattle.decimal_bytes.specs.declared.fit.Fit.{Fit}
 use Rattle.decimal_bytes.specs.Precision.{is_length}
 use Rattle.decimal_bytes.specs.Number.{number}

@@ -1,6 +1,6 @@
 // The refusals of a value behind those of its column type. Text alone is refused at a byte, and anything else at 0.
 ghost use Rattle.std.specs.Prelude.{◌≡◌};
-ghost use Rattle.refusal.specs.Numbers.{BREAKS_ANNOTATION};
+ghost use Rattle.refusal.specs.Numbers.{BREAKS_ANNOTATION as BREAKS_ITS_ANNOTATION};
 ghost use Rattle.refusal.specs.Outcome.{refusal};
 
 use refusal::{Refusal, numbers};
@@ -19,7 +19,7 @@ pub(crate) const BREAKS_ANNOTATION: Refusal = Refusal {
 
 // The text breaks its annotation at this byte.
 pub(crate) fn breaks_annotation_at(place: usize) -> Refusal
-    ensures { result ≡ refusal BREAKS_ANNOTATION place }
+    ensures { result ≡ refusal BREAKS_ITS_ANNOTATION place }
 {
     Refusal {
         number: numbers::BREAKS_ANNOTATION,

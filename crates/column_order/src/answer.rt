@@ -1,6 +1,6 @@
 // What ordering two values answers, and the refusals that are laid on neither of them.
 ghost use Rattle.std.specs.Prelude.{◌≡◌};
-ghost use Rattle.refusal.specs.Faults.{NEITHER, fault};
+ghost use Rattle.refusal.specs.Faults.{NEITHER as NEITHER_SIDE, fault};
 ghost use Rattle.column_type.specs.Lawful.{type_refusal};
 
 use column_type::type_refusal;
@@ -25,7 +25,7 @@ pub(crate) const NO_ORDER: Fault = Fault {
 
 // The column type is not lawful in the edition.
 pub(crate) fn unlawful_type(edition: u32) -> Fault
-    ensures { result ≡ fault NEITHER (type_refusal edition) }
+    ensures { result ≡ fault NEITHER_SIDE (type_refusal edition) }
 {
     let refusal = type_refusal(edition);
     Fault {

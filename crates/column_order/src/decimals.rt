@@ -1,6 +1,6 @@
 // The order of decimals in bytes, whose refusals and numbers are judged together.
 ghost use Rattle.std.specs.Prelude.{◌≡◌, true};
-ghost use Rattle.refusal.specs.Faults.{FIRST, SECOND};
+ghost use Rattle.refusal.specs.Faults.{FIRST as FIRST_SIDE, SECOND as SECOND_SIDE};
 ghost use Rattle.column_type.specs.Lawful.{is_lawful};
 ghost use Rattle.column.specs.Lengths.{is_width, width_of, is_byte_decimal};
 ghost use Rattle.column.specs.Reading.{read_of};
@@ -82,7 +82,7 @@ fn is_width(c: ColumnType, n: usize) -> bool
 
 // The refusal of the first of two values, or else that of the second.
 fn refused(edition: u32, c: ColumnType, a: &[u8], b: &[u8]) -> Order
-    ensures { result ≡ unless_refused FIRST (read_of edition c a.now) (unless_refused SECOND (read_of edition c b.now) (declared.Order.Related relation.Relation.Unordered)) }
+    ensures { result ≡ unless_refused FIRST_SIDE (read_of edition c a.now) (unless_refused SECOND_SIDE (read_of edition c b.now) (declared.Order.Related relation.Relation.Unordered)) }
 {
     let both = column::read_both(edition, c, a, b);
     let first = both.first;

@@ -1,6 +1,6 @@
 // Ordering two values of a column.
 ghost use Rattle.std.specs.Prelude.{◌≡◌, false};
-ghost use Rattle.refusal.specs.Faults.{FIRST, SECOND};
+ghost use Rattle.refusal.specs.Faults.{FIRST as FIRST_SIDE, SECOND as SECOND_SIDE};
 ghost use Rattle.column.specs.Lengths.{is_byte_decimal};
 ghost use Rattle.column.specs.declared.value.Read as declared;
 ghost use Rattle.column_order.specs.Keys.{key_of, key_order};
@@ -78,7 +78,7 @@ fn has_order(c: ColumnType) -> bool
 // The refusal of the first of two values, or what the second makes of it.
 fn order_first(c: ColumnType, first: Read, a: &[u8], second: Read, b: &[u8]) -> Order
     requires { BothRead c first second a.now b.now × (is_byte_decimal c ≡ false) }
-    ensures { result ≡ unless_refused FIRST first (unless_refused SECOND second (order.Order.Related (key_order (key_of c a.now) (key_of c b.now)))) }
+    ensures { result ≡ unless_refused FIRST_SIDE first (unless_refused SECOND_SIDE second (order.Order.Related (key_order (key_of c a.now) (key_of c b.now)))) }
 {
     match first {
         Read::Value(x) => order_second(c, x, a, second, b),
@@ -92,7 +92,7 @@ fn order_first(c: ColumnType, first: Read, a: &[u8], second: Read, b: &[u8]) -> 
 // The refusal of the second value, or its order against a first that was read.
 fn order_second(c: ColumnType, x: Value, a: &[u8], second: Read, b: &[u8]) -> Order
     requires { BothRead c (declared.Read.Value x) second a.now b.now × (is_byte_decimal c ≡ false) }
-    ensures { result ≡ unless_refused SECOND second (order.Order.Related (key_order (key_of c a.now) (key_of c b.now))) }
+    ensures { result ≡ unless_refused SECOND_SIDE second (order.Order.Related (key_order (key_of c a.now) (key_of c b.now))) }
 {
     match second {
         Read::Value(y) => Order::Related(order_read(c, x, a, y, b)),

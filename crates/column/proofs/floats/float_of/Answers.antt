@@ -1,0 +1,12 @@
+-- `column::floats::float_of` meets its contract: the patterns above that of infinity, but for the sign, are those of the NaN.
+use mathlib.Core.Path.{sym}
+use lib.Ieee.{binary32, of_bits, div}
+use Rattle.column.proofs.FloatLaws.{nan_above, not_nan_below}
+use Rattle.column.proofs.floats.float_of.Goals as goal
+
+pub returns-then-bits-gt-FLOAT_INFINITY : goal.returns-then-bits-gt-FLOAT_INFINITY
+unfolding of_bits div
+returns-then-bits-gt-FLOAT_INFINITY c = sym (nan_above binary32 _ c.if-bits-gt-FLOAT_INFINITY.true)
+
+pub float_from_bits-result : goal.float_from_bits-result
+float_from_bits-result c = not_nan_below binary32 _ c.if-bits-gt-FLOAT_INFINITY.false
