@@ -5,7 +5,8 @@ use Rattle.refusal.specs.declared.answers.Counted.{Counted}
 use Rattle.refusal.specs.declared.answers.Refusal.{Refusal}
 use Rattle.refusal.specs.declared.answers.Fault.{Fault}
 
--- an answer: "bits 32 to 39 the refusal's number (0 for a result), bits 0 to 31 its place, or for a result the value named"; the bits above are 0, but for those of a refusal of one of two
+-- an answer: "bits 32 to 39 the refusal's number (0 for a result), bits 0 to 31 its place, or for a result the value named"; the bits above
+-- are 0, but for those of a refusal of one of two
 abbrev pub packed : ℕ → ℕ → ℕ
 packed number low = number * 2 ^ 32 + low
 
@@ -20,7 +21,8 @@ number_in answer = answer / 2 ^ 32 % 2 ^ 8
 abbrev pub low_in : ℕ → ℕ
 low_in answer = answer % 2 ^ 32
 
--- the answer of a refusal of one of two, which has in bits 40 to 47 "which value is at fault, 1 or 2, and 0 for neither" (document 02, R-6); of comparing, which sheet is
+-- the answer of a refusal of one of two, which has in bits 40 to 47 "which value is at fault, 1 or 2, and 0 for neither" (document 02, R-6);
+-- of comparing, which sheet is
 abbrev pub packed_fault : ℕ → ℕ → ℕ → ℕ
 packed_fault side number low = side * 2 ^ 40 + packed number low
 

@@ -1,4 +1,5 @@
--- Counts from the start of Julian day 0: there a count of 64 bits is a natural number, whose quotient and rest are its day and its nanoseconds. Here k is the day
+-- Counts from the start of Julian day 0: there a count of 64 bits is a natural number, whose quotient and rest are its day and its
+-- nanoseconds. Here k is the day
 -- of 1 January 1970, and t the nanoseconds of a day.
 use Prim.Native.Nat.{ℕ, suc, ◌+◌, ◌*◌, ◌-◌, ◌<◌, ◌≤◌, ◌^◌}
 use native.Mathlib.Nat.{add-mul}

@@ -1,4 +1,5 @@
--- Laws of INT96 values: each count of 64 bits has one value, which is accepted and returns the count, and each refusal stands exactly where document 02 has it.
+-- Laws of INT96 values: each count of 64 bits has one value, which is accepted and returns the count, and each refusal stands exactly where
+-- document 02 has it.
 use Prim.Native.Nat.{ℕ, ◌+◌, ◌*◌, ◌/◌, ◌%◌, ◌<◌, ◌≤◌, ◌^◌}
 use native.Mathlib.Nat.{div-add-mod'}
 use native.Mathlib.Omega.{arith}

@@ -30,7 +30,8 @@ nanos_in value = little (take NANOS_BYTES value)
 unfoldable pub day_in : List ℕ → ℕ
 day_in value = little (drop NANOS_BYTES value)
 
--- the count of a value, over the integers: the nanoseconds from the start of 1 January 1970, of its days from there, negative before it, and of its nanoseconds in the day
+-- the count of a value, over the integers: the nanoseconds from the start of 1 January 1970, of its days from there, negative before it, and
+-- of its nanoseconds in the day
 unfoldable pub count_of : List ℕ → ℤ
 count_of value = (pos (day_in value) -ℤ pos day_of_1970) *ℤ pos NANOS_PER_DAY +ℤ pos (nanos_in value)
 

@@ -1,4 +1,5 @@
--- Floor division of integers: a count from its days and its rest, by the sign, and that both are told by the count. Here t is the ticks in a day.
+-- Floor division of integers: a count from its days and its rest, by the sign, and that both are told by the count. Here t is the ticks in a
+-- day.
 use Prim.Native.Nat.{ℕ, suc, ◌+◌, ◌*◌, ◌-◌, ◌/◌, ◌%◌, ◌<◌, ◌≤◌, ◌^◌}
 use native.Mathlib.Omega.{arith}
 use native.Mathlib.Nat.{add-mul, mul_assoc, mul_comm, div-add-mod', mod-lt, mul-le-mul_left, mul-le-mul_right}

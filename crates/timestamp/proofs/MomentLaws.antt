@@ -1,4 +1,5 @@
--- What encoding answers, by the moment of the fields and their fraction, here t being the ticks in a second; and what joining a day and a tick of it answers, t
+-- What encoding answers, by the moment of the fields and their fraction, here t being the ticks in a second; and what joining a day and a
+-- tick of it answers, t
 -- being those in a day.
 use Prim.Native.Nat.{ℕ, ◌+◌, ◌*◌, ◌<◌, ◌≤◌}
 use mathlib.Core.Path.{◌≡◌, refl, sym, ap, ap₂, subst, ◌∙◌}

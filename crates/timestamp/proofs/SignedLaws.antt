@@ -1,4 +1,5 @@
--- Signed numbers of 64 bits by their sign and the number that they fold onto, which is `mag`: n for n and for -1 - n. What the machine reads back of them stands
+-- Signed numbers of 64 bits by their sign and the number that they fold onto, which is `mag`: n for n and for -1 - n. What the machine reads
+-- back of them stands
 -- in `laws`.
 use Prim.Native.Nat.{ℕ, zero, suc, ◌<◌, ◌^◌}
 use native.Mathlib.Omega.{arith}

@@ -5,7 +5,8 @@ use Rattle.std.specs.Prelude.{ℕ, zero, suc, ◌+◌, ◌-◌, ◌%◌, Bool, c
 abbrev pub divides : ℕ → ℕ → Bool
 divides k n = eqb (n % k) 0
 
--- leap years: every fourth year, but of the centuries every fourth alone. A year before 0 is a multiple of what its distance from 0 is one of
+-- leap years: every fourth year, but of the centuries every fourth alone. A year before 0 is a multiple of what its distance from 0 is one
+-- of
 unfoldable pub is_leap : ℤ → Bool
 is_leap year = divides 4 (nat_abs year) && (not (divides 100 (nat_abs year)) || divides 400 (nat_abs year))
 

@@ -81,6 +81,7 @@ abbrev pub encoding : Option TimeUnit → Fields → Outcome ℤ
 encoding none f = unknown_unit
 encoding (some unit) f = encoding_in (ticks_per_second_of unit) f
 
--- what joining a day and a tick of it answers in a unit with so many ticks in a day: 18 where the day has no such tick, then 19, else the count
+-- what joining a day and a tick of it answers in a unit with so many ticks in a day: 18 where the day has no such tick, then 19, else the
+-- count
 abbrev pub joining : ℕ → ℤ → ℕ → Outcome ℤ
 joining perDay day tick = cond (ltb tick perDay) (counting (day *ℤ pos perDay +ℤ pos tick)) no_date_time

@@ -1,4 +1,5 @@
-// Octets of UTF8-1 in a row, taken eight at a time, and more at a time after eight: by the highest bit of each, which is clear in such an octet.
+// Octets of UTF8-1 in a row, taken eight at a time, and more at a time after eight: by the highest bit of each, which is clear in such an
+// octet.
 ghost use Rattle.std.specs.Prelude.{ℕ, ◌+◌, ◌^◌, ◌≤◌, ◌<◌, List, ◌≡◌, eqb, length};
 ghost use Rattle.std.specs.Int.Bits.{bit_and};
 ghost use Rattle.utf8.specs.Steps.{Passes, NoAscii, run, high_bits};

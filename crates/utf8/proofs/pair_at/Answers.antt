@@ -1,4 +1,5 @@
--- `utf8::pair_at` meets its contract: the first octet is of UTF8-2 or between UTF8-1 and it, and the tests decide whether one of UTF8-tail follows.
+-- `utf8::pair_at` meets its contract: the first octet is of UTF8-2 or between UTF8-1 and it, and the tests decide whether one of UTF8-tail
+-- follows.
 use Prim.Native.Nat.{ℕ, suc, ◌<◌, ◌≤◌}
 use mathlib.Core.Bool.{Bool, cond, and-true}
 use mathlib.Core.List.{List, [], ◌∷◌}

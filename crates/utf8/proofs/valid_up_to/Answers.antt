@@ -1,4 +1,5 @@
--- `utf8::valid_up_to` meets its contract. The loop's invariant: reading passes what stands before `at`. The measure is what is left of the length.
+-- `utf8::valid_up_to` meets its contract. The loop's invariant: reading passes what stands before `at`. The measure is what is left of the
+-- length.
 use Prim.Native.Nat.{ℕ, ◌<◌}
 use mathlib.Core.List.{List}
 use mathlib.Core.Logic.{⊎_elim}

@@ -1,4 +1,5 @@
--- `c_timestamps::int96_values::from_int96` meets its contract: the count is written where it fits, and a refusal leaves the output as it was.
+-- `c_timestamps::int96_values::from_int96` meets its contract: the count is written where it fits, and a refusal leaves the output as it
+-- was.
 use mathlib.Core.Path.{sym, ap, subst, ◌∙◌}
 use mathlib.Core.List.{[], ◌∷◌}
 use borrow.Author.Rules.{sfits_of}

@@ -1,4 +1,5 @@
--- `c_timestamps::timestamps::are_fields` meets its contract: numbers that pass every test are fields, and one that fails a test forms no date or time.
+-- `c_timestamps::timestamps::are_fields` meets its contract: numbers that pass every test are fields, and one that fails a test forms no
+-- date or time.
 use Prim.Native.Nat.{ℕ, ◌<◌, ◌≤◌}
 use native.Mathlib.Omega.{arith}
 use mathlib.Core.Path.{◌≡◌, sym, ap, ◌∙◌}

@@ -1,4 +1,5 @@
--- `timestamp::encoding::count_of` meets its contract: the count folds onto the ticks that its seconds fold onto, with the fraction turned before 0.
+-- `timestamp::encoding::count_of` meets its contract: the count folds onto the ticks that its seconds fold onto, with the fraction turned
+-- before 0.
 use Prim.Native.Nat.{ℕ, ◌+◌, ◌*◌, ◌-◌, ◌/◌, ◌<◌, ◌≤◌, ◌^◌}
 use native.Mathlib.Nat.{le-div_iff_mul-le, div-lt_iff_lt-mul}
 use native.Mathlib.Omega.{arith}

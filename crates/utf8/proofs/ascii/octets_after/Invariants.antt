@@ -1,4 +1,5 @@
--- `utf8::ascii::octets_after` meets its contract. The loop's invariant is what is promised of the octets passed; the measure is what is left of the length.
+-- `utf8::ascii::octets_after` meets its contract. The loop's invariant is what is promised of the octets passed; the measure is what is left
+-- of the length.
 use Prim.Native.Nat.{◌-◌}
 use lib.ListN.{length}
 use Rattle.utf8.specs.Steps.{Passes}

@@ -1,4 +1,5 @@
--- `utf8::ascii::octets_below` meets its contract: below the lowest bit that is set lie eight for each octet of the run, and seven. Assumes nothing.
+-- `utf8::ascii::octets_below` meets its contract: below the lowest bit that is set lie eight for each octet of the run, and seven. Assumes
+-- nothing.
 use Prim.Native.Nat.{◌+◌, ◌-◌, ◌*◌}
 use mathlib.Core.Path.{◌≡◌}
 use native.Mathlib.Omega.{arith}
