@@ -1,0 +1,6 @@
+-- `column_order::ordering::is_of_unknown_type` meets its contract.
+use borrow.Author.Rules.{rules}
+use Rattle.column_order.proofs.ordering.is_of_unknown_type.Goals as goal
+
+pub returns-in-Refused : goal.returns-in-Refused
+returns-in-Refused c = rw c.in-Refused.is

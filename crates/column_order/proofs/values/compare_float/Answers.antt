@@ -1,0 +1,6 @@
+-- `column_order::values::compare_float` meets its contract, by the other value.
+use borrow.Author.Rules.{rules}
+use Rattle.column_order.proofs.values.compare_float.Goals as goal
+
+pub returns-in-Float : goal.returns-in-Float
+returns-in-Float c = rw c.in-Float.is c.order_floats.ensures

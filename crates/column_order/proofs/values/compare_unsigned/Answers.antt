@@ -1,0 +1,6 @@
+-- `column_order::values::compare_unsigned` meets its contract, by the other value.
+use borrow.Author.Rules.{rules}
+use Rattle.column_order.proofs.values.compare_unsigned.Goals as goal
+
+pub returns-in-Unsigned : goal.returns-in-Unsigned
+returns-in-Unsigned c = rw c.in-Unsigned.is c.order_numbers.ensures
