@@ -119,7 +119,7 @@ module _ (side : Side) (f : ℕ → Float) where
           record {
             reaches_each =
                 split (λ p. is_nan (f p) ≡ false → side.reaches (f k) (f p) ≡ true)
-                (λ p l n. side.further_reaches (f k) m (f p) e (w.reaches-each p l n))
+                (λ p l n. side.further_reaches (f k) m (f p) e (w.reaches_each p l n))
                 (side.reaches_self (f k));
             one_of = inr (k, omega arith, refl, side.further_number (f k) m e);
           }
@@ -136,7 +136,7 @@ module _ (side : Side) (f : ℕ → Float) where
           record {
             reaches_each =
                 split (λ p. is_nan (f p) ≡ false → side.reaches m (f p) ≡ true)
-                w.reaches-each
+                w.reaches_each
                 (λ n. side.not_further (f k) m n (furthest_number k m w) e);
             one_of = kept w.one_of;
           }
@@ -187,14 +187,14 @@ module _ (axis : ℕ) (coordinates : List Float) where
   -- what a walk over all points reaches is each counted coordinate
   reached : (side : Side) (m : Float) → Furthest side at (points_in coordinates) m → (v : Float) → Counted axis coordinates v → side.reaches m v ≡ true
   reached side m w v c =
-      ap (side.reaches m) (sym c.there) ∙ w.reaches-each c.point c.below (ap is_nan c.there ∙ c.number)
+      ap (side.reaches m) (sym c.there) ∙ w.reaches_each c.point c.below (ap is_nan c.there ∙ c.number)
 
   -- and where one is counted, it ends at one
   met : (side : Side) (m : Float) → Furthest side at (points_in coordinates) m → (p : ℕ) → p < points_in coordinates → is_nan (at p) ≡ false → Met axis coordinates m
   met side m w p h n = go w.one_of
     where
       go : (m ≡ side.start) ⊎ ((q : ℕ) × (q < points_in coordinates) × (at q ≡ m) × (is_nan m ≡ false)) → Met axis coordinates m
-      go (inl e) = (at p, counted p h n, ap (λ (v : Float). float_order v (at p)) e ∙ side.start_reaches (at p) (ap (λ (v : Float). side.reaches v (at p)) (sym e) ∙ w.reaches-each p h n))
+      go (inl e) = (at p, counted p h n, ap (λ (v : Float). float_order v (at p)) e ∙ side.start_reaches (at p) (ap (λ (v : Float). side.reaches v (at p)) (sym e) ∙ w.reaches_each p h n))
       go (inr q) = (m, record { point = q.0; below = q.1; there = q.2; number = q.3 }, same_refl m q.3)
 
   -- and where none is, at the start

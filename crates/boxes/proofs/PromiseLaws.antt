@@ -30,11 +30,11 @@ use Rattle.boxes.proofs.MembershipLaws.{box_corners, membership_given}
 module _ (axis : ℕ) (coordinates : List Float) {low high low' high' : Float} (b : Bounds axis coordinates low high) (c : Bounds axis coordinates low' high') where
   -- the least of one is at most that of the other, which a counted coordinate equals
   least_below : at_most low low' ≡ true
-  least_below = let m = c.least-met in at_most_trans low m.0 low' (b.from_least m.0 m.1) (same_at_most m.0 low' (same_sym low' m.0 m.2))
+  least_below = let m = c.least_met in at_most_trans low m.0 low' (b.from_least m.0 m.1) (same_at_most m.0 low' (same_sym low' m.0 m.2))
 
   -- and the greatest at least
   greatest_above : at_most high' high ≡ true
-  greatest_above = let m = c.greatest-met in at_most_trans high' m.0 high (same_at_most high' m.0 m.2) (b.to_greatest m.0 m.1)
+  greatest_above = let m = c.greatest_met in at_most_trans high' m.0 high (same_at_most high' m.0 m.2) (b.to_greatest m.0 m.1)
 
 module _ (axis : ℕ) (coordinates : List Float) {low high low' high' : Float} (b : Bounds axis coordinates low high) (c : Bounds axis coordinates low' high') where
   one_least : Same low low'
@@ -56,8 +56,8 @@ one_box coordinates b c p q =
 
 -- where there is a box, both axes have a counted coordinate
 box_counts : (coordinates : List Float) (b : BoundingBox) → BoxOf coordinates b → NoneCounted X coordinates ⊎ NoneCounted Y coordinates → ⊥
-box_counts coordinates b p (inl n) = let m = p.x.least-met in n m.0 m.1
-box_counts coordinates b p (inr n) = let m = p.y.least-met in n m.0 m.1
+box_counts coordinates b p (inl n) = let m = p.x.least_met in n m.0 m.1
+box_counts coordinates b p (inr n) = let m = p.y.least_met in n m.0 m.1
 
 lawful_refused : {A : Type 0} {v : Verdict} {r : Refusal} → v ≡ Verdict.Lawful → v ≡ Verdict.Refused r → A
 lawful_refused p q = let z : ◌≡◌ {A = ℕ} 0 1 = cc in absurd (omega arith)

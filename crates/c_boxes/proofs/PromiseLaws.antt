@@ -67,7 +67,7 @@ record Unwritten (lent : List Float) (answered : ℕ) (held : List Float) : Type
 
 module _ (kind : ℕ) (coordinates lent : List Float) (r : ℕ) (h : List Float) where
   outcome : Boxing kind coordinates lent r h → Written kind coordinates lent r h ⊎ Unwritten lent r h
-  outcome p = go p.boxed p.answers p.answered-is p.left_is
+  outcome p = go p.boxed p.answers p.answered_is p.left_is
     where
       by_effect : {e f : Effect Float} → e ≡ f → r ≡ answer e → h ≡ left e lent → (r ≡ answer f) × (h ≡ left f lent)
       by_effect q a l = (a ∙ ap answer q, l ∙ ap (λ (e : Effect Float). left e lent) q)
@@ -84,7 +84,7 @@ module _ (kind : ℕ) (coordinates lent : List Float) (r : ℕ) (h : List Float)
   rest p = go (outcome p)
     where
       go : Written kind coordinates lent r h ⊎ Unwritten lent r h → drop 4 h ≡ drop 4 lent
-      go (inl w) = ap (drop 4) w.held-is ∙ drop_at (bound_numbers w.box) (drop 4 lent) 4 refl
+      go (inl w) = ap (drop 4) w.held_is ∙ drop_at (bound_numbers w.box) (drop 4 lent) 4 refl
       go (inr u) = ap (drop 4) u.same
 
   unchanged : Boxing kind coordinates lent r h → (r ≡ 4 → ⊥) → h ≡ lent
@@ -114,9 +114,9 @@ same_answer n (Boxed.Refused q) (Boxed.Refused r) s = ap refusal_answer s
 module _ (kind : ℕ) (coordinates lent : List Float) where
   one : (r s : ℕ) (h k : List Float) → Boxing kind coordinates lent r h → Boxing kind coordinates lent s k → r ≡ s
   one r s h k p q =
-      p.answered-is
+      p.answered_is
       ∙ same_answer (length lent) p.boxed q.boxed ((boxed.promised).one_answer kind coordinates p.boxed q.boxed p.answers q.answers)
-      ∙ sym q.answered-is
+      ∙ sym q.answered_is
 
   same_bounds : (b c : BoundingBox) → boxes.SameBox b c → (i : ℕ) → i < 4 → Same (get_or (bound_numbers b ++ drop 4 lent) i nan) (get_or (bound_numbers c ++ drop 4 lent) i nan)
   same_bounds b c s zero h = s.xmin
@@ -132,7 +132,7 @@ module _ (kind : ℕ) (coordinates lent : List Float) where
       go (inr u) w = absurd (u.not_four refl)
       go (inl v) (inr u) = absurd (u.not_four refl)
       go (inl v) (inl w) =
-          rw (v.held_is, w.held-is)
+          rw (v.held_is, w.held_is)
           (same_bounds v.box w.box ((boxed.promised).one_answer kind coordinates (Boxed.Box v.box) (Boxed.Box w.box) v.answers w.answers) i n)
 
 pub promised : Promises

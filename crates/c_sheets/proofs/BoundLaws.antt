@@ -190,7 +190,7 @@ known_bounded edition sheet known = on (open_of edition sheet) refl (open_of_bou
 
 widened : (number : ℕ) (v : Verdict) → 13 ≤ number → VerdictBounded 13 most_nodes v → VerdictBounded number most_nodes v
 widened number Lawful h w = tt
-widened number (Refused r) h w = record { some_number = w.some_number; most_number = omega (arith, w.most-number); most_place = w.most-place }
+widened number (Refused r) h w = record { some_number = w.some_number; most_number = omega (arith, w.most_number); most_place = w.most_place }
 
 -- and with 21, in any
 judgement_bounded : (edition : ℕ) (sheet : List ℕ) → VerdictBounded GREATEST most_nodes (judgement edition sheet)

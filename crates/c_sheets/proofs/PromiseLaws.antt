@@ -66,7 +66,7 @@ compare_unchanged edition first second lent h = on (compare_outcome edition firs
   where
     on : (c : Compared) → compare_outcome edition first second (length lent) ≡ c → PacksCompared c → RESULT < number_in (compared_answer c)
         → compare_written (compare_outcome edition first second (length lent)) first second lent ≡ lent
-    on (Compared.Entries n) e p h = absurd (omega (arith, h, p.number-in))
+    on (Compared.Entries n) e p h = absurd (omega (arith, h, p.number_in_lem))
     on (Compared.Refused f) e p h = refused_unchanged edition first second lent f e
 
 pub promised : (edition : ℕ) → Promises edition

@@ -88,14 +88,14 @@ from_other sheet none k at = true≢false (sym at.is_geospatial_lem ∙ none k a
 
 first_other : (sheet : List ℕ) (k : ℕ) → opening.FirstGeospatial sheet k → FirstGeospatial sheet k
 first_other sheet k m =
-    record { here = record { below = m.below; is_geospatial_lem = m.here }; earlier = λ j h q. true≢false (sym q.is-geospatial ∙ m.earlier j h) }
+    record { here = record { below = m.below; is_geospatial_lem = m.here }; earlier = λ j h q. true≢false (sym q.is_geospatial_lem ∙ m.earlier j h) }
 
 pub same_opening : (sheet : List ℕ) → NoGeospatial sheet → open_of 3 sheet ≡ open_of 2 sheet
 same_opening sheet none = ⊎_elim (λ e. e) (λ r. absurd (none r.0 (first_other sheet r.0 r.2).here)) (open_of_third sheet)
 
 -- the first, as the test that is computed has it
 first_of_lem : (sheet : List ℕ) (k : ℕ) → sheets.FirstInt96 sheet k → FirstInt96 sheet k
-first_of_lem sheet k m = record { here = record { below = m.below; is_int96_lem = eqb-true _ _ m.here }; earlier = λ j h q. eqb-false _ _ (m.earlier j h) q.is-int96 }
+first_of_lem sheet k m = record { here = record { below = m.below; is_int96_lem = eqb-true _ _ m.here }; earlier = λ j h q. eqb-false _ _ (m.earlier j h) q.is_int96_lem }
 
 -- of any sheet, as R-11 says it
 pub any_answered : (sheet : List ℕ) → (judgement 3 sheet ≡ judgement 2 sheet) ⊎ (((k : ℕ) × (judgement 3 sheet ≡ Verdict.Refused (refusal 10 k)) × FirstInt96 sheet k) ⊎ ((k : ℕ) × (judgement 2 sheet ≡ Verdict.Refused (refusal 4 k)) × FirstGeospatial sheet k))

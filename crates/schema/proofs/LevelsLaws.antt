@@ -24,7 +24,7 @@ module _ (b : List ℕ) (at : ℕ) (s : Numbers) (d r in-d in-r own-d own-r : �
   pub levels_below : Visited b at s → (path : List Tree) → HasLevels path d r → HasLevels (node (slot_at b at) (fields_at b at) ∷ path) own-d own-r
   unfolding how_many numbers_of
   levels_below v path g =
-      record { definition_is = rw (e, g.definition-is, a, v.numbers); repetition_is = rw (f, g.repetition-is, c, v.numbers) }
+      record { definition_is = rw (e, g.definition_is, a, v.numbers); repetition_is = rw (f, g.repetition_is, c, v.numbers) }
 
   pub levels_most : (n : ℕ) → LevelsAtMost n d r → LevelsAtMost (n + 1) own-d own-r
   levels_most n h =

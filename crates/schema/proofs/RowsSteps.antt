@@ -102,7 +102,7 @@ module _ (b l : List ℕ) (at up : ℕ) (s : Numbers) (p : Parent) (above : Slot
       → s.physical ∷ bytes ∷ s.repetition ∷ k.kind ∷ k.p1 ∷ k.p2 ∷ up ∷ next ∷ own ∷ d ∷ r ∷ [] ≡ row at up p above path (slot_at b at) (fields_at b at)
   unfolding row kind annotated numbers_of
   row_is path d r g n u k own next bytes a w c o e t =
-      rw (g.definition-is, g.repetition-is, t, c, a, w, o, v.numbers, e, tree_at_slot b at v.claimed v.below)
+      rw (g.definition_is, g.repetition_is, t, c, a, w, o, v.numbers, e, tree_at_slot b at v.claimed v.below)
 
   -- its rows: its own, whose end is not known until its run is written, and those of its run
   module _ (path : List Tree) (f : row_width * total_of b ≤ length l) (q : Parent) (w : q ≡ parent_of p above (slot_at b at) (fields_at b at)) (ns k m : List ℕ) (g : length ns ≡ row_width) (u : k ≡ stretched l (row_width * at) ns) (e : m ≡ stretched k (row_width * (at + 1)) (run_rows_from (at + 1) at q (slot_at b at) (node (slot_at b at) (fields_at b at) ∷ path) (run_at (slots b) (at + 1) s.children))) where

@@ -40,7 +40,7 @@ fn write_sheet(sheet: &[u8], out: &mut [u8], total: usize)
     requires out_len { length out.old ≡ length sheet.now }
     ensures { out.new ≡ rewritten sheet.now }
 {
-    bytes::copy(sheet, out);
+    out.copy_from_slice(sheet);
     write_nodes(sheet, out, total);
     sheet::renew_checks(out);
 }
