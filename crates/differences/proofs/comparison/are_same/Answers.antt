@@ -1,5 +1,4 @@
 -- `differences::comparison::are_same` meets its contract: what has another length is unlike.
-use borrow.Author.Rules.{rules}
 use Rattle.differences.proofs.ComparedLaws.{lengths_unlike}
 use Rattle.differences.proofs.comparison.are_same.Goals as goal
 

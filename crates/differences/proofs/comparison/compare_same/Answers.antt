@@ -1,7 +1,6 @@
 -- `differences::comparison::compare_same` meets its contract: the sheet's judgement is that of both.
 use mathlib.Core.Path.{◌≡◌, sym, ap, ◌∙◌}
 use mathlib.Core.Bool.{true}
-use borrow.Author.Rules.{rules}
 use borrow.Author.Tests.{not-true, not-false}
 use Rattle.refusal.specs.Faults.{NEITHER, fault}
 use Rattle.refusal.specs.declared.answers.Refusal.{Refusal}

@@ -1,5 +1,4 @@
 -- `differences::comparison::put_list` meets its contract: the first's entries, and the second's behind them, are the list.
-use borrow.Author.Rules.{rules}
 use Rattle.differences.proofs.PutLaws.{puts_as, puts_append}
 use Rattle.differences.proofs.ListLaws.{list_is}
 use Rattle.differences.proofs.comparison.put_list.Goals as goal

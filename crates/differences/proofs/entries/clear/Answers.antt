@@ -1,9 +1,6 @@
 -- `differences::entries::clear` meets its contract.
-use Prim.Native.Nat.{◌-◌}
 use native.Mathlib.Omega.{arith}
-use lib.ListN.{length}
-use borrow.Author.Rules.{rules}
-use Rattle.differences.proofs.StepLaws.{Cleared, cleared_start, cleared_next, cleared_end}
+use Rattle.differences.proofs.StepLaws.{cleared_start, cleared_next, cleared_end}
 use Rattle.differences.proofs.entries.clear.Goals as goal
 
 pub loop-i-init : goal.loop-i-init

@@ -1,9 +1,7 @@
 -- `differences::entries::clear` meets its contract.
 use Prim.Native.Nat.{◌-◌}
-use native.Mathlib.Omega.{arith}
 use lib.ListN.{length}
-use borrow.Author.Rules.{rules}
-use Rattle.differences.proofs.StepLaws.{Cleared, cleared_start, cleared_next, cleared_end}
+use Rattle.differences.proofs.StepLaws.{Cleared}
 use Rattle.differences.proofs.entries.clear.Given as goal
 
 abbrev pub invariant-loop-i : goal.invariant-loop-i

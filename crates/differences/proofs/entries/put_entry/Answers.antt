@@ -3,7 +3,6 @@ use mathlib.Core.Path.{ap, ◌∙◌}
 use Prim.Native.Nat.{◌+◌, ◌-◌, ◌*◌}
 use native.Mathlib.Omega.{arith}
 use lib.ListN.{length, length-take, length-drop}
-use borrow.Author.Rules.{rules}
 use Rattle.laws.specs.Stretches.{stretched}
 use Rattle.differences.specs.Entry.{entry_size}
 use Rattle.differences.proofs.EntryLaws.{length_entry}

@@ -4,7 +4,6 @@ use mathlib.Core.List.{List}
 use Prim.Native.Nat.{ℕ}
 use native.Mathlib.Omega.{arith}
 use lib.ListN.{length, length-set, length-take, length-drop}
-use borrow.Author.Rules.{rules}
 use Rattle.differences.specs.Entry.{entry_size}
 use Rattle.differences.proofs.FitLaws.{length_filled}
 use Rattle.differences.proofs.WritingLaws.{headed, placed, entry_written, length_placed, length_headed}

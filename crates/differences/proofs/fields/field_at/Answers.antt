@@ -1,6 +1,5 @@
 -- `differences::fields::field_at` meets its contract: the table has every field.
 use native.Mathlib.Omega.{arith}
-use borrow.Author.Rules.{rules}
 use Rattle.differences.proofs.TableLaws.{field_is, field_within}
 use Rattle.differences.proofs.fields.field_at.Goals as goal
 

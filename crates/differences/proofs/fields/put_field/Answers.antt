@@ -1,7 +1,6 @@
 -- `differences::fields::put_field` meets its contract.
 use mathlib.Core.Path.{sym, ◌∙◌}
 use native.Mathlib.Omega.{arith}
-use borrow.Author.Rules.{rules}
 use Rattle.differences.proofs.PutLaws.{puts_none, puts_as}
 use Rattle.differences.proofs.FieldStepLaws.{length_part, field_alike, field_unlike}
 use Rattle.differences.proofs.fields.put_field.Goals as goal

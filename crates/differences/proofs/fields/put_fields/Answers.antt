@@ -1,11 +1,9 @@
 -- `differences::fields::put_fields` meets its contract: the fields passed, and those that are left, are all.
 use mathlib.Core.Path.{sym, ◌∙◌}
-use Prim.Native.Nat.{◌-◌}
 use native.Mathlib.Omega.{arith}
-use borrow.Author.Rules.{rules}
 use Rattle.differences.specs.Entry.{slot_fields}
 use Rattle.differences.proofs.PutLaws.{puts_none, puts_as}
-use Rattle.differences.proofs.FieldStepLaws.{fields_same, FieldsPut, fields_put_start, fields_put_next, fields_put_end}
+use Rattle.differences.proofs.FieldStepLaws.{fields_same, fields_put_start, fields_put_next, fields_put_end}
 use Rattle.differences.proofs.fields.put_fields.Goals as goal
 
 pub same-requires : goal.same-requires

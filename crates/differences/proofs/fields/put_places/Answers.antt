@@ -1,6 +1,5 @@
 -- `differences::fields::put_places` meets its contract.
 use native.Mathlib.Omega.{arith}
-use borrow.Author.Rules.{rules}
 use Rattle.differences.proofs.PutLaws.{puts_none, puts_as}
 use Rattle.differences.proofs.FieldStepLaws.{places_alike, places_unlike}
 use Rattle.differences.proofs.fields.put_places.Goals as goal

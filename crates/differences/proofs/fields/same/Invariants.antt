@@ -2,9 +2,7 @@
 use mathlib.Core.Path.{◌≡◌}
 use Prim.Native.Nat.{◌-◌}
 use lib.ListN.{length, take}
-use borrow.Author.Rules.{rules}
 use Rattle.sheet.specs.Name.{same_bytes}
-use Rattle.differences.proofs.StepLaws.{same_start, same_next, same_end}
 use Rattle.differences.proofs.fields.same.Given as goal
 
 abbrev pub invariant-loop-i : goal.invariant-loop-i

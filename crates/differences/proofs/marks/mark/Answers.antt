@@ -1,9 +1,7 @@
 -- `differences::marks::mark` meets its contract: each number passed has its node marked.
 use mathlib.Core.Path.{sym, ap, ◌∙◌}
-use Prim.Native.Nat.{◌-◌, ◌≤◌}
 use native.Mathlib.Omega.{arith}
-use lib.ListN.{length, take}
-use Rattle.differences.specs.Steps.{Marks}
+use lib.ListN.{length}
 use Rattle.differences.proofs.MarkLaws.{marks_none, marks_next, marks_all}
 use Rattle.differences.proofs.marks.mark.Goals as goal
 

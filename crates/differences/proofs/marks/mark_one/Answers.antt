@@ -1,6 +1,5 @@
 -- `differences::marks::mark_one` meets its contract.
 use mathlib.Core.Path.{sym, ap}
-use borrow.Author.Rules.{rules}
 use Rattle.differences.specs.Steps.{marked}
 use Rattle.differences.proofs.MarkLaws.{marked_some}
 use Rattle.differences.proofs.marks.mark_one.Goals as goal

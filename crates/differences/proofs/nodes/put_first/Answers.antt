@@ -1,7 +1,6 @@
 -- `differences::nodes::put_first` meets its contract: the nodes passed, and those that are left, are all.
-use Prim.Native.Nat.{◌-◌}
 use native.Mathlib.Omega.{arith}
-use Rattle.differences.proofs.NodeStepLaws.{NodesPut, nodes_put_start, nodes_put_next, nodes_put_end}
+use Rattle.differences.proofs.NodeStepLaws.{nodes_put_start, nodes_put_next, nodes_put_end}
 use Rattle.differences.proofs.nodes.put_first.Goals as goal
 
 pub loop-node-init : goal.loop-node-init

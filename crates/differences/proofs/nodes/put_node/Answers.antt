@@ -3,7 +3,6 @@ use mathlib.Core.Path.{refl, sym, ap, ap₂, ◌∙◌}
 use mathlib.Core.List.{List, [], ◌∷◌, ◌++◌}
 use Prim.Native.Nat.{ℕ}
 use native.Mathlib.Omega.{arith}
-use borrow.Author.Rules.{rules}
 use Rattle.differences.specs.Entry.{entry, slot_fields, ONLY_FIRST}
 use Rattle.differences.specs.Differences.{field_entries}
 use Rattle.differences.proofs.PutLaws.{puts_as, puts_append}

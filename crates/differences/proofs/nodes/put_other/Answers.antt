@@ -3,7 +3,6 @@ use mathlib.Core.Path.{sym, ap, ◌∙◌}
 use mathlib.Core.List.{List, [], ◌∷◌}
 use Prim.Native.Nat.{ℕ}
 use native.Mathlib.Omega.{arith}
-use borrow.Author.Rules.{rules}
 use Rattle.differences.specs.Entry.{entry, ONLY_SECOND}
 use Rattle.differences.proofs.PutLaws.{puts_none, puts_as}
 use Rattle.differences.proofs.NodeStepLaws.{slot_is, slot_whole, other_marked, other_unmarked}

@@ -1,7 +1,6 @@
 -- `differences::nodes::put_second` meets its contract: the nodes passed, and those that are left, are all.
-use Prim.Native.Nat.{◌-◌}
 use native.Mathlib.Omega.{arith}
-use Rattle.differences.proofs.NodeStepLaws.{OthersPut, others_put_start, others_put_next, others_put_end}
+use Rattle.differences.proofs.NodeStepLaws.{others_put_start, others_put_next, others_put_end}
 use Rattle.differences.proofs.nodes.put_second.Goals as goal
 
 pub loop-node-init : goal.loop-node-init
