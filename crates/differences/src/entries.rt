@@ -67,7 +67,8 @@ fn write_content(content: &[u8], out: &mut [u8])
     requires out_len { length out.old ≡ slot_size }
     ensures { out.new ≡ filled content.now }
 {
-    let from = bytes::copy(content, out);
+    let from = content.len();
+    out[0..from].copy_from_slice(content);
     clear(out, from);
 }
 

@@ -17,7 +17,7 @@ pub overflow_sub-partner : goal.overflow_sub-partner
 overflow_sub-partner c = omega (arith, c.if-partner-eq0.false)
 
 pub match_fields-requires : goal.match_fields-requires
-match_fields-requires c = record { surveyed = c.requires.surveyed; surveyed_2 = c.requires.surveyed_2; node_bound = c.requires.node_bound; partner_bound = omega (arith, c.requires.named.number_at c.args.node, c.if-partner-eq0.false); takers_most = c.requires.takers_most; heads_most = c.requires.heads_most; named = (c.requires.named) }
+match_fields-requires c = record { surveyed = c.requires.surveyed; surveyed_2 = c.requires.surveyed_2; node_bound = c.requires.node_bound; partner_bound = omega (arith, c.requires.named.number_at c.args.node, c.if-partner-eq0.false); takers_most = c.requires.takers_most; heads_most = c.requires.heads_most; named = c.requires.named }
 
 pub shape_of-takers : goal.shape_of-takers
 shape_of-takers c = c.match_fields.ensures.takers_most_2.long ∙ sym c.requires.takers_most.long
