@@ -1,5 +1,4 @@
 -- `column_order::decimals::is_width` meets its contract: of the byte forms FIXED alone has a width.
-use borrow.Author.Rules.{rules}
 use Rattle.column_order.proofs.DecimalLaws.{array_width}
 use Rattle.column_order.proofs.decimals.is_width.Goals as goal
 

@@ -1,6 +1,5 @@
 -- `column_order::decimals::refused` meets its contract: the first value by its case, then the second.
 use mathlib.Core.Path.{◌≡◌, sym, ap, ◌∙◌}
-use borrow.Author.Rules.{rules}
 use Rattle.column.specs.Reading.{read_of}
 use Rattle.column.specs.declared.value.Both.{Both}
 use Rattle.column_order.proofs.decimals.refused.Goals as goal

@@ -1,5 +1,4 @@
 -- `column_order::ordering::is_of_unknown_type` meets its contract.
-use borrow.Author.Rules.{rules}
 use Rattle.column_order.proofs.ordering.is_of_unknown_type.Goals as goal
 
 pub returns-in-Refused : goal.returns-in-Refused

@@ -1,6 +1,5 @@
 -- `column_order::ordering::order_first` meets its contract: the refusal of the first value, or what the second makes of it.
 use mathlib.Core.Path.{sym, ◌∙◌}
-use borrow.Author.Rules.{rules}
 use Rattle.column_order.proofs.ordering.order_first.Goals as goal
 
 pub order_second-requires : goal.order_second-requires

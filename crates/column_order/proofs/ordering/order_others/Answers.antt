@@ -1,7 +1,6 @@
 -- `column_order::ordering::order_others` meets its contract: 21 or 20 where no value can be read, then 17, then the values.
 use mathlib.Core.Path.{◌≡◌, sym, ap, ap₂, ◌∙◌}
 use mathlib.Core.Bool.{Bool, cond}
-use borrow.Author.Rules.{rules}
 use borrow.Author.Tests.{not-true, not-false}
 use Rattle.refusal.specs.Faults.{FIRST, SECOND, of_neither}
 use Rattle.refusal.specs.Numbers.{NO_ORDER}
@@ -25,7 +24,7 @@ second c = ap (λ (r : Both). r.second) c.read_both-both.ensures.value
 
 -- the test of 21 and 20, on the first of them
 unknown : (c : After-is_of_unknown_type) → let s = c.args in c.is_of_unknown_type.result ≡ is_of_unknown_type (read_of s.edition s.c s.a.now)
-unknown c = c.is_of_unknown_type.ensures ∙ ap is_of_unknown_type (first c.before)
+unknown c = c.is_of_unknown_type.ensures ∙ ap (λ (r : Both). is_of_unknown_type r.first) c.read_both-both.ensures.value
 
 -- past them, by whether the column has an order
 lawful : (c : After-has_order) (t : Bool) → c.has_order.result ≡ t
@@ -34,7 +33,8 @@ lawful : (c : After-has_order) (t : Bool) → c.has_order.result ≡ t
 lawful c t e =
     let s = c.args in
     ap (λ (u : Bool). cond u (values_order s.edition s.c s.a.now s.b.now) (Order.Refused (of_neither NO_ORDER))) (sym e ∙ c.has_order.ensures)
-    ∙ read_lawful_lem s.edition s.c s.a.now s.b.now (sym (unknown told) ∙ c.if-is_of_unknown_type.false)
+    ∙ read_lawful_lem s.edition s.c s.a.now s.b.now
+    (sym (c.is_of_unknown_type.ensures ∙ ap (λ (r : Both). is_of_unknown_type r.first) c.read_both-both.ensures.value) ∙ c.if-is_of_unknown_type.false)
 
 pub returns-then-is_of_unknown_type : goal.returns-then-is_of_unknown_type
 returns-then-is_of_unknown_type c =

@@ -5,7 +5,6 @@ use lib.IntN.{ℤ}
 use lib.ListN.{length}
 use mir.Syntax.{w64}
 use mir.ValLaws.{to_z-of_z}
-use borrow.Author.Rules.{rules}
 use Rattle.column.specs.declared.value.Value.{Value}
 use Rattle.column_order.specs.Values.{signed_order, stretch_end}
 use Rattle.column_order.specs.Keys.{key_of, key_order}

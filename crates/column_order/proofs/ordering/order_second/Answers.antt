@@ -1,6 +1,5 @@
 -- `column_order::ordering::order_second` meets its contract: the refusal of the second value, or the order.
 use mathlib.Core.Path.{sym, ap, ◌∙◌}
-use borrow.Author.Rules.{rules}
 use Rattle.column_order.specs.declared.answer.Order.TheVariants.{Related}
 use Rattle.column_order.proofs.ordering.order_second.Goals as goal
 

@@ -1,12 +1,8 @@
 -- `column_order::pairs::order_bytes` meets its contract. The invariant: from `at` on the bytes are ordered as the wholes are.
-use mathlib.Core.Path.{refl, sym, ◌∙◌}
 use mathlib.Core.Path.{◌≡◌}
 use Prim.Native.Nat.{◌-◌, ◌≤◌}
-use native.Mathlib.Omega.{arith}
-use native.Mathlib.Numerals.{add-one}
 use lib.ListN.{length, drop}
 use Rattle.column_order.specs.Keys.{byte_order}
-use Rattle.column_order.proofs.ByteLaws.{byte_order_longer, byte_order_shorter, byte_order_ended, byteOrder-<, byteOrder->, byte_order_same}
 use Rattle.column_order.proofs.pairs.order_bytes.Given as goal
 
 abbrev pub invariant-loop-at : goal.invariant-loop-at

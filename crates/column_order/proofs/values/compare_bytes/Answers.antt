@@ -4,7 +4,6 @@ use Prim.Native.Nat.{ℕ, ◌+◌, ◌≤◌}
 use native.Mathlib.Nat.{add-sub_cancel_left}
 use native.Mathlib.Omega.{arith}
 use lib.ListN.{length}
-use borrow.Author.Rules.{rules}
 use Rattle.column.specs.declared.value.Value.{Value}
 use Rattle.column_order.specs.Keys.{byte_order}
 use Rattle.column_order.specs.Values.{stretch, stretch_end}

@@ -1,5 +1,4 @@
 -- `column_order::values::compare_double` meets its contract, by the other value.
-use borrow.Author.Rules.{rules}
 use Rattle.column_order.proofs.values.compare_double.Goals as goal
 
 pub returns-in-Double : goal.returns-in-Double

@@ -1,5 +1,4 @@
 -- `column_order::values::compare_float` meets its contract, by the other value.
-use borrow.Author.Rules.{rules}
 use Rattle.column_order.proofs.values.compare_float.Goals as goal
 
 pub returns-in-Float : goal.returns-in-Float

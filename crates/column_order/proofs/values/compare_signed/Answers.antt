@@ -2,7 +2,6 @@
 use mathlib.Core.Path.{◌∙◌, ap₂}
 use mir.Syntax.{w64}
 use mir.ValLaws.{to_z-of_z}
-use borrow.Author.Rules.{rules}
 use Rattle.float_order.specs.Keys.{whole_order}
 use Rattle.column_order.proofs.values.compare_signed.Goals as goal
 

@@ -1,5 +1,4 @@
 -- `column_order::values::compare_truth` meets its contract, by the other value.
-use borrow.Author.Rules.{rules}
 use Rattle.column_order.proofs.values.compare_truth.Goals as goal
 
 pub returns-in-Truth : goal.returns-in-Truth

@@ -1,5 +1,4 @@
 -- `column_order::values::compare_unsigned` meets its contract, by the other value.
-use borrow.Author.Rules.{rules}
 use Rattle.column_order.proofs.values.compare_unsigned.Goals as goal
 
 pub returns-in-Unsigned : goal.returns-in-Unsigned
