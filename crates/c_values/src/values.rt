@@ -4,7 +4,7 @@ ghost use Rattle.std.specs.Float.{binary32, binary64};
 ghost use Rattle.refusal.specs.Bounds.{Bounded, FaultBounded};
 ghost use Rattle.refusal.specs.Numbers as refusals;
 ghost use Rattle.column.specs.Lengths.{most_bytes};
-ghost use Rattle.c_answer.specs.Answers.{refusal_answer, fault_answer, result, within, answer, left};
+ghost use Rattle.c_answer.specs.Answers.{refusal_answer, fault_answer, result as result_of, within, answer, left};
 ghost use Rattle.c_values.specs.Values.{column_type, case_of, twos_complement64, float_bits, numbers_of, relation_number, reading, ordering};
 
 use c_answer::{RESULT, packed, packed_fault};
@@ -67,8 +67,8 @@ pub fn read(
     value: &[u8],
     out: &mut [u64],
 ) -> u64
-    ensures* r_value { λ r. ⌜ r ≡ answer (reading edition (column_type physical type_length kind p1 p2) value.now (length out.old)) ⌝ }
-    ensures* out_after { λ _. ⌜ out.new ≡ left (reading edition (column_type physical type_length kind p1 p2) value.now (length out.old)) out.old ⌝ }
+    ensures value { result ≡ answer (reading edition (column_type physical type_length kind p1 p2) value.now (length out.old)) }
+    ensures out_after { out.new ≡ left (reading edition (column_type physical type_length kind p1 p2) value.now (length out.old)) out.old }
 {
     let read = column::read(
         edition,
@@ -99,7 +99,7 @@ pub fn order(
     a: &[u8],
     b: &[u8],
 ) -> u64
-    ensures* { λ r. ⌜ r ≡ ordering edition (column_type physical type_length kind p1 p2) a.now b.now ⌝ }
+    ensures { result ≡ ordering edition (column_type physical type_length kind p1 p2) a.now b.now }
 {
     let order = column_order::order(
         edition,
@@ -121,7 +121,7 @@ pub fn order(
 
 // The number of how two values stand.
 fn relation(relation: Relation) -> u32
-    ensures* { λ r. ⌜ r ≡ relation_number relation ⌝ }
+    ensures { result ≡ relation_number relation }
 {
     match relation {
         Relation::Less => LESS,
@@ -134,7 +134,7 @@ fn relation(relation: Relation) -> u32
 // The answer of a value's refusal.
 fn refused(refusal: Refusal) -> u64
     requires { Bounded refusals.GREATEST most_bytes refusal }
-    ensures* { λ r. ⌜ r ≡ refusal_answer refusal ⌝ }
+    ensures { result ≡ refusal_answer refusal }
 {
     packed(refusal.number, refusal.place as u32)
 }
@@ -142,7 +142,7 @@ fn refused(refusal: Refusal) -> u64
 // And of the refusal of one of two, or of neither.
 fn fault(fault: Fault) -> u64
     requires { FaultBounded refusals.GREATEST most_bytes fault }
-    ensures* { λ r. ⌜ r ≡ fault_answer fault ⌝ }
+    ensures { result ≡ fault_answer fault }
 {
     let refusal = fault.refusal;
     packed_fault(fault.side, refusal.number, refusal.place as u32)
@@ -150,8 +150,8 @@ fn fault(fault: Fault) -> u64
 
 // Writes a value that was read, where its numbers fit.
 fn write_value(v: Value, out: &mut [u64]) -> u64
-    ensures* r_value { λ r. ⌜ r ≡ answer (within (length out.old) (result (case_of v) (numbers_of v))) ⌝ }
-    ensures* out_after { λ _. ⌜ out.new ≡ left (within (length out.old) (result (case_of v) (numbers_of v))) out.old ⌝ }
+    ensures value { result ≡ answer (within (length out.old) (result_of (case_of v) (numbers_of v))) }
+    ensures out_after { out.new ≡ left (within (length out.old) (result_of (case_of v) (numbers_of v))) out.old }
 {
     if out.len() < VALUE_NUMBERS {
         return packed(numbers::SHORT_OUTPUT, 0);
@@ -164,7 +164,7 @@ fn write_value(v: Value, out: &mut [u64]) -> u64
 
 // What is written of a value.
 fn numbers(v: Value) -> ValueNumbers
-    ensures* { λ r. ⌜ (r.case ≡ case_of v) × (r.first ∷ r.second ∷ [] ≡ numbers_of v) ⌝ }
+    ensures { (result.case ≡ case_of v) × (result.first ∷ result.second ∷ [] ≡ numbers_of v) }
 {
     match v {
         Value::Truth(p) => bits(TRUTH, p as u64),
@@ -182,7 +182,7 @@ fn numbers(v: Value) -> ValueNumbers
 
 // A value's bits, and 0 behind them.
 fn bits(case: u32, n: u64) -> ValueNumbers
-    ensures* { λ r. ⌜ (r.case ≡ case) × (r.first ≡ n) × (r.second ≡ 0) ⌝ }
+    ensures { (result.case ≡ case) × (result.first ≡ n) × (result.second ≡ 0) }
 {
     ValueNumbers {
         case,
@@ -193,7 +193,7 @@ fn bits(case: u32, n: u64) -> ValueNumbers
 
 // A signed number in two's complement of 64 bits.
 fn twos_complement(x: i64) -> u64
-    ensures* { λ r. ⌜ r ≡ twos_complement64 x ⌝ }
+    ensures { result ≡ twos_complement64 x }
 {
     if x < 0 {
         return GREATEST - (-1 - x) as u64;
@@ -202,7 +202,7 @@ fn twos_complement(x: i64) -> u64
 }
 
 fn float_bits(x: f32) -> u64
-    ensures* { λ r. ⌜ r ≡ float_bits binary32 x ⌝ }
+    ensures { result ≡ float_bits binary32 x }
 {
     if x != x {
         return FLOAT_NAN;
@@ -211,7 +211,7 @@ fn float_bits(x: f32) -> u64
 }
 
 fn double_bits(x: f64) -> u64
-    ensures* { λ r. ⌜ r ≡ float_bits binary64 x ⌝ }
+    ensures { result ≡ float_bits binary64 x }
 {
     if x != x {
         return DOUBLE_NAN;
