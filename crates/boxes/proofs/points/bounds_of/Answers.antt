@@ -1,0 +1,65 @@
+-- `boxes::points::bounds_of` meets its contract: of the points that were passed each bound is the furthest number of its side.
+use Prim.Native.Nat.{ℕ, ◌+◌, ◌-◌, ◌*◌, ◌≤◌}
+use mathlib.Core.Path.{◌≡◌, refl, ap}
+use mathlib.Core.List.{List}
+use native.Mathlib.Nat.{add-zero}
+use native.Mathlib.Omega.{arith}
+use borrow.Author.Rules.{rules}
+use lib.ListN.{get_or}
+use lib.Ieee.{Float, nan}
+use Rattle.boxes.specs.Coordinates.{X, Y}
+use Rattle.boxes.specs.Points.{points_in, coordinate_of}
+use Rattle.boxes.proofs.BoundLaws.{low_side, high_side, Furthest, low_none, high_none, low_more, high_more, found}
+use Rattle.boxes.proofs.points.bounds_of.Goals as goal
+
+-- of the first so many points
+record Passed (coordinates : List Float) (point : ℕ) (xmin xmax ymin ymax : Float) : Type 0 where
+  xmin_is : Furthest low_side (coordinate_of coordinates X) point xmin
+  xmax_is : Furthest high_side (coordinate_of coordinates X) point xmax
+  ymin_is : Furthest low_side (coordinate_of coordinates Y) point ymin
+  ymax_is : Furthest high_side (coordinate_of coordinates Y) point ymax
+
+pub loop-point-init : goal.loop-point-init
+loop-point-init c = (
+  search rules,
+  record {
+    xmin_is = low_none _ c.above_all-xmin.ensures;
+    xmax_is = high_none _ c.below_all-xmax.ensures;
+    ymin_is = low_none _ c.above_all-ymin.ensures;
+    ymax_is = high_none _ c.below_all-ymax.ensures;
+  },
+)
+
+-- the coordinates of a point stand at twice its number, and behind
+x_at : (coordinates : List Float) (p : ℕ) → coordinate_of coordinates X p ≡ get_or coordinates (2 * p) nan
+unfolding coordinate_of
+x_at coordinates p = ap (λ (i : ℕ). get_or coordinates i nan) (add-zero (2 * p))
+
+y_at : (coordinates : List Float) (p : ℕ) → coordinate_of coordinates Y p ≡ get_or coordinates (2 * p + 1) nan
+unfolding coordinate_of
+y_at coordinates p = refl
+
+pub loop-point-preserved : goal.loop-point-preserved
+loop-point-preserved c =
+    let coordinates = c.args.coordinates.now in
+    let p = c.loop-point.point in
+    let passed = c.loop-point.invariant.1 in (
+      search rules,
+      record {
+        xmin_is = low_more (coordinate_of coordinates X) p (x_at coordinates p) c.lesser-xmin.ensures passed.xmin_is;
+        xmax_is = high_more (coordinate_of coordinates X) p (x_at coordinates p) c.greater-xmax.ensures passed.xmax_is;
+        ymin_is = low_more (coordinate_of coordinates Y) p (y_at coordinates p) c.lesser-ymin.ensures passed.ymin_is;
+        ymax_is = high_more (coordinate_of coordinates Y) p (y_at coordinates p) c.greater-ymax.ensures passed.ymax_is;
+      },
+    )
+
+pub returns : goal.returns
+unfolding points_in
+returns c =
+    let coordinates = c.args.coordinates.now in
+    let passed = c.loop-point.invariant.1 in
+    let all : c.loop-point.point ≡ points_in coordinates = omega arith in
+    record {
+      x = found X coordinates _ _ (rw all at passed.xmin_is) (rw all at passed.xmax_is);
+      y = found Y coordinates _ _ (rw all at passed.ymin_is) (rw all at passed.ymax_is);
+    }
