@@ -5,6 +5,7 @@ ghost use Rattle.float_order.specs.Floats.{float_order};
 use crate::relation::Relation;
 
 // The order of two FLOATs.
+#[tactic(auto, unfolding(crate::specs::Floats::float_order))]
 pub fn order_floats(x: f32, y: f32) -> Relation
     ensures { result ≡ float_order x y }
 {
@@ -21,6 +22,7 @@ pub fn order_floats(x: f32, y: f32) -> Relation
 }
 
 // The order of two DOUBLEs.
+#[tactic(auto, unfolding(crate::specs::Floats::float_order))]
 pub fn order_doubles(v: f64, w: f64) -> Relation
     ensures { result ≡ float_order v w }
 {
