@@ -18,7 +18,6 @@ use Rattle.boxes.specs.Points.{points_in, coordinate_of, Counted, NoneCounted, M
 use Rattle.boxes.specs.Membership.{inside_x, inside_y, has_nan, is_box, allows_point, membership}
 use Rattle.boxes.specs.Promises.{SameBox, SameAnswer, Promises}
 use Rattle.boxes.specs.declared.bounding_box.BoundingBox.{BoundingBox}
-use Rattle.boxes.specs.declared.points.Boxed
 use Rattle.boxes.specs.declared.points.Boxed.{Boxed}
 use Rattle.boxes.proofs.CoordinateLaws.{least, greatest, at_most_trans, at_most_antisym, same_at_most, same_sym, same_numbers, allowed_any, allowed_degrees}
 use Rattle.boxes.proofs.RangeLaws.{each_allowed}

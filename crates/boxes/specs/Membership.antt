@@ -7,7 +7,6 @@ use Rattle.parquet.specs.Logical.{is_geospatial}
 use Rattle.boxes.specs.Coordinates.{at_most, is_above, is_between, X, Y, is_allowed}
 use Rattle.boxes.specs.declared.bounding_box.BoundingBox.{BoundingBox}
 -- a type of the code: Inside, with yes or no, or Refused, with a refusal
-use Rattle.boxes.specs.declared.membership.Tested
 use Rattle.boxes.specs.declared.membership.Tested.{Tested}
 
 -- "A received box may have xmin above xmax, and then x is inside if x >= xmin or x <= xmax; otherwise .. if on or between the bounds"

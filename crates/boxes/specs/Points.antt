@@ -10,7 +10,6 @@ use Rattle.boxes.specs.Coordinates.{Same, at_most, X, Y, is_allowed}
 -- a type of the code: the numbers xmin, xmax, ymin and ymax
 use Rattle.boxes.specs.declared.bounding_box.BoundingBox.{BoundingBox}
 -- a type of the code: Box, with a box, NoBox, or Refused, with a refusal
-use Rattle.boxes.specs.declared.points.Boxed
 use Rattle.boxes.specs.declared.points.Boxed.{Boxed}
 
 -- a point is two numbers of the list, its x and its y

@@ -6,7 +6,6 @@ use Rattle.boxes.specs.Coordinates.{Same, X, Y}
 use Rattle.boxes.specs.Points.{points_in, coordinate_of, BoxOf, Answers}
 use Rattle.boxes.specs.Membership.{membership}
 use Rattle.boxes.specs.declared.bounding_box.BoundingBox.{BoundingBox}
-use Rattle.boxes.specs.declared.points.Boxed
 use Rattle.boxes.specs.declared.points.Boxed.{Boxed}
 
 -- two boxes with numerically equal bounds

@@ -1,7 +1,6 @@
 -- `boxes::membership::allows_degrees` meets its contract.
 use mathlib.Core.Path.{ap₂}
 use mathlib.Core.Bool.{Bool, ◌||◌}
-use borrow.Author.Rules.{rules}
 use Rattle.boxes.proofs.CoordinateLaws.{ne_nan}
 use Rattle.boxes.proofs.membership.allows_degrees.Goals as goal
 

@@ -1,7 +1,6 @@
 -- `boxes::membership::allows_point` meets its contract.
 use mathlib.Core.Path.{sym, ap₂, ◌∙◌}
 use mathlib.Core.Bool.{Bool, ◌&&◌}
-use borrow.Author.Rules.{rules}
 use lib.Ieee.{neg, of_bits, of_int}
 use Rattle.boxes.specs.Coordinates.{X, Y, in_range}
 use Rattle.boxes.specs.Membership.{allows_point}

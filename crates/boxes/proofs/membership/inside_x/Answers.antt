@@ -1,5 +1,4 @@
 -- `boxes::membership::inside_x` meets its contract.
-use borrow.Author.Rules.{rules}
 use Rattle.boxes.specs.Membership.{inside_x}
 use Rattle.boxes.proofs.CoordinateLaws.{at_most_le, is_above_lt}
 use Rattle.boxes.proofs.membership.inside_x.Goals as goal

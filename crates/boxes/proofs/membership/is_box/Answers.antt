@@ -1,7 +1,6 @@
 -- `boxes::membership::is_box` meets its contract.
 use mathlib.Core.Path.{sym, ap₂, ◌∙◌}
 use mathlib.Core.Bool.{Bool, ◌&&◌}
-use borrow.Author.Rules.{rules}
 use Rattle.boxes.proofs.CoordinateLaws.{is_above_lt}
 use Rattle.boxes.proofs.MembershipLaws.{box_nan, box_above, box_corners}
 use Rattle.boxes.proofs.membership.is_box.Goals as goal

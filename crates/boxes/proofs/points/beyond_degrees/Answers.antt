@@ -1,7 +1,6 @@
 -- `boxes::points::beyond_degrees` meets its contract.
 use mathlib.Core.Path.{sym, ap₂, ◌∙◌}
 use mathlib.Core.Bool.{Bool, ◌||◌}
-use borrow.Author.Rules.{rules}
 use lib.Ieee.{neg, of_bits, of_int}
 use Rattle.boxes.specs.Steps.{is_beyond}
 use Rattle.boxes.proofs.RangeLaws.{beyond_other, beyond_degrees_lem}

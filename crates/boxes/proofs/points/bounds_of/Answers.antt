@@ -1,5 +1,5 @@
 -- `boxes::points::bounds_of` meets its contract: of the points that were passed each bound is the furthest number of its side.
-use Prim.Native.Nat.{ℕ, ◌+◌, ◌-◌, ◌*◌, ◌≤◌}
+use Prim.Native.Nat.{ℕ, ◌+◌, ◌*◌}
 use mathlib.Core.Path.{◌≡◌, refl, ap}
 use mathlib.Core.List.{List}
 use native.Mathlib.Nat.{add-zero}
@@ -9,15 +9,8 @@ use lib.ListN.{get_or}
 use lib.Ieee.{Float, nan}
 use Rattle.boxes.specs.Coordinates.{X, Y}
 use Rattle.boxes.specs.Points.{points_in, coordinate_of}
-use Rattle.boxes.proofs.BoundLaws.{low_side, high_side, Furthest, low_none, high_none, low_more, high_more, found}
+use Rattle.boxes.proofs.BoundLaws.{low_none, high_none, low_more, high_more, found}
 use Rattle.boxes.proofs.points.bounds_of.Goals as goal
-
--- of the first so many points
-record Passed (coordinates : List Float) (point : ℕ) (xmin xmax ymin ymax : Float) : Type 0 where
-  xmin_is : Furthest low_side (coordinate_of coordinates X) point xmin
-  xmax_is : Furthest high_side (coordinate_of coordinates X) point xmax
-  ymin_is : Furthest low_side (coordinate_of coordinates Y) point ymin
-  ymax_is : Furthest high_side (coordinate_of coordinates Y) point ymax
 
 pub loop-point-init : goal.loop-point-init
 loop-point-init c = (

@@ -3,8 +3,6 @@ use mathlib.Core.Path.{◌≡◌, sym, ap, ◌∙◌}
 use mathlib.Core.Bool.{true}
 use mathlib.Core.List.{List}
 use mathlib.Core.Logic.{inl, inr}
-use borrow.Author.Rules.{rules}
-use borrow.Author.Tests.{not-true, not-false}
 use lib.Ieee.{Float}
 use Rattle.refusal.specs.declared.answers.Verdict.{Verdict}
 use Rattle.parquet.specs.Logical.{is_geospatial}
@@ -14,18 +12,17 @@ use Rattle.boxes.specs.declared.bounding_box.BoundingBox.{BoundingBox}
 use Rattle.boxes.proofs.CoordinateLaws.{is_above_lt}
 use Rattle.boxes.proofs.RangeLaws.{found_allowed, found_refused}
 use Rattle.boxes.proofs.PointLaws.{judgement_20, judgement_15, judgement_16, judgement_lawful, found_none, found_bounds}
-use mathlib.Core.Bool.{not}
 use Rattle.boxes.proofs.points.box_of.Goals as goal
 use Rattle.boxes.proofs.points.box_of.Goals.{Else-beyond_degrees, Else-not-has_boxes}
 
 -- past the first test the kind has boxes
 known : (c : Else-not-has_boxes) → is_geospatial c.args.kind ≡ true
-known c = sym c.has_boxes.ensures ∙ not-false _ (ap not c.if-not-has_boxes.false)
+known c = sym c.has_boxes.ensures ∙ c.if-not-has_boxes.false
 
 pub returns-then-not-has_boxes : goal.returns-then-not-has_boxes
 returns-then-not-has_boxes c =
     let args = c.args in
-    judgement_20 args.kind args.coordinates.now (sym c.has_boxes.ensures ∙ not-true _ (ap not c.if-not-has_boxes.true)) ∙ ap Verdict.Refused (sym c.unknown_kind.ensures)
+    judgement_20 args.kind args.coordinates.now (sym c.has_boxes.ensures ∙ c.if-not-has_boxes.true) ∙ ap Verdict.Refused (sym c.unknown_kind.ensures)
 
 pub returns-then-coordinates-ne0 : goal.returns-then-coordinates-ne0
 returns-then-coordinates-ne0 c =
@@ -50,7 +47,7 @@ bounds c = c.bounds_of-found.result
 lawful : (c : Else-beyond_degrees) → judgement c.args.kind (coordinates c) ≡ Verdict.Lawful
 lawful c =
     let kind = c.args.kind in
-    judgement_lawful kind (coordinates c) (known even.before) c.if-coordinates-ne0.false
+    judgement_lawful kind (coordinates c) (sym c.has_boxes.ensures ∙ c.if-not-has_boxes.false) c.if-coordinates-ne0.false
     (found_allowed kind (coordinates c) (bounds c) c.bounds_of-found.ensures (sym c.beyond_degrees.ensures ∙ c.if-beyond_degrees.false))
 
 pub returns-then-found : goal.returns-then-found
