@@ -17,7 +17,6 @@ use Rattle.boxes.specs.Coordinates.{Same}
 use Rattle.boxes.specs.Points.{Answers}
 use Rattle.boxes.specs.Promises as boxes
 use Rattle.boxes.specs.declared.bounding_box.BoundingBox.{BoundingBox}
-use Rattle.boxes.specs.declared.points.Boxed
 use Rattle.boxes.specs.declared.points.Boxed.{Boxed}
 use Rattle.boxes.proofs.PromiseLaws as boxed
 use Rattle.boxes.proofs.RefusalLaws.{box_bounded, test_bounded}

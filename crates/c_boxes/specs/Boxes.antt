@@ -3,7 +3,6 @@ use Rattle.std.specs.Prelude.{◌≡◌, ℕ, Bool, cond, List, [], ◌∷◌, l
 use Rattle.refusal.specs.Outcome.{Outcome, given, refused}
 use Rattle.boxes.specs.Points.{Answers}
 use Rattle.boxes.specs.declared.bounding_box.BoundingBox.{BoundingBox}
-use Rattle.boxes.specs.declared.points.Boxed
 use Rattle.boxes.specs.declared.points.Boxed.{Boxed}
 use Rattle.c_answer.specs.Answers.{RESULT, packed, refusal_answer, Effect, listed, within, answer, left}
 
