@@ -8,7 +8,7 @@ use column::MOST_BYTES;
 use column_text::LINE_ROOM;
 use column_type::ColumnType;
 use edition::FIRST;
-use libc::{STDERR_FILENO, STDIN_FILENO, STDOUT_FILENO};
+use std::env::Env;
 
 // The program's name and the numbers of a column type, and the same with an edition before these.
 const ARGUMENTS: usize = 6;
@@ -26,51 +26,49 @@ const GREATEST: u64 = 0xffff_ffff;
 
 const NO_NUMBER: u64 = GREATEST + 1;
 
-fn main() {
-    let count = os::arg_count();
+fn main(rt: HostRuntime) {
+    let count = edition_argument::word_count(&rt, ARGUMENTS_WITH_EDITION + 1);
     if count == ARGUMENTS {
-        return run(FIRST, 1);
+        return run(&rt, FIRST, 1);
     }
     if count == ARGUMENTS_WITH_EDITION {
-        return run(edition_argument::at(1), 2);
+        return run(&rt, edition_argument::at(&rt, 1), 2);
     }
-    print_usage();
+    print_usage(&rt);
 }
 
 // Reads and prints in an edition, where the numbers of the column type stand from an argument on.
-fn run(edition: u32, first: usize)
+fn run(rt: &(impl Env + Input + Print + Eprint), edition: u32, first: usize)
     requires { first ≤ 2 }
 {
-    if numbers_right(first) {
-        print_value(edition, read_type(first));
+    if numbers_right(rt, first) {
+        print_value(rt, edition, read_type(rt, first));
     } else {
-        print_usage();
+        print_usage(rt);
     }
 }
 
-// Reads to the end of the input, or to the first byte past the most, and prints the value or the refusal.
-fn print_value(edition: u32, c: ColumnType) {
+// Reads to the end of the input, or to the first byte past the most, and prints the value or the refusal. What cannot be written is left
+// out.
+fn print_value(rt: &(impl Input + Print), edition: u32, c: ColumnType) {
     let mut value = [0u8; MOST_BYTES + 1];
-    let length = io::read_full(STDIN_FILENO, &mut value);
+    let length = edition_argument::read_full(&mut rt.reader(), &mut value);
     let mut line = [0u8; LINE_ROOM];
     let count = column_text::read_line(column::read(edition, c, &value[..length]), &mut line);
-    io::write_all(STDOUT_FILENO, &line[..count]);
+    let _ = rt.write_all(&line[..count]);
 }
 
-fn print_usage() {
-    io::write_all(
-        STDERR_FILENO,
-        b"usage: column_values [EDITION] PHYSICAL TYPE_LENGTH KIND P1 P2 < VALUE\n",
-    );
+fn print_usage(rt: &impl Eprint) {
+    let _ = rt.eprintln("usage: column_values [EDITION] PHYSICAL TYPE_LENGTH KIND P1 P2 < VALUE");
 }
 
 // Whether five arguments are numbers of 32 bits.
-fn numbers_right(first: usize) -> bool
+fn numbers_right(rt: &impl Env, first: usize) -> bool
     requires { first ≤ 2 }
 {
     let mut i = 0;
     while i < NUMBERS {
-        if argument_at(first + i) > GREATEST {
+        if argument_at(rt, first + i) > GREATEST {
             return false;
         }
         i += 1;
@@ -78,14 +76,14 @@ fn numbers_right(first: usize) -> bool
     true
 }
 
-fn read_type(first: usize) -> ColumnType
+fn read_type(rt: &impl Env, first: usize) -> ColumnType
     requires { first ≤ 2 }
 {
-    let physical = number_at(first);
-    let type_length = number_at(first + 1);
-    let kind = number_at(first + 2);
-    let p1 = number_at(first + 3);
-    let p2 = number_at(first + 4);
+    let physical = number_at(rt, first);
+    let type_length = number_at(rt, first + 1);
+    let kind = number_at(rt, first + 2);
+    let p1 = number_at(rt, first + 3);
+    let p2 = number_at(rt, first + 4);
     ColumnType {
         physical,
         type_length,
@@ -95,8 +93,8 @@ fn read_type(first: usize) -> ColumnType
     }
 }
 
-fn number_at(i: usize) -> u32 {
-    let n = argument_at(i);
+fn number_at(rt: &impl Env, i: usize) -> u32 {
+    let n = argument_at(rt, i);
     if n > GREATEST {
         return 0;
     }
@@ -104,9 +102,9 @@ fn number_at(i: usize) -> u32 {
 }
 
 // An argument that is missing or does not fit the room is read as no digits.
-fn argument_at(i: usize) -> u64 {
+fn argument_at(rt: &impl Env, i: usize) -> u64 {
     let mut text = [0u8; DIGITS];
-    let length = os::arg(i, &mut text);
+    let length = edition_argument::word(rt, i, &mut text);
     number(&text[..length])
 }
 

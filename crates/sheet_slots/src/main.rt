@@ -6,7 +6,6 @@ ghost use Rattle.std.specs.Prelude.{◌≡◌, false};
 ghost use Rattle.sheet.specs.Opening.{open_of};
 ghost use Rattle.sheet_reader.specs.declared.stepping.Step.TheVariants.{End};
 
-use libc::{STDIN_FILENO, STDOUT_FILENO};
 use refusal::Counted;
 use sheet::MOST_BYTES;
 use sheet_reader::Step;
@@ -14,35 +13,35 @@ use slot_text::LINE_ROOM;
 use text::REFUSAL_ROOM;
 
 // Reads to the end of the input, or to the first byte past the most: what is longer is refused for its length. Of an opened sheet no
-// refusal is printed.
-fn main() {
+// refusal is printed. What cannot be written is left out.
+fn main(rt: HostRuntime) {
     let mut sheet = [0u8; MOST_BYTES + 1];
-    let length = io::read_full(STDIN_FILENO, &mut sheet);
-    let opened = print_slots(edition_argument::given(), &sheet[..length]);
+    let length = edition_argument::read_full(&mut rt.stdin(), &mut sheet);
+    let opened = print_slots(&rt, edition_argument::given(&rt), &sheet[..length]);
     let mut line = [0u8; REFUSAL_ROOM];
     let count = slot_text::refusal_line(opened, &mut line);
-    io::write_all(STDOUT_FILENO, &line[..count]);
+    let _ = rt.write_all(&line[..count]);
 }
 
 // Prints what a reader opened on a sheet in an edition hands out, to its end or to the first line that cannot be written, and answers what
 // opening found.
-fn print_slots(edition: u32, sheet: &[u8]) -> Counted
+fn print_slots(rt: &impl Print, edition: u32, sheet: &[u8]) -> Counted
     ensures { result ≡ open_of edition sheet.now }
 {
     let mut reader = sheet_reader::open(edition, sheet);
-    while print_step(sheet_reader::next(&mut reader)) {}
+    while print_step(rt, sheet_reader::next(&mut reader)) {}
     reader.opened
 }
 
 // Prints the line of a slot, and answers whether all of it was written; at the end nothing is left to print.
-fn print_step(step: Step) -> bool
+fn print_step(rt: &impl Print, step: Step) -> bool
     ensures { step ≡ End → result ≡ false }
 {
     match step {
         Step::Slot(slot, name) => {
             let mut line = [0u8; LINE_ROOM];
             let count = slot_text::slot_line(slot, name, &mut line);
-            io::write_all(STDOUT_FILENO, &line[..count])
+            rt.write_all(&line[..count]).is_ok()
         }
         Step::End => false,
     }

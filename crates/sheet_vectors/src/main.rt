@@ -6,8 +6,8 @@
 #![tactic(auto)]
 
 use edition::is_known;
-use libc::{STDIN_FILENO, STDOUT_FILENO};
 use refusal::{Counted, unknown_edition};
+use std::io::Read;
 use text::REFUSAL_ROOM;
 
 // Room for a sheet of two blocks more than there may be, for a text, and for a line.
@@ -17,38 +17,53 @@ const TEXT_ROOM: usize = 4096;
 
 const LINE_ROOM: usize = 512;
 
-fn main() {
+fn main(rt: HostRuntime) {
     let mut sheet = [0u8; SHEET_ROOM];
     let mut text = [0u8; TEXT_ROOM];
-    let edition = edition_argument::given();
+    let edition = edition_argument::given(&rt);
     if !is_known(edition) {
-        return print_refusal();
+        return print_refusal(&rt);
     }
-    run(edition, &mut sheet, &mut text, read_number());
+    let mut input = rt.stdin();
+    let count = read_number(&mut input);
+    run(&rt, &mut input, edition, &mut sheet, &mut text, count);
 }
 
 // An edition that is none is refused once, for all sheets.
-fn print_refusal() {
+fn print_refusal(rt: &impl Print) {
     let mut line = [0u8; REFUSAL_ROOM];
     let count = slot_text::refusal_line(Counted::Refused(unknown_edition()), &mut line);
-    io::write_all(STDOUT_FILENO, &line[..count]);
+    let _ = rt.write_all(&line[..count]);
 }
 
-// Runs so many sheets, in the room lent for a sheet and a text.
-fn run(edition: u32, sheet: &mut [u8], text: &mut [u8], count: u32) {
+// Runs so many sheets, in the room lent for a sheet and a text. What cannot be written is left out.
+fn run(
+    rt: &impl Print,
+    input: &mut impl Read,
+    edition: u32,
+    sheet: &mut [u8],
+    text: &mut [u8],
+    count: u32,
+) {
     let mut done = 0;
     while done < count {
-        run_next(edition, sheet, text);
+        run_next(rt, input, edition, sheet, text);
         done += 1;
     }
 }
 
 // Runs the next sheet; one for which there is no room is left out.
-fn run_next(edition: u32, sheet: &mut [u8], text: &mut [u8]) {
-    let length = read_number() as usize;
-    let node = read_number() as usize;
-    let other = read_number() as usize;
-    let text_length = read_number() as usize;
+fn run_next(
+    rt: &impl Print,
+    input: &mut impl Read,
+    edition: u32,
+    sheet: &mut [u8],
+    text: &mut [u8],
+) {
+    let length = read_number(input) as usize;
+    let node = read_number(input) as usize;
+    let other = read_number(input) as usize;
+    let text_length = read_number(input) as usize;
     if length > sheet.len() {
         return;
     }
@@ -56,6 +71,8 @@ fn run_next(edition: u32, sheet: &mut [u8], text: &mut [u8]) {
         return;
     }
     read_and_answer(
+        rt,
+        input,
         edition,
         &mut sheet[..length],
         node,
@@ -64,20 +81,28 @@ fn run_next(edition: u32, sheet: &mut [u8], text: &mut [u8]) {
     );
 }
 
-fn read_and_answer(edition: u32, sheet: &mut [u8], node: usize, other: usize, text: &mut [u8]) {
-    io::read_full(STDIN_FILENO, text);
-    io::read_full(STDIN_FILENO, sheet);
-    answer(edition, sheet, node, other, text);
+fn read_and_answer(
+    rt: &impl Print,
+    input: &mut impl Read,
+    edition: u32,
+    sheet: &mut [u8],
+    node: usize,
+    other: usize,
+    text: &mut [u8],
+) {
+    edition_argument::read_full(input, text);
+    edition_argument::read_full(input, sheet);
+    answer(rt, edition, sheet, node, other, text);
 }
 
 // Prints the line of a sheet that was read. There is room for each.
-fn answer(edition: u32, bytes: &[u8], node: usize, other: usize, text: &[u8]) {
+fn answer(rt: &impl Print, edition: u32, bytes: &[u8], node: usize, other: usize, text: &[u8]) {
     let mut line = [0u8; LINE_ROOM];
     let opened = put_opened(&mut line, sheet::open(edition, bytes));
     let slot = put_slot(&mut line, opened, bytes, node);
     let end = put_names(&mut line, slot, bytes, node, other, text);
     if end <= line.len() {
-        io::write_all(STDOUT_FILENO, &line[..end]);
+        let _ = rt.write_all(&line[..end]);
     }
 }
 
@@ -115,9 +140,9 @@ fn put_names(
 }
 
 // The next number of standard input; past its end, zeros.
-fn read_number() -> u32 {
+fn read_number(input: &mut impl Read) -> u32 {
     let mut bytes = [0u8; 4];
-    io::read_full(STDIN_FILENO, &mut bytes);
+    edition_argument::read_full(input, &mut bytes);
     number(&bytes)
 }
 
