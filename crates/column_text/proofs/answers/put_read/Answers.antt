@@ -4,7 +4,6 @@ use native.Mathlib.Omega.{arith}
 use lib.ListN.{length}
 use Rattle.text.proofs.PlacingLaws.{put_as}
 use Rattle.column_text.specs.Answers.{outcome_text, read_text}
-use borrow.Author.Rules.{rules}
 use Rattle.column_text.proofs.answers.put_read.Goals as goal
 
 pub returns-in-Value : goal.returns-in-Value

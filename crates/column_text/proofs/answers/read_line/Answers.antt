@@ -4,7 +4,6 @@ use native.Mathlib.Omega.{arith}
 use Rattle.text.specs.Characters.{LF}
 use Rattle.text.proofs.PlacingLaws.{holds_none, holds_more, holds_made, holds_back}
 use Rattle.column_text.specs.Answers.{read_text}
-use borrow.Author.Rules.{rules}
 use Rattle.column_text.proofs.answers.read_line.Goals as goal
 
 pub returns : goal.returns

@@ -11,7 +11,6 @@ use Rattle.text.proofs.NumberLaws.{length_hex}
 use Rattle.text.proofs.PlacingLaws.{holds_none, holds_more}
 use Rattle.column.proofs.FloatLaws.{has_bits}
 use Rattle.column_text.proofs.ValueLaws.{made, nan_text, number_text}
-use borrow.Author.Rules.{rules}
 use Rattle.column_text.proofs.values.make_double.Goals as goal
 
 pub returns-then-x : goal.returns-then-x

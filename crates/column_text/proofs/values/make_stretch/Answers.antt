@@ -9,7 +9,6 @@ use Rattle.text.proofs.NumberLaws.{decimal_most}
 use Rattle.text.proofs.PlacingLaws.{holds_none, holds_more}
 use Rattle.column_text.specs.Values.{stretch_text}
 use Rattle.column_text.proofs.ValueLaws.{made}
-use borrow.Author.Rules.{rules}
 use Rattle.column_text.proofs.values.make_stretch.Goals as goal
 
 pub returns : goal.returns

@@ -5,7 +5,6 @@ use native.Mathlib.Omega.{arith}
 use Rattle.text.specs.Characters.{ascii}
 use Rattle.text.proofs.PlacingLaws.{holds_none, holds_more}
 use Rattle.column_text.proofs.ValueLaws.{made}
-use borrow.Author.Rules.{rules}
 use Rattle.column_text.proofs.values.make_truth.Goals as goal
 
 pub returns-then-p : goal.returns-then-p
