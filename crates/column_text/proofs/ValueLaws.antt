@@ -14,16 +14,15 @@ use Rattle.column.proofs.FloatLaws.{differs_nan}
 use Rattle.column_text.specs.Values.{hex_digits, float_text, most_value_bytes}
 
 -- what making a text in a room for a value promises
-abbrev pub Made : List ℕ → ℕ → List ℕ → Type 0
-Made held next text = ((next ≤ length held) × (next ≡ length (take next held))) × ((take next held ≡ text) × (next ≤ most_value_bytes))
+pub record Made (held : List ℕ) (next : ℕ) (text : List ℕ) : Type 0 where
+  pub counted : (next ≤ length held) × (next ≡ length (take next held))
+  pub front : take next held ≡ text
+  pub short : next ≤ most_value_bytes
 
 pub made : {lent held : List ℕ} {next : ℕ} {text text' : List ℕ} → Holds lent held 0 next text → text ≡ text' → length text ≤ most_value_bytes → Made held next text'
 made holds e short =
     let whole = holds_made holds in
-    (whole.0, (whole.1 ∙ e, omega (arith, holds.end)))
-
-pub made_as : (held : List ℕ) (next : ℕ) {text text' : List ℕ} → text ≡ text' → Made held next text → Made held next text'
-made_as held next e m = (m.0, (m.1.0 ∙ e, m.1.1))
+    record { counted = whole.0; front = whole.1 ∙ e; short = omega (arith, holds.end) }
 
 module _ (f : Format) (x : Float) where
   pub nan_text : ne x x ≡ true → ascii "NaN" ≡ float_text f x

@@ -8,7 +8,6 @@ use Rattle.refusal.specs.declared.answers.Counted.{Counted}
 use Rattle.schema_text.specs.Making.{made, made_in}
 use Rattle.schema_text.specs.Rows.{answer_text}
 use Rattle.schema_text.proofs.GreatestLaws.{answer_rows_most, answer_refusal_most}
-use borrow.Author.Rules.{rules}
 use Rattle.schema_text.proofs.answers.answer_text.Goals as goal
 
 pub returns-in-Count : goal.returns-in-Count

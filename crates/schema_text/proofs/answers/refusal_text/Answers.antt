@@ -13,7 +13,6 @@ use Rattle.text.proofs.PlacingLaws.{Holds, holds_none, holds_more, holds_front, 
 use Rattle.schema_text.specs.Making.{made_in, most_refusal_bytes}
 use Rattle.schema_text.specs.Rows.{refusal_line}
 use Rattle.schema_text.proofs.MakingLaws.{made_within, made_beyond}
-use borrow.Author.Rules.{rules}
 use Rattle.schema_text.proofs.answers.refusal_text.Goals as goal
 use Rattle.schema_text.proofs.answers.refusal_text.Goals.{After-put-count}
 

@@ -1,5 +1,5 @@
 -- `schema_text::rows::after_rows` meets its contract.
-use Prim.Native.Nat.{◌≤◌, ◌-◌, ℕ}
+use Prim.Native.Nat.{ℕ}
 use mathlib.Core.List.{List}
 use mathlib.Core.Path.{◌≡◌, sym, ap, ◌∙◌}
 use native.Mathlib.Omega.{arith}
@@ -9,7 +9,6 @@ use Rattle.text.specs.Placing.{position_after}
 use Rattle.text.proofs.PlacingLaws.{after_more}
 use Rattle.schema_text.specs.Rows.{cut, lines_of}
 use Rattle.schema_text.proofs.RowsLaws.{row_at, part_row, lines_suc}
-use borrow.Author.Rules.{rules}
 use Rattle.schema_text.proofs.rows.after_rows.Goals as goal
 
 pub loop-i-init : goal.loop-i-init

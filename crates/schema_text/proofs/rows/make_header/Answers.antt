@@ -10,7 +10,6 @@ use Rattle.text.specs.Characters.{ascii, LF}
 use Rattle.text.proofs.PlacingLaws.{Holds, holds_none, holds_more, holds_front, holds_within}
 use Rattle.text.proofs.NumberLaws.{decimal_most}
 use Rattle.schema_text.specs.Rows.{header_text}
-use borrow.Author.Rules.{rules}
 use Rattle.schema_text.proofs.rows.make_header.Goals as goal
 use Rattle.schema_text.proofs.rows.make_header.Goals.{After-put}
 

@@ -12,7 +12,6 @@ use Rattle.schema_text.specs.Making.{most_rows_bytes}
 use Rattle.schema_text.specs.Rows.{cut, lines_of, header_text, rows_text, rows_text_of}
 use Rattle.schema_text.proofs.GreatestLaws.{rows_most}
 use Rattle.schema_text.proofs.MakingLaws.{made_within, made_beyond, rows_few, rows_enough, made_none}
-use borrow.Author.Rules.{rules}
 use Rattle.schema_text.proofs.rows.rows_text.Goals as goal
 use Rattle.schema_text.proofs.rows.rows_text.Goals.{After-after_rows-end}
 

@@ -1,12 +1,10 @@
 -- `schema_text::sheets::sheet_text` meets its contract.
-use Prim.Native.Nat.{ℕ}
 use mathlib.Core.Path.{sym, ◌∙◌}
 use native.Mathlib.Omega.{arith}
 use lib.Seq.{length-take-le}
 use Rattle.text.proofs.PlacingLaws.{holds_front, holds_within, holds_back}
 use Rattle.sheet.proofs.OpeningLaws.{refused_other}
 use Rattle.schema_text.proofs.PrintedLaws.{Steps, steps_written, steps_made, steps_hold}
-use borrow.Author.Rules.{rules}
 use Rattle.schema_text.proofs.sheets.sheet_text.Goals as goal
 use Rattle.schema_text.proofs.sheets.sheet_text.Goals.{After-answer_text-made}
 
