@@ -1,4 +1,5 @@
--- Every refusal of a sheet has a number of 1 to 13 or 21, or 14 for an output, and a place of at most 896; T is at most 896, a sheet has at most 65,536 bytes, and two have at most 12,544 differences.
+-- Every refusal of a sheet has a number of 1 to 13 or 21, or 14 for an output, and a place of at most 896; T is at most 896,
+-- a sheet has at most 65,536 bytes, and two have at most 12,544 differences.
 use Prim.Native.Nat.{ℕ, zero, suc, ◌+◌, ◌*◌, ◌≤◌, ◌<◌}
 use mathlib.Core.Path.{◌≡◌, refl, sym, ap, ◌∙◌}
 use mathlib.Core.Bool.{Bool, true, false, true≢false, cond, not}

@@ -8,8 +8,8 @@ use Rattle.schema.specs.Rows.{row_width}
 use Rattle.refusal.specs.declared.answers.Counted.{Counted}
 use Rattle.schema_text.specs.Rows.{header_text}
 
--- its length, where a buffer of so many bytes has room for it from the first on; "output too short" is said of that buffer, and, as by resolving, of
--- numbers too few for the rows
+-- its length, where a buffer of so many bytes has room for it from the first on; "output too short" is said of that buffer, and, as by
+-- resolving, of numbers too few for the rows
 unfoldable pub made : Option (List ℕ) → ℕ → Counted
 made none room = Counted.Refused short_output
 made (some text) room = cond (fits room 0 (length text)) (Counted.Count (length text)) (Counted.Refused short_output)

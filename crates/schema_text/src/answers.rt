@@ -8,8 +8,8 @@ use crate::rows::rows_text;
 use refusal::{Counted, Refusal, short_output};
 use text::REFUSAL_ROOM;
 
-// Makes the text of the rows, whose numbers are lent, or of the refusal, and answers how many bytes of the buffer it takes. Where the numbers are too few or the buffer is too short,
-// nothing is written.
+// Makes the text of the rows, whose numbers are lent, or of the refusal, and answers how many bytes of the buffer it takes.
+// Where the numbers are too few or the buffer is too short, nothing is written.
 pub fn answer_text(resolved: Counted, rows: &[u32], out: &mut [u8]) -> Counted
     ensures value { result ≡ made (answer_text resolved rows.now) (length out.old) }
     ensures out_after { out.new ≡ made_in (answer_text resolved rows.now) out.old }
