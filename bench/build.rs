@@ -1,8 +1,9 @@
-//! Links the peers in C and C++, compiled at -O3, but those of boxes at -O2.
+//! Links the archive that `tests/build` writes, and the peers in C and C++, compiled at -O3, but those of
+//! boxes at -O2.
 //!
-//! Every function of each of them starts at a line of 64 bytes, and so do the functions in Rust (`.cargo/config.toml`) and those of
-//! the archive (`run` makes a copy of it). A short loop can take twice as long where it crosses a line, and without that, where it
-//! does would change with every link. The peers' loops start at a line too; the archive's stand where its compiler put them.
+//! Every function of each of them starts at a line of 64 bytes, and so do the functions in Rust (`.cargo/config.toml`). A short loop
+//! can take twice as long where it crosses a line, and without that, where it does would change with every link. The peers' loops
+//! start at a line too; the archive's stand where its compiler put them.
 
 use std::env;
 use std::path::{Path, PathBuf};
@@ -11,6 +12,7 @@ use std::process::{Command, Stdio};
 fn main() {
     let out = PathBuf::from(env::var_os("OUT_DIR").expect("cargo sets OUT_DIR"));
     println!("cargo::rustc-link-search=native={}", out.display());
+    link_archive(&out);
     println!("cargo::rustc-check-cfg=cfg(clang)");
     println!("cargo::rerun-if-changed=peers");
     let mut objects = vec![
@@ -27,6 +29,20 @@ fn main() {
     run(Command::new("ar").arg("crs").arg(archive).args(objects));
     println!("cargo::rustc-link-lib=static=peers");
     println!("cargo::rustc-link-lib=dylib=stdc++");
+}
+
+/// The archive stands in the folder that GRIFFELJOL_LIB names, or where `rt` writes it.
+fn link_archive(out: &Path) {
+    const FOLDER: &str = "GRIFFELJOL_LIB";
+    println!("cargo::rerun-if-env-changed={FOLDER}");
+    let package = PathBuf::from(env::var_os("CARGO_MANIFEST_DIR").expect("cargo sets CARGO_MANIFEST_DIR"));
+    let folder = env::var_os(FOLDER).map_or_else(|| package.join("../target/staticlib"), PathBuf::from);
+    let archive = folder.join("libgriffeljol.a");
+    assert!(archive.is_file(), "there is no {}: tests/build writes it", archive.display());
+    println!("cargo::rerun-if-changed={}", archive.display());
+    let aligned = out.join("libgriffeljol.a");
+    run(Command::new("objcopy").args(["--set-section-alignment", ".text.*=64"]).arg(archive).arg(aligned));
+    println!("cargo::rustc-link-lib=static=griffeljol");
 }
 
 /// Compiles a file of peers/ with some words, which come last, for the processor family and not for this machine, as

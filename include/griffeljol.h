@@ -1,6 +1,6 @@
 /* griffeljol.h: the proved reader of Parquet schema sheets, for C99 and C++.
  *
- * Link the archive libgriffeljol.a, which `rt staticlib griffeljol` proves and writes to target/staticlib; it links into x86-64 Linux
+ * Link the archive libgriffeljol.a, which `tests/build` proves and writes to target/staticlib; it links into x86-64 Linux
  * programs. "Document 01" is the paper that defines the sheet, the rows and the refusals, "document 02" the one that adds
  * editions, comparison, the turning of INT96 times, and boxes of points.
  *

@@ -4,11 +4,11 @@ use std::hint::black_box;
 use std::rc::Rc;
 
 use independent::codes::logical::{GEOGRAPHY, GEOMETRY};
-use test_support::random::Random;
 
 use crate::case::{Case, Contender, Goal, INDEPENDENT, LIBRARY};
 use crate::linked::{self, answer, answer_of};
 use crate::native;
+use crate::random::Random;
 
 const POINTS: usize = 1_000_000;
 /// The coordinates of those that are tested, and that the independent reader puts in order before anyone is timed.
@@ -46,12 +46,12 @@ pub fn cases() -> Vec<Case<'static>> {
 }
 
 /// Points all over the range of GEOGRAPHY, so many coordinates in a hundred NaN.
-fn points(nans: usize) -> Rc<[f64]> {
+fn points(nans: i64) -> Rc<[f64]> {
     let mut random = Random::new(23);
     let mut within = |end: i64| {
         const PARTS: i64 = 1 << 40;
-        let number = random.within(-end * PARTS..end * PARTS + 1) as f64 / PARTS as f64;
-        if random.percent(nans) {
+        let number = random.between(-end * PARTS, end * PARTS + 1) as f64 / PARTS as f64;
+        if random.between(0, 100) < nans {
             f64::NAN
         } else {
             number

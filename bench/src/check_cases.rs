@@ -3,13 +3,12 @@
 
 use std::hint::black_box;
 
-use independent::sheet::{BLOCK, MAX_BLOCKS};
-use test_support::random::Random;
-use test_support::sheets::renew_checks;
+use independent::sheet::{renew_checks, BLOCK, MAX_BLOCKS};
 
 use crate::case::{Case, Contender, Goal, INDEPENDENT, LIBRARY};
 use crate::linked::{self, answer, answer_of, EDITION};
 use crate::native;
+use crate::random::Random;
 
 const BLOCK_CHECK: u32 = 2;
 const BLOCK_HEADER: u32 = 3;

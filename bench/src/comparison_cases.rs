@@ -4,13 +4,12 @@ use std::hint::black_box;
 
 use independent::compare::{differences, ENTRY};
 use independent::refusal::{OUTPUT, SHEET_LENGTH};
-use independent::sheet::MAX_NODES;
+use independent::sheet::{renew_checks, slot_start, MAX_NODES};
 use independent::{PairRefusal, Refusal};
-use test_support::random::Random;
-use test_support::sheets::{changed, slot_start};
 
 use crate::case::{Case, Contender, Goal, INDEPENDENT, LIBRARY};
 use crate::linked::{self, answer, pair_answer_of, EDITION};
+use crate::random::Random;
 use crate::shapes::{columns, name, SHAPES};
 
 /// The most siblings.
@@ -71,15 +70,17 @@ fn shuffled() -> Vec<usize> {
     let mut numbers: Vec<usize> = (0..SIBLINGS).collect();
     let mut random = Random::new(11);
     for at in 1..SIBLINGS {
-        numbers.swap(at, random.between(0, at));
+        numbers.swap(at, random.between(0, at as i64 + 1) as usize);
     }
     numbers
 }
 
 /// The sheet with another repetition of its last node, which is a leaf in every shape, required or optional.
 fn with_last_changed(sheet: &[u8]) -> Vec<u8> {
-    let at = slot_start(MAX_NODES - 1) + REPETITION;
-    changed(sheet, at, &[sheet[at] ^ 1])
+    let mut changed = sheet.to_vec();
+    changed[slot_start(MAX_NODES - 1) + REPETITION] ^= 1;
+    renew_checks(&mut changed);
+    changed
 }
 
 fn comparing(input: String, goal: Goal, first: &[u8], second: &[u8]) -> Case<'static> {

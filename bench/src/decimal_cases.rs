@@ -5,11 +5,11 @@ use std::hint::black_box;
 use independent::codes::physical::{BYTE_ARRAY, FIXED, INT32, INT64};
 use independent::codes::{kind, logical};
 use independent::decimal::greatest_precision;
-use test_support::random::Random;
 
 use crate::case::{contender, Case, Contender, Goal, INDEPENDENT, LIBRARY};
 use crate::integers;
 use crate::linked::{self, answer, answer_of, ColumnType, EDITION};
+use crate::random::Random;
 
 /// How many values a run goes through.
 const VALUES: usize = 256;
@@ -64,9 +64,8 @@ fn whole_length(length: usize, precision: u32) -> Vec<Value> {
         let value = if length == 16 && precision < 39 {
             // From 2^119 on, which needs 16 bytes.
             let least = 1 << 119;
-            let any = u128::from(random.any()) << 64 | u128::from(random.any());
-            let size = least + any % (10u128.pow(precision) - least);
-            let sign = if random.any().is_multiple_of(2) { 1 } else { -1 };
+            let size = least + random.wide() % (10u128.pow(precision) - least);
+            let sign = if random.number().is_multiple_of(2) { 1 } else { -1 };
             (sign * size as i128).to_be_bytes().to_vec()
         } else {
             let mut value = vec![0; length];
@@ -85,7 +84,7 @@ fn whole_length(length: usize, precision: u32) -> Vec<Value> {
 fn amounts() -> Vec<Value> {
     let mut random = Random::new(12);
     let most = 1_000_000_000_000;
-    (0..VALUES).map(|_| i128::from(random.within(1 - most..most)).to_be_bytes().to_vec()).collect()
+    (0..VALUES).map(|_| i128::from(random.between(1 - most, most)).to_be_bytes().to_vec()).collect()
 }
 
 /// Each value beside the next, or beside itself with another last byte.
@@ -140,7 +139,7 @@ fn bytes_of(physical: u8, length: usize) -> String {
 fn plain_int64() -> Case<'static> {
     let plain = [INT64.into(), 0, kind::PLAIN_LEAF.into(), 0, 0];
     let mut random = Random::new(64);
-    let values: Vec<Value> = (0..VALUES).map(|_| random.any().to_le_bytes().to_vec()).collect();
+    let values: Vec<Value> = (0..VALUES).map(|_| random.number().to_le_bytes().to_vec()).collect();
     for value in &values {
         read_alike(plain, value);
     }
@@ -153,7 +152,7 @@ fn whole((physical, length, precision): (u8, usize, u32)) -> Case<'static> {
     let mut random = Random::new(precision.into());
     let bound = 10i64.pow(precision);
     let values: Vec<Value> =
-        (0..VALUES).map(|_| random.within(1 - bound..bound).to_le_bytes()[..length].to_vec()).collect();
+        (0..VALUES).map(|_| random.between(1 - bound, bound).to_le_bytes()[..length].to_vec()).collect();
     for value in &values {
         assert!(read_alike(given, value) && integers::fits_little(value, precision));
     }

@@ -3,10 +3,10 @@
 use std::hint::black_box;
 
 use independent::int96::{count_of, of_parts, value_of, EPOCH};
-use test_support::random::Random;
 
 use crate::case::{contender, Case, Contender, Goal, INDEPENDENT, LIBRARY};
 use crate::linked::{self, answer, answer_of};
+use crate::random::Random;
 use crate::{julian, timestamp_cases};
 
 /// How many times a run goes through.
@@ -24,7 +24,7 @@ pub fn cases() -> Vec<Case<'static>> {
     let stretches = timestamp_cases::STRETCHES.map(|(words, from, to)| {
         let mut random = Random::new(19);
         let nanos = |second: i64, of_second: i64| second * NANOS_OF_SECOND + of_second;
-        let counts = (0..TIMES).map(|_| nanos(random.within(from..to), random.within(0..NANOS_OF_SECOND)));
+        let counts = (0..TIMES).map(|_| nanos(random.between(from, to), random.between(0, NANOS_OF_SECOND)));
         (words, counts.collect::<Vec<i64>>())
     });
     stretches

@@ -1,8 +1,9 @@
-//! The proved library, through the C interface of `include/griffeljol.h` as `griffeljol-sys` declares it.
+//! The proved library, through the C interface of `include/griffeljol.h` as the wrapper declares it.
 
-pub use griffeljol_sys::{
-    box_of, compare, decode, encode, from_int96, inside, order, read, resolve, rewrite, to_int96,
-};
+#[path = "../../wrapper/src/boundary.rs"]
+mod boundary;
+
+pub use boundary::{box_of, compare, decode, encode, from_int96, inside, order, read, resolve, rewrite, to_int96};
 
 /// The edition that is measured.
 pub const EDITION: u32 = independent::edition::FIRST;

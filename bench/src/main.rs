@@ -14,6 +14,7 @@ mod linked;
 mod measured;
 mod native;
 mod pair_loop;
+mod random;
 mod shapes;
 mod sheet_cases;
 mod table;

@@ -1,8 +1,8 @@
 //! Sheets of any number of nodes in four shapes, of columns in any order, and of leaves that are all alike.
 
 use independent::codes::{converted, logical, physical, repetition};
+use independent::sheet::{self, Slot};
 use independent::tree::MAX_DEPTH;
-use test_support::nodes::{sheet, Node};
 
 /// Makes a sheet of so many nodes.
 type Maker = fn(usize) -> Vec<u8>;
@@ -10,6 +10,17 @@ type Maker = fn(usize) -> Vec<u8>;
 /// The shapes, each with what makes its sheets.
 pub const SHAPES: [(&str, Maker); 4] =
     [("flat columns", flat), ("lists", lists), ("maps in keys", maps_in_keys), ("chains 32 deep", chains)];
+
+/// A slot with its own name.
+struct Node {
+    physical: u8,
+    repetition: u8,
+    annotation: [u8; 4],
+    type_length: i32,
+    digits: [i32; 2],
+    children: u16,
+    name: String,
+}
 
 const NO_ANNOTATION: [u8; 4] = [converted::NONE, logical::NONE, 0, 0];
 
@@ -20,28 +31,56 @@ struct Listing {
 
 impl Listing {
     fn new() -> Self {
-        Listing { nodes: vec![Node::root(0).named("schema")] }
+        let mut listing = Listing { nodes: Vec::new() };
+        listing.push(physical::GROUP, repetition::NONE, NO_ANNOTATION, 0, "schema".into());
+        listing
     }
 
-    /// Lists a node with its converted type, logical type and parameters.
-    fn push(&mut self, node: Node, [converted, logical, a, b]: [u8; 4]) {
-        self.nodes.push(node.converted(converted).logical(logical, a, b));
+    fn push(&mut self, physical: u8, repetition: u8, annotation: [u8; 4], children: u16, name: String) {
+        let digits = [0, 0];
+        self.nodes.push(Node { physical, repetition, annotation, type_length: 0, digits, children, name });
     }
 
-    fn group(&mut self, repetition: u8, annotation: [u8; 4], children: u16, name: &str) {
-        self.push(Node::group(name, repetition, children), annotation);
+    fn group(&mut self, repetition: u8, annotation: [u8; 4], children: u16, name: String) {
+        self.push(physical::GROUP, repetition, annotation, children, name);
     }
 
     /// The next of the columns, one after the other.
-    fn column(&mut self, at: usize, repetition: u8, name: &str) {
-        let Column { physical, type_length, annotation, digits: [precision, scale] } = COLUMNS[at % COLUMNS.len()];
-        let leaf = Node::leaf(name, physical, repetition).sized(type_length).digits(precision, scale);
-        self.push(leaf, annotation);
+    fn column(&mut self, at: usize, repetition: u8) {
+        let column = &COLUMNS[at % COLUMNS.len()];
+        self.push(column.physical, repetition, column.annotation, 0, name(at));
+        let node = self.nodes.last_mut().expect("it was pushed");
+        node.type_length = column.type_length;
+        node.digits = column.digits;
     }
 
     /// A field of the root, which claims it.
     fn claim(&mut self) {
         self.nodes[0].children += 1;
+    }
+
+    fn sheet(&self) -> Vec<u8> {
+        let slots: Vec<Slot> = self.nodes.iter().map(slot).collect();
+        sheet::assemble(&slots)
+    }
+}
+
+fn slot(node: &Node) -> Slot<'_> {
+    let [converted, logical, a, b] = node.annotation;
+    let [precision, scale] = node.digits;
+    Slot {
+        physical: node.physical,
+        repetition: node.repetition,
+        converted,
+        logical,
+        a,
+        b,
+        children: node.children,
+        type_length: node.type_length,
+        scale,
+        precision,
+        name_length: node.name.len() as u8,
+        name: node.name.as_bytes(),
     }
 }
 
@@ -102,9 +141,10 @@ pub fn columns(numbers: &[usize], name: fn(usize) -> String) -> Vec<u8> {
     let mut listing = Listing::new();
     for &at in numbers {
         listing.claim();
-        listing.column(at, (at % 2) as u8, &name(at));
+        listing.column(at, (at % 2) as u8);
+        listing.nodes.last_mut().expect("it was pushed").name = name(at);
     }
-    sheet(&listing.nodes)
+    listing.sheet()
 }
 
 /// A root with leaves of BYTE_ARRAY that all have one annotation.
@@ -112,9 +152,9 @@ pub fn leaves(annotation: [u8; 4], nodes: usize) -> Vec<u8> {
     let mut listing = Listing::new();
     for at in 1..nodes {
         listing.claim();
-        listing.push(Node::leaf(&name(at), physical::BYTE_ARRAY, (at % 2) as u8), annotation);
+        listing.push(physical::BYTE_ARRAY, (at % 2) as u8, annotation, 0, name(at));
     }
-    sheet(&listing.nodes)
+    listing.sheet()
 }
 
 /// A root with lists of three levels, and columns for what is left.
@@ -124,15 +164,15 @@ fn lists(nodes: usize) -> Vec<u8> {
     for at in 0..(nodes - 1) / LIST {
         listing.claim();
         let annotation = [[converted::LIST, logical::LIST, 0, 0], [converted::LIST, logical::NONE, 0, 0]][at % 2];
-        listing.group(repetition::OPTIONAL, annotation, 1, &name(at));
-        listing.group(repetition::REPEATED, NO_ANNOTATION, 1, "list");
-        listing.column(at, repetition::OPTIONAL, &name(at));
+        listing.group(repetition::OPTIONAL, annotation, 1, name(at));
+        listing.group(repetition::REPEATED, NO_ANNOTATION, 1, "list".into());
+        listing.column(at, repetition::OPTIONAL);
     }
     while listing.nodes.len() < nodes {
         listing.claim();
-        listing.column(0, repetition::REQUIRED, &name(0));
+        listing.column(0, repetition::REQUIRED);
     }
-    sheet(&listing.nodes)
+    listing.sheet()
 }
 
 /// A root with maps whose key is a map, whose key is again a map, as deep as a node may be.
@@ -145,30 +185,30 @@ fn maps_in_keys(nodes: usize) -> Vec<u8> {
         let left = nodes - listing.nodes.len();
         key(&mut listing, left.min(DEEPEST));
     }
-    sheet(&listing.nodes)
+    listing.sheet()
 }
 
 /// A required field of so many nodes: a map whose key is such a field of three fewer, where they are enough.
 fn key(listing: &mut Listing, nodes: usize) {
     let at = listing.nodes.len();
     if nodes == 1 {
-        listing.column(at, repetition::REQUIRED, &name(at));
+        listing.column(at, repetition::REQUIRED);
         return;
     }
     if nodes == 2 {
-        listing.group(repetition::REQUIRED, NO_ANNOTATION, 1, &name(at));
-        listing.column(at, repetition::OPTIONAL, &name(at));
+        listing.group(repetition::REQUIRED, NO_ANNOTATION, 1, name(at));
+        listing.column(at, repetition::OPTIONAL);
         return;
     }
     let annotation = [[converted::MAP, logical::MAP, 0, 0], [converted::MAP, logical::NONE, 0, 0]][at % 2];
-    listing.group(repetition::REQUIRED, annotation, 1, &name(at));
+    listing.group(repetition::REQUIRED, annotation, 1, name(at));
     let layer = [[converted::MAP_KEY_VALUE, logical::NONE, 0, 0], NO_ANNOTATION][at % 2];
     // Three nodes leave none for a value.
     let fields = if nodes == 3 { 1 } else { 2 };
-    listing.group(repetition::REPEATED, layer, fields, "key_value");
+    listing.group(repetition::REPEATED, layer, fields, "key_value".into());
     key(listing, nodes - 1 - usize::from(fields));
     if fields == 2 {
-        listing.column(at, repetition::OPTIONAL, &name(at));
+        listing.column(at, repetition::OPTIONAL);
     }
 }
 
@@ -180,10 +220,9 @@ fn chains(nodes: usize) -> Vec<u8> {
         let groups = (nodes - listing.nodes.len()).min(MAX_DEPTH) - 1;
         for _ in 0..groups {
             let at = listing.nodes.len();
-            listing.group((at % 2) as u8, NO_ANNOTATION, 1, &name(at));
+            listing.group((at % 2) as u8, NO_ANNOTATION, 1, name(at));
         }
-        let at = listing.nodes.len();
-        listing.column(at, repetition::REQUIRED, &name(at));
+        listing.column(listing.nodes.len(), repetition::REQUIRED);
     }
-    sheet(&listing.nodes)
+    listing.sheet()
 }

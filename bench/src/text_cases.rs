@@ -3,12 +3,12 @@
 use std::hint::black_box;
 
 use independent::codes::{logical, physical};
-use test_support::random::Random;
 
 use crate::byte_loop::{is_utf8_by_match, is_utf8_by_sequence, is_utf8_by_table};
 use crate::case::{Case, Contender, Goal, INDEPENDENT, LIBRARY};
 use crate::linked::{self, answer, answer_of, ColumnType, EDITION};
 use crate::pair_loop;
+use crate::random::Random;
 
 /// Bytes of a text, the most that a value has.
 const LENGTH: usize = 65_536;
@@ -32,13 +32,13 @@ const IN_LETTERS: Goal = Goal::TimeOf(&[BY_SEQUENCE, BY_MATCH, BY_TABLE, BY_PAIR
 pub fn cases() -> Vec<Case<'static>> {
     let mut random = Random::new(5);
     let texts = [
-        ("ASCII", IN_ASCII, text(|_| random.within(0x20..0x7F) as u32)),
-        ("letters of two bytes", IN_LETTERS, text(|_| random.within(0x400..0x460) as u32)),
-        ("letters of three bytes", IN_LETTERS, text(|_| random.within(0x4E00..0x9FA6) as u32)),
+        ("ASCII", IN_ASCII, text(|_| random.between(0x20, 0x7F) as u32)),
+        ("letters of two bytes", IN_LETTERS, text(|_| random.between(0x400, 0x460) as u32)),
+        ("letters of three bytes", IN_LETTERS, text(|_| random.between(0x4E00, 0x9FA6) as u32)),
         (
             "ASCII, one letter of two bytes in each 16",
             IN_LETTERS,
-            text(|at| if at % 16 == 0 { 0xE9 } else { random.within(0x61..0x7B) as u32 }),
+            text(|at| if at % 16 == 0 { 0xE9 } else { random.between(0x61, 0x7B) as u32 }),
         ),
         ("letters of one to four bytes, mixed", IN_LETTERS, text(|_| mixed(&mut random))),
     ];
@@ -57,8 +57,8 @@ fn text(mut letter: impl FnMut(usize) -> u32) -> Vec<u8> {
 
 fn mixed(random: &mut Random) -> u32 {
     let ranges = [(0x20, 0x7F), (0xA0, 0x800), (0x800, 0xD800), (0x1_0000, 0x11_0000)];
-    let (from, to) = random.pick(&ranges);
-    random.within(from..to) as u32
+    let (from, to) = ranges[random.between(0, 4) as usize];
+    random.between(from, to) as u32
 }
 
 fn case(words: &str, goal: Goal, text: Vec<u8>) -> Case<'static> {

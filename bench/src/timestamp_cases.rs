@@ -3,11 +3,11 @@
 use std::hint::black_box;
 
 use independent::Fields;
-use test_support::random::Random;
 
 use crate::case::{contender, Case, Contender, Goal, INDEPENDENT, LIBRARY};
 use crate::linked::{self, answer};
 use crate::native;
+use crate::random::Random;
 
 /// How many counts a run goes through.
 const COUNTS: usize = 512;
@@ -39,7 +39,7 @@ pub fn cases() -> Vec<Case<'static>> {
 /// Counts of so many ticks in a second, anywhere between two seconds.
 fn counts(ticks: i64, from: i64, to: i64) -> Vec<i64> {
     let mut random = Random::new(17);
-    (0..COUNTS).map(|_| random.within(from..to) * ticks + random.within(0..ticks)).collect()
+    (0..COUNTS).map(|_| random.between(from, to) * ticks + random.between(0, ticks)).collect()
 }
 
 fn case(entry: &'static str, unit: &str, words: &str, contenders: Vec<Contender<'static>>) -> Case<'static> {

@@ -1,7 +1,6 @@
 //! The words and options behind a command's name.
 
 use std::ffi::{OsStr, OsString};
-use std::fmt::{self, Display};
 use std::str::FromStr;
 use std::vec;
 
@@ -9,61 +8,20 @@ use griffeljol::Edition;
 
 use crate::failure::Failure;
 
-/// An option of the command.
-#[derive(Clone, Copy)]
-pub struct Setting {
-    name: &'static str,
-    /// Another name, if it has one.
-    short: Option<&'static str>,
-    takes_word: bool,
-}
-
-impl Display for Setting {
-    fn fmt(&self, f: &mut fmt::Formatter<'_>) -> fmt::Result {
-        f.write_str(self.name)
-    }
-}
-
-impl Setting {
-    /// One that stands alone.
-    const fn alone(name: &'static str) -> Self {
-        Setting { name, short: None, takes_word: false }
-    }
-
-    /// One that takes the word behind it.
-    const fn with_word(name: &'static str) -> Self {
-        Setting { name, short: None, takes_word: true }
-    }
-
-    /// Whether it is this one.
-    pub fn is(&self, other: Setting) -> bool {
-        self.name == other.name
-    }
-
-    /// Whether a word is one of its names.
-    fn goes_by(&self, word: &OsStr) -> bool {
-        word == self.name || self.short.is_some_and(|short| word == short)
-    }
-}
-
 /// Answers as JSON.
-pub const JSON: Setting = Setting::alone("--json");
+pub const JSON: &str = "--json";
 /// Answers as a page to sign.
-pub const REPORT: Setting = Setting::alone("--report");
-/// Answers by the exit status alone. Every command takes it.
-pub const QUIET: Setting = Setting { short: Some("-q"), ..Setting::alone("--quiet") };
-/// Where the answer goes.
-pub const OUTPUT: Setting = Setting::with_word("-o");
-/// A value in hexadecimal.
-pub const HEX: Setting = Setting::with_word("--hex");
-/// Values that stand among the words are in hexadecimal.
-pub const IN_HEX: Setting = Setting::alone("--hex");
-/// A file of many values.
-pub const FILE: Setting = Setting::with_word("--file");
+pub const REPORT: &str = "--report";
+/// Where the answer goes; takes a word.
+pub const OUTPUT: &str = "-o";
+/// A value in hexadecimal; takes a word.
+pub const HEX: &str = "--hex";
+/// A file of many values; takes a word.
+pub const FILE: &str = "--file";
 /// Points as doubles, and not as text.
-pub const BINARY: Setting = Setting::alone("--binary");
-/// The edition that judges a sheet or a column type.
-pub const EDITION: Setting = Setting::with_word("--edition");
+pub const BINARY: &str = "--binary";
+/// The edition that judges a sheet or a column type; takes a word.
+pub const EDITION: &str = "--edition";
 
 /// Words in order, and options with the word that they take.
 pub struct Arguments {
@@ -73,7 +31,7 @@ pub struct Arguments {
 
 impl Arguments {
     /// Sorts words from options; none where help is asked for. A number below zero is a word, and so is all behind `--`.
-    pub fn parse(mut given: impl Iterator<Item = OsString>, known: &[Setting]) -> Result<Option<Self>, Failure> {
+    pub fn parse(mut given: impl Iterator<Item = OsString>, known: &[&'static str]) -> Result<Option<Self>, Failure> {
         let mut words = Vec::new();
         let mut options: Vec<(&str, OsString)> = Vec::new();
         while let Some(word) = given.next() {
@@ -84,30 +42,31 @@ impl Arguments {
             } else if !is_option(&word) {
                 words.push(word);
             } else {
-                let Setting { name: option, takes_word, .. } = known
+                let option = known
                     .iter()
-                    .chain([&QUIET])
-                    .find(|option| option.goes_by(&word))
+                    .find(|&option| word == *option)
                     .ok_or_else(|| Failure::arguments(format!("there is no option {word:?} here")))?;
                 if options.iter().any(|(name, _)| name == option) {
                     return Err(Failure::arguments(format!("{option} is given twice")));
                 }
-                let operand = if *takes_word { given.next() } else { Some(OsString::new()) };
-                let missing = || Failure::arguments(format!("{option} needs a word behind it"));
-                options.push((option, operand.ok_or_else(missing)?));
+                let operand = match *option {
+                    BINARY | JSON | REPORT => OsString::new(),
+                    _ => given.next().ok_or_else(|| Failure::arguments(format!("{option} needs a word behind it")))?,
+                };
+                options.push((option, operand));
             }
         }
         Ok(Some(Arguments { words: words.into_iter(), options }))
     }
 
     /// Whether an option is given.
-    pub fn has(&self, option: Setting) -> bool {
+    pub fn has(&self, option: &str) -> bool {
         self.option(option).is_some()
     }
 
     /// The word that an option takes, if it is given.
-    pub fn option(&self, option: Setting) -> Option<&OsStr> {
-        self.options.iter().find(|(name, _)| *name == option.name).map(|(_, operand)| operand.as_os_str())
+    pub fn option(&self, option: &str) -> Option<&OsStr> {
+        self.options.iter().find(|(name, _)| *name == option).map(|(_, operand)| operand.as_os_str())
     }
 
     /// The edition that is asked for, the first where none is. Which numbers are editions is the library's to say.
@@ -117,11 +76,6 @@ impl Arguments {
                 Failure::arguments(format!("{EDITION} cannot be {word:?}: it is a whole number without needless zeros"))
             })
         })
-    }
-
-    /// The words that are not taken yet.
-    pub fn words_left(&self) -> &[OsString] {
-        self.words.as_slice()
     }
 
     /// The next word, which must be there.
@@ -158,11 +112,6 @@ fn spelled(word: &OsStr) -> Option<u32> {
 /// Whether a word asks for help.
 pub fn is_help(word: &OsStr) -> bool {
     word == "--help" || word == "-h"
-}
-
-/// Whether a word asks for the version.
-pub fn is_version(word: &OsStr) -> bool {
-    word == "--version" || word == "-V"
 }
 
 /// Whether a word is an option: a dash and more, but no number.

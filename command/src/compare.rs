@@ -2,13 +2,12 @@
 
 use griffeljol::{Sides, MAX_SHEET};
 
-use crate::accepted::Accepted;
 use crate::answer::Answer;
 use crate::arguments::{Arguments, JSON, REPORT};
-use crate::differences::{self, LETTERS};
+use crate::compared::{Compared, LETTERS};
 use crate::failure::{AtFault, Failure, Refused};
 use crate::files::{self, STANDARD};
-use crate::report;
+use crate::{differences, report};
 
 pub fn run(mut arguments: Arguments) -> Result<Answer, Failure> {
     let files = Sides { first: arguments.word(LETTERS.first)?, second: arguments.word(LETTERS.second)? };
@@ -24,16 +23,16 @@ pub fn run(mut arguments: Arguments) -> Result<Answer, Failure> {
     let first = files::read(&files.first, MAX_SHEET)?;
     let second = files::read(&files.second, MAX_SHEET)?;
     let found = griffeljol::differences(edition, &first, &second).map_err(|refused| {
-        let (name, file, sheet) = match refused.sheet {
-            1 => (LETTERS.first, &files.first, &first),
-            2 => (LETTERS.second, &files.second, &second),
-            _ => return Refused::from(refused.refusal),
+        let at_fault = match refused.sheet {
+            1 => Some(AtFault { sheet: LETTERS.first, file: files.first.clone() }),
+            2 => Some(AtFault { sheet: LETTERS.second, file: files.second.clone() }),
+            _ => None,
         };
-        Refused::of_sheet(refused.refusal, sheet).laid_on(AtFault::Sheet { name, file: file.clone() })
+        Failure::Refused(Refused { at_fault, ..refused.refusal.into() })
     })?;
     let sheets = Sides {
-        first: Accepted::new(edition, files.first, first)?,
-        second: Accepted::new(edition, files.second, second)?,
+        first: Compared::new(edition, files.first, first)?,
+        second: Compared::new(edition, files.second, second)?,
     };
     let told = differences::told(&found, &sheets);
     let text = if wants_json {

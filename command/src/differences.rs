@@ -2,22 +2,18 @@
 
 use std::fmt::Display;
 
-use griffeljol::codes::repetition;
-use griffeljol::{Difference, Field, Repetition, Sides, Slot};
+use griffeljol::{Difference, Field, Sides, Slot};
 
-use crate::accepted::Accepted;
+use crate::compared::{Compared, LETTERS};
 use crate::json::Json;
 use crate::{layout, names, words};
-
-/// What the arguments call the two sheets, and every answer.
-pub const LETTERS: Sides<&str> = Sides { first: "A", second: "B" };
 
 /// The root's number.
 const ROOT: usize = 0;
 
 /// A difference of the library's list, as it is told.
 pub struct Told {
-    node: usize,
+    node: u32,
     path: String,
     code: u32,
     field: &'static str,
@@ -43,7 +39,7 @@ impl Content {
     }
 
     /// A code with its word.
-    fn code(word: impl Into<String>, code: u32) -> Self {
+    fn code(word: &str, code: u32) -> Self {
         Self::new(word, Json::number(code))
     }
 
@@ -58,9 +54,9 @@ impl Content {
     }
 
     /// A node of a sheet, by its row in words, and with all that its slot has.
-    fn node(sheet: &Accepted, node: usize, slot: &Slot) -> Self {
-        let row = &sheet.rows[node];
-        let mut words = format!("{} {}", words::repetition_or_none(row.repetition), words::type_of(row));
+    fn node(sheet: &Compared, node: u32, slot: &Slot) -> Self {
+        let row = &sheet.rows[node as usize];
+        let mut words = format!("{} {}", words::repetition(row.repetition).unwrap_or(words::NONE), words::type_of(row));
         if let Some(annotation) = words::annotation(row) {
             words += " ";
             words += &annotation;
@@ -70,13 +66,13 @@ impl Content {
 }
 
 /// The library's differences, each with its path and its contents.
-pub fn told(found: &[Difference], sheets: &Sides<Accepted>) -> Vec<Told> {
+pub fn told(found: &[Difference], sheets: &Sides<Compared>) -> Vec<Told> {
     let logical = logical_types(found, &sheets.first);
     let told = |difference: &Difference| {
         let node = difference.node();
         let (field, contents) = match difference {
             Difference::Field { field, .. } => {
-                let (name, contents) = field_contents(*field, logical[node], sheets);
+                let (name, contents) = field_contents(*field, logical[node as usize], sheets);
                 (name, Contents::Both(contents))
             }
             Difference::Place { places, .. } => ("place", Contents::Both(places.map(Content::number))),
@@ -91,38 +87,35 @@ pub fn told(found: &[Difference], sheets: &Sides<Accepted>) -> Vec<Told> {
             Difference::OnlySecond { .. } => &sheets.second,
             _ => &sheets.first,
         };
-        Told { node, path: numbered.paths[node].clone(), code: difference.code(), field, contents }
+        Told { node, path: numbered.paths[node as usize].clone(), code: difference.code(), field, contents }
     };
     found.iter().map(told).collect()
 }
 
 /// The logical type that each node of the first sheet has there, and in the second: the same, unless the list has another.
-fn logical_types(found: &[Difference], first: &Accepted) -> Vec<Sides<u32>> {
+fn logical_types(found: &[Difference], first: &Compared) -> Vec<Sides<u32>> {
     let of_both = |logical| Sides { first: logical, second: logical };
     let mut types: Vec<_> = (0..first.rows.len()).map(|node| of_both(layout::logical(&first.bytes, node))).collect();
     for difference in found {
         if let Difference::Field { node, field: Field::Logical(sides) } = *difference {
-            types[node] = sides;
+            types[node as usize] = sides;
         }
     }
     types
 }
 
 /// A field's name and its contents, in a node of these logical types. Of matched nodes only the roots differ in their names.
-fn field_contents(field: Field, logical: Sides<u32>, sheets: &Sides<Accepted>) -> (&'static str, Sides<Content>) {
+fn field_contents(field: Field, logical: Sides<u32>, sheets: &Sides<Compared>) -> (&'static str, Sides<Content>) {
     match field {
-        Field::Physical(types) => {
-            ("physical", types.map(|physical| Content::code(physical.to_string(), physical.code())))
-        }
-        Field::Repetition(repetitions) => {
-            let content =
-                |repetition| Content::code(words::repetition_or_none(repetition), repetition_code(repetition));
-            ("repetition", repetitions.map(content))
+        Field::Physical(codes) => ("physical", codes.map(|code| Content::code(words::physical(code), code))),
+        Field::Repetition(codes) => {
+            let word = |code| words::repetition(code).unwrap_or(words::NONE);
+            ("repetition", codes.map(|code| Content::code(word(code), code)))
         }
         Field::Converted(codes) => ("converted", codes.map(|code| Content::code(words::converted(code), code))),
         Field::Logical(codes) => ("logical", codes.map(|code| Content::code(words::logical(code), code))),
         Field::A(codes) => {
-            let content = |(a, logical)| Content::code(words::parameter_a(logical, a), a);
+            let content = |(a, logical)| Content::code(&words::parameter_a(logical, a), a);
             ("parameter a", codes.zip(logical).map(content))
         }
         Field::B(codes) => {
@@ -135,7 +128,7 @@ fn field_contents(field: Field, logical: Sides<u32>, sheets: &Sides<Accepted>) -
         Field::Precision(numbers) => ("precision", numbers.map(Content::number)),
         Field::NameLength(numbers) => ("name length", numbers.map(Content::number)),
         Field::Name(names) => {
-            let length = |sheet: &Accepted| layout::name(&sheet.bytes, ROOT).len();
+            let length = |sheet: &Compared| layout::name(&sheet.bytes, ROOT).len();
             ("name", names.zip(sheets.as_ref()).map(|(name, sheet)| Content::name(&name[..length(sheet)])))
         }
     }
@@ -189,17 +182,12 @@ impl Told {
     }
 }
 
-/// The number of a repetition, and of none.
-fn repetition_code(repetition: Option<Repetition>) -> u32 {
-    repetition.map_or(repetition::NONE, Repetition::code)
-}
-
 /// All that stands in a slot.
 fn slot_object(slot: &Slot) -> Json {
     let [name, name_hex] = names::members(&slot.name);
     Json::Object(vec![
-        ("physical", Json::number(slot.physical.code())),
-        ("repetition", Json::number(repetition_code(slot.repetition))),
+        ("physical", Json::number(slot.physical)),
+        ("repetition", Json::number(slot.repetition)),
         ("converted", Json::number(slot.converted)),
         ("logical", Json::number(slot.logical)),
         ("parameter_a", Json::number(slot.a)),

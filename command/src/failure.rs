@@ -5,10 +5,9 @@ use std::fmt::Display;
 use std::io::{self, ErrorKind, Write};
 use std::process::ExitCode;
 
-use griffeljol::{ColumnType, Refusal};
+use griffeljol::Refusal;
 
 use crate::files::STANDARD;
-use crate::place::{self, Standing};
 
 /// Why the command has no answer.
 pub enum Failure {
@@ -16,31 +15,27 @@ pub enum Failure {
     Refused(Refused),
     /// The library refused so many of many values, whose lines tell it: status 1.
     RefusedValues { refused: u64, count: u64 },
-    /// The arguments are wrong, or a file cannot be read or written: status 2 and a message.
+    /// The arguments are wrong, or a file cannot be read or written: status 2 and one line.
     Message(String),
     /// Whoever read standard output stopped reading: status 141, as of a command that SIGPIPE ended, and no word.
     ClosedPipe,
 }
 
-/// A refusal with its meaning in words, where it stands, and of several inputs the one at fault.
+/// A refusal with its meaning in words, and of two sheets the one at fault.
 pub struct Refused {
     pub refusal: Refusal,
     pub meaning: &'static str,
     /// What its place is; none where it is always 0.
     pub place: Option<&'static str>,
-    pub standing: Standing,
-    pub at_fault: Option<Box<AtFault>>,
+    pub at_fault: Option<AtFault>,
 }
 
-/// The input at fault of several.
-pub enum AtFault {
-    /// A sheet: what the arguments call it, and its file.
-    Sheet { name: &'static str, file: OsString },
-    /// A value: which of the two, what the arguments call it, and its file, if it has one.
-    Value { which: &'static str, name: &'static str, file: Option<OsString> },
+/// The sheet at fault of two: what the arguments call it, and its file.
+pub struct AtFault {
+    pub sheet: &'static str,
+    pub file: OsString,
 }
 
-/// The exit status of each.
 const REFUSED: u8 = 1;
 const MESSAGE: u8 = 2;
 const CLOSED_PIPE: u8 = 128 + 13;
@@ -64,30 +59,16 @@ impl Failure {
         }
     }
 
-    /// Whether the library refused.
-    pub fn is_refusal(&self) -> bool {
-        matches!(self, Failure::Refused(_) | Failure::RefusedValues { .. })
-    }
-
-    /// The exit status.
-    pub fn status(&self) -> ExitCode {
-        ExitCode::from(match self {
-            Failure::Refused(_) | Failure::RefusedValues { .. } => REFUSED,
-            Failure::Message(_) => MESSAGE,
-            Failure::ClosedPipe => CLOSED_PIPE,
-        })
-    }
-
     /// Tells it on standard error, and gives the exit status. A standard error that takes no word changes nothing.
     pub fn tell(&self) -> ExitCode {
-        let text = match self {
-            Failure::Refused(refused) => refused.told(),
-            Failure::RefusedValues { refused, count } => format!("refused {refused} of {count} values\n"),
-            Failure::Message(message) => format!("griffeljol: {message}\n"),
-            Failure::ClosedPipe => String::new(),
+        let (text, status) = match self {
+            Failure::Refused(refused) => (refused.told(), REFUSED),
+            Failure::RefusedValues { refused, count } => (format!("refused {refused} of {count} values\n"), REFUSED),
+            Failure::Message(message) => (format!("griffeljol: {message}\n"), MESSAGE),
+            Failure::ClosedPipe => (String::new(), CLOSED_PIPE),
         };
         let _ = io::stderr().write_all(text.as_bytes());
-        self.status()
+        ExitCode::from(status)
     }
 }
 
@@ -105,41 +86,26 @@ impl From<Refusal> for Failure {
 
 impl From<Refusal> for Refused {
     fn from(refusal: Refusal) -> Self {
-        Refused {
-            refusal,
-            meaning: refusal.meaning(),
-            place: refusal.reason.place_meaning(),
-            standing: Standing::default(),
-            at_fault: None,
-        }
+        Refused { refusal, meaning: refusal.meaning(), place: refusal.place_meaning(), at_fault: None }
     }
 }
 
 impl Refused {
-    /// The refusal of this sheet.
-    pub fn of_sheet(refusal: Refusal, sheet: &[u8]) -> Self {
-        Refused { standing: place::in_sheet(&refusal, sheet), ..refusal.into() }
-    }
-
-    /// The refusal of a value of this column.
-    pub fn of_value(refusal: Refusal, column: ColumnType) -> Self {
-        Refused { standing: place::in_value(&refusal, column), ..refusal.into() }
-    }
-
-    /// It with the input at fault.
-    pub fn laid_on(self, at_fault: AtFault) -> Self {
-        Refused { at_fault: Some(Box::new(at_fault)), ..self }
-    }
-
-    /// The line `refused N at P`, and one with its meaning, behind what is at fault and before where it stands.
+    /// The line `refused N at P`, and one with its meaning, behind the sheet at fault.
     fn told(&self) -> String {
-        let whose = match self.at_fault.as_deref() {
+        let whose = match &self.at_fault {
             None => String::new(),
-            Some(AtFault::Sheet { name, file }) => format!("{name}, {}: ", input(file)),
-            Some(AtFault::Value { which, name, .. }) => format!("the {which} value, {name}: "),
+            Some(AtFault { sheet, file }) => format!("{sheet}, {}: ", input(file)),
         };
-        let standing = self.standing.words.as_ref().map_or(String::new(), |words| format!(", {words}"));
-        format!("{}\n{whose}{}{standing}\n", self.refusal, self.meaning)
+        format!("{}\n{whose}{}\n", self.refusal, self.explained())
+    }
+
+    /// Its meaning, with that of its place if it has one.
+    fn explained(&self) -> String {
+        match self.place {
+            None => self.meaning.to_owned(),
+            Some(place) => format!("{}; place {} is {place}", self.meaning, self.refusal.place),
+        }
     }
 }
 

@@ -5,14 +5,11 @@ griffeljol reads Parquet schema sheets. Every answer is the proved library's.
 
   griffeljol rows FILE [--json]            the sheet's rows
   griffeljol tree FILE [--json]            the schema as an indented tree
-  griffeljol columns FILE [--json]         its columns, a line for each
   griffeljol rewrite FILE -o OUT           the sheet anew, with both annotations at every node
   griffeljol compare A B [--json | --report]
                                            what differs between two sheets, or a page to sign
-  griffeljol value SHEET COLUMN (FILE | --hex HEX) [--json]
-                                           one value of a column, as a person reads it
-  griffeljol order SHEET COLUMN A B [--hex] [--json]
-                                           which of two values of a column is less
+  griffeljol value PHYSICAL LENGTH KIND P1 P2 (FILE | --hex HEX) [--json]
+                                           one value of a column
   griffeljol timestamp decode UNIT COUNT [--json]
   griffeljol timestamp encode UNIT DATE TIME [--json]
                                            a count as a date and time, and back
@@ -22,74 +19,30 @@ griffeljol reads Parquet schema sheets. Every answer is the proved library's.
                                            the bounding box of points
   griffeljol inside KIND BOX POINT [--json]
                                            whether a point is inside a bounding box
-  griffeljol COMMAND --help                more on one of them, as griffeljol help COMMAND
-  griffeljol --version                     the version
+  griffeljol COMMAND --help                more on one of them
 
 All but timestamp, int96, box and inside take --edition N, the edition that judges the sheet or the column type, which
-is 1 without it. All take -q, or --quiet, and then tell their answer by the exit status alone.
+is 1 without it.
 
-For example:
-  griffeljol rows sheet
-  griffeljol tree sheet
-  griffeljol columns sheet
-  griffeljol rewrite sheet -o rewritten
-  griffeljol compare sheet rewritten
-  griffeljol value sheet parts.list.element --hex 6b6579
-  griffeljol order sheet parts.list.element --hex 6b6579 6b6a
-  griffeljol timestamp decode millis -1
-  griffeljol int96 decode 0080A7484A27000059682500
-  griffeljol box GEOMETRY points
-  griffeljol inside GEOGRAPHY 177,-178,-21,-12 178.44,-18.14
-
-FILE, SHEET, one of A and B, and OUT may be - for standard input and standard output. Behind -- every word is taken as
-it stands.
+FILE, one of A and B, and OUT may be - for standard input and standard output. Behind -- every word is taken as it
+stands.
 
 Exit status
     0  done; of compare, the sheets do not differ; of inside, the point is inside
-    1  refused: standard error has the line 'refused N at P', then its meaning in words and where it stands; of int96
-       decode --file, how many values were refused
-    2  wrong arguments, or a file that cannot be read or written or has no points where it must: standard error has a
-       message of one line, behind which may be a list of columns to choose from
+    1  refused: standard error has the line 'refused N at P', then its meaning in words; of int96 decode --file, how
+       many values were refused
+    2  wrong arguments, or a file that cannot be read or written or has no points where it must: standard error has one
+       line
     3  of compare, the sheets differ; of inside, the point is outside
   141  whoever read standard output stopped reading; nothing is said
 ";
 
-/// What the examples of a part begin with, which end its help.
-pub const EXAMPLE: &str = "\nFor example";
-
-/// Stands in the help of each part that takes it.
+/// Stands behind the help of each part that takes it.
 pub const EDITION: &str = "
   --edition N   judges by edition N, 1 to 3, and by 1 without it. In edition 1 the scale of a DECIMAL is below its
                 precision, in 2 and 3 it may also equal it. In 3 no leaf is INT96: one is refused with 10, and such a
                 column type with 20; and a leaf may be GEOMETRY or GEOGRAPHY, which in 1 and 2 are refused with 4, and
                 such column types with 20. A number that is no known edition is refused with 21
-";
-
-/// Stands in the help of each part.
-pub const QUIET: &str = "
-  -q, --quiet   prints nothing on standard output, and no words of a refusal: the exit status tells. A message of status
-                2 is told all the same
-";
-
-pub const COLUMNS: &str = "\
-griffeljol columns FILE [--edition N] [--json]
-
-Judges the sheet in FILE, or on standard input for -, and prints a line for each of its columns, which are its leaves:
-its node's number, its path, type, annotation and repetition, and its levels, the greatest definition level before the
-greatest repetition level. Two custodians who read one sheet get the same lines.
-
-A path is the names from the root's children down, with points between them. Of siblings that share a name the second
-has [1] behind it, the third [2], and so on. A name with a space, a point or a bracket, of digits alone, with characters
-that do not print by themselves or with bytes that are no UTF-8 stands in quotes, with escapes.
-
-  --json   prints an object with the columns in order, each with these, the names of its path, and the five numbers of
-           its column type. A name that is no UTF-8 is null; name_hex has its bytes. A refusal is printed as an object,
-           besides its words on standard error
-
-For example:
-  $ griffeljol columns sheet
-  node  path                type        annotation  repetition  levels
-     3  parts.list.element  BYTE_ARRAY  STRING      optional    2 1
 ";
 
 pub const ROWS: &str = "\
@@ -101,14 +54,6 @@ nodes on the path from the root to this one are optional or repeated, and how ma
 
   --json   prints an object with the number of nodes and the rows, each with its numbers by name. A refusal is
            printed as an object, besides its words on standard error
-
-For example:
-  $ griffeljol rows sheet
-  nodes 4
-  255 0 255 30 0 0 0 4 0 0 0
-  255 0 0 3 0 0 0 4 0 0 0
-  255 0 2 30 0 0 1 4 1 1 1
-  6 0 1 1 0 0 2 4 2 2 1
 ";
 
 pub const REWRITE: &str = "\
@@ -119,13 +64,6 @@ OUT may be FILE itself, or - for standard output.
 
 OUT is replaced whole once the sheet is accepted and written beside it. On a refusal or any other failure an existing
 OUT stays as it was.
-
-For example:
-  $ griffeljol rewrite sheet -o rewritten
-  $ griffeljol compare sheet rewritten
-  parts: logical LIST, was none
-  parts.list.element: logical STRING, was none
-  2 differences
 ";
 
 pub const TREE: &str = "\
@@ -140,14 +78,6 @@ with escapes. Names are read from the accepted sheet's bytes; all else is the li
 
   --json   prints an object with the nodes in order, each with these and its row. A name that is no UTF-8 is null;
            name_hex has its bytes. A refusal is printed as an object, besides its words on standard error
-
-For example:
-  $ griffeljol tree sheet
-  node  level  name              type        annotation  repetition  role
-     0      0  r                 group
-     1      1  └─ parts          group       LIST        required    field
-     2      2     └─ list        group                   repeated    list layer
-     3      3        └─ element  BYTE_ARRAY  STRING      optional    element
 ";
 
 pub const COMPARE: &str = "\
@@ -167,9 +97,9 @@ stand: an annotation that A has as a converted type alone and B as a logical typ
 
 Nodes come in A's order, and those that are only in B last, in B's. A node goes by its path, the names from the root's
 children down with points between them; the root by 'the root'. Of siblings that share a name the first has it alone,
-the second has [1] behind it, the third [2], and so on. A name with a space, a point or a bracket, of digits alone, with
-characters that do not print by themselves or with bytes that are no UTF-8 stands in quotes, with escapes. Paths are
-read from the accepted sheets' bytes; every difference is the library's.
+the second has [1] behind it, the third [2], and so on. A name with a space, a point or a bracket, with characters that
+do not print by themselves or with bytes that are no UTF-8 stands in quotes, with escapes. Paths are read from the
+accepted sheets' bytes; every difference is the library's.
 
 A refusal's words begin with A or B and the file that is refused. Where both are, it is A's.
 
@@ -179,50 +109,19 @@ A refusal's words begin with A or B and the file that is refused. Where both are
              an object, besides its words on standard error, with the sheet and the file that are refused
   --report   prints a page for two custodians to sign: both files with their length, the check of each block and the
              number of nodes and of columns; the columns; the differences; and a line for each custodian
-
-For example:
-  $ griffeljol compare sheet sheet
-  no differences
-  $ griffeljol compare sheet /dev/null
-  refused 1 at 0
-  B, \"/dev/null\": sheet length 0, not a multiple of 512, or over 65,536
 ";
 
 pub const VALUE: &str = "\
-griffeljol value SHEET COLUMN (FILE | --hex HEX) [--edition N] [--json]
 griffeljol value PHYSICAL LENGTH KIND P1 P2 (FILE | --hex HEX) [--edition N] [--json]
 
-Reads one value of a column of the sheet in SHEET, or of the column type of these five numbers, which a leaf's row has.
-The value's bytes are those of FILE or of HEX, pairs of hexadecimal digits. One of SHEET and FILE may be - for standard
-input.
+Reads one value of the column type of these five numbers, which a leaf's row has. The value's bytes are those of FILE,
+of standard input for -, or of HEX, pairs of hexadecimal digits. Prints true or false, a whole number, 'float' or
+'double' and its decimal, or for INT96 and all byte forms 'bytes', where they start and how many they are; behind those
+of a plain INT96 its date and time, where it has one. A STRING, ENUM or JSON that is no UTF-8 is refused with 16 at the
+byte where its whole sequences, read from the start, stop.
 
-COLUMN is a node's number, or a path as griffeljol columns prints it: names with points between them, a name with other
-marks in quotes, with escapes. [1] behind a name is the second sibling of that name, and [0] the first; without it the
-path is that of all of them. Where several columns have the path, they are listed, and the status is 2. A name of digits
-alone needs quotes.
-
-Prints the value as a person reads it, and in parentheses what is stored where that is another text:
-
-  BOOLEAN             true or false
-  INT, plain          200
-  DATE                2026-11-16 (20773)
-  TIME                12:30:00.250 (45000250), with UTC behind the time where it is adjusted
-  TIMESTAMP           1969-12-31 23:59:59.999 UTC (-1), without UTC where it is local
-  DECIMAL             12.34 (1234)
-  FLOAT, DOUBLE       the shortest decimal that reads back as it, NaN, inf or -inf
-  STRING, ENUM, JSON  in quotes, with escapes
-  UUID                123e4567-e89b-12d3-a456-426614174000
-  INTERVAL            1 month 2 days 3 ms (010000000200000003000000)
-  plain INT96         2000-01-01 12:00:00.000000000 (0080a7484a27000059682500), where it has a time
-  any other bytes     in hexadecimal, or (empty)
-
-A STRING, ENUM or JSON that is no UTF-8 is refused with 16 at the byte where its whole sequences, read from the start,
-stop.
-
-  --json   prints an object with the case and the value, or of bytes where they start and how many they are; for floats
-           also the bits, for a plain INT96 also the time, or null where it has none; shown, the text for a person; and
-           stored, what would stand in parentheses, or null. A refusal is printed as an object, besides its words on
-           standard error
+  --json   prints an object with the case and the value, for floats also the bits, for a plain INT96 also the time, or
+           null where it has none. A refusal is printed as an object, besides its words on standard error
 
   PHYSICAL   0 BOOLEAN  1 INT32  2 INT64  3 INT96  4 FLOAT  5 DOUBLE  6 BYTE_ARRAY  7 FIXED_LEN_BYTE_ARRAY
   LENGTH     bytes of a FIXED_LEN_BYTE_ARRAY, else 0
@@ -232,34 +131,7 @@ stop.
              INTEGER: bit width and signed (1 or 0). GEOGRAPHY: edge rule (0 SPHERICAL, 1 VINCENTY, 2 THOMAS,
              3 ANDOYER, 4 KARNEY) and 0. Else 0 0
 
-For example:
-  $ griffeljol value sheet parts.list.element --hex 6b6579
-  \"key\"
-  $ griffeljol value 6 0 5 3 2 --hex FF
-  -0.01 (-1)
-";
-
-pub const ORDER: &str = "\
-griffeljol order SHEET COLUMN A B [--hex] [--edition N] [--json]
-griffeljol order PHYSICAL LENGTH KIND P1 P2 A B [--hex] [--edition N] [--json]
-
-Orders two values of a column of the sheet in SHEET, or of the column type of five numbers, and prints how the first
-stands to the second, less, equal, greater or unordered, and then both values. COLUMN, the numbers and the values are
-as griffeljol value has them. A and B are files, and one of SHEET, A and B may be - for standard input.
-
-A refusal's words begin with the value that is refused. Where both are, it is the first. A column of INTERVAL, INT96,
-GEOMETRY or GEOGRAPHY has no order: 17.
-
-  --hex    A and B are the bytes themselves, pairs of hexadecimal digits
-  --json   prints an object with the relation and both values, each as griffeljol value --json has it. A refusal is
-           printed as an object, besides its words on standard error, with the value that is refused and its file
-
-For example:
-  $ griffeljol order 1 0 5 4 2 D2040000 D3040000 --hex
-  less: 12.34 (1234), 12.35 (1235)
-  $ griffeljol order sheet parts.list.element 6b6579 6b65ff --hex
-  refused 16 at 2
-  the second value, B: value breaks its annotation, at byte 2
+For example, a DECIMAL of precision 3 and scale 2 on BYTE_ARRAY: griffeljol value 6 0 5 3 2 --hex FF
 ";
 
 pub const TIMESTAMP: &str = "\
@@ -274,10 +146,8 @@ with at most the unit's digits behind a point.
            object, besides its words on standard error
 
 For example:
-  $ griffeljol timestamp decode millis -1
-  1969-12-31 23:59:59.999
-  $ griffeljol timestamp encode nanos 1677-09-21 00:12:43.145224192
-  -9223372036854775808
+  griffeljol timestamp decode millis -1
+  griffeljol timestamp encode nanos 1677-09-21 00:12:43.145224192
 ";
 
 pub const INT96: &str = "\
@@ -300,10 +170,8 @@ refused with 15, a full day of nanoseconds or more with 16, and a time that no c
                 object, besides its words on standard error
 
 For example:
-  $ griffeljol int96 decode 0080A7484A27000059682500
-  946728000000000000 2000-01-01 12:00:00.000000000
-  $ griffeljol int96 encode 946728000000000000
-  0080a7484a27000059682500
+  griffeljol int96 decode 0080A7484A27000059682500
+  griffeljol int96 encode 946728000000000000
 ";
 
 pub const BOX: &str = "\
@@ -323,10 +191,6 @@ bytes and a decimal that no double reaches are told with the line's number, and 
              refusal is printed as an object, besides its words on standard error
 
 Each bound stands as the shortest decimal that reads back as the same double.
-
-For example, of two points:
-  $ printf '174.76 -36.85\\n178.44,-18.14\\n' | griffeljol box GEOGRAPHY -
-  xmin 174.76 xmax 178.44 ymin -36.85 ymax -18.14
 ";
 
 pub const INSIDE: &str = "\
@@ -344,6 +208,5 @@ coordinate of GEOGRAPHY that lie outside [-180, 180] in x or [-90, 90] in y.
   --json   prints an object with a truth value. A refusal is printed as an object, besides its words on standard error
 
 For example, across the line of 180 degrees:
-  $ griffeljol inside GEOGRAPHY 177,-178,-21,-12 178.44,-18.14
-  inside
+  griffeljol inside GEOGRAPHY 177,-178,-21,-12 178.44,-18.14
 ";

@@ -4,8 +4,8 @@ use std::ffi::OsStr;
 
 use crate::failure::Failure;
 
-/// The bytes that pairs of hexadecimal digits stand for, in a word of this name.
-pub fn bytes(name: &str, hex: &OsStr) -> Result<Vec<u8>, Failure> {
+/// The bytes that pairs of hexadecimal digits stand for.
+pub fn bytes(hex: &OsStr) -> Result<Vec<u8>, Failure> {
     let digit = |byte: u8| char::from(byte).to_digit(16).map(|digit| digit as u8);
     hex.as_encoded_bytes()
         .chunks(2)
@@ -14,7 +14,7 @@ pub fn bytes(name: &str, hex: &OsStr) -> Result<Vec<u8>, Failure> {
             _ => None,
         })
         .collect::<Option<_>>()
-        .ok_or_else(|| Failure::arguments(format!("{name} cannot be {hex:?}: it is pairs of hexadecimal digits")))
+        .ok_or_else(|| Failure::arguments(format!("HEX cannot be {hex:?}: it is pairs of hexadecimal digits")))
 }
 
 /// Two digits for each byte.

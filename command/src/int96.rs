@@ -7,7 +7,7 @@ use griffeljol::codes::unit;
 use griffeljol::{Fields, Refusal, INT96_WIDTH};
 
 use crate::answer::Answer;
-use crate::arguments::{Arguments, FILE, JSON, QUIET};
+use crate::arguments::{Arguments, FILE, JSON};
 use crate::failure::{Failure, Refused};
 use crate::files::STANDARD;
 use crate::json::{self, Json};
@@ -24,10 +24,10 @@ enum Request {
 
 pub fn run(mut arguments: Arguments) -> Result<Answer, Failure> {
     let request = request(&mut arguments)?;
-    let (wants_json, is_quiet) = (arguments.has(JSON), arguments.has(QUIET));
+    let wants_json = arguments.has(JSON);
     arguments.end()?;
     let (time, text) = match request {
-        Request::DecodeFile(file) => return decode_file(&file, wants_json, is_quiet),
+        Request::DecodeFile(file) => return decode_file(&file, wants_json),
         Request::Decode(value) => {
             let time = Time::of_value(&value)?;
             (time, time.shown())
@@ -42,7 +42,7 @@ fn request(arguments: &mut Arguments) -> Result<Request, Failure> {
     let file = arguments.option(FILE).map(OsStr::to_owned);
     match (arguments.text("decode or encode")?.as_str(), file) {
         ("decode", Some(file)) => Ok(Request::DecodeFile(file)),
-        ("decode", None) => Ok(Request::Decode(hex::bytes("HEX", &arguments.word("HEX or --file FILE")?)?)),
+        ("decode", None) => Ok(Request::Decode(hex::bytes(&arguments.word("HEX or --file FILE")?)?)),
         ("encode", None) => Ok(Request::Encode(arguments.number("COUNT")?)),
         ("encode", Some(_)) => Err(Failure::arguments("encode takes no --file")),
         (other, _) => Err(Failure::arguments(format!("int96 takes decode or encode, and not {other:?}"))),
@@ -87,12 +87,11 @@ pub fn time_of(value: &[u8]) -> Option<String> {
     Time::of_value(value).ok().map(|time| timestamp::shown(unit::NANOS, &time.fields))
 }
 
-/// Turns the values of a file one by one, and prints a line for each as it goes, unless it is to be quiet.
-fn decode_file(name: &OsStr, wants_json: bool, is_quiet: bool) -> Result<Answer, Failure> {
+/// Turns the values of a file one by one, and prints a line for each as it goes.
+fn decode_file(name: &OsStr, wants_json: bool) -> Result<Answer, Failure> {
     let mut values = Values::open(name, INT96_WIDTH)?;
-    let stdout: Box<dyn Write> = if is_quiet { Box::new(io::sink()) } else { Box::new(io::stdout().lock()) };
-    let mut out = BufWriter::new(stdout);
-    let mut progress = Progress::new(!is_quiet);
+    let mut out = BufWriter::new(io::stdout().lock());
+    let mut progress = Progress::new();
     let (mut count, mut refused) = (0, 0);
     loop {
         if !values.has_next() {

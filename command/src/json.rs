@@ -1,6 +1,5 @@
 //! Answers as JSON, a line for each.
 
-use std::ffi::OsString;
 use std::fmt::{self, Display};
 
 use crate::failure::{AtFault, Refused};
@@ -73,42 +72,29 @@ impl Display for Json {
     }
 }
 
-/// Whether a character prints by itself: no control, no mark of direction, nothing that only changes another character.
-fn prints(c: char) -> bool {
-    c == '\'' || c.escape_debug().len() == 1
-}
-
-/// A text in quotes, with the escapes that RFC 8259 asks for, and of every character that does not print by itself.
+/// A text in quotes, with the escapes that RFC 8259 asks for.
 fn write_text(f: &mut fmt::Formatter<'_>, text: &str) -> fmt::Result {
     f.write_str("\"")?;
     for c in text.chars() {
         match c {
             '"' | '\\' => write!(f, "\\{c}")?,
-            _ if prints(c) => write!(f, "{c}")?,
-            _ => c.encode_utf16(&mut [0; 2]).iter().try_for_each(|unit| write!(f, "\\u{unit:04x}"))?,
+            '\0'..='\x1F' => write!(f, "\\u{:04x}", u32::from(c))?,
+            _ => write!(f, "{c}")?,
         }
     }
     f.write_str("\"")
 }
 
-/// A refusal as members of an object, with the input at fault of several. The name of a file that is no UTF-8 is null.
-pub fn refusal_members(Refused { refusal, meaning, place, standing, at_fault }: &Refused) -> Vec<(&'static str, Json)> {
+/// A refusal as members of an object, with the sheet at fault of two. The name of a file that is no UTF-8 is null.
+pub fn refusal_members(Refused { refusal, meaning, place, at_fault }: &Refused) -> Vec<(&'static str, Json)> {
     let mut members = vec![
-        ("refused", Json::number(refusal.number())),
+        ("refused", Json::number(refusal.number)),
         ("at", Json::number(refusal.place)),
         ("meaning", Json::text(*meaning)),
         ("place", Json::maybe(*place)),
-        ("path", Json::maybe(standing.path.as_deref())),
     ];
-    let file_of = |file: &OsString| Json::maybe(file.to_str());
-    match at_fault.as_deref() {
-        None => {}
-        Some(AtFault::Sheet { name, file }) => {
-            members.extend([("sheet", Json::text(*name)), ("file", file_of(file))]);
-        }
-        Some(AtFault::Value { name, file, .. }) => {
-            members.extend([("value", Json::text(*name)), ("file", file.as_ref().map_or(Json::Null, file_of))]);
-        }
+    if let Some(AtFault { sheet, file }) = at_fault {
+        members.extend([("sheet", Json::text(*sheet)), ("file", Json::maybe(file.to_str()))]);
     }
     members
 }

@@ -18,9 +18,8 @@ pub struct Progress {
 }
 
 impl Progress {
-    /// One that may be shown, or not.
-    pub fn new(may_be_shown: bool) -> Self {
-        Progress { is_shown: may_be_shown && io::stderr().is_terminal() && !io::stdout().is_terminal(), next: None }
+    pub fn new() -> Self {
+        Progress { is_shown: io::stderr().is_terminal() && !io::stdout().is_terminal(), next: None }
     }
 
     /// Tells how many values are done, a few times a second.

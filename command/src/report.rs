@@ -1,10 +1,11 @@
 //! `griffeljol compare --report`: a page for two custodians to sign.
 
+use griffeljol::codes::physical;
 use griffeljol::{Edition, Sides};
 
-use crate::accepted::Accepted;
-use crate::differences::{self, Told, LETTERS};
-use crate::{columns, failure, layout, table};
+use crate::compared::{Compared, LETTERS};
+use crate::differences::{self, Told};
+use crate::{failure, layout, table, words};
 
 /// The characters of a line, where names allow it.
 const WIDTH: usize = 120;
@@ -21,7 +22,7 @@ const TITLES: [&str; 4] = ["path", "type", "annotation", "repetition"];
 type Line = [String; TITLES.len()];
 
 /// The page: both sheets, their columns, the differences, and lines to sign.
-pub fn page(edition: Edition, sheets: &Sides<Accepted>, told: &[Told]) -> String {
+pub fn page(edition: Edition, sheets: &Sides<Compared>, told: &[Told]) -> String {
     let columns = sheets.as_ref().map(columns);
     let mut page = format!("Comparison of two schema sheets, judged by edition {}\n", edition.number());
     for ((letter, sheet), columns) in both(LETTERS.zip(sheets.as_ref()).zip(columns.as_ref())) {
@@ -48,7 +49,7 @@ fn both<T>(sides: Sides<T>) -> [T; 2] {
 }
 
 /// A sheet's length, the check of each block, and how many nodes and columns there are.
-fn facts(sheet: &Accepted, columns: usize) -> String {
+fn facts(sheet: &Compared, columns: usize) -> String {
     let checks: Vec<String> =
         layout::checks(&sheet.bytes).enumerate().map(|(block, check)| format!("{block:>3}: {check:>5}")).collect();
     let mut facts = vec![["length".to_owned(), format!("{} bytes", sheet.bytes.len())]];
@@ -62,9 +63,18 @@ fn facts(sheet: &Accepted, columns: usize) -> String {
     facts.iter().map(|[label, fact]| format!("{INDENT}{label:<width$}{GAP}{fact}\n")).collect()
 }
 
-/// The columns of a sheet in words.
-fn columns(sheet: &Accepted) -> Vec<Line> {
-    columns::of(sheet).iter().map(|column| column.words()).collect()
+/// The columns of a sheet, which are its leaves.
+fn columns(sheet: &Compared) -> Vec<Line> {
+    let leaves = sheet.rows.iter().zip(&sheet.paths).filter(|(row, _)| row.physical != physical::GROUP);
+    let line = |row, path: &String| {
+        [
+            path.clone(),
+            words::type_of(row),
+            words::annotation(row).unwrap_or_default(),
+            words::repetition(row.repetition).unwrap_or_default().to_owned(),
+        ]
+    };
+    leaves.map(|(row, path)| line(row, path)).collect()
 }
 
 /// Columns under their titles. A path that would make the page wider than it is has a line of its own.

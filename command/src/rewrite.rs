@@ -3,8 +3,8 @@
 use griffeljol::MAX_SHEET;
 
 use crate::answer::Answer;
-use crate::arguments::{Arguments, OUTPUT, QUIET};
-use crate::failure::{Failure, Refused};
+use crate::arguments::{Arguments, OUTPUT};
+use crate::failure::Failure;
 use crate::files::{self, STANDARD};
 
 /// Writes the output only once the library has accepted the sheet. Prints the sheet where the output is `-`, else nothing.
@@ -12,14 +12,10 @@ pub fn run(mut arguments: Arguments) -> Result<Answer, Failure> {
     let file = arguments.word("FILE")?;
     let output = arguments.option(OUTPUT).ok_or_else(|| Failure::arguments("-o OUT is missing"))?.to_owned();
     let edition = arguments.edition()?;
-    let is_quiet = arguments.has(QUIET);
     arguments.end()?;
-    if is_quiet && output == STANDARD {
-        return Err(Failure::arguments(format!("{OUTPUT} {STANDARD} and {QUIET} cannot be given together")));
-    }
     let sheet = files::read(&file, MAX_SHEET)?;
     let mut rewritten = vec![0; sheet.len()];
-    griffeljol::rewrite(edition, &sheet, &mut rewritten, 0).map_err(|refusal| Refused::of_sheet(refusal, &sheet))?;
+    griffeljol::rewrite(edition, &sheet, &mut rewritten, 0)?;
     if output == STANDARD {
         return Ok(rewritten.into());
     }

@@ -67,20 +67,11 @@ fn fraction_digits(unit: u32) -> usize {
 
 /// A date and time, the fraction with every digit of its unit.
 pub fn shown(unit: u32, fields: &Fields) -> String {
-    format!("{} {}", date(fields), time(unit, fields))
-}
-
-/// A date.
-pub fn date(&Fields { year, month, day, .. }: &Fields) -> String {
+    let Fields { year, month, day, hour, minute, second, fraction } = *fields;
     let sign = if year < 0 { "-" } else { "" };
     let year = year.unsigned_abs();
-    format!("{sign}{year:04}-{month:02}-{day:02}")
-}
-
-/// A time, the fraction with every digit of its unit.
-pub fn time(unit: u32, &Fields { hour, minute, second, fraction, .. }: &Fields) -> String {
     let digits = fraction_digits(unit);
-    format!("{hour:02}:{minute:02}:{second:02}.{fraction:0digits$}")
+    format!("{sign}{year:04}-{month:02}-{day:02} {hour:02}:{minute:02}:{second:02}.{fraction:0digits$}")
 }
 
 /// The fields of a spelled date and time. Whether they form one is the library's to say.

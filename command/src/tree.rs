@@ -1,13 +1,12 @@
 //! `griffeljol tree`: a schema as an indented tree.
 
-use griffeljol::Row;
+use griffeljol::{Row, MAX_SHEET};
 
-use crate::accepted::Accepted;
 use crate::answer::Answer;
 use crate::arguments::{Arguments, JSON};
 use crate::failure::Failure;
 use crate::json::Json;
-use crate::{layout, names, rows, table, words};
+use crate::{files, layout, names, rows, table, words};
 
 const TITLES: [&str; 7] = ["node", "level", "name", "type", "annotation", "repetition", "role"];
 
@@ -16,8 +15,9 @@ pub fn run(mut arguments: Arguments) -> Result<Answer, Failure> {
     let edition = arguments.edition()?;
     let wants_json = arguments.has(JSON);
     arguments.end()?;
-    let Accepted { bytes, rows, .. } = Accepted::read(edition, &file)?;
-    let names: Vec<&[u8]> = (0..rows.len()).map(|node| layout::name(&bytes, node)).collect();
+    let sheet = files::read(&file, MAX_SHEET)?;
+    let rows = griffeljol::rows(edition, &sheet)?;
+    let names: Vec<&[u8]> = (0..rows.len()).map(|node| layout::name(&sheet, node)).collect();
     let text = if wants_json {
         let levels = levels(&rows);
         let nodes = (0..rows.len()).map(|node| object(node, levels[node], names[node], &rows[node]));
@@ -32,7 +32,7 @@ pub fn run(mut arguments: Arguments) -> Result<Answer, Failure> {
 fn levels(rows: &[Row]) -> Vec<usize> {
     let mut levels = vec![0; rows.len()];
     for node in 1..rows.len() {
-        levels[node] = levels[rows[node].parent] + 1;
+        levels[node] = levels[rows[node].parent as usize] + 1;
     }
     levels
 }
@@ -43,7 +43,7 @@ fn branches(rows: &[Row]) -> Vec<String> {
     // What stands in front of the fields of each node.
     let mut stems = vec![String::new(); rows.len()];
     for node in 1..rows.len() {
-        let parent = rows[node].parent;
+        let parent = rows[node].parent as usize;
         let is_last = rows[node].end == rows[parent].end;
         let (branch, stem) = if is_last { ("└─ ", "   ") } else { ("├─ ", "│  ") };
         branches[node] = stems[parent].clone() + branch;
@@ -63,8 +63,8 @@ fn drawn(rows: &[Row], names: &[&[u8]]) -> String {
             branches[node].clone() + &names::shown(names[node]),
             words::type_of(row),
             words::annotation(row).unwrap_or_default(),
-            words::repetition(row).unwrap_or_default(),
-            if node == 0 { String::new() } else { row.role.to_string() },
+            words::repetition(row.repetition).unwrap_or_default().to_owned(),
+            if node == 0 { String::new() } else { words::role(row).to_owned() },
         ]
     };
     let lines: Vec<[String; 7]> = [TITLES.map(str::to_owned)].into_iter().chain((0..rows.len()).map(line)).collect();
@@ -91,8 +91,8 @@ fn object(node: usize, level: usize, name: &[u8], row: &Row) -> Json {
         name_hex,
         ("type", Json::text(words::type_of(row))),
         ("annotation", Json::maybe(words::annotation(row))),
-        ("repetition", Json::maybe(words::repetition(row))),
-        ("role", Json::text(row.role.to_string())),
+        ("repetition", Json::maybe(words::repetition(row.repetition))),
+        ("role", Json::text(words::role(row))),
         ("row", rows::object(row)),
     ])
 }

@@ -14,7 +14,6 @@ const FILE: &str = concat!(env!("CARGO_MANIFEST_DIR"), "/../crates/schema_rows/s
 fn closed_pipes() {
     nobody_reads_standard_output();
     nobody_reads_standard_error();
-    nobody_reads_what_is_quiet();
     a_reader_that_stops_after_a_line();
     a_reader_that_stops_in_a_file_without_end();
     a_line_for_each_value_as_it_comes();
@@ -44,12 +43,7 @@ fn nobody_reads_standard_output() {
         &["compare", "-", FILE],
         &["compare", FILE, "-", "--json"],
         &["compare", FILE, "-", "--report"],
-        &["columns", "-"],
-        &["columns", "-", "--json"],
         &["value", "6", "0", "0", "0", "0", "-"],
-        &["value", "-", "3", "--hex", "6b6579"],
-        &["order", "-", "3", "6b6579", "6b6a", "--hex"],
-        &["order", "6", "0", "0", "0", "0", FILE, "-", "--json"],
         &["int96", "decode", "--file", "-"],
         &["int96", "decode", "--file", "-", "--json"],
         &["box", "17", "-", "--binary"],
@@ -63,17 +57,6 @@ fn nobody_reads_standard_output() {
         let output = child.wait_with_output().expect("the command ends");
         assert!(output.stderr.is_empty(), "{words:?}");
         assert_eq!(output.status.code(), Some(CLOSED_PIPE), "{words:?}");
-    }
-}
-
-/// Where nothing is written, no pipe is missed.
-fn nobody_reads_what_is_quiet() {
-    for (words, status) in [(&["tree", "-", "-q"][..], 0), (&["compare", "-", "/dev/null", "--quiet"], 1)] {
-        let mut child = start(words);
-        drop(child.stdout.take());
-        drop(child.stderr.take());
-        child.stdin.take().expect("a pipe").write_all(SAMPLE).expect("input");
-        assert_eq!(child.wait().expect("the command ends").code(), Some(status), "{words:?}");
     }
 }
 

@@ -4,7 +4,7 @@ use std::collections::HashMap;
 
 use crate::compare::{Entry, ENTRY, ONLY_IN_FIRST, ONLY_IN_SECOND, PLACES};
 use crate::edition;
-use crate::sheet::{assemble, Sheet, Slot, FIELDS, MAX_NODES, SLOT};
+use crate::sheet::{assemble_bytes, Sheet, Slot, FIELDS, MAX_NODES, SLOT};
 use crate::tree::Tree;
 
 /// The second sheet, from the first and the list alone; none where the list leads to no sheet.
@@ -17,7 +17,7 @@ pub fn rebuild(first: &[u8], list: &[u8]) -> Option<Vec<u8>> {
     }
     let mut slots = Vec::new();
     second.lay(&tree, 0, &mut slots)?;
-    (slots.len() <= MAX_NODES).then(|| assemble(&slots))
+    (slots.len() <= MAX_NODES).then(|| assemble_bytes(&slots))
 }
 
 /// What is known of the second sheet.

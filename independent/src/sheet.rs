@@ -195,6 +195,19 @@ impl<'a> Slot<'a> {
         }
     }
 
+    /// The slot's 72 bytes, whatever its numbers are.
+    pub fn to_bytes(&self) -> [u8; SLOT] {
+        let mut slot = [0; SLOT];
+        slot[..6].copy_from_slice(&[self.physical, self.repetition, self.converted, self.logical, self.a, self.b]);
+        slot[6..8].copy_from_slice(&self.children.to_le_bytes());
+        slot[8..12].copy_from_slice(&self.type_length.to_le_bytes());
+        slot[12..16].copy_from_slice(&self.scale.to_le_bytes());
+        slot[16..20].copy_from_slice(&self.precision.to_le_bytes());
+        slot[NAME_LENGTH] = self.name_length;
+        slot[NAME..][..self.name.len()].copy_from_slice(self.name);
+        slot
+    }
+
     /// Whether it is a group.
     pub fn is_group(&self) -> bool {
         self.physical == physical::GROUP
@@ -222,7 +235,12 @@ pub fn slot_at(bytes: &[u8], node: usize) -> Option<(usize, Slot<'_>)> {
 }
 
 /// The sheet that lists these slots, with its headers and checks right for up to 896 of them.
-pub fn assemble(slots: &[[u8; SLOT]]) -> Vec<u8> {
+pub fn assemble(slots: &[Slot]) -> Vec<u8> {
+    assemble_bytes(&slots.iter().map(Slot::to_bytes).collect::<Vec<_>>())
+}
+
+/// The same of slots by their bytes.
+pub fn assemble_bytes(slots: &[[u8; SLOT]]) -> Vec<u8> {
     let mut sheet = vec![0; slots.len().div_ceil(SLOTS) * BLOCK];
     for (at, block) in sheet.chunks_exact_mut(BLOCK).enumerate() {
         Header::right(at, slots.len()).write(block);

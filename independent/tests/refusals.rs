@@ -1,27 +1,21 @@
 //! The order of refusals, their places, and that a refused call leaves what it was lent.
 
 use independent::edition::{FIRST, SECOND, THIRD};
+use independent::sheet::{assemble, renew_checks, slot_start, Slot, BLOCK};
 use independent::{encode, order, read, resolve, rewrite, ColumnType, Fields, PairRefusal, Refusal, ROW_WIDTH};
-use test_support::nodes::{sheet, Node};
-use test_support::sheets::{changed, slot_start, BLOCK};
 
 fn refused(number: u32, place: u32) -> Refusal {
     Refusal { number, place }
 }
 
-/// A required leaf.
-fn leaf(physical: u8) -> Node {
-    Node::leaf("v", physical, 0)
-}
-
-/// A sheet of a root with fields.
-fn root_of(fields: impl IntoIterator<Item = Node>) -> Vec<u8> {
-    sheet(&[Node::root(0).having(fields)])
-}
+const ROOT: Slot = Slot { physical: 255, repetition: 255, converted: 255, name_length: 1, name: b"r", ..Slot::UNUSED };
+const LEAF: Slot = Slot { physical: 1, repetition: 0, name: b"v", ..ROOT };
 
 /// A root with so many leaves.
-fn flat(leaves: usize) -> Vec<u8> {
-    root_of(vec![leaf(1); leaves])
+fn flat(leaves: u16) -> Vec<u8> {
+    let mut slots = vec![LEAF; usize::from(leaves) + 1];
+    slots[0] = Slot { children: leaves, ..ROOT };
+    assemble(&slots)
 }
 
 /// Resolving and rewriting a sheet, which both refuse it alike in each edition and leave their outputs; an unknown edition comes first.
@@ -48,18 +42,25 @@ fn refusal_in(edition: u32, sheet: &[u8]) -> Refusal {
     refusal
 }
 
+fn changed(sheet: &[u8], changes: &[(usize, u8)]) -> Vec<u8> {
+    let mut sheet = sheet.to_vec();
+    changes.iter().for_each(|&(at, byte)| sheet[at] = byte);
+    renew_checks(&mut sheet);
+    sheet
+}
+
 #[test]
 fn one_number_at_a_time_over_the_whole_sheet() {
     let sheet = flat(16);
     // A slot of block 0, a header of block 1, a check of block 2: the check comes first, then the header, then the slot.
-    let both = changed(&changed(&sheet, slot_start(2), &[9]), BLOCK + 3, &[2]);
+    let both = changed(&sheet, &[(slot_start(2), 9), (BLOCK + 3, 2)]);
     let mut all = both.clone();
     all[2 * BLOCK + 511] ^= 1;
     assert_eq!(refusal_of(&all), refused(2, 2));
     assert_eq!(refusal_of(&both), refused(3, 1));
-    assert_eq!(refusal_of(&changed(&sheet, slot_start(2), &[9])), refused(4, 2));
+    assert_eq!(refusal_of(&changed(&sheet, &[(slot_start(2), 9)])), refused(4, 2));
     // An unused slot has the number that a node there would have.
-    assert_eq!(refusal_of(&changed(&sheet, slot_start(20) + 40, &[1])), refused(4, 20));
+    assert_eq!(refusal_of(&changed(&sheet, &[(slot_start(20) + 40, 1)])), refused(4, 20));
     for length in [0, 1, 511, 513, 65_537, 66_048] {
         assert_eq!(refusal_of(&vec![0; length]), refused(1, 0));
     }
@@ -68,8 +69,8 @@ fn one_number_at_a_time_over_the_whole_sheet() {
 #[test]
 fn open_places() {
     let claims = |claims: &[u16]| {
-        let nodes: Vec<Node> = claims.iter().map(|&children| leaf(1).claiming(children)).collect();
-        refusal_of(&sheet(&nodes))
+        let slots: Vec<Slot> = claims.iter().map(|&children| Slot { children, ..LEAF }).collect();
+        refusal_of(&assemble(&slots))
     };
     assert_eq!(claims(&[1]), refused(5, 1));
     assert_eq!(claims(&[2, 0, 1]), refused(5, 3));
@@ -99,7 +100,7 @@ fn output_too_short_comes_last() {
     let mut out = vec![9; 520];
     assert_eq!(rewrite(FIRST, &sheet, &mut out, 5), Ok(512));
     assert_eq!((&out[..5], &out[517..]), (&[9; 5][..], &[9; 3][..]));
-    assert_eq!(resolve(FIRST, &changed(&sheet, slot_start(3) + 8, &[1]), &mut []), Err(refused(8, 3)));
+    assert_eq!(resolve(FIRST, &changed(&sheet, &[(slot_start(3) + 8, 1)]), &mut []), Err(refused(8, 3)));
 }
 
 #[test]
@@ -194,7 +195,8 @@ fn an_unknown_edition_comes_first() {
 #[test]
 fn the_later_editions_let_the_scale_equal_the_precision_and_nothing_else() {
     let decimal = |physical, type_length, precision, scale| {
-        let sheet = root_of([leaf(physical).sized(type_length).decimal(precision, scale)]);
+        let leaf = Slot { physical, logical: 5, type_length, precision, scale, ..LEAF };
+        let sheet = assemble(&[Slot { children: 1, ..ROOT }, leaf]);
         EDITIONS.map(|edition| resolve(edition, &sheet, &mut [0; 2 * ROW_WIDTH]))
     };
     for (physical, type_length, most) in [(1, 0, 9), (2, 0, 18), (6, 0, i32::MAX), (7, 1, 2), (7, 256, 616)] {
@@ -210,48 +212,46 @@ fn the_later_editions_let_the_scale_equal_the_precision_and_nothing_else() {
     assert_eq!(decimal(7, 257, 1, 1), [Err(refused(11, 1)); 3]);
 }
 
-/// A leaf of INT96.
-fn int96() -> Node {
-    leaf(3)
-}
+const INT96: Slot = Slot { physical: 3, ..LEAF };
 
 /// What the known editions answer to a root with leaves.
-fn in_editions(leaves: impl IntoIterator<Item = Node>) -> [Result<u32, Refusal>; 3] {
-    let sheet = root_of(leaves);
+fn in_editions(leaves: &[Slot]) -> [Result<u32, Refusal>; 3] {
+    let root = Slot { children: leaves.len() as u16, ..ROOT };
+    let sheet = assemble(&[&[root], leaves].concat());
     EDITIONS.map(|edition| resolve(edition, &sheet, &mut [0; 20 * ROW_WIDTH]))
 }
 
 #[test]
 fn the_third_edition_refuses_an_int96_leaf_whatever_its_annotation() {
-    for terminal in [int96(), int96().logical(11, 0, 0), int96().repetition(2)] {
-        assert_eq!(in_editions([leaf(1), terminal.clone(), terminal]), [Ok(4), Ok(4), Err(refused(10, 2))]);
+    for leaf in [INT96, Slot { logical: 11, ..INT96 }, Slot { repetition: 2, ..INT96 }] {
+        assert_eq!(in_editions(&[LEAF, leaf, leaf]), [Ok(4), Ok(4), Err(refused(10, 2))]);
     }
     // An annotation that INT96 never had.
     for logical in [1, 4, 5, 6, 12, 13, 14] {
-        assert_eq!(in_editions([int96().logical(logical, 0, 0)]), [Err(refused(10, 1)); 3]);
+        assert_eq!(in_editions(&[Slot { logical, ..INT96 }]), [Err(refused(10, 1)); 3]);
     }
-    assert_eq!(in_editions([int96().parameters(1, 0)]), [Err(refused(10, 1)); 3]);
-    assert_eq!(in_editions([int96().converted(21)]), [Err(refused(10, 1)); 3]);
+    assert_eq!(in_editions(&[Slot { a: 1, ..INT96 }]), [Err(refused(10, 1)); 3]);
+    assert_eq!(in_editions(&[Slot { converted: 21, ..INT96 }]), [Err(refused(10, 1)); 3]);
 }
 
 #[test]
 fn at_an_int96_leaf_8_and_9_come_first_and_at_other_nodes_the_first_does() {
-    for shape in [|| int96().sized(12), || int96().digits(0, 1), || int96().repetition(255)] {
-        assert_eq!(in_editions([shape()]), [Err(refused(8, 1)); 3]);
-        assert_eq!(in_editions([shape().converted(0).logical(4, 0, 0)]), [Err(refused(8, 1)); 3]);
-        assert_eq!(in_editions([int96(), shape()]), [Err(refused(8, 2)), Err(refused(8, 2)), Err(refused(10, 1))]);
-        assert_eq!(in_editions([shape(), int96()]), [Err(refused(8, 1)); 3]);
+    let shapes = [Slot { type_length: 12, ..INT96 }, Slot { scale: 1, ..INT96 }, Slot { repetition: 255, ..INT96 }];
+    for shape in shapes {
+        assert_eq!(in_editions(&[shape]), [Err(refused(8, 1)); 3]);
+        assert_eq!(in_editions(&[Slot { converted: 0, logical: 4, ..shape }]), [Err(refused(8, 1)); 3]);
+        assert_eq!(in_editions(&[INT96, shape]), [Err(refused(8, 2)), Err(refused(8, 2)), Err(refused(10, 1))]);
+        assert_eq!(in_editions(&[shape, INT96]), [Err(refused(8, 1)); 3]);
     }
-    for logical in [4, 11] {
-        let disagreement = || int96().converted(0).logical(logical, 0, 0);
-        assert_eq!(in_editions([disagreement()]), [Err(refused(9, 1)); 3]);
-        assert_eq!(in_editions([disagreement(), int96()]), [Err(refused(9, 1)); 3]);
+    for disagreement in [Slot { converted: 0, logical: 4, ..INT96 }, Slot { converted: 0, logical: 11, ..INT96 }] {
+        assert_eq!(in_editions(&[disagreement]), [Err(refused(9, 1)); 3]);
+        assert_eq!(in_editions(&[disagreement, INT96]), [Err(refused(9, 1)); 3]);
     }
     // Under 21, 1 to 7 and before 14.
-    let sheet = root_of([int96()]);
+    let sheet = assemble(&[Slot { children: 1, ..ROOT }, INT96]);
     assert_eq!(resolve(THIRD, &sheet, &mut []), Err(refused(10, 1)));
     assert_eq!(rewrite(THIRD, &sheet, &mut [], 1), Err(refused(10, 1)));
-    assert_eq!(refusal_in(THIRD, &changed(&sheet, slot_start(0) + 6, &[2])), refused(5, 2));
+    assert_eq!(refusal_in(THIRD, &changed(&sheet, &[(slot_start(0) + 6, 2)])), refused(5, 2));
 }
 
 #[test]
@@ -270,10 +270,7 @@ fn a_column_of_int96_is_none_of_the_third_edition() {
     }
 }
 
-/// A leaf of GEOMETRY or GEOGRAPHY.
-fn points(logical: u8, a: u8) -> Node {
-    leaf(6).logical(logical, a, 0)
-}
+const POINTS: Slot = Slot { physical: 6, logical: 18, ..LEAF };
 
 #[test]
 fn geospatial_leaves_are_of_the_third_edition() {
@@ -281,29 +278,29 @@ fn geospatial_leaves_are_of_the_third_edition() {
     for (logical, edge_rules) in [(17, 0..=0), (18, 0..=4)] {
         for a in 0..=6 {
             let third = if edge_rules.contains(&a) { Ok(2) } else { Err(refused(10, 1)) };
-            assert_eq!(in_editions([points(logical, a)]), [earlier, earlier, third]);
-            assert_eq!(in_editions([points(logical, a).parameters(a, 1)]), [earlier, earlier, Err(refused(10, 1))]);
+            assert_eq!(in_editions(&[Slot { logical, a, ..POINTS }]), [earlier, earlier, third]);
+            assert_eq!(in_editions(&[Slot { logical, a, b: 1, ..POINTS }]), [earlier, earlier, Err(refused(10, 1))]);
             // No converted type is their image, and invalid parameters have none.
             for converted in 0..=21 {
-                let leaf = points(logical, a).converted(converted);
-                assert_eq!(in_editions([leaf]), [earlier, earlier, Err(refused(9, 1))]);
+                let slot = Slot { logical, a, converted, ..POINTS };
+                assert_eq!(in_editions(&[slot]), [earlier, earlier, Err(refused(9, 1))]);
             }
         }
         for physical in [0, 1, 2, 3, 4, 5, 7] {
             let type_length = if physical == 7 { 21 } else { 0 };
-            let leaf = leaf(physical).sized(type_length).logical(logical, 0, 0);
-            assert_eq!(in_editions([leaf]), [earlier, earlier, Err(refused(10, 1))]);
+            let slot = Slot { logical, physical, type_length, ..POINTS };
+            assert_eq!(in_editions(&[slot]), [earlier, earlier, Err(refused(10, 1))]);
         }
     }
     for logical in [9, 15, 16, 19, 255] {
-        assert_eq!(in_editions([points(logical, 0)]), [earlier; 3]);
+        assert_eq!(in_editions(&[Slot { logical, ..POINTS }]), [earlier; 3]);
     }
 }
 
 #[test]
 fn a_geospatial_leaf_is_written_back_without_a_converted_type() {
     for (logical, a) in [(17, 0), (18, 0), (18, 4)] {
-        let sheet = root_of([points(logical, a)]);
+        let sheet = assemble(&[Slot { children: 1, ..ROOT }, Slot { logical, a, ..POINTS }]);
         let mut rows = [7; 2 * ROW_WIDTH];
         assert_eq!(resolve(THIRD, &sheet, &mut rows), Ok(2));
         assert_eq!(rows[ROW_WIDTH..][..6], [6, 0, 0, u32::from(logical), u32::from(a), 0]);

@@ -1,5 +1,5 @@
-//! Bounding boxes of points, and points inside them. They take a kind, that of GEOMETRY or GEOGRAPHY, or its number, and no
-//! edition.
+//! Bounding boxes of points, and points inside them. They take a kind, [`GEOMETRY`](crate::codes::kind::GEOMETRY) or
+//! [`GEOGRAPHY`](crate::codes::kind::GEOGRAPHY), and no edition.
 
 use crate::refusal::result;
 use crate::{boundary, Refusal};
@@ -38,19 +38,19 @@ impl From<BoundingBox> for [f64; BOX_WIDTH] {
 /// outside [-180, 180] in x or [-90, 90] in y. A zero may come back with either sign.
 ///
 /// ```
-/// use griffeljol::{box_of, BoundingBox, EdgeRule, Kind};
+/// use griffeljol::codes::kind;
+/// use griffeljol::{box_of, BoundingBox};
 ///
-/// let kind = Kind::Geography(EdgeRule::Spherical);
 /// // The second point has no x: its y still counts.
-/// let found = box_of(kind, &[174.76, -36.85, f64::NAN, -18.14])?;
+/// let found = box_of(kind::GEOGRAPHY, &[174.76, -36.85, f64::NAN, -18.14])?;
 /// assert_eq!(found, Some(BoundingBox { xmin: 174.76, xmax: 174.76, ymin: -36.85, ymax: -18.14 }));
-/// assert_eq!(box_of(kind, &[f64::NAN, -18.14])?, None);
-/// assert_eq!(box_of(kind, &[180.5, 0.0]).unwrap_err().number(), 16);
+/// assert_eq!(box_of(kind::GEOGRAPHY, &[f64::NAN, -18.14])?, None);
+/// assert_eq!(box_of(kind::GEOGRAPHY, &[180.5, 0.0]).unwrap_err().number, 16);
 /// # Ok::<(), griffeljol::Refusal>(())
 /// ```
-pub fn box_of(kind: impl Into<u32>, points: &[f64]) -> Result<Option<BoundingBox>, Refusal> {
+pub fn box_of(kind: u32, points: &[f64]) -> Result<Option<BoundingBox>, Refusal> {
     let mut bounds = [0.0; BOX_WIDTH];
-    Ok(match result(boundary::box_of(kind.into(), points, &mut bounds))? {
+    Ok(match result(boundary::box_of(kind, points, &mut bounds))? {
         0 => None,
         _ => Some(bounds.into()),
     })
@@ -61,15 +61,15 @@ pub fn box_of(kind: impl Into<u32>, points: &[f64]) -> Result<Option<BoundingBox
 /// GEOGRAPHY with a coordinate out of its range that is no NaN.
 ///
 /// ```
-/// use griffeljol::{inside, BoundingBox, EdgeRule, Kind};
+/// use griffeljol::codes::kind;
+/// use griffeljol::{inside, BoundingBox};
 ///
-/// let kind = Kind::Geography(EdgeRule::Spherical);
 /// let fiji = BoundingBox { xmin: 177.0, xmax: -178.0, ymin: -21.0, ymax: -12.0 };
-/// assert_eq!(inside(kind, fiji, 178.44, -18.14), Ok(true));
-/// assert_eq!(inside(kind, fiji, 174.76, -18.14), Ok(false));
+/// assert_eq!(inside(kind::GEOGRAPHY, fiji, 178.44, -18.14), Ok(true));
+/// assert_eq!(inside(kind::GEOGRAPHY, fiji, 174.76, -18.14), Ok(false));
 /// let turned = BoundingBox { ymin: -12.0, ymax: -21.0, ..fiji };
-/// assert_eq!(inside(kind, turned, 178.44, -18.14).unwrap_err().number(), 16);
+/// assert_eq!(inside(kind::GEOGRAPHY, turned, 178.44, -18.14).unwrap_err().number, 16);
 /// ```
-pub fn inside(kind: impl Into<u32>, bounds: BoundingBox, x: f64, y: f64) -> Result<bool, Refusal> {
-    result(boundary::inside(kind.into(), bounds.into(), x, y)).map(|answer| answer != 0)
+pub fn inside(kind: u32, bounds: BoundingBox, x: f64, y: f64) -> Result<bool, Refusal> {
+    result(boundary::inside(kind, bounds.into(), x, y)).map(|answer| answer != 0)
 }

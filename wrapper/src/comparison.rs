@@ -3,7 +3,7 @@
 use crate::codes::difference;
 use crate::refusal::compare_result;
 use crate::slot::{byte, four_bytes, two_bytes};
-use crate::{boundary, CompareRefusal, Edition, Physical, Repetition, Slot, MAX_NAME, MAX_NODES, SLOT_WIDTH};
+use crate::{boundary, CompareRefusal, Edition, Slot, MAX_NAME, MAX_NODES, SLOT_WIDTH};
 
 /// The bytes of an entry.
 pub const ENTRY_WIDTH: usize = 148;
@@ -37,7 +37,7 @@ const SECOND: usize = FIRST + SLOT_WIDTH;
 /// assert_eq!(out[..4], [3, 0, 1, 0]);
 /// # Ok::<(), Box<dyn std::error::Error>>(())
 /// ```
-pub fn compare(edition: Edition, first: &[u8], second: &[u8], out: &mut [u8]) -> Result<usize, CompareRefusal> {
+pub fn compare(edition: Edition, first: &[u8], second: &[u8], out: &mut [u8]) -> Result<u32, CompareRefusal> {
     compare_result(boundary::compare(edition.number(), first, second, out))
 }
 
@@ -65,7 +65,7 @@ pub fn compare(edition: Edition, first: &[u8], second: &[u8], out: &mut [u8]) ->
 /// ```
 pub fn differences(edition: Edition, first: &[u8], second: &[u8]) -> Result<Vec<Difference>, CompareRefusal> {
     let mut entries = vec![0; ENTRY_WIDTH * MAX_ENTRIES];
-    let count = compare(edition, first, second, &mut entries)?;
+    let count = compare(edition, first, second, &mut entries)? as usize;
     Ok(entries.chunks_exact(ENTRY_WIDTH).take(count).map(Difference::of).collect())
 }
 
@@ -75,28 +75,28 @@ pub enum Difference {
     /// A field in which two matched nodes differ.
     Field {
         /// The node's number in the first sheet.
-        node: usize,
+        node: u32,
         /// The field, with both contents.
         field: Field,
     },
     /// The places of two matched nodes among their siblings, counted from 0.
     Place {
         /// The node's number in the first sheet.
-        node: usize,
+        node: u32,
         /// Both places.
-        places: Sides<usize>,
+        places: Sides<u32>,
     },
     /// A node that is only in the first sheet.
     OnlyFirst {
         /// Its number there.
-        node: usize,
+        node: u32,
         /// Its slot.
         slot: Slot,
     },
     /// A node that is only in the second sheet.
     OnlySecond {
         /// Its number there.
-        node: usize,
+        node: u32,
         /// Its slot.
         slot: Slot,
     },
@@ -105,10 +105,10 @@ pub enum Difference {
 /// A field of a slot in which two matched nodes differ, with both contents: numbers as [`Slot`] has them.
 #[derive(Clone, Copy, Debug, PartialEq, Eq, Hash)]
 pub enum Field {
-    /// Physical types.
-    Physical(Sides<Physical>),
-    /// Repetitions; the roots have none.
-    Repetition(Sides<Option<Repetition>>),
+    /// Physical types, of [`crate::codes::physical`].
+    Physical(Sides<u32>),
+    /// Repetitions, of [`crate::codes::repetition`].
+    Repetition(Sides<u32>),
     /// Converted types, of [`crate::codes::converted`].
     Converted(Sides<u32>),
     /// Logical types, of [`crate::codes::logical`].
@@ -118,7 +118,7 @@ pub enum Field {
     /// Parameters b of the logical types.
     B(Sides<u32>),
     /// Numbers of children.
-    ChildCount(Sides<usize>),
+    ChildCount(Sides<u32>),
     /// Type lengths.
     TypeLength(Sides<i32>),
     /// Scales.
@@ -126,7 +126,7 @@ pub enum Field {
     /// Precisions.
     Precision(Sides<i32>),
     /// Lengths of the roots' names; other matched nodes have one name.
-    NameLength(Sides<usize>),
+    NameLength(Sides<u32>),
     /// The roots' names, each with zeros behind it.
     Name(Sides<[u8; MAX_NAME]>),
 }
@@ -159,7 +159,7 @@ impl<T> Sides<T> {
 
 impl Difference {
     /// The node's number: in the second sheet for a node that is only there, else in the first.
-    pub fn node(&self) -> usize {
+    pub fn node(&self) -> u32 {
         match *self {
             Difference::Field { node, .. }
             | Difference::Place { node, .. }
@@ -184,8 +184,8 @@ impl Difference {
         let sides = Sides { first: side(entry, FIRST), second: side(entry, SECOND) };
         match byte(&entry[CODE..]) {
             difference::PLACE => Difference::Place { node, places: sides.map(|side| two_bytes(side)) },
-            difference::ONLY_FIRST => Difference::OnlyFirst { node, slot: slot_of(sides.first) },
-            difference::ONLY_SECOND => Difference::OnlySecond { node, slot: slot_of(sides.second) },
+            difference::ONLY_FIRST => Difference::OnlyFirst { node, slot: sides.first.into() },
+            difference::ONLY_SECOND => Difference::OnlySecond { node, slot: sides.second.into() },
             code => Difference::Field { node, field: Field::of(code, sides) },
         }
     }
@@ -215,8 +215,8 @@ impl Field {
         let bytes = || sides.map(|side| byte(side));
         let signed = || sides.map(|side| four_bytes(side));
         match code {
-            difference::PHYSICAL => Field::Physical(bytes().map(|code| code.try_into().expect(LISTED))),
-            difference::REPETITION => Field::Repetition(bytes().map(|code| Repetition::of_node(code).expect(LISTED))),
+            difference::PHYSICAL => Field::Physical(bytes()),
+            difference::REPETITION => Field::Repetition(bytes()),
             difference::CONVERTED => Field::Converted(bytes()),
             difference::LOGICAL => Field::Logical(bytes()),
             difference::A => Field::A(bytes()),
@@ -225,19 +225,11 @@ impl Field {
             difference::TYPE_LENGTH => Field::TypeLength(signed()),
             difference::SCALE => Field::Scale(signed()),
             difference::PRECISION => Field::Precision(signed()),
-            difference::NAME_LENGTH => Field::NameLength(bytes().map(|length| length as usize)),
+            difference::NAME_LENGTH => Field::NameLength(bytes()),
             difference::NAME => Field::Name(sides.map(|side| *side.first_chunk().expect("a side holds a name"))),
             _ => unreachable!("compare promises one of the fifteen codes"),
         }
     }
-}
-
-/// What an accepted sheet keeps.
-const LISTED: &str = "every code of an accepted sheet is listed";
-
-/// The slot of a node of an accepted sheet.
-fn slot_of(side: &[u8; SLOT_WIDTH]) -> Slot {
-    side.try_into().expect(LISTED)
 }
 
 /// The content of a side, which starts here in an entry.

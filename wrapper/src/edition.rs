@@ -3,10 +3,12 @@
 /// An edition, by its number. Any number may be asked; refusal 21 is for those that are no known edition's.
 ///
 /// ```
-/// use griffeljol::{read, ColumnType, Edition, Kind, Physical, Reason, Value};
+/// use griffeljol::codes::{kind, physical};
+/// use griffeljol::{read, ColumnType, Edition, Value};
 ///
-/// let column = ColumnType::new(Physical::ByteArray, 0, Kind::Decimal { precision: 2, scale: 2 });
-/// assert_eq!(read(Edition::FIRST, column, &[0x63]).unwrap_err().reason, Reason::NoSuchType);
+/// // DECIMAL(2, 2) on BYTE_ARRAY.
+/// let column = ColumnType { physical: physical::BYTE_ARRAY, type_length: 0, kind: kind::DECIMAL, p1: 2, p2: 2 };
+/// assert_eq!(read(Edition::FIRST, column, &[0x63]).unwrap_err().number, 20);
 /// assert_eq!(read(Edition::SECOND, column, &[0x63]), Ok(Value::Bytes { start: 0, length: 1 }));
 /// let unknown = read(Edition::from(4), column, &[0x63]).unwrap_err();
 /// assert_eq!(unknown.to_string(), "refused 21 at 0");

@@ -11,13 +11,14 @@ pub const INT96_WIDTH: usize = 12;
 /// day of nanoseconds or more, then 19 where no count holds it.
 ///
 /// ```
-/// use griffeljol::{decode, from_int96, Unit};
+/// use griffeljol::codes::unit;
+/// use griffeljol::{decode, from_int96};
 ///
 /// // Noon of 1 January 2000, whose Julian day is 2,451,545.
 /// let noon = [0x00, 0x80, 0xA7, 0x48, 0x4A, 0x27, 0x00, 0x00, 0x59, 0x68, 0x25, 0x00];
-/// let fields = decode(Unit::Nanos, from_int96(&noon)?)?;
+/// let fields = decode(unit::NANOS, from_int96(&noon)?)?;
 /// assert_eq!((fields.year, fields.month, fields.day, fields.hour), (2000, 1, 1, 12));
-/// assert_eq!(from_int96(&noon[..11]).unwrap_err().number(), 15);
+/// assert_eq!(from_int96(&noon[..11]).unwrap_err().number, 15);
 /// # Ok::<(), griffeljol::Refusal>(())
 /// ```
 pub fn from_int96(value: &[u8]) -> Result<i64, Refusal> {

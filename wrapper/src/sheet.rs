@@ -1,8 +1,7 @@
 //! Sheets: their rows, and rewriting.
 
-use crate::codes::repetition;
 use crate::refusal::result;
-use crate::{boundary, ColumnType, Edition, Kind, Physical, Refusal, Repetition, Role, UnknownCode};
+use crate::{boundary, ColumnType, Edition, Refusal};
 
 /// The most bytes of a sheet.
 pub const MAX_SHEET: usize = 65_536;
@@ -23,31 +22,36 @@ pub const ROW_WIDTH: usize = 11;
 ///
 /// let sheet = std::fs::read("../crates/schema_rows/stdin")?;
 /// let mut rows = [0; ROW_WIDTH * MAX_NODES];
-/// assert_eq!(resolve(Edition::FIRST, &sheet, &mut rows), Ok(4));
+/// let nodes = resolve(Edition::FIRST, &sheet, &mut rows)? as usize;
+/// assert_eq!(nodes, 4);
 /// assert_eq!(rows[ROW_WIDTH..2 * ROW_WIDTH], [255, 0, 0, 3, 0, 0, 0, 4, 0, 0, 0]);
 /// # Ok::<(), Box<dyn std::error::Error>>(())
 /// ```
-pub fn resolve(edition: Edition, sheet: &[u8], rows: &mut [u32]) -> Result<usize, Refusal> {
+pub fn resolve(edition: Edition, sheet: &[u8], rows: &mut [u32]) -> Result<u32, Refusal> {
     result(boundary::resolve(edition.number(), sheet, rows))
 }
 
 /// A node's row.
 #[derive(Clone, Copy, Debug, PartialEq, Eq, Hash)]
 pub struct Row {
-    /// Physical type, or group.
-    pub physical: Physical,
+    /// Physical type, or group: one of [`crate::codes::physical`].
+    pub physical: u32,
     /// Type length of a FIXED_LEN_BYTE_ARRAY, else 0.
     pub type_length: u32,
-    /// Its repetition; the root has none.
-    pub repetition: Option<Repetition>,
-    /// What its annotation says.
-    pub kind: Kind,
+    /// One of [`crate::codes::repetition`].
+    pub repetition: u32,
+    /// One of [`crate::codes::kind`].
+    pub kind: u32,
+    /// The kind's first parameter.
+    pub p1: u32,
+    /// The kind's second parameter.
+    pub p2: u32,
     /// The parent's number; the root's is 0.
-    pub parent: usize,
+    pub parent: u32,
     /// One past the last descendant.
-    pub end: usize,
-    /// What it is to the LIST or MAP above it.
-    pub role: Role,
+    pub end: u32,
+    /// One of [`crate::codes::role`].
+    pub role: u32,
     /// How many nodes on the path from the root to this one, itself included, are optional or repeated: at most 32.
     pub definition_level: u32,
     /// How many of them are repeated: never more.
@@ -55,71 +59,56 @@ pub struct Row {
 }
 
 impl Row {
-    /// Whether it is that of a leaf, and so of a column.
-    pub fn is_leaf(&self) -> bool {
-        self.physical != Physical::Group
-    }
-
     /// The column type of a leaf's row.
     pub fn column_type(&self) -> ColumnType {
-        ColumnType::new(self.physical, self.type_length, self.kind)
+        let Row { physical, type_length, kind, p1, p2, .. } = *self;
+        ColumnType { physical, type_length, kind, p1, p2 }
     }
 
     /// The numbers in their order.
     pub fn numbers(&self) -> [u32; ROW_WIDTH] {
-        let [p1, p2] = self.kind.parameters();
         [
-            self.physical.code(),
+            self.physical,
             self.type_length,
-            self.repetition.map_or(repetition::NONE, Repetition::code),
-            self.kind.code(),
-            p1,
-            p2,
-            self.parent as u32,
-            self.end as u32,
-            self.role.code(),
+            self.repetition,
+            self.kind,
+            self.p1,
+            self.p2,
+            self.parent,
+            self.end,
+            self.role,
             self.definition_level,
             self.repetition_level,
         ]
     }
 }
 
-impl TryFrom<[u32; ROW_WIDTH]> for Row {
-    type Error = UnknownCode;
-
-    fn try_from(numbers: [u32; ROW_WIDTH]) -> Result<Self, UnknownCode> {
+impl From<[u32; ROW_WIDTH]> for Row {
+    fn from(numbers: [u32; ROW_WIDTH]) -> Self {
         let [physical, type_length, repetition, kind, p1, p2, parent, end, role, definition_level, repetition_level] =
             numbers;
-        Ok(Row {
-            physical: physical.try_into()?,
-            type_length,
-            repetition: Repetition::of_node(repetition)?,
-            kind: Kind::of(kind, [p1, p2])?,
-            parent: parent as usize,
-            end: end as usize,
-            role: role.try_into()?,
-            definition_level,
-            repetition_level,
-        })
+        Row { physical, type_length, repetition, kind, p1, p2, parent, end, role, definition_level, repetition_level }
     }
 }
 
 /// The rows of a sheet, in listing order; refusal 21, then 1 to 13.
 ///
 /// ```
-/// use griffeljol::{rows, Edition, Kind, Physical, Role};
+/// use griffeljol::{codes, rows, Edition};
 ///
 /// let sheet = std::fs::read("../crates/schema_rows/stdin")?;
-/// let element = rows(Edition::FIRST, &sheet)?[3];
-/// assert_eq!((element.physical, element.kind, element.role), (Physical::ByteArray, Kind::String, Role::Element));
+/// let rows = rows(Edition::FIRST, &sheet)?;
+/// let element = rows[3];
+/// assert_eq!(element.role, codes::role::ELEMENT);
 /// assert_eq!((element.definition_level, element.repetition_level), (2, 1));
+/// assert_eq!(element.column_type().kind, codes::kind::STRING);
 /// # Ok::<(), Box<dyn std::error::Error>>(())
 /// ```
 pub fn rows(edition: Edition, sheet: &[u8]) -> Result<Vec<Row>, Refusal> {
     let mut numbers = vec![[0; ROW_WIDTH]; MAX_NODES];
     let nodes = resolve(edition, sheet, numbers.as_flattened_mut())?;
-    numbers.truncate(nodes);
-    Ok(numbers.into_iter().map(|numbers| numbers.try_into().expect("every code of a row is listed")).collect())
+    numbers.truncate(nodes as usize);
+    Ok(numbers.into_iter().map(Row::from).collect())
 }
 
 /// Judges a sheet and writes it, with both annotations at every node, into the output from the start on; answers how many bytes
@@ -132,10 +121,10 @@ pub fn rows(edition: Edition, sheet: &[u8]) -> Result<Vec<Row>, Refusal> {
 ///
 /// let sheet = std::fs::read("../crates/schema_rows/stdin")?;
 /// let mut out = vec![0; sheet.len()];
-/// assert_eq!(rewrite(Edition::FIRST, &sheet, &mut out, 0)?, sheet.len());
+/// assert_eq!(rewrite(Edition::FIRST, &sheet, &mut out, 0)? as usize, sheet.len());
 /// assert_eq!(rows(Edition::FIRST, &out)?, rows(Edition::FIRST, &sheet)?);
 /// # Ok::<(), Box<dyn std::error::Error>>(())
 /// ```
-pub fn rewrite(edition: Edition, sheet: &[u8], out: &mut [u8], start: usize) -> Result<usize, Refusal> {
+pub fn rewrite(edition: Edition, sheet: &[u8], out: &mut [u8], start: usize) -> Result<u32, Refusal> {
     result(boundary::rewrite(edition.number(), sheet, out, start))
 }

@@ -1,7 +1,6 @@
 //! A node's slot, as document 01 lays it out.
 
 use crate::codes::difference;
-use crate::{Physical, Repetition, UnknownCode};
 
 /// The bytes of a slot.
 pub const SLOT_WIDTH: usize = 72;
@@ -12,10 +11,10 @@ pub const MAX_NAME: usize = SLOT_WIDTH - difference::NAME as usize;
 /// What stands in the slot of a node. Annotations stand as they were written, and not as they resolve.
 #[derive(Clone, Debug, PartialEq, Eq, Hash)]
 pub struct Slot {
-    /// Physical type, or group.
-    pub physical: Physical,
-    /// Its repetition; the root has none.
-    pub repetition: Option<Repetition>,
+    /// Physical type, or group: one of [`crate::codes::physical`].
+    pub physical: u32,
+    /// One of [`crate::codes::repetition`].
+    pub repetition: u32,
     /// One of [`crate::codes::converted`].
     pub converted: u32,
     /// One of [`crate::codes::logical`].
@@ -25,7 +24,7 @@ pub struct Slot {
     /// Its parameter b: 1 for a signed INTEGER and for a TIME or TIMESTAMP that is adjusted to UTC, else 0.
     pub b: u32,
     /// How many children it has.
-    pub child_count: usize,
+    pub child_count: u32,
     /// Type length of a FIXED_LEN_BYTE_ARRAY, else 0.
     pub type_length: i32,
     /// Scale of a DECIMAL, else 0.
@@ -36,16 +35,14 @@ pub struct Slot {
     pub name: Vec<u8>,
 }
 
-impl TryFrom<&[u8; SLOT_WIDTH]> for Slot {
-    type Error = UnknownCode;
-
+impl From<&[u8; SLOT_WIDTH]> for Slot {
     /// Takes a slot apart. A name length that no accepted sheet has ends at the slot's end.
-    fn try_from(bytes: &[u8; SLOT_WIDTH]) -> Result<Self, UnknownCode> {
+    fn from(bytes: &[u8; SLOT_WIDTH]) -> Self {
         let at = |code| &bytes[code as usize..];
         let name = at(difference::NAME);
-        Ok(Slot {
-            physical: byte(at(difference::PHYSICAL)).try_into()?,
-            repetition: Repetition::of_node(byte(at(difference::REPETITION)))?,
+        Slot {
+            physical: byte(at(difference::PHYSICAL)),
+            repetition: byte(at(difference::REPETITION)),
             converted: byte(at(difference::CONVERTED)),
             logical: byte(at(difference::LOGICAL)),
             a: byte(at(difference::A)),
@@ -55,7 +52,7 @@ impl TryFrom<&[u8; SLOT_WIDTH]> for Slot {
             scale: four_bytes(at(difference::SCALE)),
             precision: four_bytes(at(difference::PRECISION)),
             name: name[..MAX_NAME.min(byte(at(difference::NAME_LENGTH)) as usize)].to_vec(),
-        })
+        }
     }
 }
 
@@ -65,7 +62,7 @@ pub(crate) fn byte(content: &[u8]) -> u32 {
 }
 
 /// The number of a field of two bytes.
-pub(crate) fn two_bytes(content: &[u8]) -> usize {
+pub(crate) fn two_bytes(content: &[u8]) -> u32 {
     u16::from_le_bytes([content[0], content[1]]).into()
 }
 

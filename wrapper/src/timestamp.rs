@@ -22,17 +22,18 @@ pub struct Fields {
     pub fraction: i64,
 }
 
-/// The date and time of a count in a [`Unit`](crate::Unit), or in the unit of a number; refusal 20 for the number of none.
+/// The date and time of a count in a unit, one of [`crate::codes::unit`]; refusal 20 for any other unit.
 ///
 /// ```
-/// use griffeljol::{decode, Fields, Unit};
+/// use griffeljol::codes::unit;
+/// use griffeljol::{decode, Fields};
 ///
 /// let fields = Fields { year: 1969, month: 12, day: 31, hour: 23, minute: 59, second: 59, fraction: 999 };
-/// assert_eq!(decode(Unit::Millis, -1), Ok(fields));
+/// assert_eq!(decode(unit::MILLIS, -1), Ok(fields));
 /// ```
-pub fn decode(unit: impl Into<u32>, count: i64) -> Result<Fields, Refusal> {
+pub fn decode(unit: u32, count: i64) -> Result<Fields, Refusal> {
     let mut fields = [0; 7];
-    result(boundary::decode(unit.into(), count, &mut fields))?;
+    result(boundary::decode(unit, count, &mut fields))?;
     let [year, month, day, hour, minute, second, fraction] = fields;
     Ok(Fields { year, month, day, hour, minute, second, fraction })
 }
@@ -41,17 +42,18 @@ pub fn decode(unit: impl Into<u32>, count: i64) -> Result<Fields, Refusal> {
 /// no date or time, then 19 where no count holds it.
 ///
 /// ```
-/// use griffeljol::{encode, Fields, Unit};
+/// use griffeljol::codes::unit;
+/// use griffeljol::{encode, Fields};
 ///
 /// let third = Fields { year: 1970, month: 1, day: 3, hour: 0, minute: 0, second: 0, fraction: 0 };
-/// assert_eq!(encode(Unit::Millis, &third), Ok(172_800_000));
+/// assert_eq!(encode(unit::MILLIS, &third), Ok(172_800_000));
 /// let leap_day = Fields { year: 1900, month: 2, day: 29, ..third };
-/// assert_eq!(encode(Unit::Millis, &leap_day).unwrap_err().number(), 18);
+/// assert_eq!(encode(unit::MILLIS, &leap_day).unwrap_err().number, 18);
 /// ```
-pub fn encode(unit: impl Into<u32>, fields: &Fields) -> Result<i64, Refusal> {
+pub fn encode(unit: u32, fields: &Fields) -> Result<i64, Refusal> {
     let Fields { year, month, day, hour, minute, second, fraction } = *fields;
     let fields = [year, month, day, hour, minute, second, fraction];
     let mut count = [0];
-    result(boundary::encode(unit.into(), &fields, &mut count))?;
+    result(boundary::encode(unit, &fields, &mut count))?;
     Ok(count[0])
 }

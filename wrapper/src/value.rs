@@ -1,12 +1,12 @@
 //! Single values of columns, and their order.
 
 use crate::refusal::{order_result, result};
-use crate::{boundary, codes, Edition, Kind, OrderRefusal, Physical, Refusal};
+use crate::{boundary, codes, Edition, OrderRefusal, Refusal};
 
 /// The most bytes of a value.
 pub const MAX_VALUE: usize = 65_536;
 
-/// A column type, five numbers as a leaf's row has them. Any numbers may be asked; refusal 20 is for those of no leaf.
+/// A column type, five numbers as a leaf's row has them.
 #[derive(Clone, Copy, Debug, PartialEq, Eq, Hash)]
 pub struct ColumnType {
     /// One of [`crate::codes::physical`].
@@ -22,12 +22,6 @@ pub struct ColumnType {
 }
 
 impl ColumnType {
-    /// The column type of a physical type, with the type length of a FIXED_LEN_BYTE_ARRAY and 0 for all others, and a kind.
-    pub const fn new(physical: Physical, type_length: u32, kind: Kind) -> Self {
-        let [p1, p2] = kind.parameters();
-        ColumnType { physical: physical.code(), type_length, kind: kind.code(), p1, p2 }
-    }
-
     /// The numbers in the order of a row.
     fn numbers(self) -> [u32; 5] {
         let ColumnType { physical, type_length, kind, p1, p2 } = self;
@@ -61,18 +55,19 @@ pub enum Value {
 /// whole sequences of UTF-8, read from the start, stop, and 0 for every other value.
 ///
 /// ```
-/// use griffeljol::{read, ColumnType, Edition, Kind, Physical, Reason, Value};
+/// use griffeljol::codes::{kind, physical};
+/// use griffeljol::{read, ColumnType, Edition, Value};
 ///
 /// // INT(8, false) on INT32, little-endian.
-/// let column = ColumnType::new(Physical::Int32, 0, Kind::Integer { bits: 8, signed: false });
+/// let column = ColumnType { physical: physical::INT32, type_length: 0, kind: kind::INTEGER, p1: 8, p2: 0 };
 /// assert_eq!(read(Edition::FIRST, column, &[255, 0, 0, 0]), Ok(Value::Unsigned(255)));
-/// assert_eq!(read(Edition::FIRST, column, &[0, 1, 0, 0]).unwrap_err().reason, Reason::ValueContent);
+/// assert_eq!(read(Edition::FIRST, column, &[0, 1, 0, 0]).unwrap_err().number, 16);
 /// ```
 pub fn read(edition: Edition, column: ColumnType, value: &[u8]) -> Result<Value, Refusal> {
     let mut out = [0; 2];
     let case = result(boundary::read(edition.number(), column.numbers(), value, &mut out))?;
     let [bits, length] = out;
-    Ok(match case as u32 {
+    Ok(match case {
         codes::case::TRUTH => Value::Truth(bits != 0),
         codes::case::SIGNED => Value::Signed(bits as i64),
         codes::case::UNSIGNED => Value::Unsigned(bits),
@@ -100,16 +95,17 @@ pub enum Order {
 /// which value is at fault, and is what [`read`] gives for it.
 ///
 /// ```
-/// use griffeljol::{order, ColumnType, Edition, Kind, Order, Physical};
+/// use griffeljol::codes::{kind, physical};
+/// use griffeljol::{order, ColumnType, Edition, Order};
 ///
-/// // Big-endian two's complement: -128 and 127, -1 and -1.
-/// let column = ColumnType::new(Physical::ByteArray, 0, Kind::Decimal { precision: 3, scale: 0 });
+/// // DECIMAL of precision 3 on BYTE_ARRAY, big-endian two's complement: -128 and 127, -1 and -1.
+/// let column = ColumnType { physical: physical::BYTE_ARRAY, type_length: 0, kind: kind::DECIMAL, p1: 3, p2: 0 };
 /// assert_eq!(order(Edition::FIRST, column, &[0x80], &[0x7F]), Ok(Order::Less));
 /// assert_eq!(order(Edition::FIRST, column, &[0xFF], &[0xFF, 0xFF]), Ok(Order::Equal));
 /// ```
 pub fn order(edition: Edition, column: ColumnType, a: &[u8], b: &[u8]) -> Result<Order, OrderRefusal> {
     let order = order_result(boundary::order(edition.number(), column.numbers(), a, b))?;
-    Ok(match order as u32 {
+    Ok(match order {
         codes::order::LESS => Order::Less,
         codes::order::EQUAL => Order::Equal,
         codes::order::GREATER => Order::Greater,

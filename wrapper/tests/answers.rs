@@ -4,31 +4,23 @@ mod sheets;
 
 use std::fs;
 
-use griffeljol::codes::{converted, kind, logical};
+use griffeljol::codes::{converted, edge_rule, kind, physical, unit};
 use griffeljol::{box_of, decode, encode, from_int96, inside, order, read, resolve, rewrite, rows, to_int96};
-use griffeljol::{
-    BoundingBox, ColumnType, EdgeRule, Edition, Fields, Kind, Order, OrderRefusal, Physical, Reason, Refusal,
-    Repetition, Role, Row, Slot, Unit, Value, ROW_WIDTH,
-};
+use griffeljol::{BoundingBox, ColumnType, Edition, Fields, Order, OrderRefusal, Refusal, Row, Slot, Value, ROW_WIDTH};
 use sheets::{leaf, root, sheet};
 
 fn sample() -> Vec<u8> {
     fs::read("../crates/schema_rows/stdin").expect("the sample sheet")
 }
 
-/// A column type of no length.
-fn column(physical: Physical, kind: Kind) -> ColumnType {
-    ColumnType::new(physical, 0, kind)
-}
-
-/// A refusal by its number.
-fn refusal(number: u8, place: usize) -> Refusal {
-    Refusal { reason: Reason::try_from(number).expect("a refusal"), place }
+/// A column type without parameters.
+fn column(physical: u32, kind: u32) -> ColumnType {
+    ColumnType { physical, type_length: 0, kind, p1: 0, p2: 0 }
 }
 
 /// A refusal without a place.
 fn refused<T>(number: u8) -> Result<T, Refusal> {
-    Err(refusal(number, 0))
+    Err(Refusal { number, place: 0 })
 }
 
 #[test]
@@ -41,18 +33,20 @@ fn rows_are_those_of_resolving() {
     let rows = rows(Edition::FIRST, &sheet).expect("the sample is accepted");
     assert_eq!(rows.iter().flat_map(Row::numbers).collect::<Vec<_>>(), written);
     let last = Row {
-        physical: Physical::ByteArray,
+        physical: 6,
         type_length: 0,
-        repetition: Some(Repetition::Optional),
-        kind: Kind::String,
+        repetition: 1,
+        kind: 1,
+        p1: 0,
+        p2: 0,
         parent: 2,
         end: 4,
-        role: Role::Element,
+        role: 2,
         definition_level: 2,
         repetition_level: 1,
     };
     assert_eq!(rows[3], last);
-    assert_eq!(Row::try_from(last.numbers()), Ok(last));
+    assert_eq!(Row::from(last.numbers()), last);
 }
 
 #[test]
@@ -77,79 +71,67 @@ fn refused_sheets_write_nothing() {
 fn a_refusal_has_its_place() {
     // The check of the first block is right, that of the second is not.
     let sheet = [sample(), vec![1; 512]].concat();
-    assert_eq!(rows(Edition::FIRST, &sheet), Err(refusal(2, 1)));
+    assert_eq!(rows(Edition::FIRST, &sheet), Err(Refusal { number: 2, place: 1 }));
 }
 
 #[test]
 fn each_case_of_a_value() {
-    assert_eq!(read(Edition::FIRST, column(Physical::Boolean, Kind::PlainLeaf), &[1]), Ok(Value::Truth(true)));
-    assert_eq!(read(Edition::FIRST, column(Physical::Boolean, Kind::PlainLeaf), &[0]), Ok(Value::Truth(false)));
+    assert_eq!(read(Edition::FIRST, column(physical::BOOLEAN, 0), &[1]), Ok(Value::Truth(true)));
+    assert_eq!(read(Edition::FIRST, column(physical::BOOLEAN, 0), &[0]), Ok(Value::Truth(false)));
     assert_eq!(
-        read(Edition::FIRST, column(Physical::Int32, Kind::Date), &[0xFE, 0xFF, 0xFF, 0xFF]),
+        read(Edition::FIRST, column(physical::INT32, kind::DATE), &[0xFE, 0xFF, 0xFF, 0xFF]),
         Ok(Value::Signed(-2))
     );
-    assert_eq!(
-        read(Edition::FIRST, column(Physical::Int64, Kind::PlainLeaf), &i64::MIN.to_le_bytes()),
-        Ok(Value::Signed(i64::MIN))
-    );
-    let uint64 = column(Physical::Int64, Kind::Integer { bits: 64, signed: false });
+    assert_eq!(read(Edition::FIRST, column(physical::INT64, 0), &i64::MIN.to_le_bytes()), Ok(Value::Signed(i64::MIN)));
+    let uint64 = ColumnType { p1: 64, ..column(physical::INT64, kind::INTEGER) };
     assert_eq!(read(Edition::FIRST, uint64, &[0xFF; 8]), Ok(Value::Unsigned(u64::MAX)));
-    assert_eq!(
-        read(Edition::FIRST, column(Physical::Float, Kind::PlainLeaf), &(-1.5f32).to_le_bytes()),
-        Ok(Value::Float(-1.5))
-    );
-    assert_eq!(
-        read(Edition::FIRST, column(Physical::Double, Kind::PlainLeaf), &1e300f64.to_le_bytes()),
-        Ok(Value::Double(1e300))
-    );
-    let Ok(Value::Double(nan)) = read(Edition::FIRST, column(Physical::Double, Kind::PlainLeaf), &[0xFF; 8]) else {
+    assert_eq!(read(Edition::FIRST, column(physical::FLOAT, 0), &(-1.5f32).to_le_bytes()), Ok(Value::Float(-1.5)));
+    assert_eq!(read(Edition::FIRST, column(physical::DOUBLE, 0), &1e300f64.to_le_bytes()), Ok(Value::Double(1e300)));
+    let Ok(Value::Double(nan)) = read(Edition::FIRST, column(physical::DOUBLE, 0), &[0xFF; 8]) else {
         panic!("a DOUBLE")
     };
     assert_eq!(nan.to_bits(), 0x7FF8_0000_0000_0000);
+    assert_eq!(read(Edition::FIRST, column(physical::INT96, 0), &[0; 12]), Ok(Value::Bytes { start: 0, length: 12 }));
     assert_eq!(
-        read(Edition::FIRST, column(Physical::Int96, Kind::PlainLeaf), &[0; 12]),
-        Ok(Value::Bytes { start: 0, length: 12 })
-    );
-    assert_eq!(
-        read(Edition::FIRST, column(Physical::ByteArray, Kind::String), b""),
+        read(Edition::FIRST, column(physical::BYTE_ARRAY, kind::STRING), b""),
         Ok(Value::Bytes { start: 0, length: 0 })
     );
-    assert_eq!(read(Edition::FIRST, column(Physical::Int32, Kind::PlainLeaf), &[0; 3]), refused(15));
-    assert_eq!(read(Edition::FIRST, column(Physical::ByteArray, Kind::String), &[0xFF]), refused(16));
-    assert_eq!(read(Edition::FIRST, column(Physical::Group, Kind::PlainGroup), &[]), refused(20));
+    assert_eq!(read(Edition::FIRST, column(physical::INT32, 0), &[0; 3]), refused(15));
+    assert_eq!(read(Edition::FIRST, column(physical::BYTE_ARRAY, kind::STRING), &[0xFF]), refused(16));
+    assert_eq!(read(Edition::FIRST, column(physical::GROUP, kind::PLAIN_GROUP), &[]), refused(20));
 }
 
 #[test]
 fn text_is_refused_at_its_byte() {
-    for kind in [Kind::String, Kind::Enum, Kind::Json] {
-        let text = column(Physical::ByteArray, kind);
-        assert_eq!(read(Edition::FIRST, text, b"key \xE2\x82"), Err(refusal(16, 4)));
+    for kind in [kind::STRING, kind::ENUM, kind::JSON] {
+        let text = column(physical::BYTE_ARRAY, kind);
+        assert_eq!(read(Edition::FIRST, text, b"key \xE2\x82"), Err(Refusal { number: 16, place: 4 }));
         let mut long = [b'a'; 65_536];
         long[65_535] = 0x80;
-        assert_eq!(read(Edition::FIRST, text, &long), Err(refusal(16, 65_535)));
+        assert_eq!(read(Edition::FIRST, text, &long), Err(Refusal { number: 16, place: 65_535 }));
     }
-    let decimal = column(Physical::ByteArray, Kind::Decimal { precision: 2, scale: 0 });
+    let decimal = ColumnType { p1: 2, ..column(physical::BYTE_ARRAY, kind::DECIMAL) };
     assert_eq!(read(Edition::FIRST, decimal, &[0, 0x64]), refused(16));
 }
 
 #[test]
 fn each_answer_of_an_order() {
-    let double = column(Physical::Double, Kind::PlainLeaf);
+    let double = column(physical::DOUBLE, 0);
     let ordered = |a: f64, b: f64| order(Edition::FIRST, double, &a.to_le_bytes(), &b.to_le_bytes());
     assert_eq!(ordered(-1.0, 1.0), Ok(Order::Less));
     assert_eq!(ordered(-0.0, 0.0), Ok(Order::Equal));
     assert_eq!(ordered(f64::INFINITY, 1.0), Ok(Order::Greater));
     assert_eq!(ordered(f64::NAN, 1.0), Ok(Order::Unordered));
-    let refused = |number, place, value| Err(OrderRefusal { refusal: refusal(number, place), value });
-    assert_eq!(order(Edition::FIRST, column(Physical::Group, Kind::PlainLeaf), &[], &[]), refused(20, 0, 0));
-    assert_eq!(order(Edition::FIRST, column(Physical::Int96, Kind::PlainLeaf), &[], &[]), refused(17, 0, 0));
+    let refused = |number, place, value| Err(OrderRefusal { refusal: Refusal { number, place }, value });
+    assert_eq!(order(Edition::FIRST, column(physical::GROUP, 0), &[], &[]), refused(20, 0, 0));
+    assert_eq!(order(Edition::FIRST, column(physical::INT96, 0), &[], &[]), refused(17, 0, 0));
     assert_eq!(order(Edition::FIRST, double, &[], &[0; 8]), refused(15, 0, 1));
     assert_eq!(order(Edition::FIRST, double, &[0; 8], &[]), refused(15, 0, 2));
-    let text = column(Physical::ByteArray, Kind::String);
+    let text = column(physical::BYTE_ARRAY, kind::STRING);
     assert_eq!(order(Edition::FIRST, text, b"a\xFF", b"ab"), refused(16, 1, 1));
     assert_eq!(order(Edition::FIRST, text, b"ab", b"a\xFF"), refused(16, 1, 2));
     assert_eq!(order(Edition::FIRST, text, b"ab\xFF", b"a\xFF"), refused(16, 2, 1));
-    let decimal = column(Physical::ByteArray, Kind::Decimal { precision: 2, scale: 0 });
+    let decimal = ColumnType { p1: 2, ..column(physical::BYTE_ARRAY, kind::DECIMAL) };
     assert_eq!(order(Edition::FIRST, decimal, &[0x63], &[0x64]), refused(16, 0, 2));
     assert_eq!(order(Edition::FIRST, decimal, &[0x64], &[]), refused(16, 0, 1));
     assert_eq!(order(Edition::FIRST, decimal, &[0x63], &[]), refused(15, 0, 2));
@@ -157,32 +139,32 @@ fn each_answer_of_an_order() {
 
 #[test]
 fn timestamps_there_and_back() {
-    for unit in [Unit::Millis, Unit::Micros, Unit::Nanos] {
+    for unit in [unit::MILLIS, unit::MICROS, unit::NANOS] {
         for count in [i64::MIN, -1, 0, 951_782_400_000, i64::MAX] {
             let fields = decode(unit, count).expect("every count decodes");
             assert_eq!(encode(unit, &fields), Ok(count));
         }
     }
     let fields = Fields { year: i64::MAX, month: 1, day: 1, hour: 0, minute: 0, second: 0, fraction: 0 };
-    assert_eq!(encode(Unit::Nanos, &fields), refused(19));
-    assert_eq!(encode(Unit::Nanos, &Fields { month: 13, ..fields }), refused(18));
-    assert_eq!(encode(4_u32, &Fields { month: 13, ..fields }), refused(20));
-    assert_eq!(decode(0_u32, 0), refused(20));
+    assert_eq!(encode(unit::NANOS, &fields), refused(19));
+    assert_eq!(encode(unit::NANOS, &Fields { month: 13, ..fields }), refused(18));
+    assert_eq!(encode(4, &Fields { month: 13, ..fields }), refused(20));
+    assert_eq!(decode(0, 0), refused(20));
 }
 
 /// A root with one required leaf, a DECIMAL of precision 3 and this scale on INT32.
 fn decimal_sheet(scale: i32) -> Vec<u8> {
-    sheet(&[root("r", 1), Slot { logical: logical::DECIMAL, scale, precision: 3, ..leaf("n", Physical::Int32) }])
+    sheet(&[root("r", 1), Slot { logical: kind::DECIMAL, scale, precision: 3, ..leaf("n", physical::INT32) }])
 }
 
 #[test]
 fn the_second_and_the_third_edition_let_the_scale_equal_the_precision() {
     let sheet = decimal_sheet(3);
-    assert_eq!(rows(Edition::FIRST, &sheet), Err(refusal(11, 1)));
+    assert_eq!(rows(Edition::FIRST, &sheet), Err(Refusal { number: 11, place: 1 }));
     let accepted = rows(Edition::SECOND, &sheet).expect("the second edition accepts it");
-    assert_eq!(accepted[1].kind, Kind::Decimal { precision: 3, scale: 3 });
+    assert_eq!((accepted[1].p1, accepted[1].p2), (3, 3));
     let mut out = [7; 512];
-    assert_eq!(rewrite(Edition::FIRST, &sheet, &mut out, 0), Err(refusal(11, 1)));
+    assert_eq!(rewrite(Edition::FIRST, &sheet, &mut out, 0), Err(Refusal { number: 11, place: 1 }));
     assert_eq!(out, [7; 512]);
     assert_eq!(rewrite(Edition::SECOND, &sheet, &mut out, 0), Ok(512));
     assert_eq!(rows(Edition::SECOND, &out).as_ref(), Ok(&accepted));
@@ -190,9 +172,9 @@ fn the_second_and_the_third_edition_let_the_scale_equal_the_precision() {
     let lower = decimal_sheet(2);
     assert_eq!(rows(Edition::SECOND, &lower), rows(Edition::FIRST, &lower));
     for edition in [Edition::FIRST, Edition::SECOND, Edition::THIRD] {
-        assert_eq!(rows(edition, &decimal_sheet(4)), Err(refusal(11, 1)));
+        assert_eq!(rows(edition, &decimal_sheet(4)), Err(Refusal { number: 11, place: 1 }));
     }
-    let fraction = column(Physical::Int32, Kind::Decimal { precision: 2, scale: 2 });
+    let fraction = ColumnType { p1: 2, p2: 2, ..column(physical::INT32, kind::DECIMAL) };
     assert_eq!(read(Edition::FIRST, fraction, &[99, 0, 0, 0]), refused(20));
     assert_eq!(read(Edition::SECOND, fraction, &[99, 0, 0, 0]), Ok(Value::Signed(99)));
     assert_eq!(read(Edition::THIRD, fraction, &[99, 0, 0, 0]), Ok(Value::Signed(99)));
@@ -202,15 +184,15 @@ fn the_second_and_the_third_edition_let_the_scale_equal_the_precision() {
 
 #[test]
 fn the_third_edition_has_no_int96() {
-    let refusal = Err(refusal(10, 1));
-    for (logical, kind) in [(logical::NONE, Kind::PlainLeaf), (logical::UNKNOWN, Kind::Unknown)] {
-        let sheet = sheet(&[root("r", 1), Slot { logical, ..leaf("t", Physical::Int96) }]);
-        assert_eq!(rows(Edition::SECOND, &sheet).map(|rows| rows[1].physical), Ok(Physical::Int96));
+    let refusal = Err(Refusal { number: 10, place: 1 });
+    for logical in [kind::PLAIN_LEAF, kind::UNKNOWN] {
+        let sheet = sheet(&[root("r", 1), Slot { logical, ..leaf("t", physical::INT96) }]);
+        assert_eq!(rows(Edition::SECOND, &sheet).map(|rows| rows[1].physical), Ok(physical::INT96));
         assert_eq!(rows(Edition::THIRD, &sheet), refusal.map(|()| Vec::new()));
         let mut out = [7; 512];
         assert_eq!(rewrite(Edition::THIRD, &sheet, &mut out, 0), refusal.map(|()| 0));
         assert_eq!(out, [7; 512]);
-        let int96 = column(Physical::Int96, kind);
+        let int96 = column(physical::INT96, logical);
         assert_eq!(read(Edition::THIRD, int96, &[0; 12]), refused(20));
         assert_eq!(order(Edition::THIRD, int96, &[], &[]).map_err(|refused| refused.refusal), refused(20));
     }
@@ -239,27 +221,28 @@ fn int96_times_there_and_back() {
 
 #[test]
 fn the_third_edition_has_geometry_and_geography() {
-    let edge_rules = [EdgeRule::Spherical, EdgeRule::Vincenty, EdgeRule::Thomas, EdgeRule::Andoyer, EdgeRule::Karney];
-    for kind in edge_rules.map(Kind::Geography).into_iter().chain([Kind::Geometry]) {
-        let [a, b] = kind.parameters();
-        let slot = Slot { logical: kind.code(), a, b, ..leaf("p", Physical::ByteArray) };
+    let edge_rules =
+        [edge_rule::SPHERICAL, edge_rule::VINCENTY, edge_rule::THOMAS, edge_rule::ANDOYER, edge_rule::KARNEY];
+    let of_geography = edge_rules.map(|a| (kind::GEOGRAPHY, a));
+    for (logical, a) in of_geography.into_iter().chain([(kind::GEOMETRY, 0)]) {
+        let slot = Slot { logical, a, ..leaf("p", physical::BYTE_ARRAY) };
         let bytes = sheet(&[root("r", 1), slot.clone()]);
         for edition in [Edition::FIRST, Edition::SECOND] {
-            assert_eq!(rows(edition, &bytes), Err(refusal(4, 1)));
-            assert_eq!(read(edition, column(Physical::ByteArray, kind), b""), refused(20));
+            assert_eq!(rows(edition, &bytes), Err(Refusal { number: 4, place: 1 }));
+            assert_eq!(read(edition, column(physical::BYTE_ARRAY, logical), b""), refused(20));
         }
         let row = rows(Edition::THIRD, &bytes).expect("the third edition accepts it")[1];
-        assert_eq!(row.kind, kind);
+        assert_eq!((row.kind, row.p1, row.p2), (logical, a, 0));
         let mut out = [7; 512];
         assert_eq!(rewrite(Edition::THIRD, &bytes, &mut out, 0), Ok(512));
         assert_eq!(out[..], bytes);
-        let points = column(Physical::ByteArray, kind);
+        let points = ColumnType { p1: a, ..column(physical::BYTE_ARRAY, logical) };
         assert_eq!(read(Edition::THIRD, points, b"\xFF"), Ok(Value::Bytes { start: 0, length: 1 }));
         assert_eq!(order(Edition::THIRD, points, b"a", b"b").map_err(|refused| refused.refusal), refused(17));
         let beside = sheet(&[root("r", 1), Slot { converted: converted::UTF8, ..slot.clone() }]);
-        assert_eq!(rows(Edition::THIRD, &beside), Err(refusal(9, 1)));
+        assert_eq!(rows(Edition::THIRD, &beside), Err(Refusal { number: 9, place: 1 }));
         let another = sheet(&[root("r", 1), Slot { a: 5, ..slot }]);
-        assert_eq!(rows(Edition::THIRD, &another), Err(refusal(10, 1)));
+        assert_eq!(rows(Edition::THIRD, &another), Err(Refusal { number: 10, place: 1 }));
     }
 }
 
@@ -305,13 +288,9 @@ fn an_unknown_edition_comes_first_and_writes_nothing() {
             assert_eq!(rows(edition, bytes), refused(21));
         }
         assert_eq!((numbers, out), ([7; 4 * ROW_WIDTH], [7; 512]));
-        for given in [
-            column(Physical::Boolean, Kind::PlainLeaf),
-            column(Physical::Group, Kind::PlainLeaf),
-            column(Physical::Int96, Kind::PlainLeaf),
-        ] {
+        for given in [column(physical::BOOLEAN, 0), column(physical::GROUP, 0), column(physical::INT96, 0)] {
             assert_eq!(read(edition, given, &[1]), refused(21));
-            let unknown = OrderRefusal { refusal: refusal(21, 0), value: 0 };
+            let unknown = OrderRefusal { refusal: Refusal { number: 21, place: 0 }, value: 0 };
             assert_eq!(order(edition, given, &[1], &[2]), Err(unknown));
             assert_eq!(unknown.to_string(), "refused 21 at 0");
         }

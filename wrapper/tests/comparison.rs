@@ -2,17 +2,16 @@
 
 mod sheets;
 
-use griffeljol::codes::{converted, difference, logical, unit};
+use griffeljol::codes::{converted, difference, kind, logical, physical, repetition, unit};
 use griffeljol::{compare, differences, rows};
 use griffeljol::{
-    CompareRefusal, Difference, Edition, Field, Physical, Reason, Refusal, Repetition, Sides, Slot, ENTRY_WIDTH,
-    MAX_ENTRIES, MAX_NAME,
+    CompareRefusal, Difference, Edition, Field, Refusal, Sides, Slot, ENTRY_WIDTH, MAX_ENTRIES, MAX_NAME,
 };
 use sheets::{leaf, root, sheet};
 
 /// A required group of so many children.
-fn group(name: &str, child_count: usize) -> Slot {
-    Slot { child_count, ..leaf(name, Physical::Group) }
+fn group(name: &str, child_count: u32) -> Slot {
+    Slot { child_count, ..leaf(name, physical::GROUP) }
 }
 
 /// What stands in each of two sheets.
@@ -34,15 +33,14 @@ fn fields(first: Slot, second: Slot) -> Vec<Field> {
     found(&[root("r", 1), first], &[root("r", 1), second]).into_iter().map(field).collect()
 }
 
-fn refused<T>(sheet: u8, number: u8, place: usize) -> Result<T, CompareRefusal> {
-    let refusal = Refusal { reason: Reason::try_from(number).expect("a refusal"), place };
-    Err(CompareRefusal { refusal, sheet })
+fn refused<T>(sheet: u8, number: u8, place: u32) -> Result<T, CompareRefusal> {
+    Err(CompareRefusal { refusal: Refusal { number, place }, sheet })
 }
 
 #[test]
 fn a_sheet_does_not_differ_from_itself() {
     let slots =
-        [root("r", 3), group("g", 1)].into_iter().chain(["x", "x", "x"].map(|name| leaf(name, Physical::Int32)));
+        [root("r", 3), group("g", 1)].into_iter().chain(["x", "x", "x"].map(|name| leaf(name, physical::INT32)));
     let slots: Vec<Slot> = slots.collect();
     assert_eq!(found(&slots, &slots), []);
     let mut out = [7; 3];
@@ -57,12 +55,12 @@ fn each_field() {
         Slot { scale, precision, ..annotated }
     };
     let fixed =
-        Slot { repetition: Some(Repetition::Optional), type_length: 300, ..leaf("x", Physical::FixedLenByteArray) };
+        Slot { repetition: repetition::OPTIONAL, type_length: 300, ..leaf("x", physical::FIXED_LEN_BYTE_ARRAY) };
     assert_eq!(
-        fields(decimal(Physical::Int32, 1, 9), fixed),
+        fields(decimal(physical::INT32, 1, 9), fixed),
         [
-            Field::Physical(sides(Physical::Int32, Physical::FixedLenByteArray)),
-            Field::Repetition(sides(Repetition::Required, Repetition::Optional).map(Some)),
+            Field::Physical(sides(physical::INT32, physical::FIXED_LEN_BYTE_ARRAY)),
+            Field::Repetition(sides(repetition::REQUIRED, repetition::OPTIONAL)),
             Field::Converted(sides(converted::DECIMAL, converted::NONE)),
             Field::Logical(sides(logical::DECIMAL, logical::NONE)),
             Field::TypeLength(sides(0, 300)),
@@ -70,10 +68,10 @@ fn each_field() {
             Field::Precision(sides(9, 0)),
         ]
     );
-    let precise = |precision| decimal(Physical::ByteArray, 0, precision);
+    let precise = |precision| decimal(physical::BYTE_ARRAY, 0, precision);
     assert_eq!(fields(precise(1), precise(i32::MAX)), [Field::Precision(sides(1, i32::MAX))]);
-    let integer = Slot { logical: logical::INTEGER, a: 64, b: 1, ..leaf("x", Physical::Int64) };
-    let timestamp = Slot { logical: logical::TIMESTAMP, a: unit::NANOS, b: 0, ..leaf("x", Physical::Int64) };
+    let integer = Slot { logical: logical::INTEGER, a: 64, b: 1, ..leaf("x", physical::INT64) };
+    let timestamp = Slot { logical: logical::TIMESTAMP, a: unit::NANOS, b: 0, ..leaf("x", physical::INT64) };
     assert_eq!(
         fields(integer, timestamp),
         [
@@ -103,10 +101,10 @@ fn names_of_roots() {
 
 #[test]
 fn nodes_of_one_sheet_and_places() {
-    let kept = || leaf("kept", Physical::Boolean);
-    let first = [root("r", 2), kept(), group("gone", 1), leaf("below", Physical::Float)];
-    let came = Slot { logical: logical::STRING, name: b"\xFFcame".to_vec(), ..leaf("", Physical::ByteArray) };
-    let second = [root("r", 3), came.clone(), leaf("new", Physical::Int96), kept()];
+    let kept = || leaf("kept", physical::BOOLEAN);
+    let first = [root("r", 2), kept(), group("gone", 1), leaf("below", physical::FLOAT)];
+    let came = Slot { logical: kind::STRING, name: b"\xFFcame".to_vec(), ..leaf("", physical::BYTE_ARRAY) };
+    let second = [root("r", 3), came.clone(), leaf("new", physical::INT96), kept()];
     let found = found(&first, &second);
     assert_eq!(
         found,
@@ -135,13 +133,13 @@ fn nodes_of_one_sheet_and_places() {
 fn the_longest_sheets() {
     let many = |name: &str| {
         let mut slots = vec![root("r", 895)];
-        slots.resize(896, leaf(name, Physical::Int32));
+        slots.resize(896, leaf(name, physical::INT32));
         slots
     };
     let found = found(&many("x"), &many("y"));
     assert_eq!(found.len(), 2 * 895);
-    assert_eq!(found[894], Difference::OnlyFirst { node: 895, slot: leaf("x", Physical::Int32) });
-    assert_eq!(found[895], Difference::OnlySecond { node: 1, slot: leaf("y", Physical::Int32) });
+    assert_eq!(found[894], Difference::OnlyFirst { node: 895, slot: leaf("x", physical::INT32) });
+    assert_eq!(found[895], Difference::OnlySecond { node: 1, slot: leaf("y", physical::INT32) });
     assert!(found.len() <= MAX_ENTRIES);
 }
 
@@ -150,7 +148,7 @@ fn refused_comparisons_write_nothing() {
     let (one, two) = (sheet(&[root("r", 0)]), sheet(&[root("s", 0)]));
     let mut wrong = one.clone();
     wrong[100] = 1;
-    let shapeless = sheet(&[root("r", 1), Slot { type_length: 1, ..leaf("x", Physical::Int32) }]);
+    let shapeless = sheet(&[root("r", 1), Slot { type_length: 1, ..leaf("x", physical::INT32) }]);
     let mut out = [7; ENTRY_WIDTH + 1];
     assert_eq!(compare(Edition::FIRST, &wrong, &shapeless, &mut out), refused(1, 2, 0));
     assert_eq!(compare(Edition::FIRST, &shapeless, &wrong, &mut out), refused(1, 8, 1));
@@ -180,13 +178,13 @@ fn a_refusal_says_which_sheet() {
 #[test]
 fn one_edition_judges_both() {
     let decimal = |scale| {
-        let leaf = Slot { logical: logical::DECIMAL, scale, precision: 3, ..leaf("fee", Physical::Int32) };
+        let leaf = Slot { logical: logical::DECIMAL, scale, precision: 3, ..leaf("fee", physical::INT32) };
         sheet(&[root("r", 1), leaf])
     };
     assert_eq!(differences(Edition::FIRST, &decimal(2), &decimal(3)), refused(2, 11, 1));
     let scale = Difference::Field { node: 1, field: Field::Scale(sides(2, 3)) };
     assert_eq!(differences(Edition::SECOND, &decimal(2), &decimal(3)), Ok(vec![scale]));
-    let int96 = sheet(&[root("r", 1), leaf("fee", Physical::Int96)]);
+    let int96 = sheet(&[root("r", 1), leaf("fee", physical::INT96)]);
     assert_eq!(differences(Edition::SECOND, &int96, &int96), Ok(Vec::new()));
     assert_eq!(differences(Edition::THIRD, &int96, &decimal(2)), refused(1, 10, 1));
     assert_eq!(differences(Edition::THIRD, &decimal(2), &int96), refused(2, 10, 1));

@@ -34,7 +34,7 @@ fn rows_of_a_list_whose_one_field_repeats() {
 }
 
 /// A schema with each kind and each role.
-pub fn every_kind() -> Vec<Node> {
+fn every_kind() -> Vec<Node> {
     let leaf = |name, physical| Node::leaf(name, physical, OPTIONAL);
     vec![
         Node::root(22),
@@ -73,7 +73,7 @@ pub fn every_kind() -> Vec<Node> {
 }
 
 /// A schema with GEOMETRY and each edge rule of GEOGRAPHY.
-pub fn every_place() -> Vec<Node> {
+fn every_place() -> Vec<Node> {
     let leaf = |name, logical, a| Node::leaf(name, BYTE_ARRAY, OPTIONAL).logical(logical, a, 0);
     let mut nodes = vec![Node::root(6), leaf("shape", 17, 0)];
     nodes.extend(["s", "v", "t", "a", "k"].into_iter().zip(0..).map(|(name, edge_rule)| leaf(name, 18, edge_rule)));
@@ -105,8 +105,8 @@ node  level  name      type        annotation            repetition  role
 
 #[test]
 fn values_of_geospatial_columns() {
-    prints("value 6 0 17 0 0 --edition 3 --hex FF80", b"", "ff80\n");
-    prints("value 6 0 18 4 0 --edition 3 -", b"", "(empty)\n");
+    prints("value 6 0 17 0 0 --edition 3 --hex FF80", b"", "bytes 0 2\n");
+    prints("value 6 0 18 4 0 --edition 3 -", b"", "bytes 0 0\n");
     for line in [
         "value 6 0 17 0 0 --edition 2 --hex FF",
         "value 6 0 18 5 0 --edition 3 --hex FF",
@@ -159,25 +159,20 @@ fn values() {
     prints("value 1 0 0 0 0 --hex FFFFFFFF", b"", "-1\n");
     prints("value 1 0 10 8 0 --hex fF000000", b"", "255\n");
     prints("value 2 0 10 64 0 --hex FFFFFFFFFFFFFFFF", b"", "18446744073709551615\n");
-    prints("value 4 0 0 0 0 -", &1.5f32.to_le_bytes(), "1.5\n");
-    prints("value 5 0 0 0 0 -", &(-0.0f64).to_le_bytes(), "-0.0\n");
-    prints("value 5 0 0 0 0 -", &f64::NAN.to_le_bytes(), "NaN\n");
-    prints("value 6 0 1 0 0 -", "\u{e4}".as_bytes(), "\"\u{e4}\"\n");
-    prints("value 6 0 1 0 0 -", b"", "\"\"\n");
-    prints("value 7 16 14 0 0 --hex 00112233445566778899aabbccddeeff", b"", "00112233-4455-6677-8899-aabbccddeeff\n");
-    assert_eq!(text(&run(["value", "6", "0", "0", "0", "0", "--hex", ""]).stdout), "(empty)\n");
+    prints("value 4 0 0 0 0 -", &1.5f32.to_le_bytes(), "float 1.5\n");
+    prints("value 5 0 0 0 0 -", &(-0.0f64).to_le_bytes(), "double -0.0\n");
+    prints("value 5 0 0 0 0 -", &f64::NAN.to_le_bytes(), "double NaN\n");
+    prints("value 6 0 1 0 0 -", "\u{e4}".as_bytes(), "bytes 0 2\n");
+    prints("value 6 0 1 0 0 -", b"", "bytes 0 0\n");
+    prints("value 7 16 14 0 0 --hex 00112233445566778899aabbccddeeff", b"", "bytes 0 16\n");
+    assert_eq!(text(&run(["value", "6", "0", "0", "0", "0", "--hex", ""]).stdout), "bytes 0 0\n");
     let line = format!("value 6 0 0 0 0 {SAMPLE}");
-    let hexadecimal: String = sample().iter().map(|byte| format!("{byte:02x}")).collect();
-    prints(&line, b"", &format!("{hexadecimal}\n"));
-    prints(
-        "value --json 1 0 0 0 0 --hex FFFFFFFF",
-        b"",
-        "{\"case\": \"signed\", \"value\": -1, \"shown\": \"-1\", \"stored\": null}\n",
-    );
+    prints(&line, b"", "bytes 0 512\n");
+    prints("value --json 1 0 0 0 0 --hex FFFFFFFF", b"", "{\"case\": \"signed\", \"value\": -1}\n");
     prints(
         "value 4 0 0 0 0 --hex 0000C0FF --json",
         b"",
-        "{\"case\": \"float\", \"value\": null, \"bits\": \"7fc00000\", \"shown\": \"NaN\", \"stored\": null}\n",
+        "{\"case\": \"float\", \"value\": null, \"bits\": \"7fc00000\"}\n",
     );
 }
 
@@ -185,7 +180,7 @@ fn values() {
 fn editions() {
     for edition in ["1", "2", "3"] {
         prints(&format!("rows - --edition {edition}"), &sample(), SAMPLE_ROWS);
-        prints(&format!("value --edition {edition} 1 0 5 2 1 --hex 63000000"), b"", "9.9 (99)\n");
+        prints(&format!("value --edition {edition} 1 0 5 2 1 --hex 63000000"), b"", "99\n");
     }
     let fraction = sheet(&[Node::root(1), Node::leaf("fee", INT32, REQUIRED).decimal(3, 3)]);
     for edition in ["2", "3"] {
@@ -197,12 +192,8 @@ fn editions() {
     let rewritten = run_on(&["rewrite", "-", "-o", "-", "--edition", "2"], &fraction);
     assert_eq!((rewritten.stdout.len(), rewritten.status.code()), (512, Some(0)));
     prints("rows - --edition 2", &rewritten.stdout, "nodes 2\n255 0 255 30 0 0 0 2 0 0 0\n1 0 0 5 3 3 0 2 0 0 0\n");
-    prints("value 6 0 5 2 2 --hex 63 --edition 2", b"", "0.99 (99)\n");
-    prints(
-        "value 1 0 5 2 2 --hex 63000000 --edition 2 --json",
-        b"",
-        "{\"case\": \"signed\", \"value\": 99, \"shown\": \"0.99\", \"stored\": \"99\"}\n",
-    );
+    prints("value 6 0 5 2 2 --hex 63 --edition 2", b"", "bytes 0 1\n");
+    prints("value 1 0 5 2 2 --hex 63000000 --edition 2 --json", b"", "{\"case\": \"signed\", \"value\": 99}\n");
 }
 
 #[test]
@@ -222,4 +213,21 @@ fn timestamps() {
         "{\"unit\": 1, \"count\": -1, \"year\": 1969, \"month\": 12, \"day\": 31, \"hour\": 23, \"minute\": 59, \
          \"second\": 59, \"fraction\": 999}\n",
     );
+}
+
+#[test]
+fn help_of_each_part() {
+    let all = run(["--help"]);
+    assert_eq!(all.status.code(), Some(0));
+    for part in ["rows", "rewrite", "tree", "compare", "value", "timestamp", "int96"] {
+        let output = run([part, "--help"]);
+        assert!(text(&output.stdout).starts_with(&format!("griffeljol {part} ")), "{part}");
+        assert_eq!(text(&output.stderr), "");
+        assert_eq!(output.status.code(), Some(0));
+        assert_eq!(run([part, "wrong", "-h", "words"]).stdout, output.stdout);
+        assert!(text(&all.stdout).contains(&format!("  griffeljol {part} ")), "{part}");
+        let takes_edition = !["timestamp", "int96"].contains(&part);
+        assert_eq!(text(&output.stdout).contains("\n  --edition N "), takes_edition, "{part}");
+    }
+    assert_eq!(run(["-h"]).stdout, all.stdout);
 }

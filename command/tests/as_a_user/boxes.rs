@@ -91,7 +91,7 @@ fn lines_that_are_no_pair_are_told_with_their_number() {
         ("1 2\n1e999 2\n", 2),
         ("1 2\n# a word\n", 2),
         ("1 2\n\u{a0}1 2\n", 2),
-        ("1 \x002\n", 1),
+        ("1 \02\n", 1),
         (&long, 1),
         (&blank, 1),
     ] {
@@ -126,7 +126,7 @@ fn refused_points() {
         refused(&run_on(&["box", kind, "-"], b"500 1\n"), "refused 20 at 0", NO_KIND);
     }
     let output = run_on(&["box", "18", "-", "--json"], b"180.5 0\n");
-    let object = format!("{{\"refused\": 16, \"at\": 0, \"meaning\": \"{FAR}\", \"place\": null, \"path\": null}}\n");
+    let object = format!("{{\"refused\": 16, \"at\": 0, \"meaning\": \"{FAR}\", \"place\": null}}\n");
     assert_eq!((text(&output.stdout), output.status.code()), (&*object, Some(1)));
 }
 
@@ -201,7 +201,6 @@ fn refused_boxes_and_points() {
         refused(&run(["inside", kind, "nan,1,1,0", "500,0"]), "refused 20 at 0", NO_KIND);
     }
     let output = run(["inside", "18", "0,1,0,1", "200,0", "--json"]);
-    let object =
-        format!("{{\"refused\": 16, \"at\": 0, \"meaning\": \"{NO_BOX}\", \"place\": null, \"path\": null}}\n");
+    let object = format!("{{\"refused\": 16, \"at\": 0, \"meaning\": \"{NO_BOX}\", \"place\": null}}\n");
     assert_eq!((text(&output.stdout), output.status.code()), (&*object, Some(1)));
 }

@@ -292,7 +292,7 @@ fn the_file_that_is_refused() {
     let (sound, empty) = (sample(), Vec::new());
     let shapeless = sheet(&[Node::root(1), Node { type_length: 1, ..Node::leaf("x", INT32, REQUIRED) }]);
     let length = "sheet length 0, not a multiple of 512, or over 65,536";
-    let shape = "shape, at node 1, x";
+    let shape = "shape; place 1 is the node";
     for options in [&[][..], &["--report"], &["--edition", "2"]] {
         let tried = |a: &[u8], b: &[u8]| compare(&files("the_file_that_is_refused", a, b), options);
         refused(&tried(&shapeless, &sound), "refused 8 at 1", &format!("A, \"a\": {shape}"));
@@ -305,7 +305,7 @@ fn the_file_that_is_refused() {
     refused(&run(["compare", "/dev/zero", SAMPLE]), "refused 1 at 0", &format!("A, \"/dev/zero\": {length}"));
     let output = compare(&files("the_file_that_is_refused", &sound, &shapeless), &["--json"]);
     assert_eq!(text(&output.stderr), format!("refused 8 at 1\nB, \"b\": {shape}\n"));
-    let object = "{\"refused\": 8, \"at\": 1, \"meaning\": \"shape\", \"place\": \"the node\", \"path\": \"x\", \"sheet\": \"B\", \"file\": \"b\"}\n";
+    let object = "{\"refused\": 8, \"at\": 1, \"meaning\": \"shape\", \"place\": \"the node\", \"sheet\": \"B\", \"file\": \"b\"}\n";
     assert_eq!(text(&output.stdout), object);
     assert_eq!(output.status.code(), Some(1));
 }
@@ -314,7 +314,7 @@ fn the_file_that_is_refused() {
 fn editions_of_both_sheets() {
     let decimal = |scale| sheet(&root_of(&[Node::leaf("fee", INT32, REQUIRED).decimal(3, scale)]));
     let folder = files("editions_of_both_sheets", &decimal(2), &decimal(3));
-    refused(&compare(&folder, &[]), "refused 11 at 1", "B, \"b\": DECIMAL scale or precision, at node 1, fee");
+    refused(&compare(&folder, &[]), "refused 11 at 1", "B, \"b\": DECIMAL scale or precision; place 1 is the node");
     for edition in ["2", "3"] {
         told(&compare(&folder, &["--edition", edition]), "fee: scale 3, was 2\n1 difference\n");
     }
@@ -323,7 +323,7 @@ fn editions_of_both_sheets() {
     }
     refused(&run(["compare", "/dev/null", "/dev/null", "--edition", "4"]), "refused 21 at 0", "edition unknown");
     let output = compare(&folder, &["--edition", "4", "--json"]);
-    let object = "{\"refused\": 21, \"at\": 0, \"meaning\": \"edition unknown\", \"place\": null, \"path\": null}\n";
+    let object = "{\"refused\": 21, \"at\": 0, \"meaning\": \"edition unknown\", \"place\": null}\n";
     assert_eq!(text(&output.stdout), object);
     assert_eq!(output.status.code(), Some(1));
 }
@@ -345,7 +345,7 @@ new: only in B, required BYTE_ARRAY GEOGRAPHY(ANDOYER)
 ";
     told(&compare(&folder, &["--edition", "3"]), lines);
     let meaning = "slot code outside the lists, name length or zero bytes wrong, unused slot not zero";
-    let words = format!("A, \"a\": {meaning}, at node 1, at");
+    let words = format!("A, \"a\": {meaning}; place 1 is the first such node");
     refused(&compare(&folder, &["--edition", "2"]), "refused 4 at 1", &words);
 }
 

@@ -52,12 +52,10 @@ fn one_time_that_is_refused() {
     refused(&decode(&int96(0, 0)), "refused 19 at 0", TOO_FAR);
     refused(&decode(&int96(763_145_224_191, 2_333_836)), "refused 19 at 0", TOO_FAR);
     let output = run(["int96", "decode", "--json", "00"]);
-    let object =
-        format!("{{\"refused\": 15, \"at\": 0, \"meaning\": \"{CUT_OFF}\", \"place\": null, \"path\": null}}\n");
+    let object = format!("{{\"refused\": 15, \"at\": 0, \"meaning\": \"{CUT_OFF}\", \"place\": null}}\n");
     assert_eq!((text(&output.stdout), output.status.code()), (&*object, Some(1)));
     let output = run(["int96", "decode", "--json", &hex(&int96(DAY, EPOCH))]);
-    let object =
-        format!("{{\"refused\": 16, \"at\": 0, \"meaning\": \"{TOO_LONG}\", \"place\": null, \"path\": null}}\n");
+    let object = format!("{{\"refused\": 16, \"at\": 0, \"meaning\": \"{TOO_LONG}\", \"place\": null}}\n");
     assert_eq!((text(&output.stdout), output.status.code()), (&*object, Some(1)));
 }
 
@@ -97,7 +95,7 @@ fn some_times_of_a_file_refused() {
     assert_eq!(output.status.code(), Some(1));
     let output = run_on(&["int96", "decode", "--file", "-", "--json"], &times);
     let last = format!(
-        "{{\"index\": 4, \"int96\": \"{}\", \"refused\": 15, \"at\": 0, \"meaning\": \"{CUT_OFF}\", \"place\": null, \"path\": null}}",
+        "{{\"index\": 4, \"int96\": \"{}\", \"refused\": 15, \"at\": 0, \"meaning\": \"{CUT_OFF}\", \"place\": null}}",
         "07".repeat(11)
     );
     assert_eq!(text(&output.stdout).lines().last(), Some(&*last));
@@ -122,18 +120,14 @@ fn a_long_file() {
 #[test]
 fn a_value_of_an_int96_column_with_its_time() {
     let noon = hex(&int96(DAY / 2, 2_451_545));
-    prints(&format!("value 3 0 0 0 0 --hex {noon}"), b"", &format!("2000-01-01 12:00:00.000000000 ({noon})\n"));
-    prints("value 3 0 0 0 0 -", &[0xFF; 12], &format!("{}\n", "ff".repeat(12)));
-    prints("value 3 0 0 0 0 -", &[0; 12], &format!("{}\n", "00".repeat(12)));
-    let object = |members: &str| format!("{{\"case\": \"bytes\", \"start\": 0, \"length\": 12, {members}}}\n");
-    let time = "\"2000-01-01 12:00:00.000000000\"";
-    let members = format!("\"time\": {time}, \"shown\": {time}, \"stored\": \"{noon}\"");
-    prints(&format!("value 3 0 0 0 0 --json --hex {noon}"), b"", &object(&members));
-    let members = format!("\"time\": null, \"shown\": \"{}\", \"stored\": null", "ff".repeat(12));
-    prints("value 3 0 0 0 0 --json -", &[0xFF; 12], &object(&members));
+    prints(&format!("value 3 0 0 0 0 --hex {noon}"), b"", "bytes 0 12 2000-01-01 12:00:00.000000000\n");
+    prints("value 3 0 0 0 0 -", &[0xFF; 12], "bytes 0 12\n");
+    prints("value 3 0 0 0 0 -", &[0; 12], "bytes 0 12\n");
+    let object = |time: &str| format!("{{\"case\": \"bytes\", \"start\": 0, \"length\": 12, \"time\": {time}}}\n");
+    prints(&format!("value 3 0 0 0 0 --json --hex {noon}"), b"", &object("\"2000-01-01 12:00:00.000000000\""));
+    prints("value 3 0 0 0 0 --json -", &[0xFF; 12], &object("null"));
     // Other columns of 12 bytes have no time.
-    let members = format!("\"shown\": \"{}\", \"stored\": null", "00".repeat(12));
-    prints("value 7 12 0 0 0 --json -", &[0; 12], &object(&members));
+    prints("value 7 12 0 0 0 --json -", &[0; 12], "{\"case\": \"bytes\", \"start\": 0, \"length\": 12}\n");
     let short = run_on(&["value", "3", "0", "0", "0", "0", "-"], &[0; 11]);
     refused(&short, "refused 15 at 0", "value of wrong length, or over 65,536 bytes");
 }

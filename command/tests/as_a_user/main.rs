@@ -3,18 +3,11 @@
 mod answers;
 mod arguments;
 mod boxes;
-mod columns;
 mod compare;
 mod files;
-mod help;
 mod int96;
-mod names;
-mod order;
-mod paths;
-mod quiet;
 mod refusals;
 mod sheet;
-mod shown;
 
 use std::ffi::OsStr;
 use std::fs;

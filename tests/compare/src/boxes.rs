@@ -3,9 +3,9 @@
 
 use independent::boxes::WIDTH;
 use independent::codes::logical;
-use test_support::random::Random;
 
 use crate::comparison::{broken, Comparison, Difference};
+use crate::random::Random;
 use crate::side::refusal_of;
 
 /// The kinds that have boxes.

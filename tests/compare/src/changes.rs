@@ -2,11 +2,11 @@
 
 use independent::annotation::{rewritten, Annotation};
 use independent::codes::{converted, logical, physical};
-use test_support::random::Random;
-use test_support::sheets::{rename, slot_start, Slot, BLOCK, SLOT, SLOTS};
+use independent::sheet::{slot_start, BLOCK, MAX_NAME, SLOT, SLOTS};
 
+use crate::random::Random;
 use crate::sheets::total_of;
-use crate::trees::random_logical;
+use crate::trees::{random_logical, Slot};
 
 /// Changes one field of a sheet; its check is not renewed.
 pub fn change(random: &mut Random, sheet: &mut Vec<u8>) {
@@ -83,7 +83,7 @@ fn change_slot(random: &mut Random, sheet: &mut [u8]) {
         15 => slot[20] = random.pick(&[0, 1, 48, 49, 255, slot[20].wrapping_add(1), slot[20].wrapping_sub(1)]),
         16 => slot[random.between(21, 23)] = random.byte(),
         17 => slot[random.between(24, SLOT - 1)] = random.byte(),
-        18..21 => change_name(random, slot),
+        18..21 => rename(random, slot),
         21 => make_int96(random, slot),
         22 => make_geospatial(random, slot),
         _ => {
@@ -182,10 +182,13 @@ fn make_geospatial(random: &mut Random, slot: &mut [u8]) {
 }
 
 /// Gives a slot another name, of those that rule 12 looks at.
-fn change_name(random: &mut Random, slot: &mut [u8]) {
+fn rename(random: &mut Random, slot: &mut [u8]) {
     let names: [&[u8]; 9] =
         [b"array", b"x_tuple", b"a_tuple", b"list_tuple", b"parts_tuple", b"_tuple", b"x", b"array_", b"parts"];
-    rename(slot, random.pick(&names));
+    let name = random.pick(&names);
+    slot[20] = name.len() as u8;
+    slot[24..24 + MAX_NAME].fill(0);
+    slot[24..24 + name.len()].copy_from_slice(name);
 }
 
 fn change_header(random: &mut Random, sheet: &mut [u8]) {

@@ -7,8 +7,8 @@ use independent::codes::physical::{BOOLEAN, BYTE_ARRAY, DOUBLE, FIXED, FLOAT, IN
 use independent::codes::{kind, logical};
 use independent::decimal::{greatest_precision, MAX_LENGTH};
 use independent::value::MAX_VALUE;
-use test_support::random::Random;
 
+use crate::random::Random;
 use crate::trees::{random_logical, random_physical};
 
 /// Physical type, type length, kind, p1, p2.

@@ -3,21 +3,22 @@
 
 use independent::boxes::WIDTH;
 use independent::codes::physical::{BOOLEAN, BYTE_ARRAY, DOUBLE, FIXED, FLOAT, GROUP, INT32, INT64, INT96};
-use independent::codes::repetition::{REPEATED, REQUIRED};
-use independent::codes::{converted, logical};
+use independent::codes::{converted, logical, repetition};
 use independent::decimal::{greatest_precision, MAX_LENGTH};
 use independent::int96::{self, of_parts, SIZE};
-use independent::{refusal, ROW_WIDTH};
-use test_support::nodes::{sheet, Node};
-use test_support::sheets::{assemble, Slot};
-use test_support::wide;
+use independent::{refusal, sheet, ROW_WIDTH};
 
 use crate::boxes;
 use crate::columns::Column;
 use crate::comparison::{broken, Comparison, Difference};
 use crate::int96::{from_and_back, to_and_back, DAY, FIRST_DAY, LAST_DAY};
 use crate::lists;
+use crate::sheets::assemble;
 use crate::side::{refusal_of, shown, value_of};
+use crate::trees::Slot;
+
+#[path = "../../../independent/src/bin/answers/wide.rs"]
+mod wide;
 
 /// Physical types with a type length; 8 is in no list.
 const COLUMNS: [(u8, i32); 11] = [
@@ -76,38 +77,76 @@ pub fn run(comparison: &mut Comparison) -> Result<(), Difference> {
     points_in_boxes(comparison)
 }
 
-/// A leaf without annotation.
-fn leaf(physical: u8, type_length: i32) -> Node {
-    Node::leaf("n", physical, REQUIRED).sized(type_length)
+/// A node of a sheet: its codes and parameters, its numbers, and how many children it has.
+#[derive(Clone, Copy)]
+struct Node {
+    physical: u8,
+    repetition: u8,
+    converted: u8,
+    logical: u8,
+    parameters: (u8, u8),
+    type_length: i32,
+    scale: i32,
+    precision: i32,
+    children: u16,
 }
 
-/// Resolves and rewrites the sheet of a root with a field.
-fn judged(comparison: &mut Comparison, field: Node) -> Result<(), Difference> {
-    let nodes = 1 + field.listing().len();
-    let sheet = sheet(&[Node::root(1), field]);
-    comparison.resolve_in_all(&sheet, ROW_WIDTH * nodes)?;
+const PLAIN: Node = Node {
+    physical: INT32,
+    repetition: repetition::REQUIRED,
+    converted: converted::NONE,
+    logical: logical::NONE,
+    parameters: (0, 0),
+    type_length: 0,
+    scale: 0,
+    precision: 0,
+    children: 0,
+};
+
+const ROOT: Node = Node { physical: GROUP, repetition: repetition::NONE, children: 1, ..PLAIN };
+
+impl Node {
+    fn slot(&self) -> Slot {
+        let mut slot = [0; sheet::SLOT];
+        let (a, b) = self.parameters;
+        slot[..6].copy_from_slice(&[self.physical, self.repetition, self.converted, self.logical, a, b]);
+        slot[6..8].copy_from_slice(&self.children.to_le_bytes());
+        for (at, number) in [8, 12, 16].into_iter().zip([self.type_length, self.scale, self.precision]) {
+            slot[at..at + 4].copy_from_slice(&number.to_le_bytes());
+        }
+        slot[20] = 1;
+        slot[24] = b'n';
+        slot
+    }
+}
+
+/// Resolves and rewrites the sheet of these nodes.
+fn judged(comparison: &mut Comparison, nodes: &[Node]) -> Result<(), Difference> {
+    let sheet = assemble(&nodes.iter().map(Node::slot).collect::<Vec<_>>());
+    comparison.resolve_in_all(&sheet, ROW_WIDTH * nodes.len())?;
     comparison.rewrite_in_all(&sheet, sheet.len(), 0)
 }
 
 /// Every converted code and one outside the list, beside every logical code and those between and behind them, with
 /// every parameter and on every physical type; on a group also as the one child of a MAP.
 fn codes(comparison: &mut Comparison) -> Result<(), Difference> {
-    let layer = || leaf(GROUP, 0).repetition(REPEATED).having([leaf(INT32, 0)]);
-    let map = || leaf(GROUP, 0).logical(logical::MAP, 0, 0);
+    let layer = Node { physical: GROUP, repetition: repetition::REPEATED, children: 1, ..PLAIN };
+    let map = Node { physical: GROUP, logical: logical::MAP, children: 1, ..PLAIN };
     for converted in (0..=22).chain([converted::NONE]) {
         for logical in 0..=19 {
-            for (a, b) in PARAMETERS {
+            for parameters in PARAMETERS {
                 for (physical, type_length) in COLUMNS {
-                    let annotated = |node: Node| node.converted(converted).logical(logical, a, b);
+                    let node =
+                        Node { physical, converted, logical, parameters, type_length, scale: 2, precision: 5, ..PLAIN };
                     if physical == GROUP {
                         // A group has neither length nor digits.
-                        judged(comparison, annotated(leaf(GROUP, 0)).having([layer()]))?;
-                        judged(comparison, map().having([annotated(layer())]))?;
+                        let node = Node { scale: 0, precision: 0, children: 1, ..node };
+                        judged(comparison, &[ROOT, node, layer, PLAIN])?;
+                        judged(comparison, &[ROOT, map, Node { repetition: repetition::REPEATED, ..node }, PLAIN])?;
                         continue;
                     }
-                    let node = annotated(leaf(physical, type_length));
-                    judged(comparison, node.clone().digits(5, 2))?;
-                    judged(comparison, node)?;
+                    judged(comparison, &[ROOT, node])?;
+                    judged(comparison, &[ROOT, Node { scale: 0, precision: 0, ..node }])?;
                 }
             }
         }
@@ -135,11 +174,13 @@ fn column_types(comparison: &mut Comparison) -> Result<(), Difference> {
 /// UUID, INTERVAL, DECIMAL and no annotation on FIXED of each length about those that they take.
 fn lengths(comparison: &mut Comparison) -> Result<(), Difference> {
     for type_length in (-2..=260).chain([i32::MIN, i32::MAX]) {
-        let plain = || leaf(FIXED, type_length);
-        judged(comparison, plain())?;
-        judged(comparison, plain().logical(logical::UUID, 0, 0))?;
-        judged(comparison, plain().converted(converted::INTERVAL))?;
-        judged(comparison, plain().decimal(2, 0))?;
+        let plain = Node { physical: FIXED, type_length, ..PLAIN };
+        let uuid = Node { logical: logical::UUID, ..plain };
+        let interval = Node { converted: converted::INTERVAL, ..plain };
+        let decimal = Node { logical: logical::DECIMAL, precision: 2, ..plain };
+        for node in [plain, uuid, interval, decimal] {
+            judged(comparison, &[ROOT, node])?;
+        }
     }
     Ok(())
 }
@@ -150,9 +191,11 @@ fn digits(comparison: &mut Comparison) -> Result<(), Difference> {
     for (physical, type_length) in [(INT32, 0), (INT64, 0), (BYTE_ARRAY, 0)].into_iter().chain(fixed) {
         for precision in [i32::MIN, -1, 0, 1, 2, 3, 4, 5, 9, 10, 18, 19, 38, 39, 616, 617, i32::MAX] {
             for scale in [i32::MIN, -1, 0, 1, 2, 3, 9, 18, 38, 616, i32::MAX] {
-                let leaf = || leaf(physical, type_length);
-                judged(comparison, leaf().converted(converted::DECIMAL).digits(precision, scale))?;
-                judged(comparison, leaf().decimal(precision, scale))?;
+                let by_converted =
+                    Node { physical, type_length, converted: converted::DECIMAL, precision, scale, ..PLAIN };
+                judged(comparison, &[ROOT, by_converted])?;
+                let by_logical = Node { converted: converted::NONE, logical: logical::DECIMAL, ..by_converted };
+                judged(comparison, &[ROOT, by_logical])?;
             }
         }
     }
@@ -163,7 +206,8 @@ fn digits(comparison: &mut Comparison) -> Result<(), Difference> {
 fn precisions(comparison: &mut Comparison) -> Result<(), Difference> {
     for type_length in 0..260 {
         for precision in 0..=617 {
-            let sheet = sheet(&[Node::root(1), leaf(FIXED, type_length).decimal(precision, 0)]);
+            let node = Node { physical: FIXED, type_length, logical: logical::DECIMAL, precision, ..PLAIN };
+            let sheet = assemble(&[ROOT.slot(), node.slot()]);
             comparison.resolve_in_all(&sheet, 2 * ROW_WIDTH)?;
         }
     }
@@ -182,19 +226,20 @@ fn small_trees(comparison: &mut Comparison) -> Result<(), Difference> {
     Ok(())
 }
 
-/// Every run of fields that has so many nodes in all.
-fn runs(nodes: usize) -> Vec<Vec<Node>> {
+/// Every run of fields that has so many nodes in all: how many fields it has, and their listings.
+fn runs(nodes: usize) -> Vec<(u16, Vec<Slot>)> {
     if nodes == 0 {
-        return vec![Vec::new()];
+        return vec![(0, Vec::new())];
     }
     let mut all = Vec::new();
     for below in 0..nodes {
-        for fields in runs(below) {
-            for others in runs(nodes - 1 - below) {
-                for name in ["a", "b"] {
-                    let physical = if fields.is_empty() { INT32 } else { GROUP };
-                    let field = leaf(physical, 0).named(name).having(fields.clone());
-                    all.push([&[field], &others[..]].concat());
+        for (children, listing) in runs(below) {
+            for (fields, others) in runs(nodes - 1 - below) {
+                for name in [b'a', b'b'] {
+                    let physical = if children > 0 { GROUP } else { INT32 };
+                    let mut slot = Node { physical, children, ..PLAIN }.slot();
+                    slot[24] = name;
+                    all.push((fields + 1, [&[slot], &listing[..], &others].concat()));
                 }
             }
         }
@@ -203,8 +248,8 @@ fn runs(nodes: usize) -> Vec<Vec<Node>> {
 }
 
 /// The listing of a root with a run of fields. Nodes of other numbers have other repetitions, so that it is seen which ones match.
-fn tree_of(run: Vec<Node>) -> Vec<Slot> {
-    let mut slots: Vec<Slot> = Node::root(0).having(run).listing().into_iter().map(Node::bytes).collect();
+fn tree_of((children, run): (u16, Vec<Slot>)) -> Vec<Slot> {
+    let mut slots = [&[Node { children, ..ROOT }.slot()], &run[..]].concat();
     slots[1..].iter_mut().zip([0, 1, 2].into_iter().cycle()).for_each(|(slot, repetition)| slot[1] = repetition);
     slots
 }

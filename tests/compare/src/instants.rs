@@ -1,6 +1,6 @@
 //! Timestamps: random ones and those at every edge, both ways.
 
-use test_support::random::Random;
+use crate::random::Random;
 
 /// A unit: 1 to 3 nearly always.
 pub fn unit(random: &mut Random) -> u32 {

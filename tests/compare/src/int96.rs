@@ -1,9 +1,9 @@
 //! INT96 times: random ones and those at every edge, turned into counts and back.
 
 use independent::int96::{of_parts, value_of, EPOCH, SIZE};
-use test_support::random::Random;
 
 use crate::comparison::{broken, Comparison, Difference};
+use crate::random::Random;
 use crate::side::refusal_of;
 
 /// The nanoseconds of a day.

@@ -1,5 +1,5 @@
 //! Two readers run side by side on the same inputs: the linked library through its C interface, and the independent one.
-#![forbid(unsafe_code)]
+#![deny(unsafe_code)]
 
 pub mod boxes;
 pub mod changes;
@@ -10,10 +10,12 @@ pub mod every;
 pub mod instants;
 pub mod int96;
 pub mod lent;
+#[cfg(linked)]
 pub mod linked;
 pub mod lists;
 pub mod near;
 pub mod published;
+pub mod random;
 pub mod rounds;
 pub mod sheets;
 pub mod side;
@@ -27,9 +29,13 @@ pub use side::Side;
 
 side!(pub Independent, independent);
 
-/// The side that the independent reader is held against, and its name.
+/// The side that the independent reader is held against, and its name: the linked library, or without one the independent
+/// reader itself.
 pub fn reference() -> (&'static dyn Side, &'static str) {
-    (&linked::Linked, "the linked library")
+    #[cfg(linked)]
+    return (&linked::Linked, "the linked library");
+    #[cfg(not(linked))]
+    return (&Independent, "itself as it is");
 }
 
 /// Compares each of some wrong versions of the independent reader with the reference, and tells how each was found;
@@ -75,3 +81,10 @@ pub fn hunt(wrong: &[(&str, &dyn Side)], free: &[(&str, &dyn Side)], most_rounds
         ExitCode::FAILURE
     }
 }
+
+/// Whether the library is linked.
+pub const IS_LINKED: bool = cfg!(linked);
+
+/// What is said where it is not.
+pub const NOT_LINKED: &str =
+    "no library is linked: set GRIFFELJOL_LIB to the folder of libgriffeljol.a, or give --itself";

@@ -1,8 +1,10 @@
-//! The linked library, through the C interface of `include/griffeljol.h` as `griffeljol-sys` declares it.
-
-use griffeljol_sys as boundary;
+//! The linked library, through the C interface of `include/griffeljol.h` as the wrapper declares it.
 
 use crate::side::Side;
+
+#[allow(unsafe_code)]
+#[path = "../../../wrapper/src/boundary.rs"]
+mod boundary;
 
 /// The proved library.
 pub struct Linked;

@@ -1,12 +1,12 @@
 //! Compares the linked library with the independent reader.
 //!
-//! `compare [--seed N] [--rounds N] [--seconds N] [--round N]`. It ends with status 1 at the first difference, where
+//! `compare [--seed N] [--rounds N] [--seconds N] [--round N] [--itself]`. It ends with status 1 at the first difference, where
 //! fewer than a million comparisons were made, or where a refusal, or anything else that is counted, was met fewer than a thousand times.
 
 use std::process::ExitCode;
 use std::time::{Duration, Instant};
 
-use compare::{every, published, reference, rounds, stored, Comparison, Independent};
+use compare::{every, published, reference, rounds, stored, Comparison, Independent, IS_LINKED, NOT_LINKED};
 
 const LEAST_COMPARISONS: u64 = 1_000_000;
 const LEAST_OF_EACH: u64 = 1_000;
@@ -16,10 +16,11 @@ struct Options {
     rounds: u64,
     seconds: u64,
     round: Option<u64>,
+    itself: bool,
 }
 
 fn options() -> Result<Options, String> {
-    let mut options = Options { seed: 1, rounds: 24_000, seconds: 90, round: None };
+    let mut options = Options { seed: 1, rounds: 24_000, seconds: 90, round: None, itself: false };
     let mut arguments = std::env::args().skip(1);
     while let Some(argument) = arguments.next() {
         let mut number = || {
@@ -31,6 +32,7 @@ fn options() -> Result<Options, String> {
             "--rounds" => options.rounds = number()?,
             "--seconds" => options.seconds = number()?,
             "--round" => options.round = Some(number()?),
+            "--itself" => options.itself = true,
             _ => return Err(format!("{argument}: unknown")),
         }
     }
@@ -48,6 +50,9 @@ fn main() -> ExitCode {
 }
 
 fn run(options: &Options) -> Result<(), String> {
+    if !IS_LINKED && !options.itself {
+        return Err(NOT_LINKED.to_string());
+    }
     let (left, name) = reference();
     println!("the independent reader beside {name}, seed {}", options.seed);
     for (side, name) in [(left, name), (&Independent, "the independent reader")] {

@@ -4,11 +4,10 @@
 
 use independent::codes::repetition::{self, OPTIONAL, REPEATED, REQUIRED};
 use independent::codes::{converted, logical, physical};
-use independent::sheet::MAX_NAME;
-use test_support::random::Random;
-use test_support::sheets::{rename, Slot, SLOT};
+use independent::sheet::{MAX_NAME, SLOT};
 
-use crate::trees::{deep_tree, tree};
+use crate::random::Random;
+use crate::trees::{deep_tree, tree, Slot};
 
 /// The slots of two trees near one another, one of them of so many nodes.
 pub fn near_trees(random: &mut Random, size: usize) -> [Vec<Slot>; 2] {
@@ -125,7 +124,9 @@ impl Node {
     }
 
     fn rename(&mut self, name: &[u8]) {
-        rename(&mut self.slot, name);
+        self.slot[20] = name.len() as u8;
+        self.slot[24..].fill(0);
+        self.slot[24..][..name.len()].copy_from_slice(name);
     }
 }
 

@@ -3,9 +3,14 @@
 use independent::boxes::WIDTH;
 use independent::int96::{of_parts, SIZE};
 use independent::ROW_WIDTH;
-use test_support::published::*;
 
+use crate::sheets::assemble;
 use crate::side::{pair_refused, refused, Side};
+
+#[path = "../../../independent/tests/published/tables.rs"]
+mod tables;
+
+use tables::*;
 
 /// Runs every published vector against a side; answers how many there are, or the first that it answers otherwise.
 pub fn run(side: &dyn Side) -> Result<usize, String> {
@@ -118,7 +123,8 @@ fn by_edition(
         let right = [reads(most), reads(most + 1)] == [5, refused(20, 0)].map(unless_unknown);
         hold(format!("precision {most} of {length} bytes"), right)?;
     }
-    for (title, sheet, expected) in sheets(edition) {
+    for (title, slots, expected) in sheets(edition) {
+        let sheet = assemble(&slots.iter().map(slot).collect::<Vec<_>>());
         let mut rows = [9; ROW_WIDTH * 10];
         let answer = side.resolve(edition, &sheet, &mut rows);
         let right = match expected {
@@ -128,4 +134,18 @@ fn by_edition(
         hold(title.to_string(), right)?;
     }
     Ok(())
+}
+
+fn slot(&(numbers, name): &Slot) -> crate::trees::Slot {
+    let mut slot = [0; independent::sheet::SLOT];
+    for (at, number) in numbers[..6].iter().enumerate() {
+        slot[at] = *number as u8;
+    }
+    slot[6..8].copy_from_slice(&(numbers[6] as u16).to_le_bytes());
+    for (at, number) in [8, 12, 16].into_iter().zip(&numbers[7..]) {
+        slot[at..at + 4].copy_from_slice(&(*number as i32).to_le_bytes());
+    }
+    slot[20] = name.len() as u8;
+    slot[24..24 + name.len()].copy_from_slice(name.as_bytes());
+    slot
 }

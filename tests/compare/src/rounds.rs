@@ -7,11 +7,9 @@ use independent::compare::ENTRY;
 use independent::edition::{FIRST, SECOND, THIRD};
 use independent::int96::SIZE;
 use independent::refusal;
-use independent::sheet::MAX_NODES;
+use independent::sheet::{self, MAX_NODES};
 use independent::tree::MAX_DEPTH;
 use independent::ROW_WIDTH;
-use test_support::random::Random;
-use test_support::sheets::{assemble, renew_checks, Slot};
 
 use crate::boxes;
 use crate::changes::{change, change_nodes};
@@ -21,13 +19,14 @@ use crate::instants::{count, fields, unit};
 use crate::int96;
 use crate::lists;
 use crate::near::near_trees;
-use crate::sheets::{random_bytes, store_unreduced, total_of};
+use crate::random::Random;
+use crate::sheets::{assemble, random_bytes, store_unreduced, total_of};
 use crate::side::{refusal_of, refused, shown, value_of};
-use crate::trees::{deep_tree, is_fraction, is_geospatial, is_int96, tree};
+use crate::trees::{deep_tree, is_fraction, is_geospatial, is_int96, tree, Slot};
 
 /// Runs one round.
 pub fn run(comparison: &mut Comparison, seed: u64, round: u64) -> Result<(), Difference> {
-    let random = &mut Random::new(Random::new(seed).any() ^ Random::new(!round).any());
+    let random = &mut Random::of_round(seed, round);
     sheets(comparison, random)?;
     let bytes = random_bytes(random);
     both(comparison, random, &bytes)?;
@@ -56,7 +55,7 @@ fn sheets(comparison: &mut Comparison, random: &mut Random) -> Result<(), Differ
         let mut sheet = lawful.clone();
         (0..changes).for_each(|_| change(random, &mut sheet));
         if random.percent(85) {
-            renew_checks(&mut sheet);
+            sheet::renew_checks(&mut sheet);
         }
         both(comparison, random, &sheet)?;
     }
@@ -73,7 +72,7 @@ fn sheets(comparison: &mut Comparison, random: &mut Random) -> Result<(), Differ
         let mut sheet = assemble(&deep_tree(random, size, depth));
         if random.percent(20) {
             change(random, &mut sheet);
-            renew_checks(&mut sheet);
+            sheet::renew_checks(&mut sheet);
         }
         both(comparison, random, &sheet)?;
     }
@@ -99,7 +98,7 @@ fn pairs(comparison: &mut Comparison, random: &mut Random) -> Result<(), Differe
     for &at in changed {
         change(random, &mut sheets[at]);
         if random.percent(85) {
-            renew_checks(&mut sheets[at]);
+            sheet::renew_checks(&mut sheets[at]);
         }
     }
     lists::compare(comparison, [&sheets[0], &sheets[1]], |needed| match random.below(8) {

@@ -1,7 +1,25 @@
-//! Bytes that look like a sheet, and what a sheet tells of itself.
+//! Sheets made of slots, and where their fields stand.
 
-use test_support::random::Random;
-use test_support::sheets::{renew_checks, slot_start, write_headers, BLOCK, SLOTS};
+use independent::sheet::{self, slot_start, BLOCK, SLOT, SLOTS};
+
+use crate::random::Random;
+use crate::trees::Slot;
+
+/// The sheet that lists these slots, its headers and checks right for up to 896 of them.
+pub fn assemble(slots: &[Slot]) -> Vec<u8> {
+    let mut sheet = vec![0; slots.len().div_ceil(SLOTS) * BLOCK];
+    for (at, block) in sheet.chunks_exact_mut(BLOCK).enumerate() {
+        block[0..2].copy_from_slice(&(at as u16).to_le_bytes());
+        block[2] = (slots.len() - SLOTS * at).min(SLOTS) as u8;
+        block[3] = 1;
+        block[4..6].copy_from_slice(&(slots.len() as u16).to_le_bytes());
+    }
+    for (node, slot) in slots.iter().enumerate() {
+        sheet[slot_start(node)..][..SLOT].copy_from_slice(slot);
+    }
+    sheet::renew_checks(&mut sheet);
+    sheet
+}
 
 /// The total that a sheet tells, whether it is right or not.
 pub fn total_of(sheet: &[u8]) -> usize {
@@ -28,11 +46,18 @@ pub fn random_bytes(random: &mut Random) -> Vec<u8> {
     if !random.percent(20) {
         random.fill(&mut bytes);
     }
-    if form >= 6 {
-        write_headers(&mut bytes, (blocks - 1) * SLOTS + random.between(1, SLOTS));
-    }
     if form >= 4 {
-        renew_checks(&mut bytes);
+        let last = random.between(1, SLOTS);
+        let total = (blocks - 1) * SLOTS + last;
+        for (at, block) in bytes.chunks_exact_mut(BLOCK).enumerate() {
+            if form >= 6 {
+                let here = if at + 1 == blocks { last } else { SLOTS };
+                block[0..2].copy_from_slice(&(at as u16).to_le_bytes());
+                block[2..4].copy_from_slice(&[here as u8, 1]);
+                block[4..6].copy_from_slice(&(total as u16).to_le_bytes());
+            }
+        }
+        sheet::renew_checks(&mut bytes);
     }
     bytes
 }
@@ -53,7 +78,7 @@ pub fn store_unreduced(random: &mut Random, bytes: &mut [u8]) -> bool {
     // Two bytes of the name are free: all their contents are tried, and the check is moved on by what they count in it.
     let (first, second) = (start + 24, start + 25);
     (bytes[first], bytes[second]) = (0, 0);
-    renew_checks(&mut bytes[block..block + BLOCK]);
+    sheet::renew_checks(&mut bytes[block..block + BLOCK]);
     let without = u32::from(u16::from_le_bytes([bytes[block + 510], bytes[block + 511]]));
     let weight = (first - block) as u32 + 1;
     let from = random.byte();

@@ -5,12 +5,14 @@ use independent::codes::physical::{self, BYTE_ARRAY, FIXED, GROUP, INT32, INT64,
 use independent::codes::repetition::{self, OPTIONAL, REPEATED, REQUIRED};
 use independent::codes::{converted, logical};
 use independent::decimal::greatest_precision;
-use independent::sheet::MAX_NAME;
+use independent::sheet::{MAX_NAME, SLOT};
 use independent::timestamp::Unit;
 use independent::tree::MAX_DEPTH;
-use test_support::nodes::Node;
-use test_support::random::Random;
-use test_support::sheets::Slot;
+
+use crate::random::Random;
+
+/// The bytes of a slot.
+pub type Slot = [u8; SLOT];
 
 /// How the fields of a group are made.
 #[derive(Clone, Copy)]
@@ -78,9 +80,14 @@ type Annotation = [u8; 4];
 const NO_ANNOTATION: Annotation = [converted::NONE, logical::NONE, 0, 0];
 
 impl Grower<'_> {
-    fn push(&mut self, physical: u8, repetition: u8, [converted, logical, a, b]: Annotation, name: &[u8]) -> usize {
-        let node = Node::new("", physical, repetition, 0).converted(converted).logical(logical, a, b);
-        self.slots.push(node.named(name).bytes());
+    fn push(&mut self, physical: u8, repetition: u8, annotation: Annotation, name: &[u8]) -> usize {
+        let mut slot = [0; SLOT];
+        slot[0] = physical;
+        slot[1] = repetition;
+        slot[2..6].copy_from_slice(&annotation);
+        slot[20] = name.len() as u8;
+        slot[24..24 + name.len()].copy_from_slice(name);
+        self.slots.push(slot);
         self.slots.len() - 1
     }
 

@@ -54,7 +54,7 @@ fn write_versions() -> Result<(), String> {
     fs::write(Path::new(&out).join("versions.rs"), text).map_err(|fault| fault.to_string())
 }
 
-/// The texts of the library's modules.
+/// The texts of the library's modules, without the programs beside it.
 fn sources(folder: &Path) -> Result<Sources, String> {
     let told = |fault: std::io::Error| format!("{}: {fault}", folder.display());
     let mut sources = Sources::new();

@@ -1,13 +1,14 @@
 //! Shows that the comparisons find what is wrong: wrong versions of the independent reader and changed copies of the stored files, each of which
 //! must be found; and versions that are not wrong, which must not be.
 //!
-//! The versions, which `build.rs` writes, are compared with the linked library. It ends with status 1 where something is not found.
+//! The versions, which `build.rs` writes, are compared with the linked library (or the reader itself, where none is linked). It ends with
+//! status 1 where something is not found.
 
 use std::process::ExitCode;
 
 use compare::{reference, stored};
 
-#[allow(warnings, clippy::all)]
+#[allow(warnings)]
 mod versions {
     include!(concat!(env!("OUT_DIR"), "/versions.rs"));
 }
