@@ -2,7 +2,7 @@
 ghost use Rattle.std.specs.Prelude.{◌≡◌, true, cond, [], ◌∷◌, map, ◌+◌, ◌*◌, ◌^◌, ◌≤◌, ◌<◌, eqb, length, get_or};
 ghost use Rattle.sheet.specs.Block.{most_nodes};
 ghost use Rattle.sheet.specs.Slot.{slots, slot_at, reaches};
-ghost use Rattle.differences.specs.Entry.{entry, ONLY_SECOND};
+ghost use Rattle.differences.specs.Entry.{entry, ONLY_SECOND as ONLY_IN_SECOND};
 ghost use Rattle.differences.specs.Differences.{node_entries, first_entries};
 ghost use Rattle.differences.specs.Steps.{Numbered, Reached, Names, Puts, match_in, unmarked_entries};
 
@@ -93,7 +93,7 @@ fn put_other(second: &[u8], node: usize, mark: u8, out: &mut [u8], entries: usiz
     requires node_lt_most_nodes { node < most_nodes }
     requires node_value { reaches second.now node ≡ true }
     requires entries_bound { entries < 2 ^ 32 }
-    ensures puts { Puts out.old entries (cond (eqb mark 1) [] (entry ONLY_SECOND node [] (slot_at second.now node) ∷ [])) out.new result }
+    ensures puts { Puts out.old entries (cond (eqb mark 1) [] (entry ONLY_IN_SECOND node [] (slot_at second.now node) ∷ [])) out.new result }
     ensures upper_bound { result ≤ entries + 1 }
 {
     if mark == MATCHED {

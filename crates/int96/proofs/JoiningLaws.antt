@@ -14,7 +14,7 @@ use Rattle.timestamp.specs.declared.encoding.Encoded.{Encoded}
 use Rattle.timestamp.proofs.RefusalLaws.{other}
 use Rattle.laws.proofs.BoolLaws.{by_test}
 use Rattle.laws.proofs.DifferenceLaws.{below?}
-use Rattle.int96.specs.Value.{VALUE_BYTES, day_of_1970, NANOS_PER_DAY, nanos_in, day_in, count_of}
+use Rattle.int96.specs.Value.{VALUE_BYTES, DAY_OF_1970, NANOS_PER_DAY, nanos_in, day_in, count_of}
 use Rattle.int96.specs.Outcomes.{decoding}
 use Rattle.int96.proofs.ValueLaws.{decoding_16, decoding_counted}
 
@@ -34,7 +34,7 @@ counting_else z n some not-19 e =
 
 module _ (v : List ℕ) (long : length v ≡ VALUE_BYTES) where
   abbrev joins : Outcome ℤ
-  joins = joining NANOS_PER_DAY (pos (day_in v) -ℤ pos day_of_1970) (nanos_in v)
+  joins = joining NANOS_PER_DAY (pos (day_in v) -ℤ pos DAY_OF_1970) (nanos_in v)
 
   -- nanoseconds of a day: both answer by the count
   within : (k : Encoded) → nanos_in v < NANOS_PER_DAY → encoded k ≡ counting (count_of v) → meant k ≡ decoding v

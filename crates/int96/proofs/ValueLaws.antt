@@ -28,7 +28,7 @@ use Rattle.timestamp.proofs.CalendarLaws.{difference_most}
 use Rattle.timestamp.proofs.DivisionLaws.{quotient_is, rest_is}
 use Rattle.timestamp.proofs.FloorLaws.{division_reach}
 use Rattle.timestamp.proofs.RefusalLaws.{other}
-use Rattle.int96.specs.Value.{NANOS_BYTES, DAY_BYTES, VALUE_BYTES, day_of_1970, NANOS_PER_DAY, nanos_in, day_in, count_of, ValueOf, since_day0, value_of}
+use Rattle.int96.specs.Value.{NANOS_BYTES, DAY_BYTES, VALUE_BYTES, DAY_OF_1970, NANOS_PER_DAY, nanos_in, day_in, count_of, ValueOf, since_day0, value_of}
 use Rattle.int96.specs.Outcomes.{decoding, encoding, encoded}
 use Rattle.int96.proofs.DayZeroLaws.{day_back, since_joined, since_one, since_is, signed_near}
 
@@ -68,8 +68,8 @@ day_small v all long =
     subst (λ (n : ℕ). day_in v < 256 ^ n) four (little_lt (drop NANOS_BYTES v) (bytes_drop NANOS_BYTES v all))
 
 -- so the days from 1 January 1970 to it have 64 bits
-pub days_fit : (v : List ℕ) → Bytes v → length v ≡ VALUE_BYTES → mag (pos (day_in v) -ℤ pos day_of_1970) < 2 ^ 63
-days_fit v all long = difference_most (day_in v) day_of_1970 (2 ^ 63) (omega (arith, day_small v all long)) (omega arith)
+pub days_fit : (v : List ℕ) → Bytes v → length v ≡ VALUE_BYTES → mag (pos (day_in v) -ℤ pos DAY_OF_1970) < 2 ^ 63
+days_fit v all long = difference_most (day_in v) DAY_OF_1970 (2 ^ 63) (omega (arith, day_small v all long)) (omega arith)
 
 -- the value of a count is twelve bytes
 pub length_value : (z : ℤ) → length (value_of z) ≡ VALUE_BYTES
@@ -81,9 +81,9 @@ unfolding value_of
 bytes_value z = bytes_append (bytes_of NANOS_BYTES (since_day0 z % NANOS_PER_DAY)) (bytes_of DAY_BYTES (since_day0 z / NANOS_PER_DAY)) (bytes_bytes_of _ _) (bytes_bytes_of _ _)
 
 -- from day 0 on, the count of a value is its days and its nanoseconds
-since_count : (v : List ℕ) → count_of v +ℤ pos (day_of_1970 * NANOS_PER_DAY) ≡ pos (day_in v * NANOS_PER_DAY + nanos_in v)
+since_count : (v : List ℕ) → count_of v +ℤ pos (DAY_OF_1970 * NANOS_PER_DAY) ≡ pos (day_in v * NANOS_PER_DAY + nanos_in v)
 unfolding count_of
-since_count v = since_joined day_of_1970 NANOS_PER_DAY (pos (day_in v) -ℤ pos day_of_1970) (day_in v) (nanos_in v) (day_back (day_in v) day_of_1970)
+since_count v = since_joined DAY_OF_1970 NANOS_PER_DAY (pos (day_in v) -ℤ pos DAY_OF_1970) (day_in v) (nanos_in v) (day_back (day_in v) DAY_OF_1970)
 
 -- ---- counts and values
 
@@ -91,9 +91,9 @@ module _ (z : ℤ) (signed : is_signed64 z ≡ true) where
   near : mag z < 2 ^ 63
   near = signed_near z signed
 
-  since : (z +ℤ pos (day_of_1970 * NANOS_PER_DAY) ≡ pos (since_day0 z)) × (since_day0 z ≤ day_of_1970 * NANOS_PER_DAY + mag z)
+  since : (z +ℤ pos (DAY_OF_1970 * NANOS_PER_DAY) ≡ pos (since_day0 z)) × (since_day0 z ≤ DAY_OF_1970 * NANOS_PER_DAY + mag z)
   unfolding since_day0
-  since = since_is (day_of_1970 * NANOS_PER_DAY) z (omega (arith, near))
+  since = since_is (DAY_OF_1970 * NANOS_PER_DAY) z (omega (arith, near))
 
   nanos_is : nanos_in (value_of z) ≡ since_day0 z % NANOS_PER_DAY
   unfolding value_of
@@ -110,7 +110,7 @@ module _ (z : ℤ) (signed : is_signed64 z ≡ true) where
         bytes = bytes_value z;
         long = length_value z;
         in_day_lem = subst (λ (n : ℕ). n < NANOS_PER_DAY) (sym nanos_is) (omega arith);
-        counted = since_one (count_of (value_of z)) z (day_of_1970 * NANOS_PER_DAY) (since_count (value_of z) ∙ ap pos whole ∙ sym since.0);
+        counted = since_one (count_of (value_of z)) z (DAY_OF_1970 * NANOS_PER_DAY) (since_count (value_of z) ∙ ap pos whole ∙ sym since.0);
       }
     where
       whole : day_in (value_of z) * NANOS_PER_DAY + nanos_in (value_of z) ≡ since_day0 z
@@ -126,24 +126,24 @@ value_one z v p =
     (sym (quotient_is _ NANOS_PER_DAY (day_in v) (nanos_in v) whole p.in_day_lem))
   where
     whole : since_day0 z ≡ day_in v * NANOS_PER_DAY + nanos_in v
-    whole = ap nat_abs (ap (λ (w : ℤ). w +ℤ pos (day_of_1970 * NANOS_PER_DAY)) (sym p.counted) ∙ since_count v)
+    whole = ap nat_abs (ap (λ (w : ℤ). w +ℤ pos (DAY_OF_1970 * NANOS_PER_DAY)) (sym p.counted) ∙ since_count v)
 
 -- a count that is divided into days and a rest has these in its value
 module _ (z : ℤ) (d : Division) (near : mag z < 2 ^ 63) (p : FloorDivision z NANOS_PER_DAY d) where
-  day_near : mag d.day < day_of_1970
+  day_near : mag d.day < DAY_OF_1970
   day_near = omega (arith, near, division_reach p)
 
-  day : (d.day +ℤ pos day_of_1970 ≡ pos (nat_abs (d.day +ℤ pos day_of_1970))) × (nat_abs (d.day +ℤ pos day_of_1970) ≤ day_of_1970 + mag d.day)
-  day = since_is day_of_1970 d.day day_near
+  day : (d.day +ℤ pos DAY_OF_1970 ≡ pos (nat_abs (d.day +ℤ pos DAY_OF_1970))) × (nat_abs (d.day +ℤ pos DAY_OF_1970) ≤ DAY_OF_1970 + mag d.day)
+  day = since_is DAY_OF_1970 d.day day_near
 
-  whole : since_day0 z ≡ nat_abs (d.day +ℤ pos day_of_1970) * NANOS_PER_DAY + d.rest
+  whole : since_day0 z ≡ nat_abs (d.day +ℤ pos DAY_OF_1970) * NANOS_PER_DAY + d.rest
   unfolding since_day0
   whole =
-      ap (λ (w : ℤ). nat_abs (w +ℤ pos (day_of_1970 * NANOS_PER_DAY))) p.exact
-      ∙ ap nat_abs (since_joined day_of_1970 NANOS_PER_DAY d.day (nat_abs (d.day +ℤ pos day_of_1970)) d.rest day.0)
+      ap (λ (w : ℤ). nat_abs (w +ℤ pos (DAY_OF_1970 * NANOS_PER_DAY))) p.exact
+      ∙ ap nat_abs (since_joined DAY_OF_1970 NANOS_PER_DAY d.day (nat_abs (d.day +ℤ pos DAY_OF_1970)) d.rest day.0)
 
   -- the Julian day is that of 1 January 1970 and the days from there
-  pub divided_day : d.day +ℤ pos day_of_1970 ≡ pos (since_day0 z / NANOS_PER_DAY)
+  pub divided_day : d.day +ℤ pos DAY_OF_1970 ≡ pos (since_day0 z / NANOS_PER_DAY)
   divided_day = day.0 ∙ ap pos (sym (quotient_is (since_day0 z) NANOS_PER_DAY _ d.rest whole p.below))
 
   -- it has 64 bits

@@ -16,8 +16,8 @@ abbrev pub VALUE_BYTES : ℕ
 VALUE_BYTES = NANOS_BYTES + DAY_BYTES
 
 -- "day 2,440,588 being 1 January 1970"
-abbrev pub day_of_1970 : ℕ
-day_of_1970 = 2440588
+abbrev pub DAY_OF_1970 : ℕ
+DAY_OF_1970 = 2440588
 
 -- the nanoseconds of a day
 abbrev pub NANOS_PER_DAY : ℕ
@@ -33,7 +33,7 @@ day_in value = little (drop NANOS_BYTES value)
 -- the count of a value, over the integers: the nanoseconds from the start of 1 January 1970, of its days from there, negative before it, and
 -- of its nanoseconds in the day
 unfoldable pub count_of : List ℕ → ℤ
-count_of value = (pos (day_in value) -ℤ pos day_of_1970) *ℤ pos NANOS_PER_DAY +ℤ pos (nanos_in value)
+count_of value = (pos (day_in value) -ℤ pos DAY_OF_1970) *ℤ pos NANOS_PER_DAY +ℤ pos (nanos_in value)
 
 -- a value that stands for a count
 pub record ValueOf (count : ℤ) (value : List ℕ) : Type 0 where
@@ -44,7 +44,7 @@ pub record ValueOf (count : ℤ) (value : List ℕ) : Type 0 where
 
 -- the nanoseconds from the start of Julian day 0 to that of a count, which lies behind it
 unfoldable pub since_day0 : ℤ → ℕ
-since_day0 count = nat_abs (count +ℤ pos (day_of_1970 * NANOS_PER_DAY))
+since_day0 count = nat_abs (count +ℤ pos (DAY_OF_1970 * NANOS_PER_DAY))
 
 -- the value of a count
 unfoldable pub value_of : ℤ → List ℕ

@@ -1,6 +1,6 @@
 // From twelve bytes to a count of nanoseconds, and back.
 ghost use Rattle.std.specs.Prelude.{◌≡◌, ◌++◌, ◌≤◌, pos, ◌-ℤ◌, length, drop};
-ghost use Rattle.int96.specs.Value.{VALUE_BYTES, day_of_1970, nanos_in, day_in, value_of};
+ghost use Rattle.int96.specs.Value.{VALUE_BYTES, DAY_OF_1970 as FIRST_DAY_OF_1970, nanos_in, day_in, value_of};
 ghost use Rattle.int96.specs.Outcomes.{converted, decoding, encoding, encoded};
 
 use crate::refusals::{beyond_day, not_representable, wrong_length};
@@ -62,7 +62,7 @@ fn nanos_in(value: &[u8]) -> u64
 // The day of a value, from 1 January 1970 on.
 fn day_in(value: &[u8]) -> i64
     requires { length value.now ≡ VALUE_BYTES }
-    ensures { result ≡ pos (day_in value.now) -ℤ pos day_of_1970 }
+    ensures { result ≡ pos (day_in value.now) -ℤ pos FIRST_DAY_OF_1970 }
 {
     number(&value[NANOS_SIZE..]) as i64 - DAY_OF_1970
 }

@@ -14,7 +14,7 @@ use mir.ValLaws.{to_z_pos}
 use Rattle.laws.specs.Bytes.{little}
 use Rattle.laws.proofs.SignedLaws.{read_back}
 use Rattle.timestamp.proofs.CalendarLaws.{difference_most}
-use Rattle.int96.specs.Value.{VALUE_BYTES, day_of_1970, day_in}
+use Rattle.int96.specs.Value.{VALUE_BYTES, DAY_OF_1970, day_in}
 use Rattle.int96.proofs.ValueLaws.{day_small, days_fit}
 use Rattle.int96.proofs.conversion.day_in.Goals as goal
 use Rattle.int96.proofs.conversion.day_in.Goals.{After-number}
@@ -41,10 +41,10 @@ less_fits n k h l =
     subst (λ (z : ℤ). SFits w64 (z +ℤ negsuc k)) (sym (to_z_pos w64 n h)) (record { sfits = difference_most n (suc k) (2 ^ 63) h (omega arith) })
 
 -- the days from 1 January 1970 to it
-days_are : (c : After-number) → to_z w64 c.number.result -ℤ pos day_of_1970 ≡ pos (day_in c.args.value.now) -ℤ pos day_of_1970
-days_are c = ap (λ (z : ℤ). z -ℤ pos day_of_1970) (to_z_pos w64 c.number.result (day_fits c) ∙ ap pos (day_is c))
+days_are : (c : After-number) → to_z w64 c.number.result -ℤ pos DAY_OF_1970 ≡ pos (day_in c.args.value.now) -ℤ pos DAY_OF_1970
+days_are c = ap (λ (z : ℤ). z -ℤ pos DAY_OF_1970) (to_z_pos w64 c.number.result (day_fits c) ∙ ap pos (day_is c))
 
-few : (c : After-number) → mag (pos (day_in c.args.value.now) -ℤ pos day_of_1970) < 2 ^ 63
+few : (c : After-number) → mag (pos (day_in c.args.value.now) -ℤ pos DAY_OF_1970) < 2 ^ 63
 few c = days_fit _ (λ i. (c.type_inv.value i).fits) c.requires
 
 pub overflow_cast-result : goal.overflow_cast-result

@@ -8,7 +8,7 @@ use Rattle.refusal.specs.Outcome.{given, refused}
 use Rattle.laws.proofs.SignedLaws.{read_back}
 use Rattle.timestamp.specs.Outcomes.{encoded, joining}
 use Rattle.timestamp.specs.declared.encoding.Encoded.{Encoded}
-use Rattle.int96.specs.Value.{day_of_1970, NANOS_PER_DAY, nanos_in, day_in}
+use Rattle.int96.specs.Value.{DAY_OF_1970, NANOS_PER_DAY, nanos_in, day_in}
 use Rattle.int96.specs.Outcomes.{decoding}
 use Rattle.int96.proofs.ValueLaws.{days_fit, decoding_15}
 use Rattle.int96.proofs.JoiningLaws.{meant, joined_told}
@@ -19,7 +19,7 @@ pub returns-then-value-ne-VALUE_SIZE : goal.returns-then-value-ne-VALUE_SIZE
 returns-then-value-ne-VALUE_SIZE c = ap refused c.wrong_length.ensures ∙ sym (decoding_15 _ c.if-value-ne-VALUE_SIZE.true)
 
 -- the day and the nanoseconds that are joined are those of the value
-joined_is : (c : After-join) → let v = c.args.value.now in encoded c.join.result ≡ joining NANOS_PER_DAY (pos (day_in v) -ℤ pos day_of_1970) (nanos_in v)
+joined_is : (c : After-join) → let v = c.args.value.now in encoded c.join.result ≡ joining NANOS_PER_DAY (pos (day_in v) -ℤ pos DAY_OF_1970) (nanos_in v)
 joined_is c =
     let few = days_fit _ (λ i. (c.type_inv.value i).fits) c.if-value-ne-VALUE_SIZE.false in
     c.join.ensures ∙ ap₂ (joining NANOS_PER_DAY) (read_back c.day_in.ensures few) c.nanos_in.ensures

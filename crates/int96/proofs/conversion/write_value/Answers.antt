@@ -17,7 +17,7 @@ use Rattle.laws.proofs.SignedLaws.{read_back, cast_fits}
 use Rattle.timestamp.specs.declared.division.Division.{Division}
 use Rattle.timestamp.specs.FloorDivision.{FloorDivision}
 use Rattle.timestamp.proofs.FloorLaws.{division_told}
-use Rattle.int96.specs.Value.{NANOS_BYTES, DAY_BYTES, VALUE_BYTES, day_of_1970, NANOS_PER_DAY, since_day0, value_of}
+use Rattle.int96.specs.Value.{NANOS_BYTES, DAY_BYTES, VALUE_BYTES, DAY_OF_1970, NANOS_PER_DAY, since_day0, value_of}
 use Rattle.int96.proofs.ValueLaws.{divided_day, divided_small, divided_rest}
 use Rattle.int96.proofs.conversion.write_value.Goals as goal
 use Rattle.int96.proofs.conversion.write_value.Goals.{After-divide-parts, After-store}
@@ -43,8 +43,8 @@ divided c = division_told c.ranges.count c.divide-parts.ensures.floor_division
 
 -- its day, as the machine reads it back, is the Julian day
 day_is : (count : ℤ) (d : Division) → SFits w64 count → SFits w64 d.day → FloorDivision count NANOS_PER_DAY d
-    → to_z w64 (of_z w64 d.day) +ℤ pos day_of_1970 ≡ pos (since_day0 count / NANOS_PER_DAY)
-day_is count d fits day_fits parts = ap (λ (z : ℤ). z +ℤ pos day_of_1970) (to_z-of_z w64 d.day day_fits) ∙ divided_day count d fits.sfits parts
+    → to_z w64 (of_z w64 d.day) +ℤ pos DAY_OF_1970 ≡ pos (since_day0 count / NANOS_PER_DAY)
+day_is count d fits day_fits parts = ap (λ (z : ℤ). z +ℤ pos DAY_OF_1970) (to_z-of_z w64 d.day day_fits) ∙ divided_day count d fits.sfits parts
 
 day_small : (c : After-divide-parts) → since_day0 c.args.count / NANOS_PER_DAY < 2 ^ 63
 day_small c = divided_small c.args.count c.divide-parts.result c.ranges.count.sfits (divided c)
