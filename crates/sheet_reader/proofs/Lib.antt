@@ -1,4 +1,4 @@
--- Laws of the reader's definitions, and what the proofs by hand share.
+-- Laws of the definitions of the reader.
 pub mod StepLaws
 pub mod ReaderLaws
 pub mod Examples
