@@ -95,6 +95,8 @@ fn rewriting_replaces_a_file() {
     assert_eq!(fs::metadata(&file).expect("the file").mode() & 0o777, 0o640);
     assert!(fs::symlink_metadata(&link).expect("the link").is_symlink());
     assert_eq!(names_in(&folder), ["file", "link"]);
+    // The folder stays, and `rt ci` takes no link below the repository.
+    fs::remove_file(&link).expect("the link is removed");
 }
 
 #[test]
