@@ -29,7 +29,7 @@
  *   Nothing is allocated, kept or shared between calls, so any number of threads may call at a time.
  *
  * What is proved
- *   Each function is proved, for all bytes and numbers, to answer and to write what its contract in crates/griffeljol says. This
+ *   Each function is proved, for all bytes and numbers, to answer and to write what its contract in crates/griffeljol_c says. This
  *   header is not: no prover sees that these declarations are those of the archive, that a caller's pointers and lengths are
  *   valid, or that its compiler passes them as the archive takes them.
  */

@@ -13,7 +13,7 @@ abbrev pub converted_alone : Annotated → Bool → Annotation
 converted_alone n under_map_of =
     cond (valid_parameters logical.NONE n.a n.b) (backward_of n.converted under_map_of) Annotation.Unreadable
 
--- the logical type where one stands, else what the converted type means; `underMap` says that the parent's resolved kind is MAP
+-- the logical type where one stands, else what the converted type means; `under_map_of` says that the parent's resolved kind is MAP
 unfoldable pub annotation_of : Annotated → Bool → Annotation
 annotation_of n under_map_of =
     cond (eqb n.logical logical.NONE) (converted_alone n under_map_of) (stated_of n.logical n.a n.b)

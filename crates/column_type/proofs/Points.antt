@@ -105,7 +105,7 @@ equal_points =
 abbrev int96_points : List ColumnType
 int96_points = column INT96 0 PLAIN_LEAF 0 0 ∷ column INT96 0 logical.UNKNOWN 0 0 ∷ []
 
--- `isLawful`, with all that it is made of open
+-- `is_lawful`, with all that it is made of open
 opened : ℕ → ColumnType → Bool
 unfolding is_lawful slot_keeps is_known scale_may_equal int96_retired has_geospatial fits is_leaf physical_listed listed length_shape is_nought slot_of rule9 is_placed is_retired rule10 rule11 decimal_holds ordered scale_allowed physical_holds greatest_precision greatest annotation_of backward_of stated_of named_of valid_parameters unit_of bit_width_of edge_of natural
 opened edition = is_lawful edition

@@ -89,7 +89,7 @@ pub record IsSheetOf (edition : ℕ) (sheet : List ℕ) (t : Tree) : Type 0 wher
 abbrev pub output : ℕ → List ℕ → List ℕ → List ℕ → List ℕ
 output edition first second lent = compare_written (compare_outcome edition first second (length lent)) first second lent
 
--- `differences::compare` answers `compareOutcome` and leaves `output`. The first sheet's tree is t, the second's u; a node of a tree has its number, its place
+-- `differences::compare` answers `compare_outcome` and leaves `output`. The first sheet's tree is t, the second's u; a node of a tree has its number, its place
 -- among its siblings, and the tree that stands there (`matching/specs/Nodes`)
 pub record Request1 (edition : ℕ) : Type 1 where
   -- "a list .. of each node and each slot field in which two sheets differ, with both contents": it has each difference, and nothing else
@@ -163,7 +163,7 @@ pub record IsLayer (layer : SlotBytes) : Type 0 where
   pub group : is_group (physical layer) ≡ true
   pub repeated : repetition layer ≡ REPEATED
 
--- the rows of `repeatedSheet`
+-- the rows of `repeated_sheet`
 abbrev pub repeated_rows : List ℕ
 repeated_rows =
     (255 ∷ 0 ∷ 255 ∷ 30 ∷ 0 ∷ 0 ∷ 0 ∷ 4 ∷ 0 ∷ 0 ∷ 0 ∷ [])
@@ -453,7 +453,7 @@ pub record Outside (coordinates : List Float) : Type 0 where
 -- "With it come boxes": `boxes::box_of` gives an answer that `Answers` allows, which `judgement` refuses or which is a box or none; `boxes::contains` answers what
 -- `membership` gives. No edition is asked
 pub record Boxes : Type 1 where
-  -- "compared as document 01 orders DOUBLE": `floatOrder`, which demand 2 has over the bits
+  -- "compared as document 01 orders DOUBLE": `float_order`, which demand 2 has over the bits
   pub at_most_lem : (v w : Float) → (at_most v w ≡ true) ↔ ((float_order v w ≡ Less) ⊎ (float_order v w ≡ Equal))
   pub above : (v w : Float) → (is_above v w ≡ true) ↔ (float_order v w ≡ Greater)
   -- "[-180, 180] or [-90, 90]"

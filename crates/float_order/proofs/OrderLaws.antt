@@ -341,7 +341,7 @@ le_trans x y z e f =
     let h = less_not k.zy (not-true (lt z y) (sym (le_not_lt y z m.0 m.1) ∙ f)) in
     le_not_lt x z n.0 m.1 ∙ ap not (not_less k.zx (omega arith))
 
--- ---- `floatOrder`, by the tests
+-- ---- `float_order`, by the tests
 
 -- less
 pub order_less : (x y : Float) → lt x y ≡ true → float_order x y ≡ Less

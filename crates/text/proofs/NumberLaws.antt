@@ -1,4 +1,4 @@
--- How many digits numbers have: the kit's `Fewest` holds of one count alone, which is `digitCount` for decimal digits.
+-- How many digits numbers have: the kit's `IsDigitCount` holds of one count alone, which is `digit_count` for decimal digits.
 -- Assumes nothing.
 use Prim.Native.Nat.{ℕ, zero, suc, ◌+◌, ◌-◌, ◌^◌, ◌≤◌, ◌<◌}
 use mathlib.Core.Bool.{Bool, true, false}

@@ -1,5 +1,5 @@
 -- A LIST's repeated group by how many fields it has and the repetition of the first: it is the element, its name decides that, or it is empty.
--- `proofs/StructureLaws`' `element-at` and `held_at` say this in rule 12's own words (`Rules.isElementGroup`, `Rules.holdsElement`).
+-- `proofs/StructureLaws`' `element_at` and `held_at` say this in rule 12's own words (`Rules.is_element_group`, `Rules.holds_element`).
 use Rattle.std.specs.Prelude.{ℕ, Bool, true, false, cond, eqb}
 use Rattle.parquet.specs.Repetition.{REPEATED}
 use Rattle.tree.specs.Rules.{is_required_or_optional}
