@@ -1,4 +1,6 @@
 -- `utf8::rest_after` meets its contract: the tests that lead to each return say of which alternative the first octet is, or between
+-- which two it lies.
+-- Assumes nothing.
 use mathlib.Core.Bool.{cond}
 use mathlib.Core.List.{List, [], ◌∷◌}
 use mathlib.Core.Path.{◌≡◌, refl, sym, ◌∙◌}

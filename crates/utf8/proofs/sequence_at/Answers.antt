@@ -1,4 +1,5 @@
 -- `utf8::sequence_at` meets its contract: its first octet says what may follow, and each test decides one part of that.
+-- Assumes nothing.
 use Prim.Native.Nat.{ℕ, suc, ◌+◌, ◌<◌}
 use mathlib.Core.Bool.{Bool, cond, ◌&&◌, and-false}
 use mathlib.Core.List.{List, ◌∷◌}

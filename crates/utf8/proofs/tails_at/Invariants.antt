@@ -1,4 +1,6 @@
 -- `utf8::tails_at` meets its contract. The loop's invariant: the octets asked for are of UTF8-tail where those not yet looked at are.
+-- The measure is how many those are.
+-- Assumes nothing.
 use Prim.Native.Nat.{◌+◌, ◌-◌, ◌≤◌}
 use mathlib.Core.Path.{◌≡◌}
 use lib.ListN.{take, drop, replicate}

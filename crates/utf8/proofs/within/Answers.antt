@@ -1,4 +1,5 @@
 -- `utf8::within` meets its contract: its two tests are those of `inside`.
+-- Assumes nothing.
 use borrow.Author.Tests.{le-leb, lt-leb}
 use Rattle.utf8.specs.Sequence.{inside}
 use Rattle.utf8.proofs.within.Goals as goal

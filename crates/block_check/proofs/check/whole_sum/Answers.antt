@@ -1,4 +1,5 @@
 -- `block_check::check::whole_sum` meets its contract. The invariant: the sums over the chunks passed weigh what the bytes of those
+-- chunks do, and are small.
 use Rattle.std.proofs.Common.{◌≡◌, ℕ, ◌+◌, ◌-◌, ◌*◌, ◌≤◌, List, length, take, drop, sym, refl, ap, ◌∙◌, subst, arith, length-drop, length-take}
 use native.Mathlib.Nat.{add-sub_cancel_left}
 use Rattle.laws.specs.Bytes.{Bytes}

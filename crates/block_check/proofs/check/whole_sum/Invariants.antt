@@ -1,4 +1,5 @@
 -- `block_check::check::whole_sum` meets its contract. The invariant: the sums over the chunks passed weigh what the bytes of those
+-- chunks do, and are small.
 use Rattle.std.proofs.Common.{◌-◌, ◌*◌, ◌≤◌}
 use Rattle.block_check.specs.Steps.{chunk_size, chunks, AtMost}
 use Rattle.block_check.proofs.LaneLaws.{LanesWeighed}

@@ -1,4 +1,5 @@
 -- `column::annotations::decimal_keeps` meets its contract.
+-- Assumes nothing.
 use mathlib.Core.Path.{◌≡◌, sym, ap, ◌∙◌}
 use Rattle.decimal_bytes.specs.declared.fit.Fit.{Fit}
 use Rattle.decimal_bytes.specs.Number.{number}

@@ -1,4 +1,5 @@
 -- `column::annotations::in_day` meets its contract: by the sign, then by the unit.
+-- Assumes nothing.
 use Rattle.std.proofs.Common.{◌≡◌, false, refl, sym, ap, ◌∙◌}
 use Rattle.timestamp.specs.declared.units.InDay.{InDay}
 use Rattle.column.proofs.DayLaws.{is_within, day_negative, day_told}

@@ -1,4 +1,5 @@
 -- `column::annotations::in_signed_bits` meets its contract.
+-- Assumes nothing.
 use mathlib.Core.Path.{ap, ◌∙◌}
 use Prim.Native.Nat.{ℕ, ◌*◌, ◌^◌}
 use native.Mathlib.Omega.{arith}

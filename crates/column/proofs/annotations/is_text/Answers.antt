@@ -1,4 +1,5 @@
 -- `column::annotations::is_text` meets its contract: each arm knows the kind, and the last that it is none of the others.
+-- Assumes nothing.
 use borrow.Author.Tests.{ne_eqb}
 use Rattle.column.proofs.annotations.is_text.Goals as goal
 

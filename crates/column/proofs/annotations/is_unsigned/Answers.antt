@@ -1,4 +1,5 @@
 -- `column::annotations::is_unsigned` meets its contract.
+-- Assumes nothing.
 use borrow.Author.Tests.{eq-eqb, ne_eqb}
 use Rattle.column.proofs.annotations.is_unsigned.Goals as goal
 

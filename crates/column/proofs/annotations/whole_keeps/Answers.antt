@@ -1,4 +1,5 @@
 -- `column::annotations::whole_keeps` meets its contract, by the kind.
+-- Assumes nothing.
 use borrow.Author.Tests.{eq-eqb, ne_eqb}
 use Rattle.column.specs.Annotations.{whole_keeps}
 use Rattle.column.proofs.annotations.whole_keeps.Goals as goal

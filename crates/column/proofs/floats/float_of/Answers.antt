@@ -1,4 +1,5 @@
 -- `column::floats::float_of` meets its contract: the patterns above that of infinity, but for the sign, are those of the NaN.
+-- Assumes nothing.
 use mathlib.Core.Path.{sym}
 use lib.Ieee.{binary32, of_bits, div}
 use Rattle.column.proofs.FloatLaws.{nan_above, not_nan_below}

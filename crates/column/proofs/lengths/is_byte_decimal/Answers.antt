@@ -1,4 +1,5 @@
 -- `column::lengths::is_byte_decimal` meets its contract.
+-- Assumes nothing.
 use mathlib.Core.Path.{sym, ◌∙◌}
 use borrow.Author.Tests.{not-true, not-false}
 use mathlib.Core.Path.{ap}

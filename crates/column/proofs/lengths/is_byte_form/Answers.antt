@@ -1,4 +1,5 @@
 -- `column::lengths::is_byte_form` meets its contract.
+-- Assumes nothing.
 use borrow.Author.Tests.{ne_eqb}
 use Rattle.column.proofs.lengths.is_byte_form.Goals as goal
 

@@ -1,4 +1,5 @@
 -- `column::lengths::length_right` meets its contract: the limit, the width, and the lengths of a decimal.
+-- Assumes nothing.
 use mathlib.Core.Path.{sym, ◌∙◌}
 use borrow.Author.Tests.{le-leb, lt-leb, not-true, not-false}
 use Rattle.column.specs.Lengths.{length_right}

@@ -1,4 +1,5 @@
 -- `column::lengths::width_right` meets its contract: each arm knows the physical type, and the last that it is none of the others.
+-- Assumes nothing.
 use borrow.Author.Tests.{ne_eqb}
 use Rattle.column.proofs.lengths.width_right.Goals as goal
 

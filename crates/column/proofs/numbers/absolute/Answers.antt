@@ -1,4 +1,5 @@
 -- `column::numbers::absolute` meets its contract, by the sign.
+-- Assumes nothing.
 use mathlib.Core.Path.{sym, ap, ◌∙◌}
 use native.Mathlib.Omega.{arith}
 use lib.IntN.{nat_abs}

@@ -1,4 +1,5 @@
 -- `column::numbers::folded` meets its contract, by the sign.
+-- Assumes nothing.
 use mathlib.Core.Path.{sym, ap}
 use lib.Signed.{mag}
 use Rattle.laws.proofs.ByteLaws.{twos_below, twos_above}

@@ -1,4 +1,5 @@
 -- `column::numbers::in_bits` meets its contract: a number has 64 bits, and nothing is left once as many as it has are gone.
+-- Assumes nothing.
 use mathlib.Core.Path.{sym}
 use native.Mathlib.Nat.{lt_of_lt_of_le}
 use lib.Pow.{pow_pos, pow_mono}

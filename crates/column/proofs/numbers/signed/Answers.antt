@@ -1,4 +1,5 @@
 -- `column::numbers::signed` meets its contract: -1 less the folded where the first bit is set, and else the folded.
+-- Assumes nothing.
 use mathlib.Core.Path.{◌≡◌, sym, ap, subst, ◌∙◌}
 use Prim.Native.Nat.{ℕ, ◌^◌, ◌<◌}
 use native.Mathlib.Nat.{lt_of_lt_of_le}

@@ -1,4 +1,5 @@
 -- `column::reading::is_whole` meets its contract.
+-- Assumes nothing.
 use borrow.Author.Tests.{ne_eqb}
 use Rattle.column.proofs.reading.is_whole.Goals as goal
 

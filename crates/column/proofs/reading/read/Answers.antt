@@ -1,4 +1,5 @@
 -- `column::reading::read` meets its contract: 21 and 20, then what is left behind it.
+-- Assumes nothing.
 use mathlib.Core.Path.{◌≡◌, sym, ap, ◌∙◌}
 use mathlib.Core.List.{List}
 use Prim.Native.Nat.{ℕ}

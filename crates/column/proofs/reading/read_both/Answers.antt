@@ -1,4 +1,5 @@
 -- `column::reading::read_both` meets its contract: 21 or 20 for both values, or what is left behind it for each.
+-- Assumes nothing.
 use mathlib.Core.Path.{◌≡◌, sym, ap, ◌∙◌}
 use mathlib.Core.Bool.{true}
 use mathlib.Core.List.{List}

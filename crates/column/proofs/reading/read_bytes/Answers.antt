@@ -1,4 +1,5 @@
 -- `column::reading::read_bytes` meets its contract, by the kind.
+-- Assumes nothing.
 use mathlib.Core.Path.{sym, ◌∙◌}
 use borrow.Author.Tests.{eq-eqb, ne_eqb}
 use Rattle.column.specs.Annotations.{bytes_keep}

@@ -1,4 +1,5 @@
 -- `column::reading::read_decimal` meets its contract: 16 beyond the precision, else the bytes.
+-- Assumes nothing.
 use mathlib.Core.Path.{sym, ◌∙◌}
 use borrow.Author.Tests.{not-true, not-false}
 use mathlib.Core.Path.{ap}

@@ -1,4 +1,5 @@
 -- `column::reading::read_lawful` meets its contract: 15, then 16.
+-- Assumes nothing.
 use mathlib.Core.Path.{◌≡◌, sym, ◌∙◌}
 use mathlib.Core.Bool.{true}
 use lib.ListN.{length}

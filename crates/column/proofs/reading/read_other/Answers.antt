@@ -1,4 +1,5 @@
 -- `column::reading::read_other` meets its contract: each arm knows the physical type, and so the length.
+-- Assumes nothing.
 use mathlib.Core.Path.{◌≡◌, subst}
 use Prim.Native.Nat.{ℕ, ◌<◌, ◌^◌}
 use native.Mathlib.Omega.{arith}

@@ -1,4 +1,5 @@
 -- `column::reading::read_text` meets its contract: 16 where the text stops short of its end, else the bytes.
+-- Assumes nothing.
 use mathlib.Core.Path.{sym}
 use borrow.Author.Tests.{eq-eqb, ne_eqb}
 use Rattle.column.proofs.reading.read_text.Goals as goal

@@ -1,4 +1,5 @@
 -- `column::reading::read_truth` meets its contract.
+-- Assumes nothing.
 use borrow.Author.Tests.{le-leb, lt-leb}
 use Rattle.column.proofs.reading.read_truth.Goals as goal
 

@@ -1,4 +1,5 @@
 -- `column::reading::read_whole` meets its contract: 16, then the number with its sign or without.
+-- Assumes nothing.
 use mathlib.Core.Path.{◌≡◌, sym, ◌∙◌}
 use mathlib.Core.Bool.{true}
 use native.Mathlib.Nat.{lt_of_lt_of_le}

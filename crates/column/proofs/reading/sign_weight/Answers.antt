@@ -1,4 +1,5 @@
 -- `column::reading::sign_weight` meets its contract.
+-- Assumes nothing.
 use borrow.Author.Tests.{eq-eqb, ne_eqb}
 use Rattle.column.proofs.reading.sign_weight.Goals as goal
 

@@ -1,4 +1,5 @@
 -- `column_order::decimals::is_width` meets its contract: of the byte forms FIXED alone has a width.
+-- Assumes nothing.
 use Rattle.column_order.proofs.DecimalLaws.{array_width}
 use Rattle.column_order.proofs.decimals.is_width.Goals as goal
 

@@ -1,4 +1,5 @@
 -- `column_order::decimals::order_decimals` meets its contract: a wrong width first, and else what comparing within the precision answers.
+-- Assumes nothing.
 use mathlib.Core.Path.{◌≡◌, refl, sym, ap, ◌∙◌}
 use borrow.Author.Tests.{not-true, not-false}
 use Rattle.decimal.specs.declared.within.Compared.{Compared}

@@ -1,4 +1,5 @@
 -- `column_order::decimals::refused` meets its contract: the first value by its case, then the second.
+-- Assumes nothing.
 use mathlib.Core.Path.{◌≡◌, sym, ap, ◌∙◌}
 use Rattle.column.specs.Reading.{read_of}
 use Rattle.column.specs.declared.value.Both.{Both}

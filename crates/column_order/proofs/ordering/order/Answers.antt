@@ -1,4 +1,5 @@
 -- `column_order::ordering::order` meets its contract: decimals in bytes go one way, and all else the other.
+-- Assumes nothing.
 use mathlib.Core.Path.{◌≡◌, sym, ap, ◌∙◌}
 use mathlib.Core.List.{List}
 use Prim.Native.Nat.{ℕ}

@@ -1,4 +1,5 @@
 -- `column_order::ordering::order_first` meets its contract: the refusal of the first value, or what the second makes of it.
+-- Assumes nothing.
 use mathlib.Core.Path.{sym, ◌∙◌}
 use Rattle.column_order.proofs.ordering.order_first.Goals as goal
 

@@ -1,4 +1,5 @@
 -- `column_order::ordering::order_others` meets its contract: 21 or 20 where no value can be read, then 17, then the values.
+-- Assumes nothing.
 use mathlib.Core.Path.{◌≡◌, sym, ap, ap₂, ◌∙◌}
 use mathlib.Core.Bool.{Bool, cond}
 use borrow.Author.Tests.{not-true, not-false}

@@ -1,4 +1,5 @@
 -- `column_order::ordering::order_read` meets its contract: each arm knows the case of the first value, and the order of values is that of their keys.
+-- Assumes nothing.
 use mathlib.Core.Path.{◌≡◌, sym, ap, subst, ◌∙◌}
 use Prim.Native.Nat.{◌≤◌}
 use lib.IntN.{ℤ}

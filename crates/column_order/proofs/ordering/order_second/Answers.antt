@@ -1,4 +1,5 @@
 -- `column_order::ordering::order_second` meets its contract: the refusal of the second value, or the order.
+-- Assumes nothing.
 use mathlib.Core.Path.{sym, ap, ◌∙◌}
 use Rattle.column_order.specs.declared.answer.Order.TheVariants.{Related}
 use Rattle.column_order.proofs.ordering.order_second.Goals as goal

@@ -1,4 +1,5 @@
 -- `column_order::pairs::order_bytes` meets its contract. The invariant: from `at` on the bytes are ordered as the wholes are.
+-- Assumes nothing.
 use mathlib.Core.Path.{refl, sym, ◌∙◌}
 use native.Mathlib.Omega.{arith}
 use native.Mathlib.Numerals.{add-one}

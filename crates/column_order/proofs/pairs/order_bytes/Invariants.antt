@@ -1,4 +1,5 @@
 -- `column_order::pairs::order_bytes` meets its contract. The invariant: from `at` on the bytes are ordered as the wholes are.
+-- Assumes nothing.
 use mathlib.Core.Path.{◌≡◌}
 use Prim.Native.Nat.{◌-◌, ◌≤◌}
 use lib.ListN.{length, drop}

@@ -1,4 +1,5 @@
 -- `column_order::pairs::order_numbers` meets its contract.
+-- Assumes nothing.
 use borrow.Author.Tests.{lt-ltb, le-ltb}
 use Rattle.float_order.specs.Keys.{whole_order}
 use Rattle.column_order.proofs.pairs.order_numbers.Goals as goal

@@ -1,4 +1,5 @@
 -- `column_order::pairs::order_signed` meets its contract.
+-- Assumes nothing.
 use mathlib.Core.Path.{◌≡◌, sym, ap₂, ◌∙◌}
 use lib.Signed.{lt_z}
 use mir.Syntax.{w64}

@@ -1,4 +1,5 @@
 -- `column_order::values::compare_bytes` meets its contract, by the other value.
+-- Assumes nothing.
 use mathlib.Core.Path.{subst, ap₂, ◌∙◌}
 use Prim.Native.Nat.{ℕ, ◌+◌, ◌≤◌}
 use native.Mathlib.Nat.{add-sub_cancel_left}

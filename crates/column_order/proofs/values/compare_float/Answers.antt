@@ -1,4 +1,5 @@
 -- `column_order::values::compare_float` meets its contract, by the other value.
+-- Assumes nothing.
 use Rattle.column_order.proofs.values.compare_float.Goals as goal
 
 pub returns-in-Float : goal.returns-in-Float

@@ -1,4 +1,5 @@
 -- `column_order::values::compare_signed` meets its contract, by the other value.
+-- Assumes nothing.
 use mathlib.Core.Path.{◌∙◌, ap₂}
 use mir.Syntax.{w64}
 use mir.ValLaws.{to_z-of_z}

@@ -1,4 +1,5 @@
 -- `column_order::values::compare_truth` meets its contract, by the other value.
+-- Assumes nothing.
 use Rattle.column_order.proofs.values.compare_truth.Goals as goal
 
 pub returns-in-Truth : goal.returns-in-Truth

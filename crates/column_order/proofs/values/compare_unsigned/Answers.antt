@@ -1,4 +1,5 @@
 -- `column_order::values::compare_unsigned` meets its contract, by the other value.
+-- Assumes nothing.
 use Rattle.column_order.proofs.values.compare_unsigned.Goals as goal
 
 pub returns-in-Unsigned : goal.returns-in-Unsigned

@@ -1,4 +1,5 @@
 -- `edition_argument::arguments::at` meets its contract: what was fetched is the text.
+-- Assumes nothing.
 use Rattle.edition_argument.proofs.arguments.at.Goals as goal
 
 pub returns : goal.returns

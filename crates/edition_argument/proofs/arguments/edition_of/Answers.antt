@@ -1,4 +1,5 @@
 -- `edition_argument::arguments::edition_of` meets its contract: a text of one digit spells the edition of its value, where that is known, and no other text spells any.
+-- Assumes nothing.
 use mathlib.Core.Path.{sym, ap, ◌∙◌}
 use mathlib.Core.Bool.{true≢false}
 use native.Mathlib.Omega.{arith}

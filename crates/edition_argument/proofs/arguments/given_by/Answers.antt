@@ -1,4 +1,5 @@
 -- `edition_argument::arguments::given_by` meets its contract: the number of words tells which case holds.
+-- Assumes nothing.
 use mathlib.Core.Path.{refl}
 use native.Mathlib.Omega.{arith}
 use Rattle.edition_argument.proofs.arguments.given_by.Goals as goal

@@ -1,4 +1,5 @@
 -- `sheet::soundness::name_right` meets its contract: the number of the name length and the bytes behind it is in range just where they are right,
+-- and is the length then.
 use borrow.Author.Tests.{eq-eqb, ne_eqb, le-leb, lt-leb}
 use mathlib.Core.Path.{◌≡◌, sym, ap, ◌∙◌}
 use mathlib.Core.Bool.{false, and-false}
