@@ -11,7 +11,7 @@ use lib.Dec.{eqb, leb, ltb}
 use lib.IntN.{ℤ, pos, negsuc}
 use lib.Signed.{le_z}
 use borrow.Author.Tests.{not-true, eqb-true, eqb-false, le-leb, lt-ltb, leb-true, ltb-true}
-use Rattle.laws.proofs.BoolLaws.{and_left, and_right, and_both, both_and, and-true, is_false, by_test}
+use Rattle.laws.proofs.BoolLaws.{and_left, and_both, both_and, and-true, is_false, by_test}
 use Rattle.edition.specs.Editions.{FIRST, SECOND, THIRD, scale_may_equal, int96_retired, has_geospatial}
 use Rattle.parquet.specs.Physical as physical
 use Rattle.parquet.specs.Logical as logical
@@ -32,17 +32,22 @@ use Rattle.annotation.specs.declared.resolution.Kind.{Kind}
 
 -- precision and scale in order --------------------------------------------------------------------------------------------
 
+in_order : (p s : ℕ) (beside : Bool) → ((leb 1 p && leb 0 s) && beside) ≡ true → (1 ≤ p) × (beside ≡ true)
+in_order p s beside e =
+    let both = and_both (leb 1 p && leb 0 s) beside e in
+    (leb-true 1 p (and_left (leb 1 p) (leb 0 s) both.0), both.1)
+
 pub first_ordered : (p s : ℕ) → (ordered FIRST (pos p) (pos s) ≡ true) ↔ ((1 ≤ p) × (s < p))
 unfolding ordered scale_allowed scale_may_equal
 first_ordered p s = (
-  λ e. (leb-true 1 p (and_left (leb 1 p) (leb 0 s) (and_left (leb 1 p && leb 0 s) (ltb s p) e)), ltb-true s p (and_right (leb 1 p && leb 0 s) (ltb s p) e)),
+  λ e. (let o = in_order p s (ltb s p) e in (o.0, ltb-true s p o.1)),
   λ h. rw (le-leb 1 p h.0, le-leb 0 s (omega arith), lt-ltb s p h.1),
 )
 
 pub second_ordered : (p s : ℕ) → (ordered SECOND (pos p) (pos s) ≡ true) ↔ ((1 ≤ p) × (s ≤ p))
 unfolding ordered scale_allowed scale_may_equal
 second_ordered p s = (
-  λ e. (leb-true 1 p (and_left (leb 1 p) (leb 0 s) (and_left (leb 1 p && leb 0 s) (leb s p) e)), leb-true s p (and_right (leb 1 p && leb 0 s) (leb s p) e)),
+  λ e. (let o = in_order p s (leb s p) e in (o.0, leb-true s p o.1)),
   λ h. rw (le-leb 1 p h.0, le-leb 0 s (omega arith), le-leb s p h.1),
 )
 

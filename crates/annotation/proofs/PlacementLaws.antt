@@ -5,7 +5,7 @@ use mathlib.Core.Path.{◌≡◌, refl, sym, ◌∙◌, subst}
 use mathlib.Core.Bool.{Bool, true, false, true≢false, not, cond, ◌||◌}
 use lib.Dec.{eqb}
 use borrow.Author.Tests.{not-true}
-use Rattle.laws.proofs.BoolLaws.{and_left, and_right}
+use Rattle.laws.proofs.BoolLaws.{and_both, and_right}
 use Rattle.parquet.specs.Physical as physical
 use Rattle.parquet.specs.Logical as logical
 use Rattle.logical_type.specs.Spelling.{code_of}
@@ -117,19 +117,19 @@ pub readable : (valid : Bool) (says : Annotation) (code length : ℕ) → annota
 readable true says code length e = refl
 readable false says code length e = absurd (true≢false (sym e))
 
--- what rule 10 asks in every edition
-pub ten_placed : (edition : ℕ) (n : Annotated) (under_map_of : Bool) → rule10 edition n under_map_of ≡ true → is_placed n under_map_of ≡ true
+-- what rule 10 asks behind the retired types
+timely_placed : (edition : ℕ) (n : Annotated) (under_map_of : Bool) → rule10 edition n under_map_of ≡ true → (not (is_early edition (annotation_of n under_map_of)) ≡ true) × (is_placed n under_map_of ≡ true)
 unfolding rule10
-ten_placed edition n under_map_of e =
-    let own = and_right (not (is_retired edition n.physical)) _ e in
-    and_right (not (is_early edition (annotation_of n under_map_of))) (is_placed n under_map_of) own
+timely_placed edition n under_map_of e =
+    and_both _ (is_placed n under_map_of) (and_right (not (is_retired edition n.physical)) _ e)
+
+-- what it asks in every edition
+pub ten_placed : (edition : ℕ) (n : Annotated) (under_map_of : Bool) → rule10 edition n under_map_of ≡ true → is_placed n under_map_of ≡ true
+ten_placed edition n under_map_of e = (timely_placed edition n under_map_of e).1
 
 -- and no GEOMETRY and GEOGRAPHY before the edition that has them
 pub ten_timely : (edition : ℕ) (n : Annotated) (under_map_of : Bool) → rule10 edition n under_map_of ≡ true → is_early edition (annotation_of n under_map_of) ≡ false
-unfolding rule10
-ten_timely edition n under_map_of e =
-    let own = and_right (not (is_retired edition n.physical)) _ e in
-    not-true _ (and_left (not (is_early edition (annotation_of n under_map_of))) (is_placed n under_map_of) own)
+ten_timely edition n under_map_of e = not-true _ (timely_placed edition n under_map_of e).0
 
 -- a group whose annotation is placed as rule 10 asks is plain, LIST or MAP
 pub group_kind_lem : (n : Annotated) (under_map_of : Bool) → is_placed n under_map_of ≡ true → n.physical ≡ physical.GROUP → group_kind (kind_of n under_map_of).kind ≡ true

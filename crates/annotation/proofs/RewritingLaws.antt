@@ -5,6 +5,7 @@ use mathlib.Core.Path.{◌≡◌, refl, sym, ap, ◌∙◌}
 use mathlib.Core.Bool.{Bool, true, false, true≢false, cond, ◌||◌, or-true}
 use lib.Dec.{eqb}
 use borrow.Author.Tests.{eq-eqb, eqb-true, eqb-false}
+use Rattle.std.specs.Prelude.{Ok, Err}
 use Rattle.parquet.specs.Physical as physical
 use Rattle.parquet.specs.Converted as converted
 use Rattle.parquet.specs.Logical as logical
@@ -18,19 +19,18 @@ use Rattle.annotation.specs.Rule9.{rule9}
 use Rattle.annotation.specs.Rule10.{annotation_on, is_placed, rule10}
 use Rattle.annotation.specs.Rule11.{is_decimal, decimal_holds, rule11}
 use Rattle.annotation.specs.Kinds.{PLAIN_LEAF, PLAIN_GROUP, bare_kind, kind_as, kind_of}
-use Rattle.annotation.specs.Outcome.{refusal_of, resolution_of}
-use Rattle.annotation.specs.Rewriting.{written_as, written_of, rewriting_of, outcome_of, outcome, with_written, rewritten}
+use Rattle.annotation.specs.Outcome.{resolution_of}
+use Rattle.annotation.specs.Rewriting.{written_as, written_of, rewriting_of, with_written, rewritten}
 use Rattle.logical_type.specs.declared.types.LogicalType.{LogicalType}
 use Rattle.logical_type.specs.declared.types.Annotation.{Annotation}
 use Rattle.annotation.specs.declared.slot.Annotated.{Annotated}
 use Rattle.annotation.specs.declared.resolution.Kind.{Kind}
-use Rattle.annotation.specs.declared.resolution.Resolution.{Resolution}
+use Rattle.annotation.specs.declared.rules.Broken.{Broken}
 use Rattle.annotation.specs.declared.rewriting.Written.{Written}
-use Rattle.annotation.specs.declared.rewriting.Rewriting.{Rewriting}
 use Rattle.logical_type.proofs.ConversionLaws.{forward_decimal}
 use Rattle.logical_type.proofs.SpellingLaws.{stated_spelled}
 use Rattle.annotation.proofs.PlacementLaws.{kind_logical, code_stands, ten_placed}
-use Rattle.annotation.proofs.OutcomeLaws.{resolved_of_keeps, keeps_of_resolved, kind_of_resolved, resolved_of_refusal, refused_of_number}
+use Rattle.annotation.proofs.OutcomeLaws.{resolved_of_keeps, keeps_of_resolved, kind_of_resolved}
 
 -- an annotation as it is after rewriting: what cannot be read is written as none
 abbrev settled : Annotation → Annotation
@@ -77,7 +77,7 @@ kind_written Annotation.Interval n w = refl
 kind_written Annotation.Unreadable n w = refl
 
 -- what rewriting writes is accepted, and resolves to the same kind, p1 and p2
-pub resolved_rewritten : (edition : ℕ) (n : Annotated) (under_map_of : Bool) (k : Kind) → resolution_of edition n under_map_of ≡ Resolution.Resolved k → resolution_of edition (rewritten n under_map_of) under_map_of ≡ Resolution.Resolved k
+pub resolved_rewritten : (edition : ℕ) (n : Annotated) (under_map_of : Bool) (k : Kind) → resolution_of edition n under_map_of ≡ Ok k → resolution_of edition (rewritten n under_map_of) under_map_of ≡ Ok k
 unfolding rewritten written_of is_placed rule10 rule11 decimal_holds kind_of
 resolved_rewritten edition n under_map_of k e =
     let keeps = keeps_of_resolved edition n under_map_of k e in
@@ -88,7 +88,7 @@ resolved_rewritten edition n under_map_of k e =
       ten = rw same keeps.ten;
       eleven = rw same keeps.eleven;
     })
-    ∙ ap Resolution.Resolved (rw (same, kind_written (annotation_of n under_map_of) n (written_of n under_map_of)) (kind_of_resolved edition n under_map_of k e))
+    ∙ ap Ok (rw (same, kind_written (annotation_of n under_map_of) n (written_of n under_map_of)) (kind_of_resolved edition n under_map_of k e))
 
 written_settled : (says : Annotation) → written_as (settled says) ≡ written_as says
 written_settled Annotation.Plain = refl
@@ -173,11 +173,6 @@ module _ (n : Annotated) (under_map_of : Bool) (nine : rule9 n ≡ true) (placed
   decimal_rewritten e =
       written_decimal (annotation_of n under_map_of) (decimal_by_either (eqb n.converted converted.DECIMAL) refl e)
 
--- an answer that rewriting gives has the outcome of the numbers
-pub with_outcome : (edition : ℕ) (n : Annotated) (under_map_of : Bool) (r : Rewriting) → r ≡ rewriting_of edition n under_map_of → (r ≡ rewriting_of edition n under_map_of) × ((k : ℕ) → outcome_of k r ≡ outcome edition k n under_map_of)
-unfolding outcome
-with_outcome edition n under_map_of r e = (e, λ k. ap (outcome_of k) e)
-
 -- what is written of the numbers of a slot says whether their kind is a code, but for the codes of nodes without logical type
 module _ (code : ℕ) (none : eqb logical.NONE code ≡ false) (group : eqb PLAIN_GROUP code ≡ false) (interval : eqb converted.INTERVAL code ≡ false) where
   plain_code : (t : Bool) → eqb logical.NONE code ≡ eqb (cond t (bare_kind PLAIN_GROUP) (bare_kind PLAIN_LEAF)).kind code
@@ -194,12 +189,12 @@ module _ (code : ℕ) (none : eqb logical.NONE code ≡ false) (group : eqb PLAI
   unfolding written_of kind_of
   written_kind n under_map_of = written_code (annotation_of n under_map_of) n
 
--- what rewriting answers for numbers that are not refused
-pub written_rewriting : (edition : ℕ) (n : Annotated) (under_map_of : Bool) (w : Written) → 0 ≡ refusal_of (resolution_of edition n under_map_of) → w ≡ written_of n under_map_of → Rewriting.Written w ≡ rewriting_of edition n under_map_of
+-- what rewriting answers for numbers that resolve
+pub written_rewriting : (edition : ℕ) (n : Annotated) (under_map_of : Bool) (k : Kind) (w : Written) → resolution_of edition n under_map_of ≡ Ok k → w ≡ written_of n under_map_of → Ok w ≡ rewriting_of edition n under_map_of
 unfolding rewriting_of
-written_rewriting edition n under_map_of w e same = rw (resolved_of_refusal edition n under_map_of e) (ap Rewriting.Written same)
+written_rewriting edition n under_map_of k w e same = rw e (ap Ok same)
 
--- and for those that are
-pub refused_rewriting : (edition : ℕ) (n : Annotated) (under_map_of : Bool) (number : ℕ) → number ≡ refusal_of (resolution_of edition n under_map_of) → (number ≡ 0 → ⊥) → Rewriting.Refused number ≡ rewriting_of edition n under_map_of
+-- and for those that do not
+pub refused_rewriting : (edition : ℕ) (n : Annotated) (under_map_of : Bool) (broken : Broken) → resolution_of edition n under_map_of ≡ Err broken → Err broken ≡ rewriting_of edition n under_map_of
 unfolding rewriting_of
-refused_rewriting edition n under_map_of number e h = rw (← refused_of_number (resolution_of edition n under_map_of) number e h)
+refused_rewriting edition n under_map_of broken e = rw e

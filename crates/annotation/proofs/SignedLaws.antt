@@ -1,26 +1,20 @@
 -- A signed number as a natural.
 -- Assumes nothing.
+use Prim.Native.Nat.{ℕ}
 use native.Mathlib.Omega.{arith}
 use mathlib.Core.Path.{◌≡◌, refl}
-use mathlib.Core.Bool.{true, false, true≢false}
 use lib.IntN.{ℤ, pos, negsuc, nat_abs}
-use lib.Dec.{T}
-use lib.Signed.{lt_z, non_neg}
-use borrow.Author.Tests.{ltb-true}
+use mir.Syntax.{w32}
+use mir.Val.{SFits}
+use Rattle.std.specs.Prelude.{Result, Ok, Err}
+use Rattle.std.specs.Result.{OkIff, result_unwrap_or}
+use Rattle.std.specs.Int.{FitsUnsignedBits}
 use Rattle.annotation.specs.Signed.{natural}
 
--- a negative number gives 0
-pub natural_negative : (z : ℤ) → lt_z z (pos 0) ≡ true → 0 ≡ natural z
+-- the number where it fits the unsigned numbers of four bytes, else 0
+pub unwrapped_natural : {E : Type 0} (x : ℤ) (r : Result ℕ E) → SFits w32 x → OkIff r (FitsUnsignedBits 32 x) (nat_abs x) → result_unwrap_or r 0 ≡ natural x
 unfolding natural
-natural_negative (pos n) e = omega (arith, ltb-true n 0 e)
-natural_negative (negsuc n) e = refl
-
--- any other number gives its size
-pub natural_size : (z : ℤ) → lt_z z (pos 0) ≡ false → nat_abs z ≡ natural z
-unfolding natural
-natural_size (pos n) e = refl
-natural_size (negsuc n) e = absurd (true≢false e)
-
-pub not_negative : (z : ℤ) → lt_z z (pos 0) ≡ false → T (non_neg z)
-not_negative (pos n) e = tt
-not_negative (negsuc n) e = absurd (true≢false e)
+unwrapped_natural (pos n) (Ok v) fits e = e.1
+unwrapped_natural (pos n) (Err d) fits e = absurd (e (omega (arith, fits)))
+unwrapped_natural (negsuc n) (Ok v) fits e = absurd e.0
+unwrapped_natural (negsuc n) (Err d) fits e = refl

@@ -1,5 +1,5 @@
 -- What the rewritten sheet says of a node (01, "Rows and the rewritten sheet").
-use Rattle.std.specs.Prelude.{ℕ, Bool}
+use Rattle.std.specs.Prelude.{ℕ, Bool, Result, Ok, Err}
 use Rattle.refusal.specs.Outcome.{Outcome, given, refused, refusal}
 use Rattle.parquet.specs.Converted as converted
 use Rattle.parquet.specs.Logical as logical
@@ -10,12 +10,11 @@ use Rattle.annotation.specs.Meaning.{annotation_of}
 use Rattle.logical_type.specs.declared.types.LogicalType.{LogicalType}
 use Rattle.logical_type.specs.declared.types.Annotation.{Annotation}
 use Rattle.annotation.specs.declared.slot.Annotated.{Annotated}
-use Rattle.annotation.specs.Outcome.{resolution_of}
-use Rattle.annotation.specs.declared.resolution.Resolution.{Resolution}
+use Rattle.annotation.specs.Outcome.{number_of, resolution_of}
+use Rattle.annotation.specs.declared.resolution.Kind.{Kind}
+use Rattle.annotation.specs.declared.rules.Broken.{Broken}
 -- `Written` has the annotation numbers of a rewritten slot: converted, logical, a and b
 use Rattle.annotation.specs.declared.rewriting.Written.{Written}
--- `Rewriting` is Written, with a `Written`, or Refused, with the number of the refusal
-use Rattle.annotation.specs.declared.rewriting.Rewriting.{Rewriting}
 
 -- a converted type alone, or none
 abbrev pub converted_written : ℕ → Written
@@ -37,19 +36,19 @@ written_as Annotation.Unreadable = converted_written converted.NONE
 unfoldable pub written_of : Annotated → Bool → Written
 written_of n under_map_of = written_as (annotation_of n under_map_of)
 
--- what rewriting answers: what is written, or the number of the refusal where the numbers do not resolve
-abbrev pub rewriting_as : Resolution → Written → Rewriting
-rewriting_as (Resolution.Resolved kind) w = Rewriting.Written w
-rewriting_as (Resolution.Refused number) w = Rewriting.Refused number
+-- what rewriting answers: what is written, or the rule that is broken where the numbers do not resolve
+abbrev pub rewriting_as : Result Kind Broken → Written → Result Written Broken
+rewriting_as (Ok kind) w = Ok w
+rewriting_as (Err broken) w = Err broken
 
 -- what rewriting answers for the numbers of a slot
-unfoldable pub rewriting_of : ℕ → Annotated → Bool → Rewriting
+unfoldable pub rewriting_of : ℕ → Annotated → Bool → Result Written Broken
 rewriting_of edition n under_map_of = rewriting_as (resolution_of edition n under_map_of) (written_of n under_map_of)
 
 -- what each answer stands for at a node, which is the place of its refusal
-abbrev pub outcome_of : ℕ → Rewriting → Outcome Written
-outcome_of k (Rewriting.Written w) = given w
-outcome_of k (Rewriting.Refused number) = refused (refusal number k)
+abbrev pub outcome_of : ℕ → Result Written Broken → Outcome Written
+outcome_of k (Ok w) = given w
+outcome_of k (Err broken) = refused (refusal (number_of broken) k)
 
 -- the outcome of rewriting the numbers of any slot at any node
 unfoldable pub outcome : ℕ → ℕ → Annotated → Bool → Outcome Written

@@ -1,6 +1,5 @@
 -- What the steps of resolving a slot answer, which the contracts of private functions cite. Nothing here is a promise to a caller.
-use Rattle.std.specs.Prelude.{ℕ, ◌+◌, Bool, true, false, not, cond, ◌&&◌, eqb, leb, ℤ, pos}
-use Rattle.refusal.specs.Numbers.{DISAGREEMENT, MISPLACED, BAD_DECIMAL}
+use Rattle.std.specs.Prelude.{ℕ, ◌+◌, Bool, true, false, not, cond, ◌&&◌, eqb, leb, pos, Result, Ok, Err}
 use Rattle.edition.specs.Editions.{has_geospatial}
 use Rattle.parquet.specs.Physical as physical
 use Rattle.parquet.specs.Converted as converted
@@ -10,12 +9,13 @@ use Rattle.annotation.specs.Signed.{natural}
 use Rattle.annotation.specs.Meaning.{annotation_of}
 use Rattle.annotation.specs.Rule9.{rule9}
 use Rattle.annotation.specs.Rule10.{UUID_LENGTH, INTERVAL_LENGTH, is_fixed, decimal_on, is_retired}
-use Rattle.annotation.specs.Rule11.{ordered, physical_holds}
+use Rattle.annotation.specs.Rule11.{decimal_holds}
 use Rattle.annotation.specs.Kinds.{bare_kind, plain_kind, decimal_kind}
 use Rattle.annotation.specs.Packed.{ANY_PHYSICAL, OWN_RULE, DISAGREEMENT_MARK, packed_of, converted_part, logical_part, a_part, b_part, demand_part}
 use Rattle.annotation.specs.declared.slot.Annotated.{Annotated}
 use Rattle.annotation.specs.declared.resolution.Kind.{Kind}
 use Rattle.annotation.specs.declared.rewriting.Written.{Written}
+use Rattle.annotation.specs.declared.rules.Broken.{Broken}
 
 -- no annotation stands, and no parameter
 unfoldable pub is_plain : Annotated → Bool
@@ -58,29 +58,30 @@ own_on edition named code length =
     (cond (eqb named logical.GEOMETRY) (geospatial_on edition code)
     (cond (eqb named logical.GEOGRAPHY) (geospatial_on edition code) (is_fixed INTERVAL_LENGTH code length)))))
 
--- what rule 11 asks of a DECIMAL
-unfoldable pub digits_hold : ℕ → ℕ → ℕ → ℤ → ℤ → Bool
-digits_hold edition code length precision scale = ordered edition precision scale && physical_holds code length (natural precision)
+-- the second check where the first is kept
+abbrev pub and_then : Result (Unit {0}) Broken → Result (Unit {0}) Broken → Result (Unit {0}) Broken
+and_then (Ok kept) next = next
+and_then (Err broken) next = Err broken
 
--- the number of the first of the rules 10 and 11 that one of these breaks, and 0 of none
-unfoldable pub own_fault : ℕ → ℕ → ℕ → ℕ → ℤ → ℤ → ℕ
-own_fault edition named code length precision scale =
-    cond (own_on edition named code length)
-    (cond (eqb named logical.DECIMAL) (cond (digits_hold edition code length precision scale) 0 BAD_DECIMAL) 0)
-    MISPLACED
+-- whether the rules 10 and 11 are kept by one of these, or the first that it breaks
+unfoldable pub own_check : ℕ → ℕ → Annotated → Result (Unit {0}) Broken
+own_check edition named n =
+    cond (own_on edition named n.physical (natural n.type_length))
+    (cond (eqb named logical.DECIMAL) (cond (decimal_holds edition n) (Ok tt) (Err Broken.BadDecimal)) (Ok tt))
+    (Err Broken.Misplaced)
 
--- the number of the first of the rules 9, 10 and 11 that the numbers of a slot break, by its packed annotation
-unfoldable pub fault_by : ℕ → ℕ → ℕ → ℤ → ℤ → ℤ → ℕ
-fault_by edition packed code length precision scale =
-    cond (leb DISAGREEMENT_MARK packed) DISAGREEMENT
-    (cond (eqb code (demand_part packed)) 0
-    (cond (is_retired edition code) MISPLACED
-    (cond (eqb (demand_part packed) ANY_PHYSICAL) 0
-    (cond (eqb (demand_part packed) OWN_RULE) (own_fault edition (logical_part packed) code (natural length) precision scale) MISPLACED))))
+-- whether a slot without annotations keeps the rules, or the first that it breaks
+abbrev pub plain_check : ℕ → ℕ → Result (Unit {0}) Broken
+plain_check edition code = cond (is_retired edition code) (Err Broken.Misplaced) (Ok tt)
 
--- the same of a slot without annotations
-abbrev pub plain_fault : ℕ → ℕ → ℕ
-plain_fault edition code = cond (is_retired edition code) MISPLACED 0
+-- whether the numbers of a slot keep the rules 9, 10 and 11, or the first that they break, by its packed annotation
+unfoldable pub check_by : ℕ → ℕ → Annotated → Result (Unit {0}) Broken
+check_by edition packed n =
+    cond (leb DISAGREEMENT_MARK packed) (Err Broken.Disagreement)
+    (cond (eqb n.physical (demand_part packed)) (Ok tt)
+    (and_then (plain_check edition n.physical)
+    (cond (eqb (demand_part packed) ANY_PHYSICAL) (Ok tt)
+    (cond (eqb (demand_part packed) OWN_RULE) (own_check edition (logical_part packed) n) (Err Broken.Misplaced)))))
 
 -- whether a packed annotation tells at once that none is broken: it demands this physical type
 abbrev pub stands_by : ℕ → ℕ → Bool

@@ -9,6 +9,7 @@ use parquet::converted;
 
 // The packed annotation that a converted type means where it stands alone, with UTC true; NONE means no annotation, a code outside the
 // list nothing.
+#[tactic(auto, unfolding(logical_type::specs::Backward::backward_of, crate::specs::Packed::packed_of))]
 pub(crate) fn backward_of(converted: u8, under_map: bool) -> u64
     ensures { result ≡ packed_of (backward_of converted under_map) }
 {
@@ -25,6 +26,7 @@ pub(crate) fn backward_of(converted: u8, under_map: bool) -> u64
 }
 
 // The same where one stands, and MAP_KEY_VALUE means MAP.
+#[tactic(auto, unfolding(logical_type::specs::Backward::backward_of, crate::specs::Packed::packed_of))]
 fn standing_alone(converted: u8) -> u64
     requires { converted ≡ NONE → ⊥ }
     ensures { result ≡ packed_of (backward_of converted false) }

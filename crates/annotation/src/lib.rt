@@ -16,7 +16,8 @@ mod rules; // rules 9, 10 and 11 in order
 mod slot; // the numbers of a slot that say its type, and what its annotations mean
 mod spelling; // how a logical code is read with its parameters
 
-pub use decimals::{INT32_DIGITS, INT64_DIGITS, fixed_holds};
-pub use resolution::{Judged, Kind, Resolution, judge, refusal, resolve, resolved_kind};
-pub use rewriting::{Rewriting, Written, rewrite, written_of};
+pub use decimals::{INT32_DIGITS, INT64_DIGITS, fixed_holds, scale_allowed};
+pub use resolution::{Judged, Kind, judge, resolve, resolved_kind};
+pub use rewriting::{Written, rewrite, written_of};
+pub use rules::Broken;
 pub use slot::{Annotated, type_length};

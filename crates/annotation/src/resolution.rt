@@ -1,16 +1,17 @@
 // The outcome of the numbers of a slot: their kind as rows have it, or the first of the rules 9, 10 and 11 that they break.
 ghost use Rattle.std.specs.Prelude.{ℕ, ◌≡◌};
+ghost use Rattle.std.specs.Result.{result_err};
 ghost use Rattle.annotation.specs.Kinds.{kind_of, bare_kind, plain_kind, decimal_kind};
-ghost use Rattle.annotation.specs.Outcome.{resolution_of, refusal_of, outcome_of, outcome};
+ghost use Rattle.annotation.specs.Outcome.{resolution_of, outcome_of, outcome};
 ghost use Rattle.annotation.specs.Rewriting.{written_of};
 ghost use Rattle.annotation.specs.Steps.{kind_by, lone_kind, logical_kind_by};
 
 use crate::packed;
-use crate::rules::{NO_REFUSAL, fault, plain_fault, stands};
-use crate::slot::{Annotated, annotation_of, is_plain, precision, scale};
+use crate::rules::{Broken, check, check_plain, stands};
+use crate::slot::{Annotated, natural};
 use parquet::{converted, logical, physical};
 
-// A kind and its parameters, as a row has them: precision and scale, or a and b, else 0.
+// A kind and its parameters, as a row has them: precision and scale, or a and b, else 0. They are numbers, as C reads them there.
 #[derive(Clone, Copy)]
 pub struct Kind {
     pub kind: u32,
@@ -18,18 +19,11 @@ pub struct Kind {
     pub p2: u32,
 }
 
-// What resolving answers for the numbers of a slot: their kind, or the number of the refusal, 9, 10 or 11.
-#[derive(Clone, Copy)]
-pub enum Resolution {
-    Resolved(Kind),
-    Refused(u32),
-}
-
-// What judging the numbers of a slot finds: the number of the refusal, 9, 10 or 11, or 0 where they resolve; and the logical type that
+// What judging the numbers of a slot finds: the first rule that they break, or none where they resolve; and the logical type that
 // they say, whatever else is wrong with them.
 #[derive(Clone, Copy)]
 pub struct Judged {
-    pub refusal: u32,
+    pub refusal: Option<Broken>,
     pub logical: u8,
 }
 
@@ -38,82 +32,55 @@ const PLAIN_LEAF: u32 = 0;
 
 const PLAIN_GROUP: u32 = 30;
 
-// Resolves the numbers of a slot by an edition, which may be any number. under_map says that the parent's resolved kind is MAP. Codes outside the lists are
-// refused like parameters that a type does not take: beside the other annotation by 9, alone by 10.
-pub fn resolve(edition: u32, n: Annotated, under_map: bool) -> Resolution
+// Resolves the numbers of a slot by an edition, which may be any number: their kind, or the first of the rules 9, 10 and 11 that they
+// break. under_map says that the parent's resolved kind is MAP. Codes outside the lists are refused like parameters that a type does
+// not take: beside the other annotation by 9, alone by 10.
+pub fn resolve(edition: u32, n: Annotated, under_map: bool) -> Result<Kind, Broken>
     ensures value { result ≡ resolution_of edition n under_map }
     ensures by_index { (k : ℕ) → outcome_of k result ≡ outcome edition k n under_map }
 {
-    let annotation = annotation_of(n.converted, n.logical, n.a, n.b, under_map);
-    let number = fault(
-        edition,
-        annotation,
-        n.physical,
-        n.type_length,
-        n.precision,
-        n.scale,
-    );
-    if number == NO_REFUSAL {
-        return Resolution::Resolved(kind_as(annotation, n));
-    }
-    Resolution::Refused(number)
+    let annotation = n.annotation(under_map);
+    check(edition, annotation, n)?;
+    Ok(kind_as(annotation, n))
 }
 
 // The kind that the numbers of a slot say, whatever else is wrong with them: that of no annotation where they cannot be read.
 pub fn resolved_kind(n: Annotated, under_map: bool) -> Kind
     ensures { result ≡ kind_of n under_map }
 {
-    if is_plain(n) {
+    if n.is_plain() {
         return plain_kind(n.physical);
     }
-    kind_as(
-        annotation_of(n.converted, n.logical, n.a, n.b, under_map),
-        n,
-    )
+    kind_as(n.annotation(under_map), n)
 }
 
 // Judges the numbers of a slot.
 pub fn judge(edition: u32, n: Annotated, under_map: bool) -> Judged
-    ensures refusal_value { result.refusal ≡ refusal_of (resolution_of edition n under_map) }
+    ensures refusal_value { result.refusal ≡ result_err (resolution_of edition n under_map) }
     ensures logical_value { result.logical ≡ (written_of n under_map).logical }
 {
-    if is_plain(n) {
+    if n.is_plain() {
         return Judged {
-            refusal: plain_fault(edition, n.physical),
+            refusal: check_plain(edition, n.physical).err(),
             logical: logical::NONE,
         };
     }
-    let annotation = annotation_of(n.converted, n.logical, n.a, n.b, under_map);
+    let annotation = n.annotation(under_map);
+    let logical = packed::logical(annotation);
     if stands(annotation, n.physical as u64) {
         return Judged {
-            refusal: NO_REFUSAL,
-            logical: packed::logical(annotation),
+            refusal: None,
+            logical,
         };
     }
     Judged {
-        refusal: fault(
-            edition,
-            annotation,
-            n.physical,
-            n.type_length,
-            n.precision,
-            n.scale,
-        ),
-        logical: packed::logical(annotation),
-    }
-}
-
-// The number of a refusal: 9, 10 or 11, and 0 for numbers that resolve.
-pub fn refusal(r: Resolution) -> u32
-    ensures { result ≡ refusal_of r }
-{
-    match r {
-        Resolution::Resolved(_) => NO_REFUSAL,
-        Resolution::Refused(number) => number,
+        refusal: check(edition, annotation, n).err(),
+        logical,
     }
 }
 
 // The kind of a node by its packed annotation.
+#[tactic(auto, unfolding(crate::specs::Steps::kind_by))]
 fn kind_as(annotation: u64, n: Annotated) -> Kind
     ensures { result ≡ kind_by annotation n }
 {
@@ -150,10 +117,11 @@ fn plain_kind(physical: u8) -> Kind
 fn decimal_kind(n: Annotated) -> Kind
     ensures { result ≡ decimal_kind n }
 {
-    let kind = logical::DECIMAL as u32;
-    let p1 = precision(n);
-    let p2 = scale(n);
-    Kind { kind, p1, p2 }
+    Kind {
+        kind: logical::DECIMAL as u32,
+        p1: natural(n.precision),
+        p2: natural(n.scale),
+    }
 }
 
 fn logical_kind(annotation: u64) -> Kind

@@ -1,23 +1,38 @@
 // Rules 9, 10 and 11 in order.
 ghost use Rattle.std.specs.Prelude.{◌≡◌};
-ghost use Rattle.annotation.specs.Steps.{fault_by, plain_fault, own_fault, stands_by};
+ghost use Rattle.annotation.specs.Outcome.{number_of};
+ghost use Rattle.annotation.specs.Steps.{check_by, plain_check, own_check, stands_by};
 
 use crate::decimals::digits_hold;
 use crate::packed;
 use crate::placement::{is_retired, own_on};
-use crate::slot::natural;
+use crate::slot::{Annotated, natural};
 use parquet::logical;
 use refusal::numbers;
 
-// The numbers of the refusals.
-const DISAGREEMENT: u32 = numbers::DISAGREEMENT as u32;
+// The first of the rules 9, 10 and 11 that the numbers of a slot break.
+#[derive(Clone, Copy, Debug, PartialEq, Eq)]
+pub enum Broken {
+    // 9: converted and logical type disagree.
+    Disagreement,
+    // 10: an annotation is on the wrong physical type, length or parameters.
+    Misplaced,
+    // 11: a DECIMAL's scale or precision.
+    BadDecimal,
+}
 
-const MISPLACED: u32 = numbers::MISPLACED as u32;
-
-const BAD_DECIMAL: u32 = numbers::BAD_DECIMAL as u32;
-
-// Stands for no refusal among their numbers.
-pub(crate) const NO_REFUSAL: u32 = 0;
+impl Broken {
+    // The number of its refusal: 9, 10 or 11.
+    pub fn number(self) -> u8
+        ensures { result ≡ number_of self }
+    {
+        match self {
+            Broken::Disagreement => numbers::DISAGREEMENT,
+            Broken::Misplaced => numbers::MISPLACED,
+            Broken::BadDecimal => numbers::BAD_DECIMAL,
+        }
+    }
+}
 
 // Whether a packed annotation tells at once that the rules are kept, as it does for most annotated slots: it demands this physical type.
 pub(crate) fn stands(annotation: u64, physical: u64) -> bool
@@ -26,70 +41,52 @@ pub(crate) fn stands(annotation: u64, physical: u64) -> bool
     physical == packed::demand(annotation)
 }
 
-// The number of the first rule that the numbers of a slot break, or NO_REFUSAL, by its packed annotation.
-pub(crate) fn fault(
-    edition: u32,
-    annotation: u64,
-    physical: u8,
-    type_length: i32,
-    precision: i32,
-    scale: i32,
-) -> u32
-    ensures { result ≡ fault_by edition annotation physical type_length precision scale }
+// Whether the numbers of a slot keep the rules, by its packed annotation, or the first that they break. It is inlined with what it calls, so
+// that no slot goes through memory.
+#[tactic(auto, unfolding(crate::specs::Steps::check_by))]
+#[inline(always)]
+pub(crate) fn check(edition: u32, annotation: u64, n: Annotated) -> Result<(), Broken>
+    ensures { result ≡ check_by edition annotation n }
 {
     if annotation >= packed::DISAGREEMENT_MARK {
-        return DISAGREEMENT;
+        return Err(Broken::Disagreement);
     }
     let demand = packed::demand(annotation);
-    if physical as u64 == demand {
-        return NO_REFUSAL;
+    if n.physical as u64 == demand {
+        return Ok(());
     }
-    if is_retired(edition, physical) {
-        return MISPLACED;
-    }
+    check_plain(edition, n.physical)?;
     match demand {
-        packed::ANY_PHYSICAL => NO_REFUSAL,
-        packed::OWN_RULE => own_fault(
-            edition,
-            packed::logical(annotation),
-            physical,
-            natural(type_length),
-            precision,
-            scale,
-        ),
-        _ => MISPLACED,
+        packed::ANY_PHYSICAL => Ok(()),
+        packed::OWN_RULE => check_own(edition, packed::logical(annotation), n),
+        _ => Err(Broken::Misplaced),
     }
 }
 
 // The same of a slot without annotations.
-pub(crate) fn plain_fault(edition: u32, physical: u8) -> u32
-    ensures { result ≡ plain_fault edition physical }
+pub(crate) fn check_plain(edition: u32, physical: u8) -> Result<(), Broken>
+    ensures { result ≡ plain_check edition physical }
 {
     if is_retired(edition, physical) {
-        return MISPLACED;
+        return Err(Broken::Misplaced);
     }
-    NO_REFUSAL
+    Ok(())
 }
 
 // The same of rules 10 and 11 for an annotation that has a rule of its own.
-fn own_fault(
-    edition: u32,
-    logical: u8,
-    physical: u8,
-    length: u32,
-    precision: i32,
-    scale: i32,
-) -> u32
-    ensures { result ≡ own_fault edition logical physical length precision scale }
+#[tactic(auto, unfolding(crate::specs::Steps::own_check))]
+#[inline(always)]
+fn check_own(edition: u32, logical: u8, n: Annotated) -> Result<(), Broken>
+    ensures { result ≡ own_check edition logical n }
 {
-    if !own_on(edition, logical, physical, length) {
-        return MISPLACED;
+    if !own_on(edition, logical, n.physical, natural(n.type_length)) {
+        return Err(Broken::Misplaced);
     }
     if logical != logical::DECIMAL {
-        return NO_REFUSAL;
+        return Ok(());
     }
-    if digits_hold(edition, physical, length, precision, scale) {
-        return NO_REFUSAL;
+    if digits_hold(edition, n) {
+        return Ok(());
     }
-    BAD_DECIMAL
+    Err(Broken::BadDecimal)
 }

@@ -21,6 +21,7 @@ pub(crate) fn stated_of(logical: u8, pair: u32) -> u64
 }
 
 // The same where the parameters are unused.
+#[tactic(auto, unfolding(logical_type::specs::Spelling::stated_of, logical_type::specs::Spelling::named_of, logical_type::specs::Parameters::valid_parameters, logical_type::specs::Parameters::edge_of, crate::specs::Packed::packed_of))]
 fn without_parameters(logical: u8) -> u64
     ensures { result ≡ packed_of (stated_of logical UNUSED UNUSED) }
 {
@@ -59,6 +60,7 @@ fn with_parameters(logical: u8, pair: u32) -> u64
     }
 }
 
+#[tactic(auto, unfolding(logical_type::specs::Spelling::stated_of, logical_type::specs::Spelling::named_of, logical_type::specs::Parameters::valid_parameters, logical_type::specs::Parameters::unit_of, crate::specs::Packed::packed_of))]
 fn time(pair: u32) -> u64
     ensures { result ≡ packed_of (stated_of logical.TIME (pair_a pair) (pair_b pair)) }
 {
@@ -73,6 +75,7 @@ fn time(pair: u32) -> u64
     }
 }
 
+#[tactic(auto, unfolding(logical_type::specs::Spelling::stated_of, logical_type::specs::Spelling::named_of, logical_type::specs::Parameters::valid_parameters, logical_type::specs::Parameters::unit_of, crate::specs::Packed::packed_of))]
 fn timestamp(pair: u32) -> u64
     ensures { result ≡ packed_of (stated_of logical.TIMESTAMP (pair_a pair) (pair_b pair)) }
 {
@@ -87,6 +90,7 @@ fn timestamp(pair: u32) -> u64
     }
 }
 
+#[tactic(auto, unfolding(logical_type::specs::Spelling::stated_of, logical_type::specs::Spelling::named_of, logical_type::specs::Parameters::valid_parameters, logical_type::specs::Parameters::bit_width_of, crate::specs::Packed::packed_of))]
 fn integer(pair: u32) -> u64
     ensures { result ≡ packed_of (stated_of logical.INTEGER (pair_a pair) (pair_b pair)) }
 {
@@ -103,6 +107,7 @@ fn integer(pair: u32) -> u64
     }
 }
 
+#[tactic(auto, unfolding(logical_type::specs::Spelling::stated_of, logical_type::specs::Spelling::named_of, logical_type::specs::Parameters::valid_parameters, logical_type::specs::Parameters::edge_of, crate::specs::Packed::packed_of))]
 fn geography(pair: u32) -> u64
     requires { pair ≡ NO_PAIR → ⊥ }
     ensures { result ≡ packed_of (stated_of logical.GEOGRAPHY (pair_a pair) (pair_b pair)) }

@@ -1,37 +1,39 @@
 -- Laws of lanes: arrays that are filled from the front, and sums of words of two bytes, of which 16 bits are kept.
-use Rattle.std.proofs.Common.{◌≡◌, ℕ, ◌+◌, ◌*◌, ◌%◌, ◌^◌, ◌<◌, ◌≤◌, List, length, get_or, take, drop, set, replicate, sym, refl, ap, ◌∙◌, ap₂, arith, length-set, get_or-drop, get_or-set_other, get_or-take, get_or-set_same}
+use Rattle.std.proofs.Common.{◌≡◌, ℕ, ◌+◌, ◌*◌, ◌%◌, ◌^◌, ◌<◌, ◌≤◌, List, length, get_or, take, drop, set, sym, refl, ap, ◌∙◌, ap₂, arith, length-set, get_or-drop, get_or-set_other, get_or-take, get_or-set_same}
 use native.Mathlib.Nat.{add-mod, mod-mod}
 use native.Mathlib.Decide.{dec_lt}
 use lib.ListN.{get_or-replicate}
 use Rattle.laws.specs.Bytes.{Bytes}
-use Rattle.block_check.specs.Steps.{chunk_size, lanes, lane_of, low_of, lows_of, WordsOf, HighsOf, AtMost, Added, ChunkAdded}
+use Rattle.block_check.specs.declared.lanes.Lanes.{Lanes}
+use Rattle.block_check.specs.Check.{block_size, sum_below}
+use Rattle.block_check.specs.Steps.{chunk_size, chunks, lanes, words_of, highs_of, none_of, low_of, lows_of, most_of, pair_weight, OfChunk, AtMost, Added}
 use Rattle.block_check.proofs.SumLaws.{LowBytes, HighBytes, Plus, Weighed, weighed_more}
 
--- the lanes before i hold what f says, and the others what they did
-pub record FilledTo (f : ℕ → ℕ) (before : List ℕ) (i : ℕ) (sums : List ℕ) : Type 0 where
-  pub size : length sums ≡ lanes
-  pub done : (j : ℕ) → j < i → lane_of sums j ≡ f j
-  pub left : (j : ℕ) → i ≤ j → lane_of sums j ≡ lane_of before j
+-- of an array of one number a lane, those before i are what f says, and the others what they were
+pub record FilledTo (f : ℕ → ℕ) (before : List ℕ) (i : ℕ) (numbers : List ℕ) : Type 0 where
+  pub size : length numbers ≡ lanes
+  pub done : (j : ℕ) → j < i → get_or numbers j 0 ≡ f j
+  pub left : (j : ℕ) → i ≤ j → get_or numbers j 0 ≡ get_or before j 0
 
 pub filled_none : (f : ℕ → ℕ) (before : List ℕ) → length before ≡ lanes → FilledTo f before 0 before
 filled_none f before size = record { size = size; done = λ j l. absurd (omega arith); left = λ j l. refl }
 
-pub filled_more : (f : ℕ → ℕ) (before : List ℕ) (i n : ℕ) (sums : List ℕ) → i < lanes → n ≡ f i
-    → FilledTo f before i sums → FilledTo f before (i + 1) (set sums i n)
-filled_more f before i n sums l e filled =
+pub filled_more : (f : ℕ → ℕ) (before : List ℕ) (i n : ℕ) (numbers : List ℕ) → i < lanes → n ≡ f i
+    → FilledTo f before i numbers → FilledTo f before (i + 1) (set numbers i n)
+filled_more f before i n numbers l e filled =
     record { size = simp length-set filled.size; done = λ j h. done j h (dec_lt j i); left = λ j h. left j h }
   where
-    within : i < length sums
+    within : i < length numbers
     within = omega (arith, filled.size)
 
-    done : (j : ℕ) → j < i + 1 → Dec (j < i) → lane_of (set sums i n) j ≡ f j
-    done j h (yes q) = get_or-set_other sums i j n 0 (λ same. omega arith) ∙ filled.done j q
+    done : (j : ℕ) → j < i + 1 → Dec (j < i) → get_or (set numbers i n) j 0 ≡ f j
+    done j h (yes q) = get_or-set_other numbers i j n 0 (λ same. omega arith) ∙ filled.done j q
     done j h (no q) =
         let here : j ≡ i = omega arith in
-        ap (lane_of (set sums i n)) here ∙ get_or-set_same sums i n 0 within ∙ e ∙ ap f (sym here)
+        ap (λ (k : ℕ). get_or (set numbers i n) k 0) here ∙ get_or-set_same numbers i n 0 within ∙ e ∙ ap f (sym here)
 
-    left : (j : ℕ) → i + 1 ≤ j → lane_of (set sums i n) j ≡ lane_of before j
-    left j h = get_or-set_other sums i j n 0 (λ same. omega arith) ∙ filled.left j (omega arith)
+    left : (j : ℕ) → i + 1 ≤ j → get_or (set numbers i n) j 0 ≡ get_or before j 0
+    left j h = get_or-set_other numbers i j n 0 (λ same. omega arith) ∙ filled.left j (omega arith)
 
 low_lt : (sum high : ℕ) → low_of sum high < 2 ^ 16
 unfolding low_of
@@ -59,97 +61,97 @@ low_plus sum high sum' high' l =
     ∙ same_sum _ _ sum sum' (low_spells sum high) (low_spells sum' high'))
 
 -- lanes to which others were added
-module _ (m n : ℕ) (sums highs sums' highs' sums'' highs'' : List ℕ) (fits : m + n < 2 ^ 16)
-    (most : AtMost m sums highs) (few : AtMost n sums' highs') (added : Added sums sums' sums'') (added_highs : Added highs highs' highs'') where
-  pub plus_high : Plus (lane_of highs) (lane_of highs') (lane_of highs'')
-  plus_high j l = omega (arith, most.high j l, few.high j l, added_highs.each j l)
+module _ (m n : ℕ) (sums sums' sums'' : Lanes) (fits : m + n < 2 ^ 16)
+    (most : AtMost m sums) (few : AtMost n sums') (added : Added sums sums' sums'') where
+  pub plus_high : Plus (highs_of sums) (highs_of sums') (highs_of sums'')
+  plus_high j l = omega (arith, most.high j l, few.high j l, added.highs j l)
 
-  pub plus_low : Plus (lows_of sums highs) (lows_of sums' highs') (lows_of sums'' highs'')
+  pub plus_low : Plus (lows_of sums) (lows_of sums') (lows_of sums'')
   plus_low j l =
-      ap₂ low_of (added.each j l) (plus_high j l)
-      ∙ low_plus (lane_of sums j) (lane_of highs j) (lane_of sums' j) (lane_of highs' j) (omega (arith, most.low j l, few.low j l))
+      ap₂ low_of (added.words j l) (plus_high j l)
+      ∙ low_plus (words_of sums j) (highs_of sums j) (words_of sums' j) (highs_of sums' j) (omega (arith, most.low j l, few.low j l))
 
-  pub plus_most : AtMost (m + n) sums'' highs''
+  pub plus_most : AtMost (m + n) sums''
   plus_most = record {
-    sums_size = added.size;
-    highs_size = added_highs.size;
     low = λ j l. omega (arith, plus_low j l, most.low j l, few.low j l);
     high = λ j l. omega (arith, plus_high j l, most.high j l, few.high j l);
   }
 
 -- lanes with nothing in them
-pub none_most : AtMost 0 (replicate lanes 0) (replicate lanes 0)
+pub none_most : AtMost 0 none_of
 unfolding low_of
 none_most = record {
-  sums_size = refl;
-  highs_size = refl;
   low = λ j l. omega (arith, ap₂ low_of (nothing j l) (nothing j l));
   high = λ j l. omega (arith, nothing j l);
 }
   where
-    nothing : (j : ℕ) → j < lanes → lane_of (replicate lanes 0) j ≡ 0
+    nothing : (j : ℕ) → j < lanes → highs_of none_of j ≡ 0
     nothing j l = get_or-replicate {A = ℕ} lanes j 0 0 l
 
 -- at most a greater number
-pub most_most : (m n : ℕ) (sums highs : List ℕ) → m ≤ n → AtMost m sums highs → AtMost n sums highs
-most_most m n sums highs l most = record {
-  sums_size = most.sums_size;
-  highs_size = most.highs_size;
+pub most_most : (m n : ℕ) (sums : Lanes) → m ≤ n → AtMost m sums → AtMost n sums
+most_most m n sums l most = record {
   low = λ j h. omega (arith, most.low j h);
   high = λ j h. omega (arith, most.high j h);
 }
 
 -- the words of a chunk of a block
-module _ (block : List ℕ) (n : ℕ) (words highs : List ℕ) (bytes : Bytes block)
-    (are_words : WordsOf (take chunk_size (drop n block)) words) (are_highs : HighsOf words highs) where
+module _ (block : List ℕ) (n : ℕ) (words : Lanes) (bytes : Bytes block) (are_words : OfChunk (take chunk_size (drop n block)) words) where
   byte : (i : ℕ) → i < chunk_size → get_or (take chunk_size (drop n block)) i 0 ≡ get_or block (n + i) 0
   byte i l = get_or-take chunk_size (drop n block) i 0 l ∙ get_or-drop n block i 0
 
-  word : (j : ℕ) → j < lanes → lane_of words j ≡ get_or block (n + 2 * j) 0 + 256 * get_or block (n + (2 * j + 1)) 0
-  word j l = are_words.each j l ∙ ap₂ (λ (a b : ℕ). a + 256 * b) (byte (2 * j) (omega arith)) (byte (2 * j + 1) (omega arith))
+  word : (j : ℕ) → j < lanes → words_of words j ≡ get_or block (n + 2 * j) 0 + 256 * get_or block (n + (2 * j + 1)) 0
+  word j l = are_words.words j l ∙ ap₂ (λ (a b : ℕ). a + 256 * b) (byte (2 * j) (omega arith)) (byte (2 * j + 1) (omega arith))
 
-  pub chunk_high : HighBytes block n (lane_of highs)
-  chunk_high j l = omega (arith, are_highs.each j l, word j l, bytes (n + 2 * j))
+  pub chunk_high : HighBytes block n (highs_of words)
+  chunk_high j l = omega (arith, are_words.words j l, are_words.highs j l, word j l, bytes (n + 2 * j))
 
-  pub chunk_low : LowBytes block n (lows_of words highs)
+  pub chunk_low : LowBytes block n (lows_of words)
   chunk_low j l = low_only _ _ _ (omega (arith, bytes (n + 2 * j))) (omega (arith, word j l, chunk_high j l))
 
-  pub chunk_most : AtMost 255 words highs
+  pub chunk_most : AtMost 255 words
   chunk_most = record {
-    sums_size = are_words.size;
-    highs_size = are_highs.size;
     low = λ j l. omega (arith, chunk_low j l, bytes (n + 2 * j));
     high = λ j l. omega (arith, chunk_high j l, bytes (n + (2 * j + 1)));
   }
 
 -- what the lanes weigh, by the sums that are kept of them
-abbrev pub LanesWeighed : List ℕ → ℕ → List ℕ → List ℕ → List ℕ → List ℕ → Type 0
-LanesWeighed block n plain plain-highs cumulative cumulative-highs =
-    Weighed block n (lows_of plain plain-highs) (lane_of plain-highs) (lows_of cumulative cumulative-highs) (lane_of cumulative-highs)
+abbrev pub LanesWeighed : List ℕ → ℕ → Lanes → Lanes → Type 0
+LanesWeighed block n plain cumulative = Weighed block n (lows_of plain) (highs_of plain) (lows_of cumulative) (highs_of cumulative)
 
--- a chunk more
-module _ (block : List ℕ) (n m k : ℕ) (plain plain-highs cumulative cumulative-highs plain' plain-highs' cumulative' cumulative-highs' : List ℕ)
-    (bytes : Bytes block) (fits : m + 255 + k < 2 ^ 16) (few : AtMost m plain plain-highs) (few-cumulative : AtMost k cumulative cumulative-highs)
-    (chunk : ChunkAdded (take chunk_size (drop n block)) plain plain-highs cumulative cumulative-highs plain' plain-highs' cumulative' cumulative-highs') where
-  few_words : AtMost 255 chunk.words chunk.highs
-  few_words = chunk_most block n chunk.words chunk.highs bytes chunk.are_words chunk.are_highs
+-- the sums over a block's first n bytes: no lane's is above its bound, and they weigh what those bytes do
+pub record Summed (block : List ℕ) (n : ℕ) (plain cumulative : Lanes) : Type 0 where
+  pub few : AtMost (most_of n) plain
+  pub few_cumulative : AtMost (chunks * most_of n) cumulative
+  pub weighed : LanesWeighed block n plain cumulative
 
-  more_plain : AtMost (m + 255) plain' plain-highs'
-  more_plain = plus_most m 255 plain plain-highs chunk.words chunk.highs plain' plain-highs' (omega arith) few few_words chunk.added chunk.added_highs
+-- over none
+pub summed_none : (block : List ℕ) → Summed block 0 none_of none_of
+unfolding sum_below pair_weight low_of
+summed_none block = record { few = none_most; few_cumulative = none_most; weighed = refl }
 
-  more_cumulative : AtMost (k + (m + 255)) cumulative' cumulative-highs'
-  more_cumulative = plus_most k (m + 255) cumulative cumulative-highs plain' plain-highs' cumulative' cumulative-highs' (omega arith) few-cumulative more_plain chunk.cumulated chunk.cumulated_highs
+-- and over a chunk more
+module _ (block : List ℕ) (n : ℕ) (plain cumulative words plain' cumulative' : Lanes) (bytes : Bytes block) (within : n + chunk_size ≤ block_size)
+    (summed : Summed block n plain cumulative) (are_words : OfChunk (take chunk_size (drop n block)) words) (added : Added plain words plain') (cumulated : Added cumulative plain' cumulative') where
+  few_words : AtMost 255 words
+  few_words = chunk_most block n words bytes are_words
 
-  more_weighed : LanesWeighed block n plain plain-highs cumulative cumulative-highs → LanesWeighed block (n + chunk_size) plain' plain-highs' cumulative' cumulative-highs'
-  more_weighed weighed = weighed_more block n _ _ (lows_of chunk.words chunk.highs) (lane_of chunk.highs) _ _ (lows_of cumulative cumulative-highs) (lane_of cumulative-highs) _ _
-      (chunk_low block n chunk.words chunk.highs bytes chunk.are_words chunk.are_highs)
-      (chunk_high block n chunk.words chunk.highs bytes chunk.are_words chunk.are_highs)
-      (plus_low m 255 plain plain-highs chunk.words chunk.highs plain' plain-highs' (omega arith) few few_words chunk.added chunk.added_highs)
-      (plus_high m 255 plain plain-highs chunk.words chunk.highs plain' plain-highs' (omega arith) few few_words chunk.added chunk.added_highs)
-      (plus_low k (m + 255) cumulative cumulative-highs plain' plain-highs' cumulative' cumulative-highs' (omega arith) few-cumulative more_plain chunk.cumulated chunk.cumulated_highs)
-      (plus_high k (m + 255) cumulative cumulative-highs plain' plain-highs' cumulative' cumulative-highs' (omega arith) few-cumulative more_plain chunk.cumulated chunk.cumulated_highs)
-      weighed
+  more_plain : AtMost (most_of n + 255) plain'
+  more_plain = plus_most (most_of n) 255 plain words plain' (omega arith) summed.few few_words added
 
-  pub chunk_more : LanesWeighed block n plain plain-highs cumulative cumulative-highs
-      → AtMost (m + 255) plain' plain-highs' × AtMost (k + (m + 255)) cumulative' cumulative-highs' × LanesWeighed block (n + chunk_size) plain' plain-highs' cumulative' cumulative-highs'
-  chunk_more weighed = (more_plain, more_cumulative, more_weighed weighed)
+  more_cumulative : AtMost (chunks * most_of n + (most_of n + 255)) cumulative'
+  more_cumulative = plus_most (chunks * most_of n) (most_of n + 255) cumulative plain' cumulative' (omega arith) summed.few_cumulative more_plain cumulated
+
+  pub summed_more : Summed block (n + chunk_size) plain' cumulative'
+  summed_more = record {
+    few = most_most _ _ plain' (omega arith) more_plain;
+    few_cumulative = most_most _ _ cumulative' (omega arith) more_cumulative;
+    weighed = weighed_more block n _ _ (lows_of words) (highs_of words) _ _ (lows_of cumulative) (highs_of cumulative) _ _
+        (chunk_low block n words bytes are_words)
+        (chunk_high block n words bytes are_words)
+        (plus_low (most_of n) 255 plain words plain' (omega arith) summed.few few_words added)
+        (plus_high (most_of n) 255 plain words plain' (omega arith) summed.few few_words added)
+        (plus_low (chunks * most_of n) (most_of n + 255) cumulative plain' cumulative' (omega arith) summed.few_cumulative more_plain cumulated)
+        (plus_high (chunks * most_of n) (most_of n + 255) cumulative plain' cumulative' (omega arith) summed.few_cumulative more_plain cumulated)
+        summed.weighed;
+  }

@@ -1,6 +1,6 @@
 -- Laws of sums, and of the sum over a block by its chunks.
 use Rattle.std.proofs.Common.{◌≡◌, ℕ, zero, suc, ◌+◌, ◌*◌, ◌<◌, List, get_or, sym, refl, ap, ◌∙◌, ap₂, add-zero, add-suc, add-mul, mul-add, add-one, arith}
-use Rattle.block_check.specs.Check.{sum_below, weighted}
+use Rattle.block_check.specs.Check.{block_size, check_at, sum_below, weighted}
 use Rattle.block_check.specs.Steps.{chunk_size, lanes, pair_of, pair_weight}
 
 -- a sum over one number more
@@ -114,3 +114,9 @@ weighed_more block n low high chunk_low chunk_high low' high' cumulative-low cum
   sum_below_chunk block n chunk_low chunk_high lows highs,
   added_plain cumulative-low cumulative-high low' high' cumulative-low' cumulative-high' cumulative-low-plus cumulative-high-plus,
 )
+
+-- the sum over the whole block is that before the stored check and what its two bytes add
+pub sum_of_whole : (block : List ℕ)
+    → sum_below (weighted block) block_size ≡ sum_below (weighted block) check_at + (check_at + 1) * get_or block check_at 0 + (check_at + 2) * get_or block (check_at + 1) 0
+unfolding weighted
+sum_of_whole block = omega (arith, sum_below_more (weighted block) check_at, sum_below_more (weighted block) (check_at + 1))

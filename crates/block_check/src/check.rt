@@ -2,12 +2,16 @@
 ghost use Rattle.std.specs.Prelude.{◌≡◌, ◌<◌, length};
 ghost use Rattle.block_check.specs.Check.{block_size, check_at, sum_below, weighted, check_of};
 
-use crate::lanes::{CHUNK_SIZE, LANES, add_chunk, unweighted_sum, weighted_behind};
+use crate::lanes::{CHUNK_SIZE, Lanes};
 use crate::layout;
 
 const CHECK_MODULUS: u32 = 65521;
 
 const CHUNKS: usize = layout::BLOCK_SIZE / CHUNK_SIZE;
+
+// So many chunks are added in a turn: LLVM unrolls such turns, and one loop over all chunks it does not. By `chunks_exact`, or one
+// chunk a turn, opening 128 blocks took 23% more instructions and 6% more time.
+const TURN: usize = 2;
 
 const CHUNK_WEIGHT: u32 = CHUNK_SIZE as u32;
 
@@ -17,6 +21,7 @@ const LOW_WEIGHT: u32 = layout::STORED_CHECK as u32 + 1;
 const HIGH_WEIGHT: u32 = LOW_WEIGHT + 1;
 
 // The check that a block should have, and 0 of bytes that are no block: the sum is below 2^27, so it is reduced once.
+#[tactic(auto, unfolding(crate::specs::Check::check_of, crate::specs::Check::check))]
 pub fn check_of(block: &[u8]) -> u32
     ensures { result ≡ check_of block.now }
 {
@@ -27,12 +32,13 @@ pub fn check_of(block: &[u8]) -> u32
 }
 
 // The sum of (i + 1) times byte i over the bytes before the stored check: that over the whole block, less those of the check.
+#[tactic(auto, using(crate::proofs::SumLaws::sum_of_whole))]
 fn weighted_sum(block: &[u8]) -> u32
     requires { length block.now ≡ block_size }
     ensures { result ≡ sum_below (weighted block.now) check_at }
 {
-    let low = wide(block[layout::STORED_CHECK]);
-    let high = wide(block[layout::STORED_CHECK + 1]);
+    let low = u32::from(block[layout::STORED_CHECK]);
+    let high = u32::from(block[layout::STORED_CHECK + 1]);
     whole_sum(block) - LOW_WEIGHT * low - HIGH_WEIGHT * high
 }
 
@@ -44,30 +50,14 @@ fn whole_sum(block: &[u8]) -> u32
     requires { length block.now ≡ block_size }
     ensures { result ≡ sum_below (weighted block.now) block_size }
 {
-    let mut plain = [0u16; LANES];
-    let mut plain_highs = [0u16; LANES];
-    let mut cumulative = [0u16; LANES];
-    let mut cumulative_highs = [0u16; LANES];
-    let mut chunk: usize = 0;
-    while chunk < CHUNKS {
-        let start = CHUNK_SIZE * chunk;
-        add_chunk(
-            &block[start..start + CHUNK_SIZE],
-            &mut plain,
-            &mut plain_highs,
-            &mut cumulative,
-            &mut cumulative_highs,
-        );
-        chunk += 1;
+    let mut plain = Lanes::none();
+    let mut cumulative = Lanes::none();
+    for turn in 0..CHUNKS / TURN {
+        for k in 0..TURN {
+            let start = CHUNK_SIZE * (TURN * turn + k);
+            plain.add(&Lanes::of_chunk(&block[start..start + CHUNK_SIZE]));
+            cumulative.add(&plain);
+        }
     }
-    weighted_behind(&plain, &plain_highs)
-        - CHUNK_WEIGHT * unweighted_sum(&cumulative, &cumulative_highs)
-}
-
-// A byte as a number.
-fn wide(byte: u8) -> u32
-    ensures value { result ≡ byte }
-    ensures upper_bound { result < 256 }
-{
-    byte as u32
+    plain.weighted_behind() - CHUNK_WEIGHT * cumulative.unweighted()
 }

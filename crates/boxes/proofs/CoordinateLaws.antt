@@ -9,7 +9,8 @@ use lib.Ieee.{Float, nan, inf, fin, binary64, lt, eq, le, ne, is_nan, of_int}
 use Rattle.laws.proofs.BoolLaws.{is_false}
 use Rattle.parquet.specs.Logical as logical
 use Rattle.float_order.specs.Floats.{float_order, less_or_equal}
-use Rattle.float_order.specs.declared.relation.Relation.TheVariants.{Less, Equal, Greater, Unordered}
+use Rattle.std.specs.Prelude.{Some, None}
+use Rattle.std.specs.declared.cmp.Ordering.TheVariants.{Less, Equal, Greater}
 use Rattle.float_order.proofs.OrderLaws as order
 use Rattle.float_order.proofs.OrderLaws.{not_both}
 use Rattle.boxes.specs.Coordinates.{is_greater, at_most, is_above, Same, X, most_degree, in_range, is_allowed}
@@ -20,7 +21,7 @@ pub at_most_le : (v w : Float) → at_most v w ≡ le v w
 unfolding at_most float_order le
 at_most_le v w = go (lt v w) (lt w v) (eq v w) (λ m. is_false (eq v w) (λ e. not_both (sym (order.eq_not_lt w v (order.eq_sym v w e)) ∙ m)))
   where
-    go : (l m e : Bool) → (m ≡ true → e ≡ false) → less_or_equal (cond l Less (cond m Greater (cond e Equal Unordered))) ≡ (l || e)
+    go : (l m e : Bool) → (m ≡ true → e ≡ false) → less_or_equal (cond l (Some Less) (cond m (Some Greater) (cond e (Some Equal) None))) ≡ (l || e)
     go true m e h = refl
     go false true e h = sym (h refl)
     go false false true h = refl
@@ -30,7 +31,7 @@ pub is_above_lt : (v w : Float) → is_above v w ≡ lt w v
 unfolding is_above float_order
 is_above_lt v w = go (lt v w) (lt w v) (eq v w) (order.lt_asym v w)
   where
-    go : (l m e : Bool) → (l ≡ true → m ≡ false) → is_greater (cond l Less (cond m Greater (cond e Equal Unordered))) ≡ m
+    go : (l m e : Bool) → (l ≡ true → m ≡ false) → is_greater (cond l (Some Less) (cond m (Some Greater) (cond e (Some Equal) None))) ≡ m
     go true m e h = sym (h refl)
     go false true e h = refl
     go false false true h = refl

@@ -6,7 +6,7 @@ use mathlib.Core.List.{[], ◌∷◌}
 use lib.IntN.{pos, neg_ℤ}
 use lib.Ieee.{Float, nan, inf, fin, binary64, lt, eq, is_nan, of_int}
 use Rattle.refusal.specs.Outcome.{given, refused, unplaced}
-use Rattle.refusal.specs.declared.answers.Verdict.{Verdict}
+use Rattle.std.specs.Prelude.{Ok, Err}
 use Rattle.float_order.specs.Floats.{float_order}
 use Rattle.boxes.specs.Coordinates.{at_most, is_above, is_between, in_range, is_allowed}
 use Rattle.boxes.specs.Points.{points_in, coordinate_of, allows_points, judgement}
@@ -107,19 +107,19 @@ no_degrees = refl
 -- ---- lists of points
 
 -- 20 comes before 15, and 15 before 16
-pub odd_no_kind : judgement 16 (plus 0 ∷ []) ≡ Verdict.Refused (unplaced 20)
+pub odd_no_kind : judgement 16 (plus 0 ∷ []) ≡ Err (unplaced 20)
 unfolding judgement
 odd_no_kind = refl
 
-pub odd_beyond : judgement 18 (plus 0 ∷ plus 91 ∷ plus 0 ∷ []) ≡ Verdict.Refused (unplaced 15)
+pub odd_beyond : judgement 18 (plus 0 ∷ plus 91 ∷ plus 0 ∷ []) ≡ Err (unplaced 15)
 unfolding judgement
 odd_beyond = refl
 
-pub even_beyond : judgement 18 (plus 0 ∷ plus 91 ∷ []) ≡ Verdict.Refused (unplaced 16)
+pub even_beyond : judgement 18 (plus 0 ∷ plus 91 ∷ []) ≡ Err (unplaced 16)
 unfolding judgement points_in allows_points coordinate_of is_allowed in_range is_between at_most float_order lt eq is_nan of_int
 even_beyond = refl
 
 -- x may be 91, and a NaN anywhere
-pub even_within : judgement 18 (plus 91 ∷ plus 90 ∷ nan ∷ minus 90 ∷ []) ≡ Verdict.Lawful
+pub even_within : judgement 18 (plus 91 ∷ plus 90 ∷ nan ∷ minus 90 ∷ []) ≡ Ok tt
 unfolding judgement points_in allows_points coordinate_of is_allowed in_range is_between at_most float_order lt eq is_nan of_int
 even_within = refl

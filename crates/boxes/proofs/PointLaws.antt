@@ -11,7 +11,8 @@ use lib.ListN.{length}
 use lib.Ieee.{Float, lt}
 use Rattle.refusal.specs.Numbers.{WRONG_LENGTH, BREAKS_ANNOTATION, UNKNOWN_TYPE}
 use Rattle.refusal.specs.Outcome.{unplaced}
-use Rattle.refusal.specs.declared.answers.Verdict.{Verdict}
+use Rattle.refusal.specs.Outcome.{Verdict}
+use Rattle.std.specs.Prelude.{Ok, Err}
 use Rattle.parquet.specs.Logical.{is_geospatial}
 use Rattle.float_order.proofs.OrderLaws.{not_both}
 use Rattle.boxes.specs.Coordinates.{is_above}
@@ -23,22 +24,22 @@ use Rattle.boxes.proofs.CoordinateLaws.{is_above_lt, at_most_trans, at_most_belo
 
 module _ (kind : ℕ) (coordinates : List Float) where
   abbrev by_range : Bool → Verdict
-  by_range t = cond t Verdict.Lawful (Verdict.Refused (unplaced BREAKS_ANNOTATION))
+  by_range t = cond t (Ok tt) (Err (unplaced BREAKS_ANNOTATION))
 
   abbrev by_length : Bool → Verdict
-  by_length t = cond t (by_range (allows_points kind coordinates (points_in coordinates))) (Verdict.Refused (unplaced WRONG_LENGTH))
+  by_length t = cond t (by_range (allows_points kind coordinates (points_in coordinates))) (Err (unplaced WRONG_LENGTH))
 
   abbrev by_kind : Bool → Verdict
-  by_kind t = cond t (by_length (eqb (length coordinates % 2) 0)) (Verdict.Refused (unplaced UNKNOWN_TYPE))
+  by_kind t = cond t (by_length (eqb (length coordinates % 2) 0)) (Err (unplaced UNKNOWN_TYPE))
 
   -- 20 comes first
-  pub judgement_20 : is_geospatial kind ≡ false → judgement kind coordinates ≡ Verdict.Refused (unplaced UNKNOWN_TYPE)
+  pub judgement_20 : is_geospatial kind ≡ false → judgement kind coordinates ≡ Err (unplaced UNKNOWN_TYPE)
   unfolding judgement
   judgement_20 e = ap by_kind e
 
   module _ (geospatial : is_geospatial kind ≡ true) where
     -- 15 comes before 16
-    pub judgement_15 : (length coordinates % 2 ≡ 0 → ⊥) → judgement kind coordinates ≡ Verdict.Refused (unplaced WRONG_LENGTH)
+    pub judgement_15 : (length coordinates % 2 ≡ 0 → ⊥) → judgement kind coordinates ≡ Err (unplaced WRONG_LENGTH)
     unfolding judgement
     judgement_15 h = ap by_kind geospatial ∙ ap by_length (ne_eqb (length coordinates % 2) 0 h)
 
@@ -47,18 +48,18 @@ module _ (kind : ℕ) (coordinates : List Float) where
     unfolding judgement
     judgement_range e = ap by_kind geospatial ∙ ap by_length (eq-eqb (length coordinates % 2) 0 e)
 
-    pub judgement_16 : length coordinates % 2 ≡ 0 → allows_points kind coordinates (points_in coordinates) ≡ false → judgement kind coordinates ≡ Verdict.Refused (unplaced BREAKS_ANNOTATION)
+    pub judgement_16 : length coordinates % 2 ≡ 0 → allows_points kind coordinates (points_in coordinates) ≡ false → judgement kind coordinates ≡ Err (unplaced BREAKS_ANNOTATION)
     judgement_16 e f = judgement_range e ∙ ap by_range f
 
-    pub judgement_lawful : length coordinates % 2 ≡ 0 → allows_points kind coordinates (points_in coordinates) ≡ true → judgement kind coordinates ≡ Verdict.Lawful
+    pub judgement_lawful : length coordinates % 2 ≡ 0 → allows_points kind coordinates (points_in coordinates) ≡ true → judgement kind coordinates ≡ Ok tt
     judgement_lawful e f = judgement_range e ∙ ap by_range f
 
   -- what is lawful has a kind with boxes, which allows its points
-  pub lawful : judgement kind coordinates ≡ Verdict.Lawful → (is_geospatial kind ≡ true) × (allows_points kind coordinates (points_in coordinates) ≡ true)
+  pub lawful : judgement kind coordinates ≡ Ok tt → (is_geospatial kind ≡ true) × (allows_points kind coordinates (points_in coordinates) ≡ true)
   unfolding judgement
   lawful = go (is_geospatial kind) (eqb (length coordinates % 2) 0) (allows_points kind coordinates (points_in coordinates))
     where
-      go : (k l r : Bool) → cond k (cond l (by_range r) (Verdict.Refused (unplaced WRONG_LENGTH))) (Verdict.Refused (unplaced UNKNOWN_TYPE)) ≡ Verdict.Lawful → (k ≡ true) × (r ≡ true)
+      go : (k l r : Bool) → cond k (cond l (by_range r) (Err (unplaced WRONG_LENGTH))) (Err (unplaced UNKNOWN_TYPE)) ≡ Ok tt → (k ≡ true) × (r ≡ true)
       go true true true e = (refl, refl)
       go true true false e = let z : ◌≡◌ {A = ℕ} 0 1 = cc in absurd (omega arith)
       go true false r e = let z : ◌≡◌ {A = ℕ} 0 1 = cc in absurd (omega arith)

@@ -11,14 +11,15 @@ use lib.Ieee.{Float, is_nan}
 use Rattle.laws.proofs.BoolLaws.{and_both, both_and, by_test}
 use Rattle.refusal.specs.Outcome.{given}
 use Rattle.refusal.specs.declared.answers.Refusal.{Refusal}
-use Rattle.refusal.specs.declared.answers.Verdict.{Verdict}
+use Rattle.refusal.specs.Outcome.{Verdict}
+use Rattle.std.specs.Prelude.{Ok, Err}
 use Rattle.parquet.specs.Logical as logical
 use Rattle.boxes.specs.Coordinates.{at_most, Same, is_between, X, Y, in_range, is_allowed}
-use Rattle.boxes.specs.Points.{points_in, coordinate_of, Counted, NoneCounted, Met, Bounds, BoxOf, Answers}
+use Rattle.boxes.specs.Points.{Boxed, points_in, coordinate_of, Counted, NoneCounted, Met, Bounds, BoxOf, Answers}
 use Rattle.boxes.specs.Membership.{inside_x, inside_y, has_nan, is_box, allows_point, membership}
 use Rattle.boxes.specs.Promises.{SameBox, SameAnswer, Promises}
 use Rattle.boxes.specs.declared.bounding_box.BoundingBox.{BoundingBox}
-use Rattle.boxes.specs.declared.points.Boxed.{Boxed}
+use Rattle.std.specs.Prelude.{Some, None}
 use Rattle.boxes.proofs.CoordinateLaws.{least, greatest, at_most_trans, at_most_antisym, same_at_most, same_sym, same_numbers, allowed_any, allowed_degrees}
 use Rattle.boxes.proofs.RangeLaws.{each_allowed}
 use Rattle.boxes.proofs.PointLaws.{lawful, bounds_below}
@@ -58,22 +59,22 @@ box_counts : (coordinates : List Float) (b : BoundingBox) → BoxOf coordinates 
 box_counts coordinates b p (inl n) = let m = p.x.least_met in n m.0 m.1
 box_counts coordinates b p (inr n) = let m = p.y.least_met in n m.0 m.1
 
-lawful_refused : {A : Type 0} {v : Verdict} {r : Refusal} → v ≡ Verdict.Lawful → v ≡ Verdict.Refused r → A
+lawful_refused : {A : Type 0} {v : Verdict} {r : Refusal} → v ≡ Ok tt → v ≡ Err r → A
 lawful_refused p q = let z : ◌≡◌ {A = ℕ} 0 1 = cc in absurd (omega arith)
 
-refused_one : {v : Verdict} {q r : Refusal} → v ≡ Verdict.Refused q → v ≡ Verdict.Refused r → q ≡ r
+refused_one : {v : Verdict} {q r : Refusal} → v ≡ Err q → v ≡ Err r → q ≡ r
 refused_one p q = cc
 
 one_answer : (kind : ℕ) (coordinates : List Float) (a b : Boxed) → Answers kind coordinates a → Answers kind coordinates b → SameAnswer a b
-one_answer kind coordinates (Boxed.Box b) (Boxed.Box c) p q = one_box coordinates b c p.1 q.1
-one_answer kind coordinates (Boxed.Box b) Boxed.NoBox p q = box_counts coordinates b p.1 q.1
-one_answer kind coordinates (Boxed.Box b) (Boxed.Refused r) p q = lawful_refused p.0 q
-one_answer kind coordinates Boxed.NoBox (Boxed.Box c) p q = box_counts coordinates c q.1 p.1
-one_answer kind coordinates Boxed.NoBox Boxed.NoBox p q = tt
-one_answer kind coordinates Boxed.NoBox (Boxed.Refused r) p q = lawful_refused p.0 q
-one_answer kind coordinates (Boxed.Refused s) (Boxed.Box c) p q = lawful_refused q.0 p
-one_answer kind coordinates (Boxed.Refused s) Boxed.NoBox p q = lawful_refused q.0 p
-one_answer kind coordinates (Boxed.Refused s) (Boxed.Refused r) p q = refused_one p q
+one_answer kind coordinates (Ok (Some b)) (Ok (Some c)) p q = one_box coordinates b c p.1 q.1
+one_answer kind coordinates (Ok (Some b)) (Ok None) p q = box_counts coordinates b p.1 q.1
+one_answer kind coordinates (Ok (Some b)) (Err r) p q = lawful_refused p.0 q
+one_answer kind coordinates (Ok None) (Ok (Some c)) p q = box_counts coordinates c q.1 p.1
+one_answer kind coordinates (Ok None) (Ok None) p q = tt
+one_answer kind coordinates (Ok None) (Err r) p q = lawful_refused p.0 q
+one_answer kind coordinates (Err s) (Ok (Some c)) p q = lawful_refused q.0 p
+one_answer kind coordinates (Err s) (Ok None) p q = lawful_refused q.0 p
+one_answer kind coordinates (Err s) (Err r) p q = refused_one p q
 
 -- ---- the box of points is one, and its points are inside
 
@@ -103,7 +104,7 @@ module _ (kind axis : ℕ) (coordinates : List Float) (each : (p : ℕ) → p < 
 met_number : (axis : ℕ) (coordinates : List Float) (v : Float) → Met axis coordinates v → is_nan v ≡ false
 met_number axis coordinates v m = (same_numbers v m.0 m.2).0
 
-module _ (kind : ℕ) (coordinates : List Float) (b : BoundingBox) (a : Answers kind coordinates (Boxed.Box b)) where
+module _ (kind : ℕ) (coordinates : List Float) (b : BoundingBox) (a : Answers kind coordinates (Ok (Some b))) where
   allowed : (p : ℕ) → p < points_in coordinates → (is_allowed kind X (coordinate_of coordinates X p) && is_allowed kind Y (coordinate_of coordinates Y p)) ≡ true
   allowed = each_allowed kind coordinates (points_in coordinates) (lawful kind coordinates a.0).1
 

@@ -11,7 +11,8 @@ use Rattle.refusal.specs.Numbers.{WRONG_LENGTH, BREAKS_ANNOTATION, UNKNOWN_TYPE}
 use Rattle.refusal.specs.Outcome.{Outcome, given, refused, unplaced}
 use Rattle.refusal.specs.Bounds.{Bounded}
 use Rattle.refusal.specs.declared.answers.Refusal.{Refusal}
-use Rattle.refusal.specs.declared.answers.Verdict.{Verdict}
+use Rattle.refusal.specs.Outcome.{Verdict}
+use Rattle.std.specs.Prelude.{Ok, Err}
 use Rattle.parquet.specs.Logical.{is_geospatial}
 use Rattle.boxes.specs.Points.{points_in, allows_points, judgement}
 use Rattle.boxes.specs.Membership.{inside_x, inside_y, is_box, allows_point, membership}
@@ -23,21 +24,21 @@ unplaced_bounded number some most = record { some_number = some; most_number = m
 
 -- that of points
 abbrev VerdictBounded : Verdict → Type 0
-VerdictBounded Verdict.Lawful = Unit {0}
-VerdictBounded (Verdict.Refused r) = Bounded UNKNOWN_TYPE 0 r
+VerdictBounded (Ok _) = Unit {0}
+VerdictBounded (Err r) = Bounded UNKNOWN_TYPE 0 r
 
 judgement_bounded : (kind : ℕ) (coordinates : List Float) → VerdictBounded (judgement kind coordinates)
 unfolding judgement
 judgement_bounded kind coordinates = by_tests_lem (is_geospatial kind) (eqb (length coordinates % 2) 0) (allows_points kind coordinates (points_in coordinates))
   where
     by_tests_lem : (known even allowed : Bool)
-        → VerdictBounded (cond known (cond even (cond allowed Verdict.Lawful (Verdict.Refused (unplaced BREAKS_ANNOTATION))) (Verdict.Refused (unplaced WRONG_LENGTH))) (Verdict.Refused (unplaced UNKNOWN_TYPE)))
+        → VerdictBounded (cond known (cond even (cond allowed (Ok tt) (Err (unplaced BREAKS_ANNOTATION))) (Err (unplaced WRONG_LENGTH))) (Err (unplaced UNKNOWN_TYPE)))
     by_tests_lem true true true = tt
     by_tests_lem true true false = unplaced_bounded BREAKS_ANNOTATION (omega arith) (omega arith)
     by_tests_lem true false allowed = unplaced_bounded WRONG_LENGTH (omega arith) (omega arith)
     by_tests_lem false even allowed = unplaced_bounded UNKNOWN_TYPE (omega arith) (omega arith)
 
-pub box_bounded : (kind : ℕ) (coordinates : List Float) (r : Refusal) → judgement kind coordinates ≡ Verdict.Refused r → Bounded UNKNOWN_TYPE 0 r
+pub box_bounded : (kind : ℕ) (coordinates : List Float) (r : Refusal) → judgement kind coordinates ≡ Err r → Bounded UNKNOWN_TYPE 0 r
 box_bounded kind coordinates r e = subst VerdictBounded e (judgement_bounded kind coordinates)
 
 -- and that of a test

@@ -1,18 +1,18 @@
 -- One coordinate: how two compare, and which a kind allows on an axis.
-use Rattle.std.specs.Prelude.{ℕ, ◌≡◌, Bool, true, false, cond, ◌&&◌, ◌||◌, eqb, pos, neg_ℤ, Float}
+use Rattle.std.specs.Prelude.{ℕ, ◌≡◌, Bool, true, false, cond, ◌&&◌, ◌||◌, eqb, pos, neg_ℤ, Float, Option, Some, None}
 use Rattle.std.specs.Float.{binary64}
 use Rattle.std.specs.Float.Ieee.{is_nan, of_int}
 use Rattle.parquet.specs.Logical as logical
 use Rattle.float_order.specs.Floats.{float_order, less_or_equal}
-use Rattle.float_order.specs.declared.relation.Relation.{Relation}
-use Rattle.float_order.specs.declared.relation.Relation.TheVariants.{Less, Equal, Greater, Unordered}
+use Rattle.std.specs.declared.cmp.Ordering.{Ordering}
+use Rattle.std.specs.declared.cmp.Ordering.TheVariants.{Less, Equal, Greater}
 
 -- "compared as document 01 orders DOUBLE"
-abbrev pub is_greater : Relation → Bool
-is_greater Less = false
-is_greater Equal = false
-is_greater Greater = true
-is_greater Unordered = false
+abbrev pub is_greater : Option Ordering → Bool
+is_greater (Some Less) = false
+is_greater (Some Equal) = false
+is_greater (Some Greater) = true
+is_greater None = false
 
 -- v is less than w or equal to it, and v is above w: neither where one of them is a NaN
 unfoldable pub at_most : Float → Float → Bool
@@ -23,7 +23,7 @@ is_above v w = is_greater (float_order v w)
 
 -- "numerically equals": the two zeros do
 abbrev pub Same : Float → Float → Type 0
-Same v w = float_order v w ≡ Equal
+Same v w = float_order v w ≡ Some Equal
 
 -- "on or between the bounds"
 unfoldable pub is_between : Float → Float → Float → Bool

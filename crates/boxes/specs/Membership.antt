@@ -1,13 +1,12 @@
 -- Whether a point is inside a box, which may be a received one.
-use Rattle.std.specs.Prelude.{ℕ, Bool, cond, not, ◌&&◌, ◌||◌, Float}
+use Rattle.std.specs.Prelude.{ℕ, Bool, cond, not, ◌&&◌, ◌||◌, Float, Result, Ok, Err}
 use Rattle.std.specs.Float.Ieee.{is_nan}
 use Rattle.refusal.specs.Numbers.{BREAKS_ANNOTATION, UNKNOWN_TYPE}
 use Rattle.refusal.specs.Outcome.{Outcome, given, refused, unplaced}
+use Rattle.refusal.specs.declared.answers.Refusal.{Refusal}
 use Rattle.parquet.specs.Logical.{is_geospatial}
 use Rattle.boxes.specs.Coordinates.{at_most, is_above, is_between, X, Y, is_allowed}
 use Rattle.boxes.specs.declared.bounding_box.BoundingBox.{BoundingBox}
--- a type of the code: Inside, with yes or no, or Refused, with a refusal
-use Rattle.boxes.specs.declared.membership.Tested.{Tested}
 
 -- "A received box may have xmin above xmax, and then x is inside if x >= xmin or x <= xmax; otherwise .. if on or between the bounds"
 unfoldable pub inside_x : BoundingBox → Float → Bool
@@ -36,9 +35,9 @@ unfoldable pub allows_point : ℕ → Float → Float → Bool
 allows_point kind x y = is_allowed kind X x && is_allowed kind Y y
 
 -- what each answer stands for
-abbrev pub tested : Tested → Outcome Bool
-tested (Tested.Inside inside) = given inside
-tested (Tested.Refused r) = refused r
+abbrev pub tested : Result Bool Refusal → Outcome Bool
+tested (Ok inside) = given inside
+tested (Err r) = refused r
 
 -- "A test answers yes exactly if both a point's coordinates are inside"; 20 comes first
 unfoldable pub membership : ℕ → BoundingBox → Float → Float → Outcome Bool

@@ -1,16 +1,15 @@
 -- A list of points, and its box: "four doubles, xmin, xmax, ymin, ymax".
-use Rattle.std.specs.Prelude.{ℕ, zero, suc, ◌+◌, ◌*◌, ◌/◌, ◌%◌, ◌<◌, ◌≡◌, Bool, true, false, cond, ◌&&◌, List, ◌⊎◌, eqb, length, get_or, Float}
+use Rattle.std.specs.Prelude.{ℕ, zero, suc, ◌+◌, ◌*◌, ◌/◌, ◌%◌, ◌<◌, ◌≡◌, Bool, true, false, cond, ◌&&◌, List, ◌⊎◌, eqb, length, get_or, Float, Option, Some, None, Result, Ok, Err}
 use Rattle.std.specs.Float.{nan}
 use Rattle.std.specs.Float.Ieee.{is_nan}
 use Rattle.refusal.specs.Numbers.{WRONG_LENGTH, BREAKS_ANNOTATION, UNKNOWN_TYPE}
-use Rattle.refusal.specs.Outcome.{unplaced}
-use Rattle.refusal.specs.declared.answers.Verdict.{Verdict}
+use Rattle.refusal.specs.Outcome.{unplaced, no_refusal}
+use Rattle.refusal.specs.declared.answers.Refusal.{Refusal}
+use Rattle.refusal.specs.Outcome.{Verdict}
 use Rattle.parquet.specs.Logical.{is_geospatial}
 use Rattle.boxes.specs.Coordinates.{Same, at_most, X, Y, is_allowed}
 -- a type of the code: the numbers xmin, xmax, ymin and ymax
 use Rattle.boxes.specs.declared.bounding_box.BoundingBox.{BoundingBox}
--- a type of the code: Box, with a box, NoBox, or Refused, with a refusal
-use Rattle.boxes.specs.declared.points.Boxed.{Boxed}
 
 -- a point is two numbers of the list, its x and its y
 unfoldable pub points_in : List Float → ℕ
@@ -56,13 +55,17 @@ unfoldable pub judgement : ℕ → List Float → Verdict
 judgement kind coordinates =
     cond (is_geospatial kind)
     (cond (eqb (length coordinates % 2) 0)
-    (cond (allows_points kind coordinates (points_in coordinates)) Verdict.Lawful (Verdict.Refused (unplaced BREAKS_ANNOTATION)))
-    (Verdict.Refused (unplaced WRONG_LENGTH)))
-    (Verdict.Refused (unplaced UNKNOWN_TYPE))
+    (cond (allows_points kind coordinates (points_in coordinates)) no_refusal (Err (unplaced BREAKS_ANNOTATION)))
+    (Err (unplaced WRONG_LENGTH)))
+    (Err (unplaced UNKNOWN_TYPE))
 
--- what the box of a list of points may answer: a box is free only in which of two equal numbers a bound is
+-- what the box of a list of points answers: a box, none, or the refusal
+abbrev pub Boxed : Type 0
+Boxed = Result (Option BoundingBox) Refusal
+
+-- what it may answer: a box is free only in which of two equal numbers a bound is
 abbrev pub Answers : ℕ → List Float → Boxed → Type 0
-Answers kind coordinates (Boxed.Box b) = (judgement kind coordinates ≡ Verdict.Lawful) × BoxOf coordinates b
+Answers kind coordinates (Ok (Some b)) = (judgement kind coordinates ≡ no_refusal) × BoxOf coordinates b
 -- "no box results exactly if an axis has none"
-Answers kind coordinates Boxed.NoBox = (judgement kind coordinates ≡ Verdict.Lawful) × (NoneCounted X coordinates ⊎ NoneCounted Y coordinates)
-Answers kind coordinates (Boxed.Refused r) = judgement kind coordinates ≡ Verdict.Refused r
+Answers kind coordinates (Ok None) = (judgement kind coordinates ≡ no_refusal) × (NoneCounted X coordinates ⊎ NoneCounted Y coordinates)
+Answers kind coordinates (Err r) = judgement kind coordinates ≡ Err r

@@ -7,5 +7,5 @@ mod points; // points.rt: the box of a list of points
 mod refusals; // refusals.rt: the refusals that boxes have
 
 pub use bounding_box::BoundingBox;
-pub use membership::{Tested, contains};
-pub use points::{Boxed, box_of};
+pub use membership::contains;
+pub use points::box_of;

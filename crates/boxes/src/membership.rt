@@ -5,30 +5,23 @@ ghost use Rattle.boxes.specs.Coordinates.{is_between};
 ghost use Rattle.boxes.specs.Membership.{inside_x, has_nan, is_box, allows_point, tested, membership};
 
 use crate::bounding_box::{BoundingBox, GEOGRAPHY, MOST_X, MOST_Y, has_boxes};
-use crate::refusals::{not_allowed, unknown_kind};
+use crate::refusals::{NOT_ALLOWED, UNKNOWN_KIND};
 use refusal::Refusal;
 
-// Whether a point is inside, or the refusal.
-#[derive(Clone, Copy)]
-pub enum Tested {
-    Inside(bool),
-    Refused(Refusal),
-}
-
 // Whether a point is inside a box of a kind. A box may go round in x: its xmin is then above its xmax. A NaN is inside nothing.
-pub fn contains(kind: u32, bounding_box: BoundingBox, x: f64, y: f64) -> Tested
+pub fn contains(kind: u32, bounding_box: BoundingBox, x: f64, y: f64) -> Result<bool, Refusal>
     ensures { tested result ≡ membership kind bounding_box x y }
 {
     if !has_boxes(kind) {
-        return Tested::Refused(unknown_kind());
+        return Err(UNKNOWN_KIND);
     }
     if !is_box(kind, bounding_box) {
-        return Tested::Refused(not_allowed());
+        return Err(NOT_ALLOWED);
     }
     if !allows_point(kind, x, y) {
-        return Tested::Refused(not_allowed());
+        return Err(NOT_ALLOWED);
     }
-    Tested::Inside(inside_x(bounding_box, x) & is_between(bounding_box.ymin, bounding_box.ymax, y))
+    Ok(inside_x(bounding_box, x) & is_between(bounding_box.ymin, bounding_box.ymax, y))
 }
 
 // Whether a box is one: no bound is a NaN, ymin is not above ymax, and the kind allows each bound.
@@ -44,11 +37,12 @@ fn is_box(kind: u32, b: BoundingBox) -> bool
     allows_point(kind, b.xmin, b.ymin) & allows_point(kind, b.xmax, b.ymax)
 }
 
-// Whether a bound is a NaN: nothing else differs from itself.
+// Whether a bound is a NaN.
+#[tactic(auto, unfolding(crate::specs::Membership::has_nan))]
 fn has_nan(b: BoundingBox) -> bool
     ensures { result ≡ has_nan b }
 {
-    (b.xmin != b.xmin) | (b.xmax != b.xmax) | (b.ymin != b.ymin) | (b.ymax != b.ymax)
+    b.xmin.is_nan() | b.xmax.is_nan() | b.ymin.is_nan() | b.ymax.is_nan()
 }
 
 // Whether the kind allows both coordinates of a point.
@@ -65,7 +59,7 @@ fn allows_point(kind: u32, x: f64, y: f64) -> bool
 fn allows_degrees(v: f64, most: f64) -> bool
     ensures { result ≡ (is_nan v || is_between (neg most) most v) }
 {
-    (v != v) | is_between(-most, most, v)
+    v.is_nan() | is_between(-most, most, v)
 }
 
 // Whether x is inside: from xmin to xmax, or, where xmin is above xmax, from xmin up or from xmax down.

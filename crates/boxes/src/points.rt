@@ -7,98 +7,78 @@ ghost use Rattle.boxes.specs.Points.{Answers};
 ghost use Rattle.boxes.specs.Steps.{BoundsFound, beyond_degrees};
 
 use crate::bounding_box::{BoundingBox, GEOGRAPHY, MOST_X, MOST_Y, has_boxes};
-use crate::refusals::{not_allowed, odd_run, unknown_kind};
+use crate::refusals::{NOT_ALLOWED, ODD_RUN, UNKNOWN_KIND};
 use refusal::Refusal;
 
-// What the box of a list of points is: a box, none where no coordinate of an axis counts, or the refusal.
+// What is found of an axis: the least and the greatest of what counts. Where nothing does, the least is above all and the greatest below.
 #[derive(Clone, Copy)]
-pub enum Boxed {
-    Box(BoundingBox),
-    NoBox,
-    Refused(Refusal),
+struct Range {
+    least: f64,
+    greatest: f64,
 }
 
-// The box of points of a kind, whose coordinates stand in turn: x, y, x, y. A coordinate that is a NaN does not count.
-pub fn box_of(kind: u32, coordinates: &[f64]) -> Boxed
+impl Range {
+    // That of an axis where nothing counts.
+    fn unmet() -> Range
+        ensures { (result.least ≡ inf false) × (result.greatest ≡ inf true) }
+    {
+        Range {
+            least: f64::INFINITY,
+            greatest: f64::NEG_INFINITY,
+        }
+    }
+
+    // That with one coordinate more. A NaN is less than nothing and greater than nothing, and so does not count.
+    fn reaching(self, v: f64) -> Range
+        ensures { (result.least ≡ cond (lt v self.least) v self.least) × (result.greatest ≡ cond (lt self.greatest v) v self.greatest) }
+    {
+        Range {
+            least: if v < self.least { v } else { self.least },
+            greatest: if v > self.greatest { v } else { self.greatest },
+        }
+    }
+}
+
+// The box of points of a kind, whose coordinates stand in turn: x, y, x, y. A coordinate that is a NaN does not count, and there is no box
+// where none of an axis does.
+pub fn box_of(kind: u32, coordinates: &[f64]) -> Result<Option<BoundingBox>, Refusal>
     ensures { Answers kind coordinates.now result }
 {
     if !has_boxes(kind) {
-        return Boxed::Refused(unknown_kind());
+        return Err(UNKNOWN_KIND);
     }
     if coordinates.len() % 2 != 0 {
-        return Boxed::Refused(odd_run());
+        return Err(ODD_RUN);
     }
     let found = bounds_of(coordinates);
     if beyond_degrees(kind, found) {
-        return Boxed::Refused(not_allowed());
+        return Err(NOT_ALLOWED);
     }
     if found.xmin > found.xmax {
-        return Boxed::NoBox;
+        return Ok(None);
     }
     if found.ymin > found.ymax {
-        return Boxed::NoBox;
+        return Ok(None);
     }
-    Boxed::Box(found)
+    Ok(Some(found))
 }
 
 // The bounds of what counts on each axis; where nothing does, the least is above all and the greatest below.
 fn bounds_of(coordinates: &[f64]) -> BoundingBox
     ensures { BoundsFound coordinates.now result }
 {
-    let points = coordinates.len() / 2;
-    let mut xmin = above_all();
-    let mut xmax = below_all();
-    let mut ymin = above_all();
-    let mut ymax = below_all();
-    let mut point = 0usize;
-    while point < points {
-        let x = coordinates[2 * point];
-        let y = coordinates[2 * point + 1];
-        xmin = lesser(x, xmin);
-        xmax = greater(x, xmax);
-        ymin = lesser(y, ymin);
-        ymax = greater(y, ymax);
-        point += 1;
+    let mut x = Range::unmet();
+    let mut y = Range::unmet();
+    for point in 0..coordinates.len() / 2 {
+        x = x.reaching(coordinates[2 * point]);
+        y = y.reaching(coordinates[2 * point + 1]);
     }
     BoundingBox {
-        xmin,
-        xmax,
-        ymin,
-        ymax,
+        xmin: x.least,
+        xmax: x.greatest,
+        ymin: y.least,
+        ymax: y.greatest,
     }
-}
-
-// What is above every number, and what is below. No constant can be an infinity.
-fn above_all() -> f64
-    ensures { result ≡ inf false }
-{
-    1.0 / 0.0
-}
-
-fn below_all() -> f64
-    ensures { result ≡ inf true }
-{
-    -1.0 / 0.0
-}
-
-// The least with one coordinate more. A NaN is less than nothing, and so does not count.
-fn lesser(v: f64, least: f64) -> f64
-    ensures { result ≡ cond (lt v least) v least }
-{
-    if v < least {
-        return v;
-    }
-    least
-}
-
-// The greatest with one coordinate more.
-fn greater(v: f64, greatest: f64) -> f64
-    ensures { result ≡ cond (lt greatest v) v greatest }
-{
-    if v > greatest {
-        return v;
-    }
-    greatest
 }
 
 // Whether the kind does not allow one of the bounds that were found, and so a coordinate. It allows those of an axis where nothing counts.

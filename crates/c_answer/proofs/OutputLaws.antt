@@ -1,26 +1,19 @@
 -- What a call that may be short of output answers and leaves.
-use Prim.Native.Nat.{ℕ, ◌≤◌, ◌<◌}
+use Prim.Native.Nat.{ℕ, ◌≤◌}
 use mathlib.Core.Path.{◌≡◌, sym, ap, ◌∙◌}
 use mathlib.Core.List.{List, ◌++◌}
 use native.Mathlib.Omega.{arith}
 use native.Mathlib.Nat.{zero-add}
-use borrow.Author.Tests.{lt-ltb, le-ltb}
+use borrow.Author.Tests.{le-ltb}
 use lib.ListN.{length, drop}
 use lib.Seq.{sets, sets-eq}
-use Rattle.refusal.specs.Outcome.{refused, short_output}
-use Rattle.c_answer.specs.Answers.{packed, RESULT, refusal_answer, Effect, result, within, answer, left}
+use Rattle.c_answer.specs.Answers.{packed, RESULT, Effect, result, within, answer, left}
 
 -- numbers stored one after the other from the start
 stored : {A : Type 0} (xs lent : List A) → length xs ≤ length lent → sets lent 0 xs ≡ xs ++ drop (length xs) lent
 stored xs lent h = sets-eq xs lent 0 (omega (arith, zero-add (length xs))) ∙ ap (λ (n : ℕ). xs ++ drop n lent) (zero-add (length xs))
 
 module _ {A : Type 0} (value : ℕ) (xs lent : List A) where
-  -- an output that is too short
-  pub short : length lent < length xs → {r : ℕ} → r ≡ refusal_answer short_output → (r ≡ answer (within (length lent) (result value xs))) × (lent ≡ left (within (length lent) (result value xs)) lent)
-  short h {r} e =
-      let w : within (length lent) (result value xs) ≡ refused short_output = rw (lt-ltb (length lent) (length xs) h) in
-      (e ∙ ap answer (sym w), ap (λ (f : Effect A). left f lent) (sym w))
-
   -- one that is long enough, with the numbers stored as they are known
   pub enough : {ys : List A} → ys ≡ xs → length xs ≤ length lent → {r : ℕ} → r ≡ packed RESULT value → (r ≡ answer (within (length lent) (result value xs))) × (sets lent 0 ys ≡ left (within (length lent) (result value xs)) lent)
   enough {ys} same h {r} e =

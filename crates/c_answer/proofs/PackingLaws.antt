@@ -7,7 +7,8 @@ use native.Mathlib.Omega.{arith}
 use lib.Dec.{ltb}
 use lib.ListN.{length}
 use Rattle.refusal.specs.Outcome.{given, refused, short_output}
-use Rattle.refusal.specs.declared.answers.Counted.{Counted}
+use Rattle.refusal.specs.Outcome.{Counted}
+use Rattle.std.specs.Prelude.{Ok, Err}
 use Rattle.refusal.specs.declared.answers.Refusal.{Refusal}
 use Rattle.c_answer.specs.Answers.{packed, packed_fault, RESULT, number_in, refusal_answer, counted_answer, Effect, within, answer, left}
 use Rattle.refusal.specs.Bounds.{Bounded, CountedBounded}
@@ -36,8 +37,8 @@ module _ (number place : ℕ) (h : number < 2 ^ 8) (k : place < 2 ^ 32) (r : Ref
       }
 
 pub counted_packs : (most number place : ℕ) → most < 2 ^ 32 → number < 2 ^ 8 → place < 2 ^ 32 → (c : Counted) → CountedBounded most number place c → PacksCounted c
-counted_packs most number place m h k (Counted.Count n) b = result_packs n (omega arith)
-counted_packs most number place m h k (Counted.Refused r) b = refusal_packs number place h k r b
+counted_packs most number place m h k (Ok n) b = result_packs n (omega arith)
+counted_packs most number place m h k (Err r) b = refusal_packs number place h k r b
 
 -- 14 packs, and so does a call that may be short of output
 pub short_packs : {A : Type 0} (lent : ℕ) (e : Effect A) → PacksEffect e → PacksEffect (within lent e)
@@ -53,9 +54,9 @@ result_none : {answered value : ℕ} → PacksResult answered value → RESULT <
 result_none p h = omega (arith, p.number_in_lem)
 
 -- where an answer has a number, it is a refusal's
-pub counted_refused : (c : Counted) → PacksCounted c → RESULT < number_in (counted_answer c) → (r : Refusal) × (c ≡ Counted.Refused r)
-counted_refused (Counted.Count n) p h = absurd (result_none p h)
-counted_refused (Counted.Refused r) p h = (r, refl)
+pub counted_refused : (c : Counted) → PacksCounted c → RESULT < number_in (counted_answer c) → (r : Refusal) × (c ≡ Err r)
+counted_refused (Ok n) p h = absurd (result_none p h)
+counted_refused (Err r) p h = (r, refl)
 
 -- and the output is as it was
 pub unchanged : {A : Type 0} (e : Effect A) (lent : List A) → PacksEffect e → RESULT < number_in (answer e) → left e lent ≡ lent

@@ -1,7 +1,8 @@
 -- What a call answers in one number, and what it leaves in the output that it was lent.
 use Rattle.std.specs.Prelude.{ℕ, ◌+◌, ◌*◌, ◌/◌, ◌%◌, ◌^◌, cond, List, ◌++◌, ltb, length, drop}
 use Rattle.refusal.specs.Outcome.{Outcome, given, refused, short_output}
-use Rattle.refusal.specs.declared.answers.Counted.{Counted}
+use Rattle.refusal.specs.Outcome.{Counted}
+use Rattle.std.specs.Prelude.{Ok, Err}
 use Rattle.refusal.specs.declared.answers.Refusal.{Refusal}
 use Rattle.refusal.specs.declared.answers.Fault.{Fault}
 
@@ -40,8 +41,8 @@ fault_answer f = packed_fault f.side f.refusal.number f.refusal.place
 
 -- and of a call that answers how many there are
 abbrev pub counted_answer : Counted → ℕ
-counted_answer (Counted.Count n) = packed RESULT n
-counted_answer (Counted.Refused r) = refusal_answer r
+counted_answer (Ok n) = packed RESULT n
+counted_answer (Err r) = refusal_answer r
 
 -- what a call gives that writes numbers: the value named, and what is written at the output's start
 pub record Result (A : Type 0) : Type 0 where

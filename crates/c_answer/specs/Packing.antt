@@ -1,7 +1,8 @@
 -- An answer that can be taken apart again.
 use Rattle.std.specs.Prelude.{ℕ, ◌<◌, ◌^◌, ◌≡◌}
 use Rattle.refusal.specs.Outcome.{given, refused}
-use Rattle.refusal.specs.declared.answers.Counted.{Counted}
+use Rattle.refusal.specs.Outcome.{Counted}
+use Rattle.std.specs.Prelude.{Ok, Err}
 use Rattle.refusal.specs.declared.answers.Refusal.{Refusal}
 use Rattle.c_answer.specs.Answers.{RESULT, number_in, low_in, side_in, counted_answer, Effect, answer}
 
@@ -30,8 +31,8 @@ pub record PacksFault (answered side : ℕ) (r : Refusal) : Type 0 where
 
 -- of each outcome
 abbrev pub PacksCounted : Counted → Type 0
-PacksCounted (Counted.Count n) = PacksResult (counted_answer (Counted.Count n)) n
-PacksCounted (Counted.Refused r) = PacksRefusal (counted_answer (Counted.Refused r)) r
+PacksCounted (Ok n) = PacksResult (counted_answer (Ok n)) n
+PacksCounted (Err r) = PacksRefusal (counted_answer (Err r)) r
 
 abbrev pub PacksEffect : {A : Type 0} → Effect A → Type 0
 PacksEffect {A} (refused r) = PacksRefusal (answer {A = A} (refused r)) r

@@ -14,10 +14,10 @@ use Rattle.laws.proofs.DifferenceLaws.{below?}
 use Rattle.refusal.specs.Numbers.{UNKNOWN_TYPE}
 use Rattle.refusal.specs.Outcome.{given, refused, short_output}
 use Rattle.boxes.specs.Coordinates.{Same}
-use Rattle.boxes.specs.Points.{Answers}
+use Rattle.boxes.specs.Points.{Boxed, Answers}
 use Rattle.boxes.specs.Promises as boxes
 use Rattle.boxes.specs.declared.bounding_box.BoundingBox.{BoundingBox}
-use Rattle.boxes.specs.declared.points.Boxed.{Boxed}
+use Rattle.std.specs.Prelude.{Some, None, Ok, Err}
 use Rattle.boxes.proofs.PromiseLaws as boxed
 use Rattle.boxes.proofs.RefusalLaws.{box_bounded, test_bounded}
 use Rattle.c_answer.specs.Answers.{refusal_answer, Effect, listed, within, answer, left}
@@ -29,9 +29,9 @@ use Rattle.c_boxes.specs.Promises.{Promises}
 -- ---- answers are taken apart again
 
 effect_packs : (kind : ℕ) (coordinates : List Float) (b : Boxed) → Answers kind coordinates b → PacksEffect (box_effect b)
-effect_packs kind coordinates (Boxed.Box b) a = result_packs 4 (omega arith)
-effect_packs kind coordinates Boxed.NoBox a = result_packs 0 (omega arith)
-effect_packs kind coordinates (Boxed.Refused r) a = refusal_packs UNKNOWN_TYPE 0 (omega arith) (omega arith) r (box_bounded kind coordinates r a)
+effect_packs kind coordinates (Ok (Some b)) a = result_packs 4 (omega arith)
+effect_packs kind coordinates (Ok None) a = result_packs 0 (omega arith)
+effect_packs kind coordinates (Err r) a = refusal_packs UNKNOWN_TYPE 0 (omega arith) (omega arith) r (box_bounded kind coordinates r a)
 
 test_packs : (inside : Bool) → PacksResult (test_answer (given inside)) (cond inside 1 0)
 test_packs true = result_packs 1 (omega arith)
@@ -55,7 +55,7 @@ module _ (lent : List Float) where
 -- a box's numbers stand at the output's start
 record Written (kind : ℕ) (coordinates lent : List Float) (answered : ℕ) (held : List Float) : Type 0 where
   box : BoundingBox
-  answers : Answers kind coordinates (Boxed.Box box)
+  answers : Answers kind coordinates (Ok (Some box))
   four : answered ≡ 4
   held_is : held ≡ bound_numbers box ++ drop 4 lent
 
@@ -72,12 +72,12 @@ module _ (kind : ℕ) (coordinates lent : List Float) (r : ℕ) (h : List Float)
       by_effect q a l = (a ∙ ap answer q, l ∙ ap (λ (e : Effect Float). left e lent) q)
 
       go : (b : Boxed) → Answers kind coordinates b → r ≡ answer (within (length lent) (box_effect b)) → h ≡ left (within (length lent) (box_effect b)) lent → Written kind coordinates lent r h ⊎ Unwritten lent r h
-      go (Boxed.Box b) c a l =
+      go (Ok (Some b)) c a l =
           below? (length lent) 4
           (λ n. let q = by_effect (too_short lent b n) a l in inr (record { not_four = λ e. omega (arith, q.0); same = q.1 }))
           (λ n. let q = by_effect (fits lent b n) a l in inl (record { box = b; answers = c; four = q.0; held_is = q.1 }))
-      go Boxed.NoBox c a l = let q = by_effect (nothing lent) a l in inr (record { not_four = λ e. omega (arith, q.0); same = q.1 })
-      go (Boxed.Refused s) c a l = inr (record { not_four = λ e. let b = box_bounded kind coordinates s c in omega (arith, b.some_number); same = l })
+      go (Ok None) c a l = let q = by_effect (nothing lent) a l in inr (record { not_four = λ e. omega (arith, q.0); same = q.1 })
+      go (Err s) c a l = inr (record { not_four = λ e. let b = box_bounded kind coordinates s c in omega (arith, b.some_number); same = l })
 
   rest : Boxing kind coordinates lent r h → drop 4 h ≡ drop 4 lent
   rest p = go (outcome p)
@@ -96,19 +96,19 @@ module _ (kind : ℕ) (coordinates lent : List Float) (r : ℕ) (h : List Float)
 -- ---- one answer, and numerically the same bounds
 
 same_answer : (n : ℕ) (a b : Boxed) → boxes.SameAnswer a b → answer (within n (box_effect a)) ≡ answer (within n (box_effect b))
-same_answer n (Boxed.Box b) (Boxed.Box c) s = by_room (ltb n 4)
+same_answer n (Ok (Some b)) (Ok (Some c)) s = by_room (ltb n 4)
   where
     by_room : (short : Bool) → answer (cond short (refused short_output) (listed (bound_numbers b))) ≡ answer (cond short (refused short_output) (listed (bound_numbers c)))
     by_room true = refl
     by_room false = refl
-same_answer n (Boxed.Box b) Boxed.NoBox s = absurd s
-same_answer n (Boxed.Box b) (Boxed.Refused r) s = absurd s
-same_answer n Boxed.NoBox (Boxed.Box c) s = absurd s
-same_answer n Boxed.NoBox Boxed.NoBox s = refl
-same_answer n Boxed.NoBox (Boxed.Refused r) s = absurd s
-same_answer n (Boxed.Refused q) (Boxed.Box c) s = absurd s
-same_answer n (Boxed.Refused q) Boxed.NoBox s = absurd s
-same_answer n (Boxed.Refused q) (Boxed.Refused r) s = ap refusal_answer s
+same_answer n (Ok (Some b)) (Ok None) s = absurd s
+same_answer n (Ok (Some b)) (Err r) s = absurd s
+same_answer n (Ok None) (Ok (Some c)) s = absurd s
+same_answer n (Ok None) (Ok None) s = refl
+same_answer n (Ok None) (Err r) s = absurd s
+same_answer n (Err q) (Ok (Some c)) s = absurd s
+same_answer n (Err q) (Ok None) s = absurd s
+same_answer n (Err q) (Err r) s = ap refusal_answer s
 
 module _ (kind : ℕ) (coordinates lent : List Float) where
   one : (r s : ℕ) (h k : List Float) → Boxing kind coordinates lent r h → Boxing kind coordinates lent s k → r ≡ s
@@ -132,7 +132,7 @@ module _ (kind : ℕ) (coordinates lent : List Float) where
       go (inl v) (inr u) = absurd (u.not_four refl)
       go (inl v) (inl w) =
           rw (v.held_is, w.held_is)
-          (same_bounds v.box w.box ((boxed.promised).one_answer kind coordinates (Boxed.Box v.box) (Boxed.Box w.box) v.answers w.answers) i n)
+          (same_bounds v.box w.box ((boxed.promised).one_answer kind coordinates (Ok (Some v.box)) (Ok (Some w.box)) v.answers w.answers) i n)
 
 pub promised : Promises
 promised =

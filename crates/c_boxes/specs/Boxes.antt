@@ -1,9 +1,8 @@
 -- What the box of points and the test of a point answer.
-use Rattle.std.specs.Prelude.{◌≡◌, ℕ, Bool, cond, List, [], ◌∷◌, length, Float}
+use Rattle.std.specs.Prelude.{◌≡◌, ℕ, Bool, cond, List, [], ◌∷◌, length, Float, Some, None, Ok, Err}
 use Rattle.refusal.specs.Outcome.{Outcome, given, refused}
-use Rattle.boxes.specs.Points.{Answers}
+use Rattle.boxes.specs.Points.{Boxed, Answers}
 use Rattle.boxes.specs.declared.bounding_box.BoundingBox.{BoundingBox}
-use Rattle.boxes.specs.declared.points.Boxed.{Boxed}
 use Rattle.c_answer.specs.Answers.{RESULT, packed, refusal_answer, Effect, listed, within, answer, left}
 
 -- a box of numbers that were passed
@@ -16,9 +15,9 @@ bound_numbers b = b.xmin ∷ b.xmax ∷ b.ymin ∷ b.ymax ∷ []
 
 -- what each answer comes to: its value is how many numbers are written, 4, or 0 where there is no box
 abbrev pub box_effect : Boxed → Effect Float
-box_effect (Boxed.Box b) = listed (bound_numbers b)
-box_effect Boxed.NoBox = listed []
-box_effect (Boxed.Refused r) = refused r
+box_effect (Ok (Some b)) = listed (bound_numbers b)
+box_effect (Ok None) = listed []
+box_effect (Err r) = refused r
 
 -- what the box of points answers and leaves: those of an answer that it may have
 pub record Boxing (kind : ℕ) (coordinates lent : List Float) (answered : ℕ) (held : List Float) : Type 0 where

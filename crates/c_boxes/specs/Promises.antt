@@ -4,10 +4,9 @@ use Rattle.std.specs.Float.{nan}
 use Rattle.refusal.specs.Outcome.{given, refused}
 use Rattle.refusal.specs.declared.answers.Refusal.{Refusal}
 use Rattle.boxes.specs.Coordinates.{Same}
-use Rattle.boxes.specs.Points.{Answers}
+use Rattle.boxes.specs.Points.{Boxed, Answers}
 use Rattle.boxes.specs.Membership.{membership}
 use Rattle.boxes.specs.declared.bounding_box.BoundingBox.{BoundingBox}
-use Rattle.boxes.specs.declared.points.Boxed.{Boxed}
 use Rattle.c_answer.specs.Answers.{within}
 use Rattle.c_answer.specs.Packing.{PacksResult, PacksRefusal, PacksEffect}
 use Rattle.c_boxes.specs.Boxes.{box_effect, Boxing, test_answer}

@@ -17,7 +17,8 @@ use Rattle.sheet.specs.First.{first_wrong}
 use Rattle.sheet.specs.Opening.{at_first, open_of}
 use Rattle.sheet.specs.Slot.{slots}
 use Rattle.sheet.specs.Sound.{slot_right}
-use Rattle.refusal.specs.declared.answers.Counted.{Counted}
+use Rattle.refusal.specs.Outcome.{Counted, Verdict}
+use Rattle.std.specs.Prelude.{Ok, Err}
 use Rattle.sheet.proofs.BlockLaws.{blocks_within}
 use Rattle.sheet.proofs.HeaderLaws.{length_right_most}
 use Rattle.sheet.proofs.OpeningLaws.{open_of_unknown, open_of_blocks, open_of_total, open_of_most, open_of_slots_length}
@@ -31,8 +32,6 @@ use Rattle.tree.specs.OpenPlaces.{open_places, is_no_place}
 use Rattle.tree.specs.Judgement.{or_else, first_fault, deepness, left_over, missing, too_deep, unlawful, tree_refusal, judgement}
 use Rattle.tree.specs.declared.standing.Standing.{Standing}
 use Rattle.tree.specs.declared.standing.Standing.TheVariants.{Root}
-use Rattle.refusal.specs.declared.answers.Verdict.{Verdict}
-use Rattle.refusal.specs.declared.answers.Verdict.TheVariants.{Lawful, Refused}
 use Rattle.tree.proofs.TreeLaws.{listings_trees}
 use Rattle.tree.proofs.JudgingLaws.{length_depths, length_faults}
 use Rattle.tree.proofs.JudgementLaws.{judgement_nodes, judgement_refused, lawful_opened}
@@ -50,16 +49,16 @@ use Rattle.laws.proofs.MostLaws.{AtMost, at_most_append, at_most_map, cond_most}
 
 -- a verdict whose refusal, if it is one, is within these
 abbrev pub VerdictBounded : ℕ → ℕ → Verdict → Type 0
-VerdictBounded number place Lawful = Unit {0}
-VerdictBounded number place (Refused r) = Bounded number place r
+VerdictBounded number place (Ok _) = Unit {0}
+VerdictBounded number place (Err r) = Bounded number place r
 
 -- ---- refusals 5 to 13
 
 module _ (number place : ℕ) where
   or_else_bounded : (v w : Verdict) → VerdictBounded number place v → VerdictBounded number place w → VerdictBounded number place (or_else v w)
   unfolding or_else
-  or_else_bounded Lawful w a b = b
-  or_else_bounded (Refused r) w a b = a
+  or_else_bounded (Ok _) w a b = b
+  or_else_bounded (Err r) w a b = a
 
   -- a fault's place lies in the list
   first_fault_bounded : (ns : List ℕ) (k : ℕ) → AtMost number ns → k + length ns ≤ suc place → VerdictBounded number place (first_fault k ns)
@@ -112,7 +111,7 @@ module _ (edition : ℕ) (ss : List SlotBytes) (place : ℕ) (most : length ss �
       k : ℕ
       k = first_wrong (λ (j : ℕ). not (is_no_place (open_places ss j))) (length ss)
 
-      on : (b : Bool) → ltb k (length ss) ≡ b → VerdictBounded 13 place (cond b (Refused (refusal 6 k)) Lawful)
+      on : (b : Bool) → ltb k (length ss) ≡ b → VerdictBounded 13 place (cond b (Err (refusal 6 k)) (Ok tt))
       on true e = record { some_number = omega arith; most_number = omega arith; most_place = omega (arith, ltb-true k (length ss) e) }
       on false e = tt
 
@@ -120,7 +119,7 @@ module _ (edition : ℕ) (ss : List SlotBytes) (place : ℕ) (most : length ss �
   unfolding missing
   missing_bounded = on (is_no_place (open_places ss (length ss)))
     where
-      on : (b : Bool) → VerdictBounded 13 place (cond b Lawful (Refused (refusal 5 (length ss))))
+      on : (b : Bool) → VerdictBounded 13 place (cond b (Ok tt) (Err (refusal 5 (length ss))))
       on true = tt
       on false = record { some_number = omega arith; most_number = omega arith; most_place = most }
 
@@ -147,14 +146,14 @@ module _ (edition : ℕ) (ss : List SlotBytes) (place : ℕ) (most : length ss �
 
 -- a refusal to open is within these
 abbrev OpenedBounded : Counted → Type 0
-OpenedBounded (Counted.Count t) = Unit {0}
-OpenedBounded (Counted.Refused r) = Bounded 13 most_nodes r
+OpenedBounded (Ok t) = Unit {0}
+OpenedBounded (Err r) = Bounded 13 most_nodes r
 
 at_first_bounded : (right : ℕ → Bool) (n number : ℕ) (next : Counted) → n ≤ most_nodes → 0 < number → number ≤ 13 → OpenedBounded next → OpenedBounded (at_first right n number next)
 unfolding at_first
 at_first_bounded right n number next few some most rest = on (ltb (first_wrong right n) n) refl
   where
-    on : (b : Bool) → ltb (first_wrong right n) n ≡ b → OpenedBounded (cond b (Counted.Refused (refusal number (first_wrong right n))) next)
+    on : (b : Bool) → ltb (first_wrong right n) n ≡ b → OpenedBounded (cond b (Err (refusal number (first_wrong right n))) next)
     on true e = record { some_number = some; most_number = most; most_place = omega (arith, ltb-true (first_wrong right n) n e) }
     on false e = rest
 
@@ -169,8 +168,8 @@ open_of_bounded edition sheet known = rw known (on (length_right (length sheet))
         (at_first (check_right sheet) (block_count sheet) BLOCK_CHECK
         (at_first (header_right sheet) (block_count sheet) BLOCK_HEADER
         (at_first (slot_right edition sheet) (slots_in_block * block_count sheet) SLOT
-        (Counted.Count (total_of sheet)))))
-        (Counted.Refused (unplaced SHEET_LENGTH)))
+        (Ok (total_of sheet)))))
+        (Err (unplaced SHEET_LENGTH)))
     on false e = record { some_number = omega arith; most_number = omega arith; most_place = omega arith }
     on true e =
         let most : slots_in_block * block_count sheet ≤ most_nodes = omega (arith, length_right_most (length sheet) e, blocks_within sheet) in
@@ -185,13 +184,13 @@ pub known_bounded : (edition : ℕ) (sheet : List ℕ) → is_known edition ≡ 
 known_bounded edition sheet known = on (open_of edition sheet) refl (open_of_bounded edition sheet known)
   where
     on : (o : Counted) → open_of edition sheet ≡ o → OpenedBounded o → VerdictBounded 13 most_nodes (judgement edition sheet)
-    on (Counted.Count t) e p =
+    on (Ok t) e p =
         rw (judgement_nodes edition sheet t e) (tree_refusal_bounded edition (slots sheet) most_nodes (omega (arith, open_of_slots_length edition sheet t e, open_of_most edition sheet t e)))
-    on (Counted.Refused r) e p = rw (judgement_refused edition sheet r e) p
+    on (Err r) e p = rw (judgement_refused edition sheet r e) p
 
 widened : (number : ℕ) (v : Verdict) → 13 ≤ number → VerdictBounded 13 most_nodes v → VerdictBounded number most_nodes v
-widened number Lawful h w = tt
-widened number (Refused r) h w = record { some_number = w.some_number; most_number = omega (arith, w.most_number); most_place = w.most_place }
+widened number (Ok _) h w = tt
+widened number (Err r) h w = record { some_number = w.some_number; most_number = omega (arith, w.most_number); most_place = w.most_place }
 
 -- and with 21, in any
 judgement_bounded : (edition : ℕ) (sheet : List ℕ) → VerdictBounded GREATEST most_nodes (judgement edition sheet)
@@ -199,8 +198,8 @@ judgement_bounded edition sheet =
     by_test (is_known edition) (λ k. widened GREATEST (judgement edition sheet) (omega arith) (known_bounded edition sheet k))
     (λ u. rw (judgement_refused edition sheet _ (open_of_unknown edition sheet u)) (record { some_number = omega arith; most_number = omega arith; most_place = omega arith }))
 
-module _ (edition : ℕ) (sheet : List ℕ) (lawful : judgement edition sheet ≡ Lawful) where
-  opens : (t : ℕ) × (open_of edition sheet ≡ Counted.Count t)
+module _ (edition : ℕ) (sheet : List ℕ) (lawful : judgement edition sheet ≡ Ok tt) where
+  opens : (t : ℕ) × (open_of edition sheet ≡ Ok t)
   opens = lawful_opened edition sheet lawful
 
   lawful_total : total_of sheet ≤ most_nodes
@@ -214,20 +213,20 @@ module _ (number : ℕ) (last : SHORT_OUTPUT ≤ number) where
   short : Bounded number most_nodes short_output
   short = record { some_number = omega arith; most_number = last; most_place = omega arith }
 
-  answer_bounded : (v : Verdict) (t lent : ℕ) → VerdictBounded number most_nodes v → (v ≡ Lawful → t ≤ most_nodes) → CountedBounded most_nodes number most_nodes (answer v t lent)
+  answer_bounded : (v : Verdict) (t lent : ℕ) → VerdictBounded number most_nodes v → (v ≡ Ok tt → t ≤ most_nodes) → CountedBounded most_nodes number most_nodes (answer v t lent)
   unfolding answer
-  answer_bounded (Refused r) t lent b most = b
-  answer_bounded Lawful t lent b most = on (ltb lent (row_width * t))
+  answer_bounded (Err r) t lent b most = b
+  answer_bounded (Ok _) t lent b most = on (ltb lent (row_width * t))
     where
-      on : (b : Bool) → CountedBounded most_nodes number most_nodes (cond b (Counted.Refused short_output) (Counted.Count t))
+      on : (b : Bool) → CountedBounded most_nodes number most_nodes (cond b (Err short_output) (Ok t))
       on true = short
       on false = most refl
 
-  rewrite_answer_bounded : (v : Verdict) (enough : Bool) (n : ℕ) → VerdictBounded number most_nodes v → (v ≡ Lawful → n ≤ most_bytes) → CountedBounded most_bytes number most_nodes (rewrite_answer v enough n)
+  rewrite_answer_bounded : (v : Verdict) (enough : Bool) (n : ℕ) → VerdictBounded number most_nodes v → (v ≡ Ok tt → n ≤ most_bytes) → CountedBounded most_bytes number most_nodes (rewrite_answer v enough n)
   unfolding rewrite_answer
-  rewrite_answer_bounded (Refused r) enough n b most = b
-  rewrite_answer_bounded Lawful true n b most = most refl
-  rewrite_answer_bounded Lawful false n b most = short
+  rewrite_answer_bounded (Err r) enough n b most = b
+  rewrite_answer_bounded (Ok _) true n b most = most refl
+  rewrite_answer_bounded (Ok _) false n b most = short
 
   resolved_as : (edition : ℕ) (sheet : List ℕ) (lent : ℕ) → VerdictBounded number most_nodes (judgement edition sheet) → CountedBounded most_nodes number most_nodes (outcome edition sheet lent)
   unfolding outcome
@@ -255,8 +254,8 @@ rewritten_bounded edition sheet lent start = rewritten_as_lem GREATEST (omega ar
 
 -- there are no more nodes than bytes
 nodes_bounded : (c : Counted) → CountedBounded most_nodes GREATEST most_nodes c → CountedBounded most_bytes GREATEST most_nodes c
-nodes_bounded (Counted.Count n) b = omega arith
-nodes_bounded (Counted.Refused r) b = b
+nodes_bounded (Ok n) b = omega arith
+nodes_bounded (Err r) b = b
 
 pub resolved_answered : (edition : ℕ) (sheet : List ℕ) (lent : ℕ) → CountedBounded most_bytes GREATEST most_nodes (outcome edition sheet lent)
 resolved_answered edition sheet lent = nodes_bounded (outcome edition sheet lent) (resolved_bounded edition sheet lent)
@@ -265,7 +264,7 @@ resolved_answered edition sheet lent = nodes_bounded (outcome edition sheet lent
 
 module _ (edition : ℕ) (first second : List ℕ) (lent number : ℕ) (last : SHORT_OUTPUT ≤ number) where
   -- of the entries of two accepted sheets
-  entries_few : judgement edition first ≡ Lawful → judgement edition second ≡ Lawful → length (list_for first second) ≤ 14 * most_nodes
+  entries_few : judgement edition first ≡ Ok tt → judgement edition second ≡ Ok tt → length (list_for first second) ≤ 14 * most_nodes
   entries_few one two =
       omega (arith, entries_most edition first second one two, lawful_total edition first one, lawful_total edition second two)
 
@@ -280,10 +279,10 @@ module _ (edition : ℕ) (first second : List ℕ) (lent number : ℕ) (last : S
           → (w : Verdict) → judgement edition second ≡ w → VerdictBounded number most_nodes w
           → (short : Bool) → ComparedBounded (14 * most_nodes) number most_nodes (compared_by k v w short (length (list_for first second)))
       on false e v p a w q b s = record { side = omega arith; refusal = record { some_number = omega arith; most_number = omega (arith, unknown e); most_place = omega arith } }
-      on true e (Refused r) p a w q b s = record { side = omega arith; refusal = a }
-      on true e Lawful p a (Refused r) q b s = record { side = omega arith; refusal = b }
-      on true e Lawful p a Lawful q b true = record { side = omega arith; refusal = short number last }
-      on true e Lawful p a Lawful q b false = entries_few p q
+      on true e (Err r) p a w q b s = record { side = omega arith; refusal = a }
+      on true e (Ok _) p a (Err r) q b s = record { side = omega arith; refusal = b }
+      on true e (Ok _) p a (Ok _) q b true = record { side = omega arith; refusal = short number last }
+      on true e (Ok _) p a (Ok _) q b false = entries_few p q
 
 -- in a known edition numbers end at 14
 pub compared_known : (edition : ℕ) (first second : List ℕ) (lent : ℕ) → is_known edition ≡ true → ComparedBounded (14 * most_nodes) SHORT_OUTPUT most_nodes (compare_outcome edition first second lent)

@@ -1,15 +1,13 @@
 -- What a C caller may rely on of calls on sheets, beyond each call's contract.
-use Rattle.std.specs.Prelude.{ℕ, ◌*◌, ◌<◌, ◌≡◌, true, false, List, length}
+use Rattle.std.specs.Prelude.{ℕ, ◌*◌, ◌<◌, ◌≡◌, true, false, List, length, Err}
 use Rattle.refusal.specs.Numbers.{SHORT_OUTPUT}
 use Rattle.refusal.specs.Outcome.{unknown_edition}
 use Rattle.refusal.specs.Faults.{NEITHER, fault}
-use Rattle.refusal.specs.declared.answers.Counted.{Counted}
 use Rattle.edition.specs.Editions.{is_known}
 use Rattle.sheet.specs.Block.{most_bytes, most_nodes}
 use Rattle.schema.specs.Outcome.{outcome, written}
 use Rattle.schema.specs.Rewriting.{rewrite_outcome, rewrite_written}
 use Rattle.differences.specs.Outcome.{compare_outcome, compare_written}
-use Rattle.differences.specs.declared.comparison.Compared.{Compared}
 use Rattle.c_answer.specs.Answers.{RESULT, number_in, counted_answer}
 use Rattle.refusal.specs.Bounds.{CountedBounded}
 use Rattle.c_answer.specs.Packing.{PacksCounted}
@@ -22,9 +20,9 @@ pub record Promises (edition : ℕ) : Type 0 where
   -- two sheets have at most 12,544 differences, 13 for each node of the first and one for each of the second
   pub compare_bounded : (first second : List ℕ) (lent : ℕ) → is_known edition ≡ true → ComparedBounded (14 * most_nodes) SHORT_OUTPUT most_nodes (compare_outcome edition first second lent)
   -- in any other there is no answer but 21 at 0
-  pub resolve_unknown : (sheet : List ℕ) (lent : ℕ) → is_known edition ≡ false → outcome edition sheet lent ≡ Counted.Refused unknown_edition
-  pub rewrite_unknown : (sheet : List ℕ) (lent start : ℕ) → is_known edition ≡ false → rewrite_outcome edition sheet lent start ≡ Counted.Refused unknown_edition
-  pub compare_unknown : (first second : List ℕ) (lent : ℕ) → is_known edition ≡ false → compare_outcome edition first second lent ≡ Compared.Refused (fault NEITHER unknown_edition)
+  pub resolve_unknown : (sheet : List ℕ) (lent : ℕ) → is_known edition ≡ false → outcome edition sheet lent ≡ Err unknown_edition
+  pub rewrite_unknown : (sheet : List ℕ) (lent start : ℕ) → is_known edition ≡ false → rewrite_outcome edition sheet lent start ≡ Err unknown_edition
+  pub compare_unknown : (first second : List ℕ) (lent : ℕ) → is_known edition ≡ false → compare_outcome edition first second lent ≡ Err (fault NEITHER unknown_edition)
   -- every answer can be taken apart again
   pub resolve_packs : (sheet : List ℕ) (lent : ℕ) → PacksCounted (outcome edition sheet lent)
   pub rewrite_packs : (sheet : List ℕ) (lent start : ℕ) → PacksCounted (rewrite_outcome edition sheet lent start)

@@ -9,9 +9,8 @@ ghost use Rattle.c_answer.specs.Answers.{counted_answer};
 ghost use Rattle.refusal.specs.Bounds.{CountedBounded};
 ghost use Rattle.c_sheets.specs.Comparison.{compared_answer};
 
-use c_answer::{RESULT, packed, packed_fault};
-use differences::Compared;
-use refusal::Counted;
+use c_answer::{RESULT, faulted, packed, refused};
+use refusal::Refusal;
 
 // Resolves a sheet into rows. The value is T, the number of its nodes.
 pub fn resolve(edition: u32, sheet: &[u8], rows: &mut [u32]) -> u64
@@ -35,23 +34,19 @@ pub fn compare(edition: u32, first: &[u8], second: &[u8], out: &mut [u8]) -> u64
     ensures value { result ≡ compared_answer (compare_outcome edition first.now second.now (length out.old)) }
     ensures out_after { out.new ≡ compare_written (compare_outcome edition first.now second.now (length out.old)) first.now second.now out.old }
 {
-    let compared = differences::compare(edition, first, second, out);
-    match compared {
-        Compared::Entries(entries) => packed(RESULT, entries as u32),
-        Compared::Refused(fault) => {
-            let refusal = fault.refusal;
-            packed_fault(fault.side, refusal.number, refusal.place as u32)
-        }
+    match differences::compare(edition, first, second, out) {
+        Ok(entries) => packed(RESULT, entries as u32),
+        Err(fault) => faulted(fault),
     }
 }
 
 // The answer of what is counted in a sheet, nodes or bytes.
-fn answered(counted: Counted) -> u64
+fn answered(counted: Result<usize, Refusal>) -> u64
     requires { CountedBounded most_bytes GREATEST most_nodes counted }
     ensures { result ≡ counted_answer counted }
 {
     match counted {
-        Counted::Count(count) => packed(RESULT, count as u32),
-        Counted::Refused(r) => packed(r.number, r.place as u32),
+        Ok(count) => packed(RESULT, count as u32),
+        Err(r) => refused(r),
     }
 }

@@ -1,18 +1,17 @@
 -- Fields to encode, and why a number that no date and time has is refused with 18.
 use Prim.Native.Nat.{ℕ, ◌-◌, ◌≤◌, ◌<◌, ◌^◌}
 use mathlib.Core.Path.{◌≡◌, refl, sym, ap, ◌∙◌}
-use mathlib.Core.Bool.{Bool, true, false, ◌&&◌, false≢true}
-use mathlib.Core.List.{List, [], ◌∷◌}
+use mathlib.Core.Bool.{Bool, true, false, ◌&&◌, cond, true≢false, false≢true}
+use mathlib.Core.List.{List, []}
 use mathlib.Core.Option.{Option, none, some}
 use native.Mathlib.Omega.{arith}
-use borrow.Author.Tests.{lt-ltb, ltb-true, le-leb, leb-true}
-use lib.Dec.{T, leb, ltb}
+use borrow.Author.Tests.{lt-ltb, le-leb, leb-true}
+use lib.Dec.{leb, ltb}
 use lib.IntN.{ℤ, pos, negsuc, nat_abs}
 use lib.ListN.{length}
-use lib.Signed.{non_neg, le_z}
-use mir.Facts.{to_z_pos}
-use mir.Syntax.{w32, w64}
-use mir.Val.{Fits, SFits, to_z, of_z}
+use lib.Signed.{le_z}
+use mir.Syntax.{w64}
+use mir.Val.{SFits, to_z, of_z}
 use mir.ValLaws.{to_z-of_z}
 use Rattle.laws.proofs.BoolLaws.{and_both, both_and, by_test}
 use Rattle.timestamp.specs.Calendar.{months, is_leap, days_of_month}
@@ -22,17 +21,19 @@ use Rattle.timestamp.specs.Count.{is_date_time}
 use Rattle.refusal.specs.Numbers.{UNKNOWN_TYPE}
 use Rattle.refusal.specs.Outcome.{Outcome, given, refused, unplaced}
 use Rattle.refusal.specs.declared.answers.Refusal.{Refusal}
-use Rattle.timestamp.specs.Outcomes.{no_date_time, unknown_unit, day_has, Decodes, decoded, encoded, encoding_in}
+use Rattle.timestamp.specs.Outcomes.{no_date_time, day_has, refusal_of, encoded, encoding_in}
 use Rattle.timestamp.specs.Outcomes as timestamp
 use Rattle.timestamp.specs.declared.fields.Fields.{Fields}
-use Rattle.timestamp.specs.declared.decoding.Decoded.{Decoded}
-use Rattle.timestamp.specs.declared.encoding.Encoded.{Encoded}
+use Rattle.std.specs.Prelude as prelude
+use Rattle.std.specs.Prelude.{Result, Some, None}
+use Rattle.timestamp.specs.declared.encoding.EncodeError.{EncodeError}
+use Rattle.timestamp.specs.declared.encoding.EncodeError.TheVariants as error
 use Rattle.timestamp.proofs.UnitLaws.{ticks_most}
 use Rattle.timestamp.proofs.ClockLaws.{Time, time_parts}
-use Rattle.timestamp.proofs.CountLaws.{date_time_parts, decodes_one, encoding_none}
+use Rattle.timestamp.proofs.CountLaws.{date_time_parts, encoding_none}
 use Rattle.timestamp.proofs.DateLaws.{Date, date_parts}
-use Rattle.c_answer.specs.Answers.{within, answer, left}
-use Rattle.c_timestamps.specs.Timestamps.{field_numbers, decode_effect, Decoding, FIELDS, at, is_field, are_fields, fields_of, encoding_of, encode_effect, encoding}
+use Rattle.c_answer.specs.Answers.{within, left}
+use Rattle.c_timestamps.specs.Timestamps.{FIELDS, at, is_field, are_fields, fields_of, encoding_of, encoding_read, encode_effect, encoding}
 use Rattle.laws.proofs.MostLaws.{AtMost, at_most_test, at_most_get_d}
 
 -- ---- one field
@@ -40,6 +41,10 @@ use Rattle.laws.proofs.MostLaws.{AtMost, at_most_test, at_most_get_d}
 -- a number from one to another
 abbrev pub ranged : ℕ → ℕ → ℤ → Bool
 ranged least most z = le_z (pos least) z && le_z z (pos most)
+
+-- and what is read of any
+abbrev pub read_within : ℕ → ℕ → ℤ → prelude.Option ℕ
+read_within least most z = cond (ranged least most z) (Some (nat_abs z)) None
 
 -- it is a field, where it has 32 bits
 ranged_field : (least most : ℕ) (z : ℤ) → most < 2 ^ 32 → ranged least most z ≡ true → is_field z ≡ true
@@ -52,10 +57,27 @@ field_ranged : (least most : ℕ) (z : ℤ) → is_field z ≡ true → least �
 field_ranged least most (pos n) e h k = both_and (leb least n) (leb n most) (le-leb least n h) (le-leb n most k)
 field_ranged least most (negsuc n) e h k = absurd (false≢true e)
 
--- and what a cast of it asks and gives
-pub field_cast : (z : ℤ) → is_field z ≡ true → T (non_neg z) × Fits w32 (nat_abs z)
-field_cast (pos n) e = (tt, record { fits = ltb-true n (2 ^ 32) (and_both (leb 0 n) (ltb n (2 ^ 32)) e).1 })
-field_cast (negsuc n) e = absurd (false≢true e)
+-- what is read of a number that is in range, and of one that is not
+read_in : (b : Bool) (n m : ℕ) (r : prelude.Option ℕ) → r ≡ cond b (Some n) None → r ≡ Some m → (b ≡ true) × (m ≡ n)
+read_in true n m r e told = (refl, cc)
+read_in false n m r e told = absurd cc
+
+read_out : (b : Bool) (n : ℕ) (r : prelude.Option ℕ) → r ≡ cond b (Some n) None → r ≡ None → b ≡ false
+read_out true n r e told = absurd cc
+read_out false n r e told = refl
+
+-- the same of one of some numbers, which was read back from its bits
+module _ (i least most : ℕ) (numbers : List ℤ) {r : prelude.Option ℕ} (h : SFits w64 (at numbers i)) (e : r ≡ read_within least most (to_z w64 (of_z w64 (at numbers i)))) where
+  back : to_z w64 (of_z w64 (at numbers i)) ≡ at numbers i
+  back = to_z-of_z w64 (at numbers i) h
+
+  pub number_in : {n : ℕ} → r ≡ Some n → (ranged least most (at numbers i) ≡ true) × (n ≡ nat_abs (at numbers i))
+  number_in {n} told =
+      let q = read_in _ _ n r e told in
+      (sym (ap (ranged least most) back) ∙ q.0, q.1 ∙ ap nat_abs back)
+
+  pub number_out : r ≡ None → ranged least most (at numbers i) ≡ true → ⊥
+  number_out told t = true≢false (sym t ∙ sym (ap (ranged least most) back) ∙ read_out _ _ r e told)
 
 -- ---- seven numbers
 
@@ -157,6 +179,10 @@ module _ (numbers : List ℤ) where
   encoding_fields f none e p = refl
   encoding_fields f (some unit) e p = rw e (ap (encoding_in (ticks_per_second_of unit)) p)
 
+  -- what numbers are read as, where they are no fields in range
+  pub read_none : {r : prelude.Option Fields} → r ≡ None → (are_fields numbers ≡ true → InRange numbers → ⊥) → (u : Option TimeUnit) → encoding_read u r ≡ encoding_of u numbers
+  read_none e h u = ap (encoding_read u) e ∙ sym (encoding_unformed h u)
+
 -- ---- no numbers
 
 -- by whether a unit is named
@@ -190,33 +216,15 @@ unformed_left unit lent kept = of (unit_of unit)
     of none = refl
     of (some unit) = rw (no_numbers unit)
 
--- fields are at least seven numbers
-pub fields_enough : (numbers : List ℤ) → are_fields numbers ≡ true → 7 ≤ length numbers
-fields_enough numbers e = (each numbers e).enough
-
 -- ---- answers
 
--- the fields of a count as they are stored
-pub stored_fields : (f : Fields) → SFits w64 f.year → f.month < 2 ^ 32 → f.day < 2 ^ 32 → f.hour < 2 ^ 32 → f.minute < 2 ^ 32 → f.second < 2 ^ 32 → f.fraction < 2 ^ 32
-    → to_z w64 (of_z w64 f.year) ∷ to_z w64 f.month ∷ to_z w64 f.day ∷ to_z w64 f.hour ∷ to_z w64 f.minute ∷ to_z w64 f.second ∷ to_z w64 f.fraction ∷ []
-    ≡ field_numbers f
-stored_fields f y mo d h mi s fr =
-    rw (to_z-of_z w64 f.year y, to_z_pos w64 {n = f.month} (omega arith), to_z_pos w64 {n = f.day} (omega arith), to_z_pos w64 {n = f.hour} (omega arith), to_z_pos w64 {n = f.minute} (omega arith), to_z_pos w64 {n = f.second} (omega arith), to_z_pos w64 {n = f.fraction} (omega arith))
+-- a refusal to encode has no place
+pub error_place : (e : EncodeError) → (refusal_of e).place ≡ 0
+error_place error.NoDateTime = refl
+error_place error.NotRepresentable = refl
+error_place error.UnknownUnit = refl
 
 -- what encoding comes to, of what `timestamp` answers
-pub encoding_of_lem : (unit : ℕ) (numbers : List ℤ) (lent : ℕ) {r s : Encoded} → encoded r ≡ encoding_of (unit_of unit) numbers → r ≡ s → encoding unit numbers lent ≡ within lent (encode_effect (encoded s))
+pub encoding_of_lem : (unit : ℕ) (numbers : List ℤ) (lent : ℕ) {r s : Result ℤ EncodeError} → encoded r ≡ encoding_of (unit_of unit) numbers → r ≡ s → encoding unit numbers lent ≡ within lent (encode_effect (encoded s))
 unfolding encoding
-encoding_of_lem unit numbers lent e told = ap (λ (o : Outcome ℤ). within lent (encode_effect o)) (sym e) ∙ ap (λ (x : Encoded). within lent (encode_effect (encoded x))) told
-
--- decoding has one outcome, so what is answered and left of one is that of every
-pub decoding_of : (unit : ℕ) (count : ℤ) (lent : List ℤ) (r : Decoded) {answered : ℕ} {kept : List ℤ}
-    → Decodes (unit_of unit) count (decoded r)
-    → answered ≡ answer (within (length lent) (decode_effect (decoded r)))
-    → kept ≡ left (within (length lent) (decode_effect (decoded r))) lent
-    → Decoding unit count lent answered kept
-decoding_of unit count lent r d a k =
-    record {
-      some_outcome = (decoded r, d);
-      every_answer = λ o p. a ∙ ap (λ (x : Outcome Fields). answer (within (length lent) (decode_effect x))) (decodes_one (unit_of unit) count (decoded r) o d p);
-      every_left = λ o p. k ∙ ap (λ (x : Outcome Fields). left (within (length lent) (decode_effect x)) lent) (decodes_one (unit_of unit) count (decoded r) o d p);
-    }
+encoding_of_lem unit numbers lent e told = ap (λ (o : Outcome ℤ). within lent (encode_effect o)) (sym e) ∙ ap (λ (x : Result ℤ EncodeError). within lent (encode_effect (encoded x))) told

@@ -10,11 +10,12 @@ use lib.ListN.{length}
 use Rattle.refusal.specs.Numbers.{SHORT_OUTPUT, WRONG_LENGTH, BREAKS_ANNOTATION, NOT_REPRESENTABLE, UNKNOWN_TYPE}
 use Rattle.refusal.specs.Outcome.{Outcome, given, refused, unplaced}
 use Rattle.refusal.specs.Bounds.{CountedBounded}
-use Rattle.refusal.specs.declared.answers.Counted.{Counted}
+use Rattle.std.specs.Prelude.{Ok, Err}
 use Rattle.timestamp.specs.Outcomes.{is_signed64}
 use Rattle.int96.specs.Value.{VALUE_BYTES, NANOS_PER_DAY, nanos_in, count_of}
 use Rattle.int96.specs.Outcomes.{converted, decoding, encoding}
-use Rattle.int96.specs.declared.conversion.Converted.{Converted}
+use Rattle.std.specs.Prelude.{Result}
+use Rattle.refusal.specs.declared.answers.Refusal.{Refusal}
 use Rattle.c_answer.specs.Answers.{within}
 use Rattle.c_timestamps.specs.Timestamps.{encode_effect}
 use Rattle.c_timestamps.specs.Int96.{from_int96}
@@ -37,12 +38,12 @@ pub to_bounded : (lent : ℕ) → CountedBounded VALUE_BYTES UNKNOWN_TYPE 0 (enc
 unfolding encoding
 to_bounded lent = by_room (ltb lent VALUE_BYTES)
   where
-    by_room : (short : Bool) → CountedBounded VALUE_BYTES UNKNOWN_TYPE 0 (cond short (Counted.Refused (unplaced SHORT_OUTPUT)) (Counted.Count VALUE_BYTES))
+    by_room : (short : Bool) → CountedBounded VALUE_BYTES UNKNOWN_TYPE 0 (cond short (Err (unplaced SHORT_OUTPUT)) (Ok VALUE_BYTES))
     by_room true = record { some_number = omega arith; most_number = omega arith; most_place = omega arith }
     by_room false = omega arith
 
 -- what an answer of decoding that was told comes to
-pub from_of : (value : List ℕ) (lent : ℕ) {r s : Converted} → converted r ≡ decoding value → r ≡ s → from_int96 value lent ≡ within lent (encode_effect (converted s))
+pub from_of : (value : List ℕ) (lent : ℕ) {r s : Result ℤ Refusal} → converted r ≡ decoding value → r ≡ s → from_int96 value lent ≡ within lent (encode_effect (converted s))
 unfolding from_int96
 from_of value lent e told =
-    ap (λ (o : Outcome ℤ). within lent (encode_effect o)) (sym e) ∙ ap (λ (x : Converted). within lent (encode_effect (converted x))) told
+    ap (λ (o : Outcome ℤ). within lent (encode_effect o)) (sym e) ∙ ap (λ (x : Result ℤ Refusal). within lent (encode_effect (converted x))) told

@@ -1,11 +1,13 @@
 -- What decoding a count and encoding fields answer.
 use Rattle.std.specs.Prelude.{◌≡◌, ℕ, ◌^◌, Bool, cond, ◌&&◌, List, [], ◌∷◌, leb, ℤ, pos, nat_abs, length, get_or}
+use Rattle.std.specs.Prelude as prelude
 use Rattle.std.proofs.Math.Option.{Option, none, some}
 use Rattle.std.specs.Int.Signed.{le_z, lt_z}
 use Rattle.logical_type.specs.declared.types.TimeUnit.{TimeUnit}
 use Rattle.timestamp.specs.Units.{ticks_per_second_of, unit_of}
 use Rattle.refusal.specs.Outcome.{Outcome, given, refused}
 use Rattle.timestamp.specs.Outcomes.{no_date_time, unknown_unit, Decodes, encoding_in}
+use Rattle.timestamp.specs.Outcomes as timestamp
 use Rattle.timestamp.specs.declared.fields.Fields.{Fields}
 use Rattle.c_answer.specs.Answers.{Effect, listed, within, answer, left}
 
@@ -65,6 +67,11 @@ fields_of numbers =
 abbrev pub encoding_of : Option TimeUnit → List ℤ → Outcome ℤ
 encoding_of none numbers = unknown_unit
 encoding_of (some unit) numbers = cond (are_fields numbers) (encoding_in (ticks_per_second_of unit) (fields_of numbers)) no_date_time
+
+-- and of numbers read as fields, or as none, which are encoded as no numbers are
+abbrev pub encoding_read : Option TimeUnit → prelude.Option Fields → Outcome ℤ
+encoding_read unit (prelude.Some f) = timestamp.encoding unit f
+encoding_read unit prelude.None = encoding_of unit []
 
 -- what each outcome of encoding comes to: its value is how many numbers are written, 1
 abbrev pub encode_effect : Outcome ℤ → Effect ℤ

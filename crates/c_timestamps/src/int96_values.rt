@@ -4,10 +4,8 @@ ghost use Rattle.int96.specs.Outcomes.{encoding, encoded};
 ghost use Rattle.c_answer.specs.Answers.{counted_answer, answer, left};
 ghost use Rattle.c_timestamps.specs.Int96.{from_int96};
 
-use crate::timestamps::{refused, write_count};
-use c_answer::{RESULT, packed};
-use int96::Converted;
-use refusal::Counted;
+use crate::timestamps::COUNTS;
+use c_answer::{RESULT, packed, refused};
 
 // Writes the count of an INT96 value. The value is 1.
 pub fn from_int96(value: &[u8], count: &mut [i64]) -> u64
@@ -15,8 +13,8 @@ pub fn from_int96(value: &[u8], count: &mut [i64]) -> u64
     ensures count_after { count.new ≡ left (from_int96 value.now (length count.old)) count.old }
 {
     match int96::decode(value) {
-        Converted::Count(n) => write_count(n, count),
-        Converted::Refused(r) => refused(r),
+        Ok(n) => c_answer::write(COUNTS, [n], count),
+        Err(r) => refused(r),
     }
 }
 
@@ -26,7 +24,7 @@ pub fn to_int96(count: i64, value: &mut [u8]) -> u64
     ensures value_after { value.new ≡ encoded count value.old }
 {
     match int96::encode(count, value) {
-        Counted::Count(n) => packed(RESULT, n as u32),
-        Counted::Refused(r) => refused(r),
+        Ok(n) => packed(RESULT, n as u32),
+        Err(r) => refused(r),
     }
 }

@@ -4,14 +4,15 @@ use Rattle.std.specs.Float.{Format}
 use Rattle.std.specs.Float.Ieee.{top, of_bits, nan_bits}
 use Rattle.refusal.specs.Faults as sided
 use Rattle.refusal.specs.Faults.{Sided}
-use Rattle.float_order.specs.declared.relation.Relation.{Relation}
+use Rattle.std.specs.Prelude.{Option}
+use Rattle.std.specs.declared.cmp.Ordering.{Ordering}
 use Rattle.column_type.specs.declared.types.ColumnType.{ColumnType}
 use Rattle.column_order.specs.Outcome.{outcome}
 use Rattle.c_answer.specs.Packing.{PacksResult, PacksFault, PacksEffect}
 use Rattle.c_values.specs.Values.{float_bits, reading, relation_number, order_answer}
 
 -- the answer of ordering has the relation's number, or the refusal with its side
-abbrev pub PacksOrder : Sided Relation → Type 0
+abbrev pub PacksOrder : Sided (Option Ordering) → Type 0
 PacksOrder (sided.given r) = PacksResult (order_answer (sided.given r)) (relation_number r)
 PacksOrder (sided.refused f) = PacksFault (order_answer (sided.refused f)) f.side f.refusal
 

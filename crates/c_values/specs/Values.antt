@@ -6,7 +6,9 @@ use Rattle.column_type.specs.declared.types.ColumnType.{ColumnType}
 use Rattle.refusal.specs.Faults as sided
 use Rattle.refusal.specs.Faults.{Sided}
 use Rattle.refusal.specs.Outcome.{Outcome, given, refused}
-use Rattle.float_order.specs.declared.relation.Relation.{Relation}
+use Rattle.std.specs.Prelude.{Option, Some, None}
+use Rattle.std.specs.declared.cmp.Ordering.{Ordering}
+use Rattle.std.specs.declared.cmp.Ordering.TheVariants.{Less, Equal, Greater}
 use Rattle.column.specs.Outcome as column
 use Rattle.column.specs.declared.value.Value.{Value}
 use Rattle.column.specs.declared.value.Value.TheVariants as value
@@ -59,14 +61,14 @@ unfoldable pub reading : ℕ → ColumnType → List ℕ → ℕ → Effect ℕ
 reading edition c bs lent = within lent (read_effect (column.outcome edition c bs))
 
 -- "0 less, 1 equal, 2 greater, 3 unordered"
-abbrev pub relation_number : Relation → ℕ
-relation_number Relation.Less = 0
-relation_number Relation.Equal = 1
-relation_number Relation.Greater = 2
-relation_number Relation.Unordered = 3
+abbrev pub relation_number : Option Ordering → ℕ
+relation_number (Some Less) = 0
+relation_number (Some Equal) = 1
+relation_number (Some Greater) = 2
+relation_number None = 3
 
 -- the answer of each outcome of ordering, which writes nothing
-abbrev pub order_answer : Sided Relation → ℕ
+abbrev pub order_answer : Sided (Option Ordering) → ℕ
 order_answer (sided.given r) = packed RESULT (relation_number r)
 order_answer (sided.refused f) = fault_answer f
 

@@ -1,23 +1,15 @@
 // Values read and ordered in an edition, in a column of five numbers.
 ghost use Rattle.std.specs.Prelude.{◌≡◌, [], ◌∷◌, length};
-ghost use Rattle.std.specs.Float.{binary32, binary64};
-ghost use Rattle.refusal.specs.Bounds.{Bounded, FaultBounded};
-ghost use Rattle.refusal.specs.Numbers as refusals;
-ghost use Rattle.column.specs.Lengths.{most_bytes};
-ghost use Rattle.c_answer.specs.Answers.{refusal_answer, fault_answer, result as result_of, within, answer, left};
-ghost use Rattle.c_values.specs.Values.{column_type, case_of, twos_complement64, float_bits, numbers_of, relation_number, reading, ordering};
+ghost use Rattle.c_answer.specs.Answers.{result as result_of, within, answer, left};
+ghost use Rattle.c_values.specs.Values.{column_type, case_of, numbers_of, relation_number, reading, ordering};
 
-use c_answer::{RESULT, packed, packed_fault};
-use column::{Read, Value};
-use column_order::Order;
+use c_answer::{RESULT, faulted, packed, refused};
+use column::Value;
 use column_type::ColumnType;
-use float_order::Relation;
-use refusal::{Fault, Refusal, numbers};
+use std::cmp::Ordering;
+use std::num::{f32_to_bits_with_nan, f64_to_bits_with_nan};
 
-// How many numbers are written of a value.
-const VALUE_NUMBERS: usize = 2;
-
-// The cases of a value.
+// The cases of a value, in the numbers that C reads.
 const TRUTH: u32 = 0;
 
 const SIGNED: u32 = 1;
@@ -39,20 +31,11 @@ const GREATER: u32 = 2;
 
 const UNORDERED: u32 = 3;
 
-// The quiet NaN with no other bit set.
-const FLOAT_NAN: u64 = 0x7fc0_0000;
-
-const DOUBLE_NAN: u64 = 0x7ff8_0000_0000_0000;
-
-// The greatest number of 64 bits: the bits of -1.
-const GREATEST: u64 = 0xffff_ffff_ffff_ffff;
-
 // A value's case, and the two numbers that are written of it.
 #[derive(Clone, Copy)]
 struct ValueNumbers {
     case: u32,
-    first: u64,
-    second: u64,
+    numbers: [u64; 2],
 }
 
 // Reads a value. The value of the answer is its case: 0 truth, 1 signed whole, 2 unsigned whole, 3 FLOAT, 4 DOUBLE, 5 bytes.
@@ -82,8 +65,8 @@ pub fn read(
         value,
     );
     match read {
-        Read::Value(v) => write_value(v, out),
-        Read::Refused(r) => refused(r),
+        Ok(v) => write_value(v, out),
+        Err(r) => refused(r),
     }
 }
 
@@ -114,38 +97,21 @@ pub fn order(
         b,
     );
     match order {
-        Order::Related(r) => packed(RESULT, relation(r)),
-        Order::Refused(f) => fault(f),
+        Ok(r) => packed(RESULT, relation(r)),
+        Err(fault) => faulted(fault),
     }
 }
 
 // The number of how two values stand.
-fn relation(relation: Relation) -> u32
+fn relation(relation: Option<Ordering>) -> u32
     ensures { result ≡ relation_number relation }
 {
     match relation {
-        Relation::Less => LESS,
-        Relation::Equal => EQUAL,
-        Relation::Greater => GREATER,
-        Relation::Unordered => UNORDERED,
+        Some(Ordering::Less) => LESS,
+        Some(Ordering::Equal) => EQUAL,
+        Some(Ordering::Greater) => GREATER,
+        None => UNORDERED,
     }
-}
-
-// The answer of a value's refusal.
-fn refused(refusal: Refusal) -> u64
-    requires { Bounded refusals.GREATEST most_bytes refusal }
-    ensures { result ≡ refusal_answer refusal }
-{
-    packed(refusal.number, refusal.place as u32)
-}
-
-// And of the refusal of one of two, or of neither.
-fn fault(fault: Fault) -> u64
-    requires { FaultBounded refusals.GREATEST most_bytes fault }
-    ensures { result ≡ fault_answer fault }
-{
-    let refusal = fault.refusal;
-    packed_fault(fault.side, refusal.number, refusal.place as u32)
 }
 
 // Writes a value that was read, where its numbers fit.
@@ -153,68 +119,33 @@ fn write_value(v: Value, out: &mut [u64]) -> u64
     ensures value { result ≡ answer (within (length out.old) (result_of (case_of v) (numbers_of v))) }
     ensures out_after { out.new ≡ left (within (length out.old) (result_of (case_of v) (numbers_of v))) out.old }
 {
-    if out.len() < VALUE_NUMBERS {
-        return packed(numbers::SHORT_OUTPUT, 0);
-    }
     let w = numbers(v);
-    out[0] = w.first;
-    out[1] = w.second;
-    packed(RESULT, w.case)
+    c_answer::write(w.case, w.numbers, out)
 }
 
-// What is written of a value.
+// What is written of a value. A NaN is the quiet one with no other bit set.
 fn numbers(v: Value) -> ValueNumbers
-    ensures { (result.case ≡ case_of v) × (result.first ∷ result.second ∷ [] ≡ numbers_of v) }
+    ensures { (result.case ≡ case_of v) × (result.numbers ≡ numbers_of v) }
 {
     match v {
         Value::Truth(p) => bits(TRUTH, p as u64),
-        Value::Signed(x) => bits(SIGNED, twos_complement(x)),
+        Value::Signed(x) => bits(SIGNED, x.cast_unsigned()),
         Value::Unsigned(n) => bits(UNSIGNED, n),
-        Value::Float(x) => bits(FLOAT, float_bits(x)),
-        Value::Double(x) => bits(DOUBLE, double_bits(x)),
+        Value::Float(x) => bits(FLOAT, u64::from(f32_to_bits_with_nan(x))),
+        Value::Double(x) => bits(DOUBLE, f64_to_bits_with_nan(x)),
         Value::Bytes { start, len } => ValueNumbers {
             case: BYTES,
-            first: start as u64,
-            second: len as u64,
+            numbers: [start as u64, len as u64],
         },
     }
 }
 
 // A value's bits, and 0 behind them.
 fn bits(case: u32, n: u64) -> ValueNumbers
-    ensures { (result.case ≡ case) × (result.first ≡ n) × (result.second ≡ 0) }
+    ensures { (result.case ≡ case) × (result.numbers ≡ n ∷ 0 ∷ []) }
 {
     ValueNumbers {
         case,
-        first: n,
-        second: 0,
+        numbers: [n, 0],
     }
-}
-
-// A signed number in two's complement of 64 bits.
-fn twos_complement(x: i64) -> u64
-    ensures { result ≡ twos_complement64 x }
-{
-    if x < 0 {
-        return GREATEST - (-1 - x) as u64;
-    }
-    x as u64
-}
-
-fn float_bits(x: f32) -> u64
-    ensures { result ≡ float_bits binary32 x }
-{
-    if x != x {
-        return FLOAT_NAN;
-    }
-    f32::to_bits(x) as u64
-}
-
-fn double_bits(x: f64) -> u64
-    ensures { result ≡ float_bits binary64 x }
-{
-    if x != x {
-        return DOUBLE_NAN;
-    }
-    f64::to_bits(x)
 }

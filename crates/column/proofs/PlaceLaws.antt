@@ -23,7 +23,7 @@ use Rattle.column.specs.Lengths.{most_bytes, is_byte_form, length_right}
 use Rattle.column.specs.Annotations.{is_text, bytes_keep, annotation_place, keeps}
 use Rattle.column.specs.Reading.{read_of}
 use Rattle.column.specs.Outcome.{outcome_of, outcome}
-use Rattle.column.specs.declared.value.Read.TheVariants as read
+use Rattle.std.specs.Prelude.{Result, Err}
 use Rattle.column.specs.declared.value.Value.{Value}
 use Rattle.column.proofs.LengthLaws.{length_most}
 use Rattle.column.proofs.ReadingLaws.{tested, refused_is}
@@ -40,14 +40,14 @@ place_within c bs = go (is_byte_form c) (is_text c.kind)
     go true true = (valid_up_to_stops bs).within
 
 -- no number is greater than the greatest, and no place lies past the longest value
-pub refusal_bounded : (edition : ℕ) (c : ColumnType) (bs : List ℕ) (r : Refusal) → read_of edition c bs ≡ read.Refused r → Bounded GREATEST most_bytes r
+pub refusal_bounded : (edition : ℕ) (c : ColumnType) (bs : List ℕ) (r : Refusal) → read_of edition c bs ≡ Err r → Bounded GREATEST most_bytes r
 unfolding read_of
 refusal_bounded edition c bs r = go (is_lawful edition c) (length_right c (length bs)) refl (keeps c bs)
   where
-    same : (q : Refusal) → Bounded GREATEST most_bytes q → read.Refused q ≡ read.Refused r → Bounded GREATEST most_bytes r
+    same : (q : Refusal) → Bounded GREATEST most_bytes q → ◌≡◌ {A = Result Value Refusal} (Err q) (Err r) → Bounded GREATEST most_bytes r
     same q h e = let f : q ≡ r = cc in subst (Bounded GREATEST most_bytes) f h
 
-    go : (l w : Bool) → length_right c (length bs) ≡ w → (k : Bool) → tested edition c bs l w k ≡ read.Refused r → Bounded GREATEST most_bytes r
+    go : (l w : Bool) → length_right c (length bs) ≡ w → (k : Bool) → tested edition c bs l w k ≡ Err r → Bounded GREATEST most_bytes r
     go false w p k e =
         same (type_refusal edition)
         (refusal_either edition (Bounded GREATEST most_bytes)

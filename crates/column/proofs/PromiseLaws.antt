@@ -37,7 +37,7 @@ use Rattle.column.specs.Annotations.{is_unsigned, in_bits, in_signed_bits, in_da
 use Rattle.column.specs.Reading.{value_of, checked, read_of}
 use Rattle.column.specs.Outcome.{outcome_of, outcome}
 use Rattle.column.specs.Promises.{Whole, ByteForm, RightLength, Held, InWidth, InDay}
-use Rattle.column.specs.declared.value.Read.TheVariants as read
+use Rattle.std.specs.Prelude.{Err}
 use Rattle.column.specs.declared.value.Value.{Value}
 use Rattle.column.specs.declared.value.Value.TheVariants.{Truth, Signed, Unsigned, Float, Double, Bytes}
 use Rattle.column.proofs.LengthLaws.{length_most, width_right, decimal_right}
@@ -100,7 +100,7 @@ unlawful_number : (edition : ℕ) (c : ColumnType) (bs : List ℕ) (number : ℕ
 unfolding outcome read_of
 unlawful_number edition c bs number h k e = by_test (is_lawful edition c) (λ l. absurd (other (length_right c (length bs)) (keeps c bs) (rw l at e))) (λ l. (l, refused_is (rw l at e)))
   where
-    other : (r s : Bool) → outcome_of (cond r (checked s (annotation_place c bs) (value_of c bs)) (read.Refused (unplaced WRONG_LENGTH))) ≡ refused (unplaced number) → ⊥
+    other : (r s : Bool) → outcome_of (cond r (checked s (annotation_place c bs) (value_of c bs)) (Err (unplaced WRONG_LENGTH))) ≡ refused (unplaced number) → ⊥
     other false s q = h (sym (ap (λ (r : Refusal). r.number) (refused_is q)))
     other true true q = let z : ◌≡◌ {A = ℕ} 0 1 = cc in omega arith
     other true false q = k (sym (ap (λ (r : Refusal). r.number) (refused_is q)))

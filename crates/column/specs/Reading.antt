@@ -1,10 +1,11 @@
 -- Reading one value: which value valid bytes are, and what reading answers for any column type and any bytes.
-use Rattle.std.specs.Prelude.{ℕ, Bool, cond, List, eqb, ℤ, length}
+use Rattle.std.specs.Prelude.{ℕ, Bool, cond, List, eqb, ℤ, length, Result, Ok, Err}
 use Rattle.std.specs.Float.{binary32, binary64}
 use Rattle.std.specs.Float.Ieee.{of_bits}
 use Rattle.laws.specs.Bytes.{little}
 use Rattle.refusal.specs.Numbers.{WRONG_LENGTH, BREAKS_ANNOTATION}
 use Rattle.refusal.specs.Outcome.{refusal, unplaced}
+use Rattle.refusal.specs.declared.answers.Refusal.{Refusal}
 use Rattle.column_type.specs.declared.types.ColumnType.{ColumnType}
 use Rattle.column_type.specs.Lawful.{is_lawful, type_refusal}
 use Rattle.parquet.specs.Physical.{BOOLEAN, FLOAT, DOUBLE}
@@ -13,8 +14,6 @@ use Rattle.column.specs.Lengths.{length_right}
 use Rattle.column.specs.Annotations.{is_whole, is_unsigned, annotation_place, keeps}
 use Rattle.column.specs.declared.value.Value.{Value}
 use Rattle.column.specs.declared.value.Value.TheVariants.{Truth, Signed, Unsigned, Float, Double, Bytes}
-use Rattle.column.specs.declared.value.Read.{Read}
-use Rattle.column.specs.declared.value.Read.TheVariants as read
 use Rattle.column.specs.declared.value.Both.{Both}
 
 -- "INT(n, false) reads its bytes unsigned"; every other whole number is signed
@@ -31,16 +30,16 @@ value_of c bs =
     (cond (eqb c.physical DOUBLE) (Double (of_bits binary64 (little bs))) (Bytes 0 (length bs)))))
 
 -- a value of the right length: 16, with its place, where it breaks its annotation
-abbrev pub checked : Bool → ℕ → Value → Read
-checked kept place v = cond kept (read.Value v) (read.Refused (refusal BREAKS_ANNOTATION place))
+abbrev pub checked : Bool → ℕ → Value → Result Value Refusal
+checked kept place v = cond kept (Ok v) (Err (refusal BREAKS_ANNOTATION place))
 
 -- a value of a lawful column type: 15, then 16
-abbrev pub read_lawful : ColumnType → List ℕ → Read
-read_lawful c bs = cond (length_right c (length bs)) (checked (keeps c bs) (annotation_place c bs) (value_of c bs)) (read.Refused (unplaced WRONG_LENGTH))
+abbrev pub read_lawful : ColumnType → List ℕ → Result Value Refusal
+read_lawful c bs = cond (length_right c (length bs)) (checked (keeps c bs) (annotation_place c bs) (value_of c bs)) (Err (unplaced WRONG_LENGTH))
 
 -- "One value is checked for 20, then 15, then 16", and for 21 "before all others"
-unfoldable pub read_of : ℕ → ColumnType → List ℕ → Read
-read_of edition c bs = cond (is_lawful edition c) (read_lawful c bs) (read.Refused (type_refusal edition))
+unfoldable pub read_of : ℕ → ColumnType → List ℕ → Result Value Refusal
+read_of edition c bs = cond (is_lawful edition c) (read_lawful c bs) (Err (type_refusal edition))
 
 -- two values of one column, each checked so
 abbrev pub both_of : ℕ → ColumnType → List ℕ → List ℕ → Both

@@ -1,4 +1,5 @@
 // The codes of a column type, whose numbers are of 32 bits: its physical types, its kinds, and the parameter of INT.
+// They stay numbers: a column type is five numbers from C that may be any, and the definitions of specs/ and of the demands are of all of them.
 use logical_type::parameters;
 use parquet::{converted, logical, physical};
 

@@ -8,19 +8,10 @@ use column_type::ColumnType;
 // The most bytes that a value has.
 pub const MOST_BYTES: usize = 65_536;
 
-const BOOLEAN_BYTES: usize = 1;
-
-const INT32_BYTES: usize = 4;
-
-const INT64_BYTES: usize = 8;
-
 const INT96_BYTES: usize = 12;
 
-const FLOAT_BYTES: usize = 4;
-
-const DOUBLE_BYTES: usize = 8;
-
 // Whether a value of the column may have so many bytes.
+#[tactic(auto, unfolding(crate::specs::Lengths::length_right))]
 pub(crate) fn length_right(c: ColumnType, n: usize) -> bool
     ensures { result ≡ length_right c n }
 {
@@ -40,14 +31,13 @@ pub(crate) fn length_right(c: ColumnType, n: usize) -> bool
 fn width_right(c: ColumnType, n: usize) -> bool
     ensures { result ≡ is_width (width_of c) n }
 {
-    let physical = c.physical;
-    match physical {
-        codes::BOOLEAN => n == BOOLEAN_BYTES,
-        codes::INT32 => n == INT32_BYTES,
-        codes::INT64 => n == INT64_BYTES,
+    match c.physical {
+        codes::BOOLEAN => n == size_of::<bool>(),
+        codes::INT32 => n == size_of::<i32>(),
+        codes::INT64 => n == size_of::<i64>(),
         codes::INT96 => n == INT96_BYTES,
-        codes::FLOAT => n == FLOAT_BYTES,
-        codes::DOUBLE => n == DOUBLE_BYTES,
+        codes::FLOAT => n == size_of::<f32>(),
+        codes::DOUBLE => n == size_of::<f64>(),
         codes::FIXED_LEN_BYTE_ARRAY => n == c.type_length as usize,
         _ => true,
     }
@@ -57,10 +47,7 @@ fn width_right(c: ColumnType, n: usize) -> bool
 fn is_byte_decimal(c: ColumnType) -> bool
     ensures { result ≡ is_byte_decimal c }
 {
-    if !is_byte_form(c) {
-        return false;
-    }
-    c.kind == codes::DECIMAL
+    is_byte_form(c) && c.kind == codes::DECIMAL
 }
 
 // Whether values are BYTE_ARRAY or FIXED_LEN_BYTE_ARRAY.

@@ -3,13 +3,12 @@
 
 mod annotations; // annotations.rt: which values keep the annotation of their column
 pub mod codes; // codes.rt: the codes of a column type
-mod floats; // floats.rt: the floats of bit patterns
 mod lengths; // lengths.rt: the lengths that values have
 mod numbers; // numbers.rt: the numbers that bytes stand for
 pub mod reading; // reading.rt: reading a value
 mod refusals; // refusals.rt: the refusals of a value
-pub mod value; // value.rt: a value that was read, and what reading answers
+pub mod value; // value.rt: a value that was read, and what reading two answers
 
 pub use lengths::MOST_BYTES;
 pub use reading::{read, read_both};
-pub use value::{Both, Read, Value};
+pub use value::{Both, Value};

@@ -1,18 +1,11 @@
 // The numbers that bytes stand for, and the ranges that they are held to.
-ghost use Rattle.std.specs.Prelude.{◌≡◌, ◌*◌, ◌<◌, ◌≤◌, ◌^◌, ltb, nat_abs, length};
+ghost use Rattle.std.specs.Prelude.{◌≡◌, ◌*◌, ◌<◌, ◌≤◌, ◌^◌, ltb, length};
 ghost use Rattle.std.specs.Int.Signed.{mag};
-ghost use Rattle.laws.specs.Bytes.{little, twos_complement};
-
-// The weight of the first bit of 4 bytes.
-pub(crate) const INT32_SIGN: u64 = 0x8000_0000;
-
-// The weight of the first bit of 8 bytes.
-pub(crate) const INT64_SIGN: u64 = 0x8000_0000_0000_0000;
-
-// The bits of a number here.
-const BITS: u32 = 64;
+ghost use Rattle.laws.specs.Bytes.{little};
+ghost use Rattle.column.specs.Annotations.{in_signed_bits};
 
 // The number of up to 8 bytes, the least significant first.
+// What `little_endian` promises of any length, said of these: each place that reads a value would have to say it for itself.
 pub(crate) fn little(value: &[u8]) -> u64
     requires { length value.now ≤ 8 }
     ensures { (result ≡ little value.now) × (result < 256 ^ length value.now) }
@@ -20,45 +13,28 @@ pub(crate) fn little(value: &[u8]) -> u64
     little_endian::number(value)
 }
 
-// The signed number of `n` in two's complement, where the first bit has this weight.
-pub(crate) fn signed(n: u64, weight: u64) -> i64
-    requires { (n < 2 * weight) × (weight ≤ 2 ^ 63) }
-    ensures { result ≡ twos_complement weight n }
+// A signed number folded onto the naturals: itself, or -1 less it where it is negative, so that -1 folds onto 0.
+fn folded(z: i64) -> u64
+    ensures { result ≡ mag z }
 {
-    let size = folded(n, weight) as i64;
-    if n < weight {
-        return size;
+    if z < 0 {
+        return z.unsigned_abs() - 1;
     }
-    -1 - size
+    z.unsigned_abs()
 }
 
-// That number folded onto the naturals: itself, or -1 less it where it is negative, so that -1 folds onto 0.
-pub(crate) fn folded(n: u64, weight: u64) -> u64
-    requires { n < 2 * weight }
-    ensures { result ≡ mag (twos_complement weight n) }
+// Whether so many bits hold the signed number: whether twice the number it folds onto is below 2^bits.
+pub(crate) fn in_signed_bits(z: i64, bits: u32) -> bool
+    ensures { result ≡ in_signed_bits bits z }
 {
-    if n < weight {
-        return n;
-    }
-    weight - 1 - (n - weight)
-}
-
-// How far that number lies from 0.
-pub(crate) fn absolute(n: u64, weight: u64) -> u64
-    requires { (n < 2 * weight) × (weight ≤ 2 ^ 63) }
-    ensures { result ≡ nat_abs (twos_complement weight n) }
-{
-    if n < weight {
-        return n;
-    }
-    weight - (n - weight)
+    in_bits(folded(z) * 2, bits)
 }
 
 // Whether `n` is below 2^bits.
 pub(crate) fn in_bits(n: u64, bits: u32) -> bool
     ensures { result ≡ ltb n (2 ^ bits) }
 {
-    if bits >= BITS {
+    if bits >= u64::BITS {
         return true;
     }
     n >> bits == 0

@@ -1,32 +1,31 @@
 // Reading one value of a column.
-ghost use Rattle.std.specs.Prelude.{◌≡◌, true, false, cond, ◌*◌, ◌<◌, ◌≤◌, ◌^◌, eqb, length};
-ghost use Rattle.laws.specs.Bytes.{little, twos_complement};
+ghost use Rattle.std.specs.Prelude.{◌≡◌, true, false, eqb, length};
 ghost use Rattle.decimal_bytes.specs.Precision.{is_length};
 ghost use Rattle.decimal_bytes.specs.Number.{number};
 ghost use Rattle.utf8.specs.Valid.{valid_up_to};
-ghost use Rattle.parquet.specs.Physical.{INT32};
 ghost use Rattle.parquet.specs.Logical.{DECIMAL, UNKNOWN};
-ghost use Rattle.column.specs.Lengths.{is_byte_form, length_right};
-ghost use Rattle.column.specs.Annotations.{is_whole, is_truth, in_digits, whole_keeps, bytes_keep, text_place, annotation_place, keeps};
+ghost use Rattle.column.specs.Lengths.{length_right};
+ghost use Rattle.column.specs.Annotations.{is_truth, in_digits, whole_keeps, bytes_keep, text_place, annotation_place, keeps};
 ghost use Rattle.column.specs.Reading.{whole_value, value_of, checked, read_of, both_of, read_lawful};
 ghost use Rattle.column.specs.Outcome.{outcome_of, outcome};
 
 use crate::annotations::{decimal_keeps, is_text, is_unsigned, whole_keeps};
-use crate::floats::{double_of, float_of};
 use crate::lengths::{is_byte_form, length_right};
-use crate::numbers::{INT32_SIGN, INT64_SIGN, little, signed};
+use crate::numbers::little;
 use crate::refusals::breaks_annotation_at;
-use crate::value::{Both, Read, Value};
+use crate::value::{Both, Value};
 use crate::{codes, refusals};
 use column_type::{ColumnType, type_refusal};
+use refusal::Refusal;
+use std::num::{f32_from_bits_with_nan, f64_from_bits_with_nan};
 
 // The value that the bytes are in a column of this type, or the first refusal that holds in the edition.
-pub fn read(edition: u32, c: ColumnType, value: &[u8]) -> Read
+pub fn read(edition: u32, c: ColumnType, value: &[u8]) -> Result<Value, Refusal>
     ensures value { result ≡ read_of edition c value.now }
     ensures result_value { outcome_of result ≡ outcome edition c value.now }
 {
     if !column_type::is_lawful(edition, c) {
-        return Read::Refused(type_refusal(edition));
+        return Err(type_refusal(edition));
     }
     read_lawful(c, value)
 }
@@ -40,8 +39,8 @@ pub fn read_both(edition: u32, c: ColumnType, a: &[u8], b: &[u8]) -> Both
     if !column_type::is_lawful(edition, c) {
         let refusal = type_refusal(edition);
         return Both {
-            first: Read::Refused(refusal),
-            second: Read::Refused(refusal),
+            first: Err(refusal),
+            second: Err(refusal),
         };
     }
     let first = read_lawful(c, a);
@@ -50,34 +49,44 @@ pub fn read_both(edition: u32, c: ColumnType, a: &[u8], b: &[u8]) -> Both
 }
 
 // A value behind the check of the column type: 15, then 16.
-fn read_lawful(c: ColumnType, value: &[u8]) -> Read
+fn read_lawful(c: ColumnType, value: &[u8]) -> Result<Value, Refusal>
     ensures { result ≡ read_lawful c value.now }
 {
     if !length_right(c, value.len()) {
-        return Read::Refused(refusals::WRONG_LENGTH);
+        return Err(refusals::WRONG_LENGTH);
     }
     if c.kind == codes::UNKNOWN {
-        return Read::Refused(refusals::BREAKS_ANNOTATION);
+        return Err(refusals::BREAKS_ANNOTATION);
     }
     read_present(c, value)
 }
 
 // Reads bytes of a right length, under any kind but UNKNOWN.
-fn read_present(c: ColumnType, value: &[u8]) -> Read
+fn read_present(c: ColumnType, value: &[u8]) -> Result<Value, Refusal>
     requires { (length_right c (length value.now) ≡ true) × (eqb c.kind UNKNOWN ≡ false) }
     ensures { result ≡ checked (keeps c value.now) (annotation_place c value.now) (value_of c value.now) }
 {
     if is_byte_form(c) {
         return read_bytes(c, value);
     }
-    if is_whole(c) {
-        return read_whole(c, little(value), sign_weight(c.physical));
+    match c.physical {
+        codes::BOOLEAN => read_truth(little(value)),
+        codes::INT32 => {
+            let n = little(value) as u32;
+            read_whole(c, u64::from(n), i64::from(n.cast_signed()))
+        }
+        codes::INT64 => {
+            let n = little(value);
+            read_whole(c, n, n.cast_signed())
+        }
+        codes::FLOAT => Ok(Value::Float(f32_from_bits_with_nan(little(value) as u32))),
+        codes::DOUBLE => Ok(Value::Double(f64_from_bits_with_nan(little(value)))),
+        _ => Ok(stretch(value.len())),
     }
-    read_other(c, value)
 }
 
 // Reads a byte form: a decimal is held to its precision, and text to UTF-8.
-fn read_bytes(c: ColumnType, value: &[u8]) -> Read
+fn read_bytes(c: ColumnType, value: &[u8]) -> Result<Value, Refusal>
     requires { (eqb c.kind DECIMAL ≡ true) → is_length (length value.now) ≡ true }
     ensures { result ≡ checked (bytes_keep c value.now) (text_place c.kind value.now) (Value.Bytes 0 (length value.now)) }
 {
@@ -87,84 +96,52 @@ fn read_bytes(c: ColumnType, value: &[u8]) -> Read
     if is_text(c.kind) {
         return read_text(value);
     }
-    Read::Value(stretch(value.len()))
+    Ok(stretch(value.len()))
 }
 
 // A decimal, which has 1 to 256 bytes.
-fn read_decimal(value: &[u8], precision: u32) -> Read
+fn read_decimal(value: &[u8], precision: u32) -> Result<Value, Refusal>
     requires { is_length (length value.now) ≡ true }
     ensures { result ≡ checked (in_digits precision (number value.now)) 0 (Value.Bytes 0 (length value.now)) }
 {
     if !decimal_keeps(value, precision) {
-        return Read::Refused(refusals::BREAKS_ANNOTATION);
+        return Err(refusals::BREAKS_ANNOTATION);
     }
-    Read::Value(stretch(value.len()))
+    Ok(stretch(value.len()))
 }
 
 // Text, which is refused at the byte where whole sequences stop short of its end.
-fn read_text(value: &[u8]) -> Read
+fn read_text(value: &[u8]) -> Result<Value, Refusal>
     ensures { result ≡ checked (eqb (valid_up_to value.now) (length value.now)) (valid_up_to value.now) (Value.Bytes 0 (length value.now)) }
 {
     let stop = utf8::valid_up_to(value);
     if stop != value.len() {
-        return Read::Refused(breaks_annotation_at(stop));
+        return Err(breaks_annotation_at(stop));
     }
-    Read::Value(stretch(value.len()))
-}
-
-// Reads what is neither a whole number nor of a byte form.
-fn read_other(c: ColumnType, value: &[u8]) -> Read
-    requires { (length_right c (length value.now) ≡ true) × (is_whole c ≡ false) × (is_byte_form c ≡ false) × (eqb c.kind UNKNOWN ≡ false) }
-    ensures { result ≡ checked (keeps c value.now) (annotation_place c value.now) (value_of c value.now) }
-{
-    let physical = c.physical;
-    match physical {
-        codes::BOOLEAN => read_truth(little(value)),
-        codes::FLOAT => Read::Value(Value::Float(float_of(little(value) as u32))),
-        codes::DOUBLE => Read::Value(Value::Double(double_of(little(value)))),
-        _ => Read::Value(stretch(value.len())),
-    }
-}
-
-// Whether values are INT32 or INT64.
-fn is_whole(c: ColumnType) -> bool
-    ensures { result ≡ is_whole c }
-{
-    c.physical == codes::INT32 || c.physical == codes::INT64
-}
-
-// The weight of the first bit of a whole number of this physical type.
-fn sign_weight(physical: u32) -> u64
-    ensures { result ≡ cond (eqb physical INT32) (2 ^ 31) (2 ^ 63) }
-{
-    if physical == codes::INT32 {
-        return INT32_SIGN;
-    }
-    INT64_SIGN
+    Ok(stretch(value.len()))
 }
 
 // A truth value: 0 or 1.
-fn read_truth(n: u64) -> Read
+fn read_truth(n: u64) -> Result<Value, Refusal>
     ensures { result ≡ checked (is_truth n) 0 (Value.Truth (eqb n 1)) }
 {
     if n > 1 {
-        return Read::Refused(refusals::BREAKS_ANNOTATION);
+        return Err(refusals::BREAKS_ANNOTATION);
     }
-    Read::Value(Value::Truth(n == 1))
+    Ok(Value::Truth(n == 1))
 }
 
-// A whole number, of which `n` are the bits and the first has this weight.
-fn read_whole(c: ColumnType, n: u64, weight: u64) -> Read
-    requires { (n < 2 * weight) × (weight ≤ 2 ^ 63) }
-    ensures { result ≡ checked (whole_keeps c n (twos_complement weight n)) 0 (whole_value c n (twos_complement weight n)) }
+// A whole number: `n` without its sign, and `z` with it.
+fn read_whole(c: ColumnType, n: u64, z: i64) -> Result<Value, Refusal>
+    ensures { result ≡ checked (whole_keeps c n z) 0 (whole_value c n z) }
 {
-    if !whole_keeps(c, n, weight) {
-        return Read::Refused(refusals::BREAKS_ANNOTATION);
+    if !whole_keeps(c, n, z) {
+        return Err(refusals::BREAKS_ANNOTATION);
     }
     if is_unsigned(c) {
-        return Read::Value(Value::Unsigned(n));
+        return Ok(Value::Unsigned(n));
     }
-    Read::Value(Value::Signed(signed(n, weight)))
+    Ok(Value::Signed(z))
 }
 
 // All of so many bytes.

@@ -1,4 +1,4 @@
-// A value that was read, and what reading answers.
+// A value that was read, and what reading two answers.
 use refusal::Refusal;
 
 // A value. The stretch of a bytes value is counted in the bytes that were read.
@@ -12,16 +12,9 @@ pub enum Value {
     Bytes { start: usize, len: usize },
 }
 
-// What reading a value answers: the value, or the first refusal that holds.
-#[derive(Clone, Copy)]
-pub enum Read {
-    Value(Value),
-    Refused(Refusal),
-}
-
-// What reading two values of one column type answers.
+// What reading two values of one column type answers: each value, or the first refusal that holds of it.
 #[derive(Clone, Copy)]
 pub struct Both {
-    pub first: Read,
-    pub second: Read,
+    pub first: Result<Value, Refusal>,
+    pub second: Result<Value, Refusal>,
 }

@@ -12,7 +12,8 @@ use Rattle.refusal.specs.Outcome.{refusal}
 use Rattle.refusal.specs.Outcome as reading
 use Rattle.refusal.specs.declared.answers.Refusal.{Refusal}
 use Rattle.refusal.specs.declared.answers.Fault.{Fault}
-use Rattle.float_order.specs.declared.relation.Relation.{Relation}
+use Rattle.std.specs.Prelude.{Option, Ok, Err}
+use Rattle.std.specs.declared.cmp.Ordering.{Ordering}
 use Rattle.column_type.specs.Lawful.{is_lawful, type_refusal}
 use Rattle.column_type.proofs.RefusalLaws.{unknown_unlawful, refusal_known, refusal_unknown, refusal_either}
 use Rattle.edition.specs.Editions.{is_known}
@@ -21,83 +22,82 @@ use Rattle.column_type.specs.declared.types.ColumnType.{ColumnType}
 use Rattle.column.specs.Lengths.{most_bytes}
 use Rattle.column.specs.Reading.{read_of}
 use Rattle.column.specs.Outcome as column
-use Rattle.column.specs.declared.value.Read.{Read}
-use Rattle.column.specs.declared.value.Read.TheVariants as read
+use Rattle.std.specs.Prelude.{Result}
 use Rattle.column.specs.declared.value.Value.{Value}
 use Rattle.column.proofs.PlaceLaws.{refusal_bounded}
 use Rattle.column_order.specs.Keys.{key_of, key_order}
 use Rattle.column_order.specs.Order.{has_order, unless_refused, order_of}
 use Rattle.column_order.specs.Comparison.{Valid}
 use Rattle.column_order.specs.Outcome.{outcome_of, outcome}
-use Rattle.column_order.specs.declared.answer.Order.{Order}
-use Rattle.column_order.specs.declared.answer.Order.TheVariants.{Related, Refused}
+use Rattle.column_order.specs.Order.{Order}
+use Rattle.column_order.proofs.Turning.{related, faulted}
 
 -- ---- what an outcome says, field by field
 
-fault_is : {f g : Fault} → ◌≡◌ {A = Sided Relation} (refused f) (refused g) → f ≡ g
+fault_is : {f g : Fault} → ◌≡◌ {A = Sided (Option Ordering)} (refused f) (refused g) → f ≡ g
 fault_is e = cc
 
-side_is : {f g : Fault} → ◌≡◌ {A = Sided Relation} (refused f) (refused g) → f.side ≡ g.side
+side_is : {f g : Fault} → ◌≡◌ {A = Sided (Option Ordering)} (refused f) (refused g) → f.side ≡ g.side
 side_is e = ap (λ (x : Fault). x.side) (fault_is e)
 
-refusal_is : {f g : Fault} → ◌≡◌ {A = Sided Relation} (refused f) (refused g) → f.refusal ≡ g.refusal
+refusal_is : {f g : Fault} → ◌≡◌ {A = Sided (Option Ordering)} (refused f) (refused g) → f.refusal ≡ g.refusal
 refusal_is e = ap (λ (x : Fault). x.refusal) (fault_is e)
 
 -- a value that is given was read
-given_read : (edition : ℕ) (c : ColumnType) (bs : List ℕ) (v : Value) → column.outcome edition c bs ≡ reading.given v → read_of edition c bs ≡ read.Value v
+given_read : (edition : ℕ) (c : ColumnType) (bs : List ℕ) (v : Value) → column.outcome edition c bs ≡ reading.given v → read_of edition c bs ≡ Ok v
 unfolding column.outcome
 given_read edition c bs v = go (read_of edition c bs)
   where
-    go : (r : Read) → column.outcome_of r ≡ reading.given v → r ≡ read.Value v
-    go (read.Value w) e = cc
-    go (read.Refused r) e = absurd (let z : ◌≡◌ {A = ℕ} 0 1 = cc in omega arith)
+    go : (r : Result Value Refusal) → column.outcome_of r ≡ reading.given v → r ≡ Ok v
+    go (Ok w) e = cc
+    go (Err r) e = absurd (let z : ◌≡◌ {A = ℕ} 0 1 = cc in omega arith)
 
 -- ---- how great a refusal's side, number and place are
 
-pub order_bounded : (edition : ℕ) (c : ColumnType) (a b : List ℕ) (f : Fault) → order_of edition c a b ≡ Refused f → FaultBounded GREATEST most_bytes f
+pub order_bounded : (edition : ℕ) (c : ColumnType) (a b : List ℕ) (f : Fault) → order_of edition c a b ≡ faulted f → FaultBounded GREATEST most_bytes f
 unfolding order_of
 order_bounded edition c a b f = go (is_lawful edition c) (has_order c) (read_of edition c a) refl (read_of edition c b) refl
   where
-    same : (g : Fault) → FaultBounded GREATEST most_bytes g → Refused g ≡ Refused f → FaultBounded GREATEST most_bytes f
+    same : (g : Fault) → FaultBounded GREATEST most_bytes g → faulted g ≡ faulted f → FaultBounded GREATEST most_bytes f
     same g h e = let i : g ≡ f = cc in subst (FaultBounded GREATEST most_bytes) i h
 
     neither : (number : ℕ) → 0 < number → number ≤ GREATEST → FaultBounded GREATEST most_bytes (of_neither number)
     neither number some h = record { side = omega arith; refusal = record { some_number = some; most_number = h; most_place = omega arith } }
 
-    go : (l h : Bool) (x : Read) → read_of edition c a ≡ x → (y : Read) → read_of edition c b ≡ y
-        → cond l (cond h (unless_refused FIRST x (unless_refused SECOND y (Related (key_order (key_of c a) (key_of c b))))) (Refused (of_neither NO_ORDER))) (Refused (fault NEITHER (type_refusal edition))) ≡ Refused f → FaultBounded GREATEST most_bytes f
+    go : (l h : Bool) (x : Result Value Refusal) → read_of edition c a ≡ x → (y : Result Value Refusal) → read_of edition c b ≡ y
+        → cond l (cond h (unless_refused FIRST x (unless_refused SECOND y (related (key_order (key_of c a) (key_of c b))))) (faulted (of_neither NO_ORDER))) (faulted (fault NEITHER (type_refusal edition))) ≡ faulted f → FaultBounded GREATEST most_bytes f
     go false h x p y q e =
         same (fault NEITHER (type_refusal edition))
         (refusal_either edition (λ r. FaultBounded GREATEST most_bytes (fault NEITHER r)) (neither UNKNOWN_TYPE (omega arith) (omega arith)) (neither UNKNOWN_EDITION (omega arith) (omega arith))) e
     go true false x p y q e = same (of_neither NO_ORDER) (neither NO_ORDER (omega arith) (omega arith)) e
-    go true true (read.Refused r) p y q e = same (fault FIRST r) (record { side = omega arith; refusal = refusal_bounded edition c a r p }) e
-    go true true (read.Value v) p (read.Refused r) q e = same (fault SECOND r) (record { side = omega arith; refusal = refusal_bounded edition c b r q }) e
-    go true true (read.Value v) p (read.Value w) q e = absurd (let z : ◌≡◌ {A = ℕ} 0 1 = cc in omega arith)
+    go true true (Err r) p y q e = same (fault FIRST r) (record { side = omega arith; refusal = refusal_bounded edition c a r p }) e
+    go true true (Ok v) p (Err r) q e = same (fault SECOND r) (record { side = omega arith; refusal = refusal_bounded edition c b r q }) e
+    go true true (Ok v) p (Ok w) q e = absurd (let z : ◌≡◌ {A = ℕ} 0 1 = cc in omega arith)
 
 -- ---- what ordering comes to, by what reading its values comes to
 
 -- the refusal of the value on a side, or what follows where it is read
-abbrev after : ℕ → reading.Outcome Value → Sided Relation → Sided Relation
+abbrev after : ℕ → reading.Outcome Value → Sided (Option Ordering) → Sided (Option Ordering)
 after side (reading.refused r) next = refused (fault side r)
 after side (reading.given v) next = next
 
 module _ (edition : ℕ) (c : ColumnType) (a b : List ℕ) where
   -- 21 and 20, 17, the first value, the second value
-  abbrev steps : Bool → Bool → reading.Outcome Value → reading.Outcome Value → Sided Relation
+  abbrev steps : Bool → Bool → reading.Outcome Value → reading.Outcome Value → Sided (Option Ordering)
   steps l h x y = cond l (cond h (after FIRST x (after SECOND y (given (key_order (key_of c a) (key_of c b))))) (refused (of_neither NO_ORDER))) (refused (fault NEITHER (type_refusal edition)))
 
   outcome_is : outcome edition c a b ≡ steps (is_lawful edition c) (has_order c) (column.outcome edition c a) (column.outcome edition c b)
   unfolding outcome order_of column.outcome
   outcome_is = go (is_lawful edition c) (has_order c) (read_of edition c a) (read_of edition c b)
     where
-      go : (l h : Bool) (x y : Read)
-          → outcome_of (cond l (cond h (unless_refused FIRST x (unless_refused SECOND y (Related (key_order (key_of c a) (key_of c b))))) (Refused (of_neither NO_ORDER))) (Refused (fault NEITHER (type_refusal edition))))
+      go : (l h : Bool) (x y : Result Value Refusal)
+          → outcome_of (cond l (cond h (unless_refused FIRST x (unless_refused SECOND y (related (key_order (key_of c a) (key_of c b))))) (faulted (of_neither NO_ORDER))) (faulted (fault NEITHER (type_refusal edition))))
           ≡ steps l h (column.outcome_of x) (column.outcome_of y)
       go false h x y = refl
       go true false x y = refl
-      go true true (read.Refused r) y = refl
-      go true true (read.Value v) (read.Refused r) = refl
-      go true true (read.Value v) (read.Value w) = refl
+      go true true (Err r) y = refl
+      go true true (Ok v) (Err r) = refl
+      go true true (Ok v) (Ok w) = refl
 
   -- ---- whose refusal it is
 
@@ -107,9 +107,9 @@ module _ (edition : ℕ) (c : ColumnType) (a b : List ℕ) where
     unfolding outcome
     fault_most side e = (order_bounded edition c a b (fault side (refusal number place)) (go (order_of edition c a b) e)).side
       where
-        go : (o : Order) → outcome_of o ≡ refused (fault side (refusal number place)) → o ≡ Refused (fault side (refusal number place))
-        go (Related r) f = absurd (let z : ◌≡◌ {A = ℕ} 0 1 = cc in omega arith)
-        go (Refused g) f = ap Refused (fault_is f)
+        go : (o : Order) → outcome_of o ≡ refused (fault side (refusal number place)) → o ≡ faulted (fault side (refusal number place))
+        go (Ok r) f = absurd (let z : ◌≡◌ {A = ℕ} 0 1 = cc in omega arith)
+        go (Err g) f = ap faulted (fault_is f)
 
     -- the first value's: what reading answers for it
     to_first : outcome edition c a b ≡ refused (fault FIRST (refusal number place)) → (is_lawful edition c ≡ true) × (has_order c ≡ true) × (column.outcome edition c a ≡ reading.refused (refusal number place))

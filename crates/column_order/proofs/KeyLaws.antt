@@ -2,7 +2,6 @@
 use mathlib.Core.Path.{◌≡◌, refl, sym, ap, ap₂, ◌∙◌}
 use mathlib.Core.Bool.{Bool, true, false, not, cond, ◌||◌}
 use mathlib.Core.List.{List}
-use mathlib.Core.Option.{Option, none, some}
 use Prim.Native.Nat.{ℕ, ◌≤◌}
 use native.Mathlib.Omega.{arith}
 use lib.Dec.{eqb}
@@ -22,18 +21,20 @@ use Rattle.column.specs.Annotations.{is_whole, is_unsigned, keeps, is_truth}
 use Rattle.column.specs.Reading.{value_of, whole_value, read_of}
 use Rattle.column.specs.declared.value.Value.{Value}
 use Rattle.column.specs.declared.value.Value.TheVariants.{Truth, Signed, Unsigned, Float, Double, Bytes}
-use Rattle.column.specs.declared.value.Read.{Read}
+use Rattle.std.specs.Prelude.{Ok}
 use Rattle.laws.proofs.BoolLaws.{and_left, and_right}
 use Rattle.column.proofs.ReadingLaws.{reads}
 use Rattle.float_order.specs.Keys as float
 use Rattle.float_order.specs.Keys.{float_key, whole_order}
-use Rattle.float_order.specs.declared.relation.Relation.{Relation}
+use Rattle.std.specs.Prelude.{Option, Some, None}
+use Rattle.std.specs.declared.cmp.Ordering.{Ordering}
 use Rattle.float_order.proofs.FloatLaws.{float_order_bits}
 use Rattle.column_order.specs.Keys.{Key, whole, bytes, number_of, number_key, key_of, byte_order, key_order}
+use Rattle.column_order.proofs.Turning.{ordered}
 use Rattle.column_order.specs.Values.{flag, truth_order, signed_order, unsigned_order, single_order, double_order, stretch, stretch_end, bytes_order}
 
 -- two values by their cases, whose stretches are those of the bytes `a` and `b`
-abbrev pub value_order : List ℕ → List ℕ → Value → Value → Relation
+abbrev pub value_order : List ℕ → List ℕ → Value → Value → Option Ordering
 value_order a b (Truth p) v = truth_order p v
 value_order a b (Signed x) v = signed_order x v
 value_order a b (Unsigned m) v = unsigned_order m v
@@ -52,9 +53,9 @@ flag_truth n e = go (eqb n 1) refl
 -- the keys of floats are ordered as the keys of their column
 float_keys : (k l : Option ℤ) → float.key_order k l ≡ key_order (number_key k) (number_key l)
 unfolding float.key_order key_order
-float_keys none l = refl
-float_keys (some x) none = refl
-float_keys (some x) (some y) = refl
+float_keys None l = refl
+float_keys (Some x) None = refl
+float_keys (Some x) (Some y) = refl
 
 module _ (c : ColumnType) where
   whole_signed : (bs : List ℕ) → is_whole c ≡ true → number_of c bs ≡ signed bs
@@ -78,22 +79,22 @@ module _ (c : ColumnType) where
 
 module _ (c : ColumnType) (a b : List ℕ) where
   truths : keeps c a ≡ true → keeps c b ≡ true → eqb c.physical BOOLEAN ≡ true
-      → whole_order (pos (flag (eqb (little a) 1))) (pos (flag (eqb (little b) 1))) ≡ whole_order (pos (little a)) (pos (little b))
-  truths p q e = ap₂ (λ (m n : ℕ). whole_order (pos m) (pos n)) (flag_truth (little a) (truth_kept c a p e)) (flag_truth (little b) (truth_kept c b q e))
+      → ordered (whole_order (pos (flag (eqb (little a) 1))) (pos (flag (eqb (little b) 1)))) ≡ ordered (whole_order (pos (little a)) (pos (little b)))
+  truths p q e = ap₂ (λ (m n : ℕ). ordered (whole_order (pos m) (pos n))) (flag_truth (little a) (truth_kept c a p e)) (flag_truth (little b) (truth_kept c b q e))
 
   wholes : is_whole c ≡ true
       → value_order a b (whole_value c (little a) (signed a)) (whole_value c (little b) (signed b))
-      ≡ whole_order (cond (is_unsigned c) (pos (little a)) (number_of c a)) (cond (is_unsigned c) (pos (little b)) (number_of c b))
+      ≡ ordered (whole_order (cond (is_unsigned c) (pos (little a)) (number_of c a)) (cond (is_unsigned c) (pos (little b)) (number_of c b)))
   wholes e = go (is_unsigned c)
     where
       go : (t : Bool) → value_order a b (cond t (Unsigned (little a)) (Signed (signed a))) (cond t (Unsigned (little b)) (Signed (signed b)))
-          ≡ whole_order (cond t (pos (little a)) (number_of c a)) (cond t (pos (little b)) (number_of c b))
+          ≡ ordered (whole_order (cond t (pos (little a)) (number_of c a)) (cond t (pos (little b)) (number_of c b)))
       go true = refl
-      go false = ap₂ whole_order (sym (whole_signed c a e)) (sym (whole_signed c b e))
+      go false = ap₂ (λ (x y : ℤ). ordered (whole_order x y)) (sym (whole_signed c a e)) (sym (whole_signed c b e))
 
   -- the stretch of a value is all of its bytes
   stretches : is_byte_decimal c ≡ false
-      → byte_order (stretch 0 (length a) a) (stretch 0 (length b) b) ≡ key_order (cond (is_byte_decimal c) (whole (number_of c a)) (bytes a)) (cond (is_byte_decimal c) (whole (number_of c b)) (bytes b))
+      → ordered (byte_order (stretch 0 (length a) a) (stretch 0 (length b) b)) ≡ key_order (cond (is_byte_decimal c) (whole (number_of c a)) (bytes a)) (cond (is_byte_decimal c) (whole (number_of c b)) (bytes b))
   unfolding key_order
   stretches d = rw (take-length a, take-length b, d)
 
@@ -124,7 +125,7 @@ module _ (c : ColumnType) (a b : List ℕ) where
       go false e false i false false = stretches d
 
 -- the stretch of a read value lies within the bytes that were read
-pub read_within : (edition : ℕ) (c : ColumnType) (bs : List ℕ) (v : Value) → read_of edition c bs ≡ Read.Value v → stretch_end v ≤ length bs
+pub read_within : (edition : ℕ) (c : ColumnType) (bs : List ℕ) (v : Value) → read_of edition c bs ≡ Ok v → stretch_end v ≤ length bs
 unfolding value_of
 read_within edition c bs v e =
     rw (reads edition c bs v e).value (go (eqb c.physical BOOLEAN) (is_whole c) (is_unsigned c) (eqb c.physical FLOAT) (eqb c.physical DOUBLE))
@@ -140,7 +141,7 @@ read_within edition c bs v e =
     go false false u false true = omega arith
     go false false u false false = omega arith
 
-pub read_order : (edition : ℕ) (c : ColumnType) (a b : List ℕ) (x y : Value) → is_byte_decimal c ≡ false → read_of edition c a ≡ Read.Value x → read_of edition c b ≡ Read.Value y
+pub read_order : (edition : ℕ) (c : ColumnType) (a b : List ℕ) (x y : Value) → is_byte_decimal c ≡ false → read_of edition c a ≡ Ok x → read_of edition c b ≡ Ok y
     → value_order a b x y ≡ key_order (key_of c a) (key_of c b)
 read_order edition c a b x y d p q =
     let r = reads edition c a x p in

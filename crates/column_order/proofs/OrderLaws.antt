@@ -3,7 +3,6 @@
 use mathlib.Core.Path.{◌≡◌, refl, sym, ap, ap₂, ◌∙◌}
 use mathlib.Core.Bool.{Bool, true, false, cond, ◌||◌}
 use mathlib.Core.List.{List}
-use mathlib.Core.Option.{Option}
 use mathlib.Core.Logic.{◌↔◌, ◌⊎◌, inl, inr, ⊎_elim}
 use Prim.Native.Nat.{ℕ}
 use lib.Dec.{eqb}
@@ -25,14 +24,14 @@ use Rattle.parquet.specs.Logical.{DECIMAL}
 use Rattle.column.specs.Lengths.{is_byte_decimal}
 use Rattle.column.specs.Annotations.{is_whole, is_unsigned}
 use Rattle.column.proofs.ReadingLaws.{reads}
+use Rattle.std.specs.Prelude.{Some, None}
 use Rattle.float_order.specs.Floats.{less_or_equal}
 use Rattle.float_order.specs.Keys.{float_key, whole_order}
-use Rattle.float_order.specs.declared.relation.Relation.TheVariants.{Less, Equal, Greater, Unordered}
-use Rattle.column_order.specs.Keys.{Key, whole, bytes, none, number_of, number_key, key_of, key_order}
+use Rattle.std.specs.declared.cmp.Ordering.TheVariants.{Less, Equal, Greater}
+use Rattle.column_order.specs.Keys.{Key, whole, bytes, none, number_of, number_key, key_of, byte_order, key_order}
 use Rattle.column_order.specs.Order.{has_order, order_of}
-use Rattle.column_order.specs.declared.answer.Order.TheVariants.{Related}
 use Rattle.column_order.specs.Comparison.{Valid, NotANumber, reversed, turned, at_most}
-use Rattle.column_order.proofs.Turning.{at_most_both, related_as}
+use Rattle.column_order.proofs.Turning.{related, ordered, at_most_both, related_as, turned_some}
 use Rattle.column_order.proofs.WholeLaws.{whole_less, whole_equal, whole_greater, whole_turned, whole_trans, whole_total}
 use Rattle.column_order.proofs.ByteLaws.{byte_refl, byte_turned, byte_trans, byte_total}
 
@@ -40,20 +39,20 @@ use Rattle.column_order.proofs.ByteLaws.{byte_refl, byte_turned, byte_trans, byt
 
 pub key_turned : (k l : Key) → key_order l k ≡ reversed (key_order k l)
 unfolding key_order
-key_turned (whole x) (whole y) = whole_turned x y
+key_turned (whole x) (whole y) = ap ordered (whole_turned x y) ∙ turned_some (whole_order x y)
 key_turned (whole x) (bytes b) = refl
 key_turned (whole x) none = refl
 key_turned (bytes a) (whole y) = refl
-key_turned (bytes a) (bytes b) = byte_turned a b
+key_turned (bytes a) (bytes b) = ap ordered (byte_turned a b) ∙ turned_some (byte_order a b)
 key_turned (bytes a) none = refl
 key_turned none (whole y) = refl
 key_turned none (bytes b) = refl
 key_turned none none = refl
 
-pub key_refl : (k : Key) → (k ≡ none → ⊥) → key_order k k ≡ Equal
+pub key_refl : (k : Key) → (k ≡ none → ⊥) → key_order k k ≡ Some Equal
 unfolding key_order
-key_refl (whole x) h = (whole_equal x x).1 refl
-key_refl (bytes a) h = byte_refl a
+key_refl (whole x) h = ap ordered ((whole_equal x x).1 refl)
+key_refl (bytes a) h = ap ordered (byte_refl a)
 key_refl none h = absurd (h refl)
 
 pub key_trans : (k l m : Key) → less_or_equal (key_order k l) ≡ true → less_or_equal (key_order l m) ≡ true → less_or_equal (key_order k m) ≡ true
@@ -94,7 +93,7 @@ float_comparable : (f : Format) (a b : ℕ) → comparable (number_key (float_ke
 unfolding float_key
 float_comparable f a b = go (nan_bits f a) (nan_bits f b) _ _
   where
-    go : (t u : Bool) (x y : ℤ) → comparable (number_key (cond t Option.none (Option.some x))) (number_key (cond u Option.none (Option.some y))) ≡ true
+    go : (t u : Bool) (x y : ℤ) → comparable (number_key (cond t None (Some x))) (number_key (cond u None (Some y))) ≡ true
     go true u x y = refl
     go false true x y = refl
     go false false x y = refl
@@ -119,19 +118,19 @@ keys_comparable c a b = go (eqb c.physical BOOLEAN) (is_whole c) (eqb c.physical
 
 -- ---- the values of a column that has an order
 
-module _ (edition : ℕ) (c : ColumnType) (ordered : has_order c ≡ true) where
+module _ (edition : ℕ) (c : ColumnType) (has : has_order c ≡ true) where
   -- valid values are ordered by their keys
-  pub order_keys : (a b : List ℕ) → Valid edition c a → Valid edition c b → order_of edition c a b ≡ Related (key_order (key_of c a) (key_of c b))
+  pub order_keys : (a b : List ℕ) → Valid edition c a → Valid edition c b → order_of edition c a b ≡ related (key_order (key_of c a) (key_of c b))
   unfolding order_of
-  order_keys a b p q = rw ((reads edition c a p.0 p.1).lawful, ordered, p.1, q.1)
+  order_keys a b p q = rw ((reads edition c a p.0 p.1).lawful, has, p.1, q.1)
 
   -- exchanged values are answered the other way round
   pub order_turned : (a b : List ℕ) → Valid edition c a → Valid edition c b → order_of edition c b a ≡ turned (order_of edition c a b)
-  order_turned a b p q = rw (order_keys b a q p, order_keys a b p q) (ap Related (key_turned (key_of c a) (key_of c b)))
+  order_turned a b p q = rw (order_keys b a q p, order_keys a b p q) (ap related (key_turned (key_of c a) (key_of c b)))
 
   -- a value that is no NaN equals itself
-  pub order_refl : (a : List ℕ) → Valid edition c a → (NotANumber c a → ⊥) → order_of edition c a a ≡ Related Equal
-  order_refl a p h = order_keys a a p p ∙ ap Related (key_refl (key_of c a) h)
+  pub order_refl : (a : List ℕ) → Valid edition c a → (NotANumber c a → ⊥) → order_of edition c a a ≡ related (Some Equal)
+  order_refl a p h = order_keys a a p p ∙ ap related (key_refl (key_of c a) h)
 
   -- transitive
   pub order_trans : (a b d : List ℕ) → Valid edition c a → Valid edition c b → Valid edition c d
@@ -141,7 +140,7 @@ module _ (edition : ℕ) (c : ColumnType) (ordered : has_order c ≡ true) where
       ∙ key_trans (key_of c a) (key_of c b) (key_of c d) (ap at_most (sym (order_keys a b p q)) ∙ e) (ap at_most (sym (order_keys b d q r)) ∙ f)
 
   -- antisymmetric, up to equal
-  pub order_antisym : (a b : List ℕ) → Valid edition c a → Valid edition c b → at_most (order_of edition c a b) ≡ true → at_most (order_of edition c b a) ≡ true → order_of edition c a b ≡ Related Equal
+  pub order_antisym : (a b : List ℕ) → Valid edition c a → Valid edition c b → at_most (order_of edition c a b) ≡ true → at_most (order_of edition c b a) ≡ true → order_of edition c a b ≡ related (Some Equal)
   order_antisym a b p q e f = at_most_both (order_of edition c a b) e (ap at_most (sym (order_turned a b p q)) ∙ f)
 
   -- total, where neither is a NaN
@@ -151,10 +150,10 @@ module _ (edition : ℕ) (c : ColumnType) (ordered : has_order c ≡ true) where
       rw (order_turned a b p q, order_keys a b p q) (key_total (key_of c a) (key_of c b) (keys_comparable c a b) h k)
 
   -- a NaN is unordered, to itself too
-  pub order_nan : (a b : List ℕ) → Valid edition c a → Valid edition c b → NotANumber c a → (order_of edition c a b ≡ Related Unordered) × (order_of edition c b a ≡ Related Unordered)
+  pub order_nan : (a b : List ℕ) → Valid edition c a → Valid edition c b → NotANumber c a → (order_of edition c a b ≡ related None) × (order_of edition c b a ≡ related None)
   unfolding key_order
   order_nan a b p q e =
-      let u : order_of edition c a b ≡ Related Unordered = order_keys a b p q ∙ ap (λ (k : Key). Related (key_order k (key_of c b))) e in
+      let u : order_of edition c a b ≡ related None = order_keys a b p q ∙ ap (λ (k : Key). related (key_order k (key_of c b))) e in
       (u, order_turned a b p q ∙ ap turned u)
 
 -- ---- decimals
@@ -199,16 +198,16 @@ module _ (edition : ℕ) (c : ColumnType) (a b : List ℕ) (p : Valid edition c 
   physical : TakesDecimal c
   physical = takes_decimal edition c (reads edition c a p.0 p.1).lawful kind
 
-  pub decimal_order : order_of edition c a b ≡ Related (whole_order (number_of c a) (number_of c b))
+  pub decimal_order : order_of edition c a b ≡ related (Some (whole_order (number_of c a) (number_of c b)))
   unfolding key_order
-  decimal_order = order_keys edition c (decimal_ordered c kind physical) a b p q ∙ ap₂ (λ (k l : Key). Related (key_order k l)) (decimal_key c a kind physical) (decimal_key c b kind physical)
+  decimal_order = order_keys edition c (decimal_ordered c kind physical) a b p q ∙ ap₂ (λ (k l : Key). related (key_order k l)) (decimal_key c a kind physical) (decimal_key c b kind physical)
 
-  pub decimal_less : (order_of edition c a b ≡ Related Less) ↔ (number_of c a <ℤ number_of c b)
+  pub decimal_less : (order_of edition c a b ≡ related (Some Less)) ↔ (number_of c a <ℤ number_of c b)
   decimal_less = rw decimal_order (related_as (whole_less (number_of c a) (number_of c b)))
 
   -- equal exactly when the numbers are
-  pub decimal_equal : (order_of edition c a b ≡ Related Equal) ↔ (number_of c a ≡ number_of c b)
+  pub decimal_equal : (order_of edition c a b ≡ related (Some Equal)) ↔ (number_of c a ≡ number_of c b)
   decimal_equal = rw decimal_order (related_as (whole_equal (number_of c a) (number_of c b)))
 
-  pub decimal_greater : (order_of edition c a b ≡ Related Greater) ↔ (number_of c b <ℤ number_of c a)
+  pub decimal_greater : (order_of edition c a b ≡ related (Some Greater)) ↔ (number_of c b <ℤ number_of c a)
   decimal_greater = rw decimal_order (related_as (whole_greater (number_of c a) (number_of c b)))

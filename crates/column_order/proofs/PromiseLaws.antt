@@ -9,7 +9,6 @@ use borrow.Author.Tests.{not-false, ne_eqb, eqb-true, lt-ltb, le-ltb, ltb-true, 
 use lib.Dec.{ltb, eqb}
 use lib.Ieee.{Format, binary32, binary64, hid, ones, top}
 use lib.IntN.{ℤ, pos}
-use lib.Signed.{lt_z}
 use Rattle.laws.specs.Bytes.{little}
 use Rattle.refusal.specs.Faults.{of_neither, given, refused}
 use Rattle.laws.proofs.BoolLaws.{by_test}
@@ -24,17 +23,19 @@ use Rattle.column_type.specs.declared.types.ColumnType.{ColumnType}
 use Rattle.column.specs.Numbers.{signed}
 use Rattle.column.specs.Promises.{Whole, ByteForm}
 use Rattle.float_order.specs.Keys.{float_key, whole_order}
-use Rattle.float_order.specs.declared.relation.Relation.{Relation}
-use Rattle.float_order.specs.declared.relation.Relation.TheVariants.{Less, Equal, Greater, Unordered}
+use Rattle.std.specs.Prelude.{Option, Some, None}
+use Rattle.std.specs.declared.cmp.Ordering.{Ordering}
+use Rattle.std.specs.declared.cmp.Ordering.TheVariants.{Less, Equal, Greater}
 use Rattle.float_order.proofs.FloatLaws as float
 use Rattle.column_order.specs.Keys.{Key, whole, bytes, none, number_of, number_key, key_of, byte_order, key_order}
 use Rattle.column_order.specs.Order.{has_order, order_of}
-use Rattle.column_order.specs.Comparison.{Valid, reversed}
+use Rattle.std.specs.Prelude.{Ok, Err}
+use Rattle.std.specs.Ordering.{ordering_reverse}
+use Rattle.column_order.specs.Comparison.{Valid}
 use Rattle.column_order.specs.Outcome.{outcome_of, outcome}
 use Rattle.column_order.specs.Promises.{AsNumbers, Before, prefix, lower, further, AsBytes, bits_below, FLOAT_SIGN, FLOAT_INFINITY, DOUBLE_SIGN, DOUBLE_INFINITY, IsNan}
-use Rattle.column_order.specs.declared.answer.Order.{Order}
-use Rattle.column_order.specs.declared.answer.Order.TheVariants.{Related, Refused}
-use Rattle.column_order.proofs.Turning.{related_is, related_as}
+use Rattle.column_order.specs.Order.{Order}
+use Rattle.column_order.proofs.Turning.{related, faulted, ordered, related_is, related_as}
 use Rattle.column_order.proofs.WholeLaws.{whole_less, whole_equal, whole_greater}
 use Rattle.column_order.proofs.ByteLaws.{byte_refl, byte_turned}
 use Rattle.column_order.proofs.OrderLaws.{order_keys, decimal_less, decimal_equal, decimal_greater}
@@ -77,19 +78,18 @@ equal_same (x ∷ xs) (y ∷ ys) e = go (ltb x y) refl (ltb y x) refl (equal_sam
         ap₂ ◌∷◌ same (rest f)
 
 -- an answer turned round twice
-reversed_less : (r : Relation) → reversed r ≡ Less → r ≡ Greater
-reversed_less Less e = absurd (let z : ◌≡◌ {A = ℕ} 0 1 = cc in omega arith)
-reversed_less Equal e = absurd (let z : ◌≡◌ {A = ℕ} 0 1 = cc in omega arith)
+reversed_less : (o : Ordering) → ordering_reverse o ≡ Less → o ≡ Greater
+reversed_less Less e = cc
+reversed_less Equal e = cc
 reversed_less Greater e = refl
-reversed_less Unordered e = absurd (let z : ◌≡◌ {A = ℕ} 0 1 = cc in omega arith)
 
 -- valid values of a column that has an order ---------------------------------------------------------------------------------------
 
-module _ (edition : ℕ) (c : ColumnType) (ordered : has_order c ≡ true) (a b : List ℕ) (p : Valid edition c a) (q : Valid edition c b) where
+module _ (edition : ℕ) (c : ColumnType) (has : has_order c ≡ true) (a b : List ℕ) (p : Valid edition c a) (q : Valid edition c b) where
   as_numbers : (x y : ℤ) → key_of c a ≡ whole x → key_of c b ≡ whole y → AsNumbers edition c a b x y
   unfolding key_order
   as_numbers x y e f =
-      let o : order_of edition c a b ≡ Related (whole_order x y) = order_keys edition c ordered a b p q ∙ ap₂ (λ (k l : Key). Related (key_order k l)) e f in
+      let o : order_of edition c a b ≡ related (Some (whole_order x y)) = order_keys edition c has a b p q ∙ ap₂ (λ (k l : Key). related (key_order k l)) e f in
       record { less = rw o (related_as (whole_less x y)); equal = rw o (related_as (whole_equal x y)); greater = rw o (related_as (whole_greater x y)) }
 
   -- "signed for numbers, dates, times, decimals"
@@ -127,11 +127,11 @@ module _ (edition : ℕ) (c : ColumnType) (ordered : has_order c ≡ true) (a b 
   pub bytes_order_lem : ByteForm c → ((c.kind ≡ DECIMAL) → ⊥) → AsBytes edition c a b
   unfolding key_of key_order
   bytes_order_lem form d =
-      let o : order_of edition c a b ≡ Related (byte_order a b) = order_keys edition c ordered a b p q ∙ ap₂ (λ (k l : Key). Related (key_order k l)) (key form a) (key form b) in
+      let o : order_of edition c a b ≡ related (Some (byte_order a b)) = order_keys edition c has a b p q ∙ ap₂ (λ (k l : Key). related (key_order k l)) (key form a) (key form b) in
       record {
         less = rw o (related_as (less_before a b, before_less a b));
         equal = rw o (related_as (equal_same a b, λ e. rw (← e) (byte_refl a)));
-        greater = rw o (related_as (λ e. less_before b a (byte_turned a b ∙ ap reversed e), λ h. reversed_less (byte_order a b) (sym (byte_turned a b) ∙ before_less b a h)));
+        greater = rw o (related_as (λ e. less_before b a (byte_turned a b ∙ ap ordering_reverse e), λ h. reversed_less (byte_order a b) (sym (byte_turned a b) ∙ before_less b a h)));
       }
     where
       key : ByteForm c → (bs : List ℕ) → key_of c bs ≡ bytes bs
@@ -153,31 +153,25 @@ module _ (edition : ℕ) (c : ColumnType) (ordered : has_order c ≡ true) (a b 
     format_numbers h k = as_numbers (bits_below (top f) (little a)) (bits_below (top f) (little b)) (number_key_lem a h) (number_key_lem b k)
 
     -- two numbers are never unordered
-    ordered_numbers : (x y : ℤ) → whole_order x y ≡ Unordered → ⊥
-    unfolding whole_order
-    ordered_numbers x y e = go (lt_z x y) (lt_z y x) e
-      where
-        go : (t u : Bool) → cond t Less (cond u Greater Equal) ≡ Unordered → ⊥
-        go true u e = let z : ◌≡◌ {A = ℕ} 0 1 = cc in omega arith
-        go false true e = let z : ◌≡◌ {A = ℕ} 0 1 = cc in omega arith
-        go false false e = let z : ◌≡◌ {A = ℕ} 0 1 = cc in omega arith
+    ordered_numbers : (x y : ℤ) → ordered (whole_order x y) ≡ None → ⊥
+    ordered_numbers x y e = cc
 
     -- a NaN on the right
-    nan_second : (k : Key) → key_order k none ≡ Unordered
+    nan_second : (k : Key) → key_order k none ≡ None
     unfolding key_order
     nan_second (whole x) = refl
     nan_second (bytes x) = refl
     nan_second none = refl
 
-    format_unordered : (order_of edition c a b ≡ Related Unordered) ↔ (Nan a ⊎ Nan b)
+    format_unordered : (order_of edition c a b ≡ related None) ↔ (Nan a ⊎ Nan b)
     unfolding key_order
     format_unordered = (
       λ e. by_test (ltb (ones f * hid f) (little a % top f)) (λ t. inl (ltb-true (ones f * hid f) (little a % top f) t))
           (λ t. by_test (ltb (ones f * hid f) (little b % top f)) (λ u. inr (ltb-true (ones f * hid f) (little b % top f) u))
           (λ u. absurd
           (ordered_numbers (bits_below (top f) (little a)) (bits_below (top f) (little b))
-          (related_is (sym (ap₂ (λ (k l : Key). Related (key_order k l)) (number_key_lem a (λ h. ltb_no (ones f * hid f) (little a % top f) t h)) (number_key_lem b (λ h. ltb_no (ones f * hid f) (little b % top f) u h)))
-          ∙ sym (order_keys edition c ordered a b p q)
+          (related_is (sym (ap₂ (λ (k l : Key). related (key_order k l)) (number_key_lem a (λ h. ltb_no (ones f * hid f) (little a % top f) t h)) (number_key_lem b (λ h. ltb_no (ones f * hid f) (little b % top f) u h)))
+          ∙ sym (order_keys edition c has a b p q)
           ∙ e))))),
       nan_either,
     )
@@ -185,9 +179,9 @@ module _ (edition : ℕ) (c : ColumnType) (ordered : has_order c ≡ true) (a b 
         ltb_no : (m n : ℕ) → ltb m n ≡ false → m < n → ⊥
         ltb_no m n t h = omega (arith, ltb-false m n t, h)
 
-        nan_either : Nan a ⊎ Nan b → order_of edition c a b ≡ Related Unordered
-        nan_either (inl h) = order_keys edition c ordered a b p q ∙ ap (λ (k : Key). Related (key_order k (key_of c b))) (nan_key a h)
-        nan_either (inr h) = order_keys edition c ordered a b p q ∙ ap Related (ap (key_order (key_of c a)) (nan_key b h) ∙ nan_second (key_of c a))
+        nan_either : Nan a ⊎ Nan b → order_of edition c a b ≡ related None
+        nan_either (inl h) = order_keys edition c has a b p q ∙ ap (λ (k : Key). related (key_order k (key_of c b))) (nan_key a h)
+        nan_either (inr h) = order_keys edition c has a b p q ∙ ap related (ap (key_order (key_of c a)) (nan_key b h) ∙ nan_second (key_of c a))
 
   module _ (e : c.physical ≡ FLOAT) where
     float_key_lem : (bs : List ℕ) → key_of c bs ≡ number_key (float_key binary32 (little bs))
@@ -197,7 +191,7 @@ module _ (edition : ℕ) (c : ColumnType) (ordered : has_order c ≡ true) (a b 
     pub float_order_lem : (IsNan FLOAT_SIGN FLOAT_INFINITY (little a) → ⊥) → (IsNan FLOAT_SIGN FLOAT_INFINITY (little b) → ⊥) → AsNumbers edition c a b (bits_below FLOAT_SIGN (little a)) (bits_below FLOAT_SIGN (little b))
     float_order_lem = format_numbers binary32 float_key_lem
 
-    pub float_unordered : (order_of edition c a b ≡ Related Unordered) ↔ (IsNan FLOAT_SIGN FLOAT_INFINITY (little a) ⊎ IsNan FLOAT_SIGN FLOAT_INFINITY (little b))
+    pub float_unordered : (order_of edition c a b ≡ related None) ↔ (IsNan FLOAT_SIGN FLOAT_INFINITY (little a) ⊎ IsNan FLOAT_SIGN FLOAT_INFINITY (little b))
     float_unordered = format_unordered binary32 float_key_lem
 
   module _ (e : c.physical ≡ DOUBLE) where
@@ -208,7 +202,7 @@ module _ (edition : ℕ) (c : ColumnType) (ordered : has_order c ≡ true) (a b 
     pub double_order_lem : (IsNan DOUBLE_SIGN DOUBLE_INFINITY (little a) → ⊥) → (IsNan DOUBLE_SIGN DOUBLE_INFINITY (little b) → ⊥) → AsNumbers edition c a b (bits_below DOUBLE_SIGN (little a)) (bits_below DOUBLE_SIGN (little b))
     double_order_lem = format_numbers binary64 double_key
 
-    pub double_unordered : (order_of edition c a b ≡ Related Unordered) ↔ (IsNan DOUBLE_SIGN DOUBLE_INFINITY (little a) ⊎ IsNan DOUBLE_SIGN DOUBLE_INFINITY (little b))
+    pub double_unordered : (order_of edition c a b ≡ related None) ↔ (IsNan DOUBLE_SIGN DOUBLE_INFINITY (little a) ⊎ IsNan DOUBLE_SIGN DOUBLE_INFINITY (little b))
     double_unordered = format_unordered binary64 double_key
 
 -- "INTERVAL and INT96 have none", GEOMETRY and GEOGRAPHY neither ---------------------------------------------------------------------
@@ -248,19 +242,19 @@ decimals_order edition c a b p q k = record { less = decimal_less edition c a b 
 
 module _ (edition : ℕ) (c : ColumnType) (a b : List ℕ) where
   -- a relation is given exactly where it is answered
-  pub given_exactly : (r : Relation) → (outcome edition c a b ≡ given r) ↔ (order_of edition c a b ≡ Related r)
+  pub given_exactly : (r : Option Ordering) → (outcome edition c a b ≡ given r) ↔ (order_of edition c a b ≡ related r)
   unfolding outcome
   given_exactly r = (go (order_of edition c a b), λ e. ap outcome_of e)
     where
-      go : (o : Order) → outcome_of o ≡ given r → o ≡ Related r
-      go (Related s) e = cc
-      go (Refused f) e = absurd (let z : ◌≡◌ {A = ℕ} 0 1 = cc in omega arith)
+      go : (o : Order) → outcome_of o ≡ given r → o ≡ related r
+      go (Ok s) e = cc
+      go (Err f) e = absurd (let z : ◌≡◌ {A = ℕ} 0 1 = cc in omega arith)
 
   -- and so is a refusal
-  pub refused_exactly : (f : Fault) → (outcome edition c a b ≡ refused f) ↔ (order_of edition c a b ≡ Refused f)
+  pub refused_exactly : (f : Fault) → (outcome edition c a b ≡ refused f) ↔ (order_of edition c a b ≡ faulted f)
   unfolding outcome
   refused_exactly f = (go (order_of edition c a b), λ e. ap outcome_of e)
     where
-      go : (o : Order) → outcome_of o ≡ refused f → o ≡ Refused f
-      go (Related s) e = absurd (let z : ◌≡◌ {A = ℕ} 0 1 = cc in omega arith)
-      go (Refused g) e = cc
+      go : (o : Order) → outcome_of o ≡ refused f → o ≡ faulted f
+      go (Ok s) e = absurd (let z : ◌≡◌ {A = ℕ} 0 1 = cc in omega arith)
+      go (Err g) e = cc

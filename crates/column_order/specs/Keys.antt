@@ -1,6 +1,7 @@
 -- What a value is ordered by (document 01, "Order"), over its bytes alone.
-use Rattle.std.specs.Prelude.{ℕ, cond, List, [], ◌∷◌, ltb, eqb, ℤ, pos}
-use Rattle.std.proofs.Math.Option.{Option}
+use Rattle.std.specs.Prelude.{ℕ, cond, List, [], ◌∷◌, ltb, eqb, ℤ, pos, Option, Some, None}
+use Rattle.std.specs.declared.cmp.Ordering.{Ordering}
+use Rattle.std.specs.declared.cmp.Ordering.TheVariants.{Less, Equal, Greater}
 use Rattle.std.specs.Float.{binary32, binary64}
 use Rattle.laws.specs.Bytes.{little}
 use Rattle.column_type.specs.declared.types.ColumnType.{ColumnType}
@@ -10,8 +11,6 @@ use Rattle.column.specs.Numbers.{signed}
 use Rattle.column.specs.Lengths.{is_byte_form, is_byte_decimal}
 use Rattle.column.specs.Annotations.{is_whole, is_unsigned}
 use Rattle.float_order.specs.Keys.{float_key, whole_order}
-use Rattle.float_order.specs.declared.relation.Relation.{Relation}
-use Rattle.float_order.specs.declared.relation.Relation.TheVariants.{Less, Equal, Greater, Unordered}
 
 -- a whole number, or bytes; a NaN has no key
 pub data Key : Type 0 where
@@ -26,8 +25,8 @@ number_of c bs = cond (is_byte_form c) (number bs) (signed bs)
 
 -- the key of a float, over its bits
 abbrev pub number_key : Option ℤ → Key
-number_key Option.none = none
-number_key (Option.some x) = whole x
+number_key None = none
+number_key (Some x) = whole x
 
 -- "signed for numbers, dates, times, decimals; unsigned for INT(n, false) and BOOLEAN; unsigned byte-wise for other bytes"
 unfoldable pub key_of : ColumnType → List ℕ → Key
@@ -39,18 +38,18 @@ key_of c bs =
     (cond (is_byte_decimal c) (whole (number_of c bs)) (bytes bs)))))
 
 -- "unsigned byte-wise .., a proper prefix being less"
-unfoldable pub byte_order : List ℕ → List ℕ → Relation
+unfoldable pub byte_order : List ℕ → List ℕ → Ordering
 byte_order [] [] = Equal
 byte_order [] (y ∷ ys) = Less
 byte_order (x ∷ xs) [] = Greater
 byte_order (x ∷ xs) (y ∷ ys) = cond (ltb x y) Less (cond (ltb y x) Greater (byte_order xs ys))
 
 -- the order of two keys of one column: "NaN is answered as unordered"
-unfoldable pub key_order : Key → Key → Relation
-key_order (whole x) (whole y) = whole_order x y
-key_order (whole x) (bytes b) = Unordered
-key_order (whole x) none = Unordered
-key_order (bytes a) (whole y) = Unordered
-key_order (bytes a) (bytes b) = byte_order a b
-key_order (bytes a) none = Unordered
-key_order none k = Unordered
+unfoldable pub key_order : Key → Key → Option Ordering
+key_order (whole x) (whole y) = Some (whole_order x y)
+key_order (whole x) (bytes b) = None
+key_order (whole x) none = None
+key_order (bytes a) (whole y) = None
+key_order (bytes a) (bytes b) = Some (byte_order a b)
+key_order (bytes a) none = None
+key_order none k = None

@@ -1,15 +1,14 @@
 -- The terms in which demand 2 says how the values of a column are ordered.
-use Rattle.std.specs.Prelude.{ℕ, ◌%◌, ◌<◌, ◌^◌, ◌≡◌, cond, List, [], ◌∷◌, ◌↔◌, leb, ℤ, pos, neg_ℤ, ◌<ℤ◌}
+use Rattle.std.specs.Prelude.{ℕ, ◌%◌, ◌<◌, ◌^◌, ◌≡◌, cond, List, [], ◌∷◌, ◌↔◌, leb, ℤ, pos, neg_ℤ, ◌<ℤ◌, Some, Ok}
 use Rattle.column_type.specs.declared.types.ColumnType.{ColumnType}
 use Rattle.column_order.specs.Order.{order_of}
-use Rattle.float_order.specs.declared.relation.Relation.TheVariants.{Less, Equal, Greater}
-use Rattle.column_order.specs.declared.answer.Order.TheVariants.{Related}
+use Rattle.std.specs.declared.cmp.Ordering.TheVariants.{Less, Equal, Greater}
 
 -- two values stand to each other as two numbers do
 pub record AsNumbers (edition : ℕ) (c : ColumnType) (a b : List ℕ) (x y : ℤ) : Type 0 where
-  pub less : (order_of edition c a b ≡ Related Less) ↔ (x <ℤ y)
-  pub equal : (order_of edition c a b ≡ Related Equal) ↔ (x ≡ y)
-  pub greater : (order_of edition c a b ≡ Related Greater) ↔ (y <ℤ x)
+  pub less : (order_of edition c a b ≡ Ok (Some Less)) ↔ (x <ℤ y)
+  pub equal : (order_of edition c a b ≡ Ok (Some Equal)) ↔ (x ≡ y)
+  pub greater : (order_of edition c a b ≡ Ok (Some Greater)) ↔ (y <ℤ x)
 
 -- "unsigned byte-wise .., a proper prefix being less"
 pub data Before : List ℕ → List ℕ → Type 0 where
@@ -19,9 +18,9 @@ pub data Before : List ℕ → List ℕ → Type 0 where
 
 -- two values stand to each other as their bytes do
 pub record AsBytes (edition : ℕ) (c : ColumnType) (a b : List ℕ) : Type 0 where
-  pub less : (order_of edition c a b ≡ Related Less) ↔ Before a b
-  pub equal : (order_of edition c a b ≡ Related Equal) ↔ (a ≡ b)
-  pub greater : (order_of edition c a b ≡ Related Greater) ↔ Before b a
+  pub less : (order_of edition c a b ≡ Ok (Some Less)) ↔ Before a b
+  pub equal : (order_of edition c a b ≡ Ok (Some Equal)) ↔ (a ≡ b)
+  pub greater : (order_of edition c a b ≡ Ok (Some Greater)) ↔ Before b a
 
 -- a FLOAT or a DOUBLE over its bits, of which the sign has a weight: "those below the sign as a whole number, negated where the sign is set"
 abbrev pub bits_below : ℕ → ℕ → ℤ

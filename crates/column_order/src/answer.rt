@@ -1,18 +1,10 @@
-// What ordering two values answers, and the refusals that are laid on neither of them.
+// The refusals of ordering that are laid on neither value.
 ghost use Rattle.std.specs.Prelude.{◌≡◌};
 ghost use Rattle.refusal.specs.Faults.{NEITHER as NEITHER_SIDE, fault};
 ghost use Rattle.column_type.specs.Lawful.{type_refusal};
 
 use column_type::type_refusal;
-use float_order::Relation;
 use refusal::{Fault, NEITHER, Refusal, numbers};
-
-// How the first value stands to the second, or the first refusal that holds.
-#[derive(Clone, Copy)]
-pub enum Order {
-    Related(Relation),
-    Refused(Fault),
-}
 
 // This column has no order.
 pub(crate) const NO_ORDER: Fault = Fault {

@@ -10,7 +10,7 @@ use Rattle.text.specs.Characters.{ascii}
 use Rattle.text.specs.Numbers.{enough_digits, digit_count, decimal_text, signed_text, hex_text}
 use Rattle.text.specs.Refusals.{refusal_text}
 use Rattle.column.specs.declared.value.Value.TheVariants.{Signed, Float, Double, Bytes}
-use Rattle.column.specs.declared.value.Read.TheVariants as read
+use Rattle.std.specs.Prelude.{Err}
 use Rattle.column_text.specs.Values.{float_text, stretch_text, value_text}
 use Rattle.column_text.specs.Answers.{outcome_text, read_text}
 
@@ -34,10 +34,10 @@ unfolding value_text stretch_text decimal_text digit_count enough_digits
 stretch_example = refl
 
 -- a TIME of a whole day, and text that goes bad at its thirteenth byte
-refused_example : read_text (read.Refused (refusal 16 0)) ≡ ascii "refused 16 at 0"
+refused_example : read_text (Err (refusal 16 0)) ≡ ascii "refused 16 at 0"
 unfolding outcome_text refusal_text decimal_text digit_count enough_digits
 refused_example = refl
 
-placed_example : read_text (read.Refused (refusal 16 12)) ≡ ascii "refused 16 at 12"
+placed_example : read_text (Err (refusal 16 12)) ≡ ascii "refused 16 at 12"
 unfolding outcome_text refusal_text decimal_text digit_count enough_digits
 placed_example = refl

@@ -1,16 +1,15 @@
--- Floats as text, by whether they differ from themselves, and texts made in a room.
+-- Floats as text, by whether they are the NaN, and texts made in a room.
 -- Assumes nothing.
 use Prim.Native.Nat.{ℕ, ◌≤◌}
 use mathlib.Core.Bool.{true, false}
 use mathlib.Core.List.{List}
-use mathlib.Core.Path.{◌≡◌, sym, ◌∙◌}
+use mathlib.Core.Path.{◌≡◌, ◌∙◌}
 use native.Mathlib.Omega.{arith}
-use lib.Ieee.{Float, Format, ne, to_bits}
+use lib.Ieee.{Float, Format, is_nan, to_bits}
 use lib.ListN.{length, take}
 use Rattle.text.specs.Characters.{ascii}
 use Rattle.text.specs.Numbers.{hex_text}
 use Rattle.text.proofs.PlacingLaws.{Holds, holds_made}
-use Rattle.column.proofs.FloatLaws.{differs_nan}
 use Rattle.column_text.specs.Values.{hex_digits, float_text, most_value_bytes}
 
 -- what making a text in a room for a value promises
@@ -25,10 +24,10 @@ made holds e short =
     record { counted = whole.0; front = whole.1 ∙ e; short = omega (arith, holds.end) }
 
 module _ (f : Format) (x : Float) where
-  pub nan_text : ne x x ≡ true → ascii "NaN" ≡ float_text f x
+  pub nan_text : is_nan x ≡ true → ascii "NaN" ≡ float_text f x
   unfolding float_text
-  nan_text e = rw (sym (differs_nan x) ∙ e)
+  nan_text e = rw e
 
-  pub number_text : ne x x ≡ false → hex_text (hex_digits f) (to_bits f x) ≡ float_text f x
+  pub number_text : is_nan x ≡ false → hex_text (hex_digits f) (to_bits f x) ≡ float_text f x
   unfolding float_text
-  number_text e = rw (sym (differs_nan x) ∙ e)
+  number_text e = rw e

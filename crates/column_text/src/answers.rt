@@ -7,13 +7,14 @@ ghost use Rattle.column_text.specs.Values.{most_value_bytes};
 ghost use Rattle.column_text.specs.Answers.{read_text};
 
 use crate::values::{VALUE_ROOM, make_value};
-use column::Read;
+use column::Value;
+use refusal::Refusal;
 
 // Room for the line of any answer of reading.
 pub const LINE_ROOM: usize = VALUE_ROOM + 1;
 
 // Makes the line of an answer of reading at the start of a room, and answers how many bytes it takes.
-pub fn read_line(r: Read, out: &mut [u8; LINE_ROOM]) -> usize
+pub fn read_line(r: Result<Value, Refusal>, out: &mut [u8; LINE_ROOM]) -> usize
     ensures prefix_len { IsPrefixLen result out.new }
     ensures out_after { take result out.new ≡ line_of (read_text r) }
     ensures out_unchanged { drop result out.new ≡ drop result out.old }
@@ -23,17 +24,17 @@ pub fn read_line(r: Read, out: &mut [u8; LINE_ROOM]) -> usize
 }
 
 // Stores a value, or `refused N at P`.
-pub fn put_read(out: &mut [u8], at: usize, r: Read) -> usize
+pub fn put_read(out: &mut [u8], at: usize, r: Result<Value, Refusal>) -> usize
     ensures value { result ≡ position_after (length out.old) at (read_text r) }
     ensures out_after { out.new ≡ placed_text out.old at (read_text r) }
     ensures r_len_bound { length (read_text r) ≤ most_value_bytes }
 {
     match r {
-        Read::Value(v) => {
+        Ok(v) => {
             let mut room = [0u8; VALUE_ROOM];
             let count = make_value(v, &mut room);
             text::put(out, at, &room[..count])
         }
-        Read::Refused(refusal) => text::put_refusal(out, at, refusal),
+        Err(refusal) => text::put_refusal(out, at, refusal),
     }
 }

@@ -44,22 +44,23 @@ fn make_float(x: f32, room: &mut [u8; VALUE_ROOM]) -> usize
     ensures upper_bound { result ≤ most_value_bytes }
 {
     let word = text::put(room, 0, b"float ");
-    if x != x {
+    if x.is_nan() {
         return text::put(room, word, b"NaN");
     }
-    text::put_hex32(room, word, f32::to_bits(x))
+    text::put_hex32(room, word, x.to_bits())
 }
 
+// The library has no trait over `f32` and `f64` with their bits: one function for both would need two more, which give it these.
 fn make_double(x: f64, room: &mut [u8; VALUE_ROOM]) -> usize
     ensures prefix_len { IsPrefixLen result room.new }
     ensures room_after { take result room.new ≡ ascii "double " ++ float_text binary64 x }
     ensures upper_bound { result ≤ most_value_bytes }
 {
     let word = text::put(room, 0, b"double ");
-    if x != x {
+    if x.is_nan() {
         return text::put(room, word, b"NaN");
     }
-    text::put_hex64(room, word, f64::to_bits(x))
+    text::put_hex64(room, word, x.to_bits())
 }
 
 fn make_stretch(start: usize, len: usize, room: &mut [u8; VALUE_ROOM]) -> usize

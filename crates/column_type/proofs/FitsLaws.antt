@@ -1,11 +1,12 @@
 -- A column type whose numbers fit a slot, taken apart, and the physical codes of leaves.
 use Prim.Native.Nat.{ℕ, ◌≤◌, ◌<◌}
 use mathlib.Core.Path.{◌≡◌, refl}
-use mathlib.Core.Bool.{Bool, true, false, not, ◌&&◌, and-eq-true_iff}
+use mathlib.Core.Bool.{Bool, true, false, not, ◌&&◌}
 use native.Mathlib.Decide.{dec_le}
 use native.Mathlib.Omega.{arith}
 use lib.Dec.{ltb, leb, eqb}
 use borrow.Author.Tests.{ltb-true, lt-ltb, le-leb, lt-leb, eq-eqb, ne_eqb, not-true}
+use Rattle.laws.proofs.BoolLaws.{and_both, and_right}
 use Rattle.parquet.specs.Logical as logical
 use Rattle.parquet.specs.Physical as physical
 use Rattle.sheet.specs.Sound.{listed, physical_listed}
@@ -24,10 +25,10 @@ pub record Fits (c : ColumnType) : Type 0 where
 pub fits_parts : (c : ColumnType) → fits c ≡ true → Fits c
 unfolding fits
 fits_parts c e =
-    let fourth = (and-eq-true_iff _ (ltb c.p2 (parameter_numbers c.kind))).0 e in
-    let third = (and-eq-true_iff _ (ltb c.p1 (parameter_numbers c.kind))).0 fourth.0 in
-    let second = (and-eq-true_iff _ (ltb c.kind byte_numbers)).0 third.0 in
-    let first = (and-eq-true_iff (ltb c.physical byte_numbers) (ltb c.type_length signed_numbers)).0 second.0 in
+    let fourth = and_both _ (ltb c.p2 (parameter_numbers c.kind)) e in
+    let third = and_both _ (ltb c.p1 (parameter_numbers c.kind)) fourth.0 in
+    let second = and_both _ (ltb c.kind byte_numbers) third.0 in
+    let first = and_both (ltb c.physical byte_numbers) (ltb c.type_length signed_numbers) second.0 in
     record {
       physical = ltb-true _ _ first.0;
       «type_length» = ltb-true _ _ first.1;
@@ -57,7 +58,7 @@ is_leaf_upto code = cases (dec_le code physical.FIXED_LEN_BYTE_ARRAY)
 -- a leaf is no physical.GROUP
 pub is_leaf_not_group : (code : ℕ) → is_leaf code ≡ true → is_group code ≡ false
 unfolding is_leaf
-is_leaf_not_group code e = not-true (is_group code) ((and-eq-true_iff (physical_listed code) (not (is_group code))).0 e).1
+is_leaf_not_group code e = not-true (is_group code) (and_right (physical_listed code) (not (is_group code)) e)
 
 -- p1 and p2 of a DECIMAL fit four bytes
 pub fits_decimal : (c : ColumnType) → Fits c → c.kind ≡ logical.DECIMAL → (c.p1 < signed_numbers) × (c.p2 < signed_numbers)

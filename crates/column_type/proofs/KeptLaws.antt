@@ -1,11 +1,12 @@
 -- A leaf that keeps the rules has a lawful column type in its row.
 use Prim.Native.Nat.{ℕ, ◌<◌}
 use mathlib.Core.Path.{◌≡◌, refl, sym, ap, ap₂, ◌∙◌}
-use mathlib.Core.Bool.{Bool, true, false, true≢false, not, cond, ◌&&◌, and-eq-true_iff}
+use mathlib.Core.Bool.{Bool, true, false, true≢false, not, cond, ◌&&◌}
 use native.Mathlib.Omega.{arith}
 use lib.Dec.{eqb, leb}
 use lib.IntN.{ℤ, pos, negsuc}
 use lib.Signed.{mag}
+use Rattle.laws.proofs.BoolLaws.{and_both}
 use Rattle.parquet.specs.Physical as physical
 use Rattle.parquet.specs.Logical as logical
 use Rattle.logical_type.specs.Parameters.{valid_parameters}
@@ -152,7 +153,7 @@ fits_kept says n r = cases (is_decimal says) refl
 decimal_slot : (edition : ℕ) (n : Annotated) → decimal_holds edition n ≡ true → decimal_holds edition (slot_of (column_with n (decimal_kind n))) ≡ true
 unfolding decimal_holds slot_of column_with natural
 decimal_slot edition n e =
-    let both = (and-eq-true_iff (ordered edition n.precision n.scale) (physical_holds n.physical (natural n.type_length) (natural n.precision))).0 e in
+    let both = and_both (ordered edition n.precision n.scale) (physical_holds n.physical (natural n.type_length) (natural n.precision)) e in
     rw (ordered_natural edition n.precision n.scale both.0) both.1
 
 digits_slot : (edition : ℕ) (says : Annotation) (n : Annotated) → digits_allowed edition says n ≡ true → digits_allowed edition says (slot_of (column_with n (kind_as says n))) ≡ true

@@ -2,11 +2,12 @@
 use Prim.Native.Nat.{ℕ, ◌*◌}
 use mathlib.Core.Path.{◌≡◌, refl, sym, ap, ◌∙◌}
 use mathlib.Core.Logic.{◌↔◌}
-use mathlib.Core.Bool.{Bool, true, false, true≢false, not, ◌&&◌, and-eq-true_iff}
+use mathlib.Core.Bool.{Bool, true, false, true≢false, not, ◌&&◌}
 use mathlib.Core.List.{List, ◌++◌}
 use native.Mathlib.Omega.{arith}
 use lib.IntN.{pos}
 use lib.ListN.{length, drop, replicate}
+use Rattle.laws.proofs.BoolLaws.{and_both}
 use Rattle.annotation.specs.Signed.{natural}
 use Rattle.logical_type.specs.Parameters.{valid_parameters}
 use Rattle.logical_type.specs.Backward.{backward_of}
@@ -49,19 +50,19 @@ module _ (edition : ℕ) (c : ColumnType) (lawful : is_lawful edition c ≡ true
 
   right : (((fits c && is_leaf c.physical) && length_shape c.physical (pos c.type_length)) ≡ true) × (annotation_right edition (slot_of c) ≡ true)
   unfolding is_lawful slot_keeps
-  right = (and-eq-true_iff _ (annotation_right edition (slot_of c))).0 ((and-eq-true_iff (is_known edition) (slot_keeps edition c)).0 lawful).1
+  right = and_both _ (annotation_right edition (slot_of c)) (and_both (is_known edition) (slot_keeps edition c) lawful).1
 
   pub shaped : ((fits c && is_leaf c.physical) ≡ true) × (length_shape c.physical (pos c.type_length) ≡ true)
-  shaped = (and-eq-true_iff (fits c && is_leaf c.physical) (length_shape c.physical (pos c.type_length))).0 right.0
+  shaped = and_both (fits c && is_leaf c.physical) (length_shape c.physical (pos c.type_length)) right.0
 
   fitting : (fits c ≡ true) × (is_leaf c.physical ≡ true)
-  fitting = (and-eq-true_iff (fits c) (is_leaf c.physical)).0 shaped.0
+  fitting = and_both (fits c) (is_leaf c.physical) shaped.0
 
   eleven : ((rule9 (slot_of c) && rule10 edition (slot_of c) false) ≡ true) × (rule11 edition (slot_of c) false ≡ true)
-  eleven = (and-eq-true_iff (rule9 (slot_of c) && rule10 edition (slot_of c) false) (rule11 edition (slot_of c) false)).0 right.1
+  eleven = and_both (rule9 (slot_of c) && rule10 edition (slot_of c) false) (rule11 edition (slot_of c) false) right.1
 
   pub ten : (rule9 (slot_of c) ≡ true) × (rule10 edition (slot_of c) false ≡ true)
-  ten = (and-eq-true_iff (rule9 (slot_of c)) (rule10 edition (slot_of c) false)).0 eleven.0
+  ten = and_both (rule9 (slot_of c)) (rule10 edition (slot_of c) false) eleven.0
 
   pub placed : is_placed (slot_of c) false ≡ true
   placed = ten_placed edition (slot_of c) false ten.1
@@ -78,7 +79,7 @@ module _ (edition : ℕ) (c : ColumnType) (lawful : is_lawful edition c ≡ true
       record {
         listed =
             record {
-              physical = rw (slot_of_physical c) ((and-eq-true_iff (physical_listed c.physical) (not (is_group c.physical))).0 fitting.1).0;
+              physical = rw (slot_of_physical c) (and_both (physical_listed c.physical) (not (is_group c.physical)) fitting.1).0;
               converted = spelt.converted;
               logical = spelt.logical;
             };

@@ -2,11 +2,12 @@
 use Prim.Native.Nat.{ℕ, ◌*◌, ◌≤◌, ◌<◌}
 use mathlib.Core.Path.{◌≡◌, refl, sym, ap, ◌∙◌}
 use mathlib.Core.Logic.{◌⊎◌, inl, inr}
-use mathlib.Core.Bool.{Bool, true, false, true≢false, ◌&&◌, and-eq-true_iff}
+use mathlib.Core.Bool.{Bool, true, false, true≢false, ◌&&◌}
 use mathlib.Core.List.{List, [], ◌++◌}
 use native.Mathlib.Omega.{arith}
 use borrow.Author.Tests.{eq-eqb, le-leb}
 use lib.ListN.{length, get_or, drop}
+use Rattle.laws.proofs.BoolLaws.{and_both}
 use Rattle.laws.specs.Bytes.{Bytes}
 use Rattle.sheet.specs.Block.{total_of}
 use Rattle.sheet.specs.Slot.{physical, type_length_of, numbers_of, slot_at}
@@ -65,8 +66,8 @@ shape_length : (p : Standing) (s : SlotBytes) (fs : Fields) → rule8 p s fs ≡
 unfolding rule8 shape numbers_of
 shape_length p s fs e =
     let n = numbers_of s in
-    ((and-eq-true_iff (standing_shape p n (count fs)) (length_shape (physical s) (type_length_of s))).0
-    ((and-eq-true_iff (standing_shape p n (count fs) && length_shape (physical s) (type_length_of s)) (decimal_shape n.converted n.logical n.scale n.precision)).0 e).0
+    (and_both (standing_shape p n (count fs)) (length_shape (physical s) (type_length_of s))
+    (and_both (standing_shape p n (count fs) && length_shape (physical s) (type_length_of s)) (decimal_shape n.converted n.logical n.scale n.precision) e).0
     ).1
 
 -- a leaf that keeps the rules has a lawful column type

@@ -2,8 +2,8 @@
 use Prim.Native.Nat.{ℕ}
 use mathlib.Core.Path.{◌≡◌, refl}
 use mathlib.Core.Bool.{Bool, true, false, cond, ◌&&◌}
-use lib.Dec.{eqb}
-use Rattle.refusal.specs.Numbers.{DISAGREEMENT, MISPLACED, BAD_DECIMAL, UNKNOWN_TYPE}
+use Rattle.std.specs.Prelude.{Ok, Err, is_ok}
+use Rattle.refusal.specs.Numbers.{UNKNOWN_TYPE}
 use Rattle.refusal.specs.Outcome.{unplaced, unknown_edition}
 use Rattle.refusal.specs.declared.answers.Refusal.{Refusal}
 use Rattle.edition.specs.Editions.{is_known}
@@ -12,18 +12,18 @@ use Rattle.annotation.specs.Rule9.{rule9}
 use Rattle.annotation.specs.Rule10.{rule10}
 use Rattle.annotation.specs.Rule11.{rule11}
 use Rattle.annotation.specs.Kinds.{kind_of}
-use Rattle.annotation.specs.Outcome.{resolution_of, refusal_of}
+use Rattle.annotation.specs.Outcome.{resolution_of}
 use Rattle.annotation.specs.declared.slot.Annotated.{Annotated}
 use Rattle.annotation.specs.declared.resolution.Kind.{Kind}
-use Rattle.annotation.specs.declared.resolution.Resolution.{Resolution}
+use Rattle.annotation.specs.declared.rules.Broken.{Broken}
 use Rattle.column_type.specs.Lawful.{annotation_right, slot_keeps, is_lawful, type_refusal}
 use Rattle.column_type.specs.declared.types.ColumnType.{ColumnType}
 
-pub annotation_right_unrefused : (edition : ℕ) (n : Annotated) → eqb (refusal_of (resolution_of edition n false)) 0 ≡ annotation_right edition n
+pub annotation_right_unrefused : (edition : ℕ) (n : Annotated) → is_ok (resolution_of edition n false) ≡ annotation_right edition n
 unfolding resolution_of
 annotation_right_unrefused edition n = cases (rule9 n) (rule10 edition n false) (rule11 edition n false) (kind_of n false)
   where
-    cases : (nine ten eleven : Bool) (k : Kind) → eqb (refusal_of (cond nine (cond ten (cond eleven (Resolution.Resolved k) (Resolution.Refused BAD_DECIMAL)) (Resolution.Refused MISPLACED)) (Resolution.Refused DISAGREEMENT))) 0 ≡ nine && ten && eleven
+    cases : (nine ten eleven : Bool) (k : Kind) → is_ok (cond nine (cond ten (cond eleven (Ok k) (Err Broken.BadDecimal)) (Err Broken.Misplaced)) (Err Broken.Disagreement)) ≡ nine && ten && eleven
     cases true true true k = refl
     cases true true false k = refl
     cases true false eleven k = refl

@@ -1,11 +1,12 @@
 -- The slot of a lawful column type: its numbers fit, its codes are listed, and its row has the kind, p1 and p2 that it was made of.
 use Prim.Native.Nat.{ℕ, ◌<◌}
 use mathlib.Core.Path.{◌≡◌, refl, sym, ◌∙◌}
-use mathlib.Core.Bool.{true, false, true≢false, cond, and-eq-true_iff, or-true}
+use mathlib.Core.Bool.{true, false, true≢false, cond, or-true}
 use native.Mathlib.Decide.{ℕ_discrete}
 use native.Mathlib.Omega.{arith}
 use lib.Dec.{eqb}
 use borrow.Author.Tests.{eqb-true, ne_eqb}
+use Rattle.laws.proofs.BoolLaws.{and_both}
 use Rattle.parquet.specs.Converted as converted
 use Rattle.parquet.specs.Logical as logical
 use Rattle.logical_type.specs.Parameters.{UNUSED, valid_parameters}
@@ -83,7 +84,7 @@ module _ (edition : ℕ) (c : ColumnType) (f : Fits c) (leaf : is_group c.physic
     none_stated : (says : Annotation) (length : ℕ) → annotation_on (cond (valid_parameters logical.NONE c.p1 c.p2) says Annotation.Unreadable) c.physical length ≡ true → (c.p1 ≡ 0) × (c.p2 ≡ 0)
     unfolding valid_parameters
     none_stated says length e =
-        let both = (and-eq-true_iff (eqb c.p1 UNUSED) (eqb c.p2 UNUSED)).0 (readable (valid_parameters logical.NONE c.p1 c.p2) says c.physical length e) in
+        let both = and_both (eqb c.p1 UNUSED) (eqb c.p2 UNUSED) (readable (valid_parameters logical.NONE c.p1 c.p2) says c.physical length e) in
         (eqb-true c.p1 UNUSED both.0, eqb-true c.p2 UNUSED both.1)
 
     -- INTERVAL

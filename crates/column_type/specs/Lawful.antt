@@ -2,9 +2,10 @@
 use Rattle.std.specs.Prelude.{ℕ, ◌^◌, Bool, false, cond, not, ◌&&◌, eqb, ltb, pos}
 use Rattle.edition.specs.Editions.{is_known}
 use Rattle.refusal.specs.Numbers.{UNKNOWN_TYPE}
-use Rattle.refusal.specs.Outcome.{unplaced, unknown_edition}
+use Rattle.refusal.specs.Outcome.{unplaced, unknown_edition, no_refusal}
 use Rattle.refusal.specs.declared.answers.Refusal.{Refusal}
-use Rattle.refusal.specs.declared.answers.Verdict.{Verdict}
+use Rattle.refusal.specs.Outcome.{Verdict}
+use Rattle.std.specs.Prelude.{Err}
 use Rattle.parquet.specs.Converted as converted
 use Rattle.parquet.specs.Logical as logical
 use Rattle.logical_type.specs.Parameters.{UNUSED}
@@ -80,4 +81,4 @@ type_refusal edition = cond (is_known edition) (unplaced UNKNOWN_TYPE) unknown_e
 
 -- what judging a column type answers
 unfoldable pub judgement_of : ℕ → ColumnType → Verdict
-judgement_of edition c = cond (is_lawful edition c) Verdict.Lawful (Verdict.Refused (type_refusal edition))
+judgement_of edition c = cond (is_lawful edition c) no_refusal (Err (type_refusal edition))

@@ -1,9 +1,11 @@
--- What the contracts of private functions cite, and no promise to a caller: what a DECIMAL stands on.
-use Rattle.std.specs.Prelude.{ℕ, Bool, ◌&&◌, ltb, pos}
+-- What the contracts of private functions cite, and no promise to a caller: what a DECIMAL stands on, and the slot of another kind.
+use Rattle.std.specs.Prelude.{ℕ, Bool, cond, ◌&&◌, ltb, pos, Option, Some, None}
 use Rattle.annotation.specs.Rule10.{decimal_on}
 use Rattle.annotation.specs.Rule11.{physical_holds}
 use Rattle.tree.specs.Rules.{length_shape}
-use Rattle.column_type.specs.Lawful.{signed_numbers, is_leaf}
+use Rattle.annotation.specs.declared.slot.Annotated.{Annotated}
+use Rattle.column_type.specs.Lawful.{slot_of, signed_numbers, fits, is_leaf}
+use Rattle.column_type.specs.declared.types.ColumnType.{ColumnType}
 
 -- a DECIMAL of this precision may stand on a physical type and length: a leaf's, with the length that rule 8 asks for, by rules 10 and 11
 unfoldable pub stands_on : ℕ → ℕ → ℕ → Bool
@@ -12,3 +14,7 @@ stands_on physical length precision =
     && is_leaf physical
     && length_shape physical (pos length)
     && (decimal_on physical && physical_holds physical length precision)
+
+-- the slot of a column type where each number fits its field
+unfoldable pub slot_in : ColumnType → Option Annotated
+slot_in c = cond (fits c) (Some (slot_of c)) None

@@ -2,7 +2,7 @@
 // before them; without it, it is the first.
 #![tactic(auto)]
 
-ghost use Rattle.std.specs.Prelude.{◌≡◌, ◌≤◌};
+ghost use Rattle.std.specs.Prelude.{◌≤◌};
 
 use column::MOST_BYTES;
 use column_text::LINE_ROOM;
@@ -15,36 +15,24 @@ const ARGUMENTS: usize = 6;
 
 const ARGUMENTS_WITH_EDITION: usize = 7;
 
-// The numbers of a column type.
-const NUMBERS: usize = 5;
-
 // Room for the digits of a number; an argument that is longer is no number of 32 bits, but for zeros in front.
 const DIGITS: usize = 16;
 
-// The greatest number of 32 bits, and one past it, which stands for no number.
-const GREATEST: u64 = 0xffff_ffff;
-
-const NO_NUMBER: u64 = GREATEST + 1;
-
 fn main(rt: HostRuntime) {
-    let count = edition_argument::word_count(&rt, ARGUMENTS_WITH_EDITION + 1);
-    if count == ARGUMENTS {
-        return run(&rt, FIRST, 1);
+    match edition_argument::word_count(&rt, ARGUMENTS_WITH_EDITION + 1) {
+        ARGUMENTS => run(&rt, FIRST, 1),
+        ARGUMENTS_WITH_EDITION => run(&rt, edition_argument::at(&rt, 1), 2),
+        _ => print_usage(&rt),
     }
-    if count == ARGUMENTS_WITH_EDITION {
-        return run(&rt, edition_argument::at(&rt, 1), 2);
-    }
-    print_usage(&rt);
 }
 
 // Reads and prints in an edition, where the numbers of the column type stand from an argument on.
 fn run(rt: &(impl Env + Input + Print + Eprint), edition: u32, first: usize)
     requires { first ≤ 2 }
 {
-    if numbers_right(rt, first) {
-        print_value(rt, edition, read_type(rt, first));
-    } else {
-        print_usage(rt);
+    match read_type(rt, first) {
+        Some(column) => print_value(rt, edition, column),
+        None => print_usage(rt),
     }
 }
 
@@ -62,75 +50,38 @@ fn print_usage(rt: &impl Eprint) {
     let _ = rt.eprintln("usage: column_values [EDITION] PHYSICAL TYPE_LENGTH KIND P1 P2 < VALUE");
 }
 
-// Whether five arguments are numbers of 32 bits.
-fn numbers_right(rt: &impl Env, first: usize) -> bool
+// The column type of five arguments, if each is a number of 32 bits.
+fn read_type(rt: &impl Env, first: usize) -> Option<ColumnType>
     requires { first ≤ 2 }
 {
-    let mut i = 0;
-    while i < NUMBERS {
-        if argument_at(rt, first + i) > GREATEST {
-            return false;
-        }
-        i += 1;
-    }
-    true
-}
-
-fn read_type(rt: &impl Env, first: usize) -> ColumnType
-    requires { first ≤ 2 }
-{
-    let physical = number_at(rt, first);
-    let type_length = number_at(rt, first + 1);
-    let kind = number_at(rt, first + 2);
-    let p1 = number_at(rt, first + 3);
-    let p2 = number_at(rt, first + 4);
-    ColumnType {
-        physical,
-        type_length,
-        kind,
-        p1,
-        p2,
-    }
-}
-
-fn number_at(rt: &impl Env, i: usize) -> u32 {
-    let n = argument_at(rt, i);
-    if n > GREATEST {
-        return 0;
-    }
-    n as u32
+    Some(ColumnType {
+        physical: number_at(rt, first)?,
+        type_length: number_at(rt, first + 1)?,
+        kind: number_at(rt, first + 2)?,
+        p1: number_at(rt, first + 3)?,
+        p2: number_at(rt, first + 4)?,
+    })
 }
 
 // An argument that is missing or does not fit the room is read as no digits.
-fn argument_at(rt: &impl Env, i: usize) -> u64 {
+fn number_at(rt: &impl Env, i: usize) -> Option<u32> {
     let mut text = [0u8; DIGITS];
     let length = edition_argument::word(rt, i, &mut text);
     number(&text[..length])
 }
 
-// The number of decimal digits, if it has one and fits 32 bits.
-fn number(text: &[u8]) -> u64 {
-    if text.len() == 0 {
-        return NO_NUMBER;
+// The number of decimal digits, if it has one and fits 32 bits. The library's `parse` would take a plus sign too.
+fn number(text: &[u8]) -> Option<u32> {
+    if text.is_empty() {
+        return None;
     }
-    let mut n: u64 = 0;
-    let mut i = 0;
-    while i < text.len() {
-        let digit = std::num::wrapping_sub_u8(text[i], b'0');
+    let mut n: u32 = 0;
+    for byte in text {
+        let digit = byte.checked_sub(b'0')?;
         if digit > 9 {
-            return NO_NUMBER;
+            return None;
         }
-        n = n * 10 + wide(digit);
-        if n > GREATEST {
-            return NO_NUMBER;
-        }
-        i += 1;
+        n = n.checked_mul(10)?.checked_add(u32::from(digit))?;
     }
-    n
-}
-
-fn wide(digit: u8) -> u64
-    ensures { result ≡ digit }
-{
-    digit as u64
+    Some(n)
 }

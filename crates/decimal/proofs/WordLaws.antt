@@ -1,25 +1,30 @@
--- Laws of numbers of up to 16 bytes, as two words: their value, their distance from 0, and their order. Assumes nothing.
+-- Laws of numbers of up to 16 bytes, plus 2^127: their value, their distance from 0, and their order. Assumes nothing.
 use mathlib.Core.Path.{◌≡◌, refl, sym, ap, ap₂, subst, ◌∙◌}
-use mathlib.Core.Bool.{Bool, true, false, ◌&&◌, and-true}
+use mathlib.Core.Bool.{Bool, true, false}
 use mathlib.Core.List.{List, [], ◌∷◌}
+use mathlib.Core.Logic.{⊎_elim}
 use Prim.Native.Nat.{ℕ, zero, suc, ◌+◌, ◌*◌, ◌-◌, ◌/◌, ◌^◌, ◌≤◌, ◌<◌}
-use native.Mathlib.Nat.{one-mul, le_refl, le_trans, le_of_lt, lt_of_le_of_lt, lt_of_lt_of_le, pow-le-pow_right, pow-suc, mul-div_cancel, min-eq_left}
+use native.Mathlib.Nat.{one-mul, le_refl, le_of_lt, lt_of_le_of_lt, lt_of_lt_of_le, eq-or-lt_of_le, pow-le-pow_right, pow-suc, mul-div_cancel, min-eq_left}
 use native.Mathlib.Numerals.{add-one}
 use native.Mathlib.Omega.{arith}
-use lib.Arith.{digits_lt}
 use lib.Bits.{bit_xor, xor_block, xor_comm, xor_shifted, xor_zero_r}
-use lib.Dec.{leb, ltb, leb→le, ltb→lt}
+use lib.Dec.{leb, ltb, ltb→lt}
 use lib.IntN.{nat_abs, sub_ℕ}
 use lib.ListN.{length, get_or, take, drop, length-take, length-drop, take-append-drop}
 use lib.Pow.{pow-add, pow_mono, pow_pos}
 use lib.Seq.{get_or-take, get_or-drop, take_all, take-suc}
-use borrow.Author.Tests.{le-leb, lt-leb, leb-true, lt-ltb}
+use borrow.Author.Tests.{le-leb, lt-leb, leb-true, lt-ltb, le-ltb}
+use Rattle.std.specs.Int.{w64, from_be_bytes, abs_diff}
 use Rattle.decimal_bytes.specs.Number.{unsigned, is_negative, number}
-use Rattle.decimal.specs.Words.{four_bytes, eight_bytes}
 use Rattle.decimal_bytes.specs.Precision.{is_length}
-use Rattle.decimal.specs.Steps.{is_short, sign_weight, taken}
+use Rattle.std.specs.Cmp.{nat_cmp_is}
+use Rattle.std.specs.Ordering.{nat_cmp}
+use Rattle.std.specs.declared.cmp.Ordering.TheVariants.{Less, Equal, Greater}
+use Rattle.decimal_bytes.specs.Order.{order}
+use Rattle.decimal_bytes.proofs.OrderLaws.{subℕ_order}
+use Rattle.decimal.specs.Steps.{is_short, sign_weight, taken, four_bytes, eight_bytes}
 use Rattle.laws.proofs.BoolLaws.{and_left, and_right}
-use Rattle.laws.proofs.DifferenceLaws.{sub_below, sub_above, sub_eq, below?, ltb_same}
+use Rattle.laws.proofs.DifferenceLaws.{sub_below, sub_above, sub_eq, below?}
 use Rattle.decimal_bytes.proofs.PrecisionLaws.{is_length_within}
 use Rattle.laws.proofs.ByteLaws.{EachByte}
 use Rattle.decimal_bytes.proofs.UnsignedLaws.{unsigned_drop, unsigned-++}
@@ -109,22 +114,6 @@ xor_set k n h l =
     ∙ xor_block k 1 1 (n - 2 ^ k) 0 (omega arith) (pow_pos k)
     ∙ ap (λ (m : ℕ). 0 * 2 ^ k + m) (xor_zero_r (n - 2 ^ k))
     ∙ omega arith
-
--- the words of a number of one word, both plus half of what they hold
-clear : (a h m t n : ℕ) → h + h ≡ m → a + m ≡ t → a + (n + h) + h ≡ n + t
-clear a h m t n e f = omega arith
-
-set : (h t n : ℕ) → h ≤ n → t + (n - h) + h ≡ n + t
-set h t n l = omega arith
-
-pub sign_flipped : (n : ℕ) → n < 2 ^ 64 → (2 ^ 63 - 1 + n / 2 ^ 63) * 2 ^ 64 + bit_xor n (2 ^ 63) + 2 ^ 63 ≡ n + 2 ^ 127
-sign_flipped n h =
-    below? n (2 ^ 63)
-    (λ l. let q : n / 2 ^ 63 ≡ 0 = omega arith in words q (xor_clear 63 n l) ∙ clear ((2 ^ 63 - 1) * 2 ^ 64) (2 ^ 63) (2 ^ 64) (2 ^ 127) n refl refl)
-    (λ l. let q : n / 2 ^ 63 ≡ 1 = omega arith in words q (xor_set 63 n l h) ∙ set (2 ^ 63) (2 ^ 127) n l)
-  where
-    words : {p q r t : ℕ} → p ≡ q → r ≡ t → (2 ^ 63 - 1 + p) * 2 ^ 64 + r + 2 ^ 63 ≡ (2 ^ 63 - 1 + q) * 2 ^ 64 + t + 2 ^ 63
-    words e f = ap₂ (λ (m n : ℕ). (2 ^ 63 - 1 + m) * 2 ^ 64 + n + 2 ^ 63) e f
 
 -- half of what so many bytes hold
 power_sign : (count : ℕ) → 1 ≤ count → 256 ^ count ≡ 2 * sign_weight count
@@ -236,60 +225,53 @@ module _ (v m : ℕ) where
   far-≤ : v ≤ m + m → nat_abs (sub_ℕ v m) ≤ m
   far-≤ h = below? v m (λ l. omega (arith, far_below l)) (λ l. omega (arith, far_above l))
 
-  pub near_test : (p : ℕ) → 1 ≤ p → p ≤ m → ltb (m - p) v && ltb v (m + p) ≡ ltb (nat_abs (sub_ℕ v m)) p
-  near_test p some fits = below? v m below over
-    where
-      below : v < m → ltb (m - p) v && ltb v (m + p) ≡ ltb (nat_abs (sub_ℕ v m)) p
-      below l =
-          rw (far_below l, lt-ltb v (m + p) (omega arith), ltb_same (m - p) v (m - v) p (λ q. omega arith) (λ q. omega arith))
-          (and-true (ltb (m - v) p))
-
-      over : m ≤ v → ltb (m - p) v && ltb v (m + p) ≡ ltb (nat_abs (sub_ℕ v m)) p
-      over l = rw (far_above l, lt-ltb (m - p) v (omega arith)) (ltb_same v (m + p) (v - m) p (λ q. omega arith) (λ q. omega arith))
-
--- words that lie so far below, and above, m
-module _ (high low h m : ℕ) (some : 1 ≤ low) (fits : low < 2 ^ 64) (e : h * 2 ^ 64 ≡ m) (within : high * 2 ^ 64 + low ≤ m) where
-  pub near_high : high ≤ h - 1
-  near_high = omega arith
-
-  pub near_fits : h + high < h + h
-  near_fits = omega arith
-
-  pub near_least : (h - 1 - high) * 2 ^ 64 + (2 ^ 64 - 1 - (low - 1)) ≡ m - (high * 2 ^ 64 + low)
-  near_least = least (h - 1 - high) (2 ^ 64 - 1 - (low - 1)) (omega (arith, near_high)) (omega arith)
-    where
-      least : (a b : ℕ) → a + high + 1 ≡ h → b + low ≡ 2 ^ 64 → a * 2 ^ 64 + b ≡ m - (high * 2 ^ 64 + low)
-      least a b p q = omega arith
-
-  pub near_most : (h + high) * 2 ^ 64 + low ≡ m + (high * 2 ^ 64 + low)
-  near_most = omega arith
+  pub far : nat_abs (sub_ℕ v m) ≡ abs_diff v m
+  far = below? v m (λ l. far_below l ∙ omega arith) (λ l. far_above l ∙ omega arith)
 
 -- ---- the order of two values
 
-pub words_same : (g h k l : ℕ) → g ≡ h → ltb k l ≡ ltb (g * 2 ^ 64 + k) (h * 2 ^ 64 + l)
-words_same g h k l e = ltb_same k l (g * 2 ^ 64 + k) (h * 2 ^ 64 + l) (λ p. omega arith) (λ p. omega arith)
+pub cmp_order : (m n : ℕ) → nat_cmp m n ≡ order (sub_ℕ m (2 ^ 127)) (sub_ℕ n (2 ^ 127))
+cmp_order m n =
+    below? m n
+    (λ h. sym (nat_cmp_is m n Less h) ∙ subℕ_order m n (2 ^ 127) true _ (lt-ltb m n h) refl)
+    (λ h. ⊎_elim
+    (λ e. sym (nat_cmp_is m n Equal (sym e)) ∙ subℕ_order m n (2 ^ 127) false false (le-ltb m n h) (le-ltb n m (omega arith)))
+    (λ l. sym (nat_cmp_is m n Greater l) ∙ subℕ_order m n (2 ^ 127) false true (le-ltb m n h) (lt-ltb n m l))
+    (eq-or-lt_of_le h))
 
-pub words_differ : (g h k l : ℕ) → k < 2 ^ 64 → l < 2 ^ 64 → (g ≡ h → ⊥) → ltb g h ≡ ltb (g * 2 ^ 64 + k) (h * 2 ^ 64 + l)
-words_differ g h k l p q d =
-    ltb_same g h (g * 2 ^ 64 + k) (h * 2 ^ 64 + l) (λ r. omega arith) (λ r. omega (arith, d))
-
--- 38 digits are at most what 16 bytes hold, and 39 more
-pub power-≤ : (precision : ℕ) → precision < 39 → 10 ^ precision ≤ 2 ^ 127
-power-≤ precision h = le_trans (pow-le-pow_right {n = 10} (omega arith) {j = 38} (omega arith)) (leb→le (10 ^ 38) (2 ^ 127) tt)
-
+-- 39 digits are more than what 16 bytes hold
 power_beyond : (u precision : ℕ) → u ≤ 2 ^ 127 → 39 ≤ precision → u < 10 ^ precision
 power_beyond u precision h k =
     lt_of_lt_of_le (lt_of_le_of_lt h (ltb→lt (2 ^ 127) (10 ^ 39) tt)) (pow-le-pow_right {n = 10} (omega arith) k)
 
-pub far_beyond : (high low precision : ℕ) → high < 2 ^ 64 → low < 2 ^ 64 → 39 ≤ precision
-    → true ≡ ltb (nat_abs (sub_ℕ (high * 2 ^ 64 + low) (2 ^ 127))) (10 ^ precision)
-far_beyond high low precision h l k =
-    sym (lt-ltb _ _ (power_beyond _ precision (far-≤ (high * 2 ^ 64 + low) (2 ^ 127) (le_of_lt (digits_lt h l))) k))
+pub far_beyond : (n precision : ℕ) → n < 2 ^ 128 → 39 ≤ precision → true ≡ ltb (nat_abs (sub_ℕ n (2 ^ 127))) (10 ^ precision)
+far_beyond n precision h k =
+    sym (lt-ltb _ _ (power_beyond _ precision (far-≤ n (2 ^ 127) (le_of_lt h)) k))
 
--- ---- the lengths of numbers that have words
+-- ---- the lengths of short numbers
 
 pub is_short_bounds : (n : ℕ) → is_short n ≡ true → (1 ≤ n) × (n ≤ 16)
 is_short_bounds n e = (leb-true 1 n (and_left (leb 1 n) (leb n 16) e), leb-true n 16 (and_right (leb 1 n) (leb n 16) e))
 
 pub short_length : (n : ℕ) → 1 ≤ n → n ≤ 16 → is_length n ≡ true
 short_length n h l = is_length_within n h (omega arith)
+
+-- ---- eight bytes, the most significant first
+
+pub from_eight : (bs : List ℕ) (at : ℕ)
+    → from_be_bytes w64 (get_or bs at 0 ∷ get_or bs (at + 1) 0 ∷ get_or bs (at + 2) 0 ∷ get_or bs (at + 3) 0 ∷ get_or bs (at + 4) 0 ∷ get_or bs (at + 5) 0 ∷ get_or bs (at + 6) 0 ∷ get_or bs (at + 7) 0 ∷ [])
+    ≡ eight_bytes bs at
+unfolding eight_bytes four_bytes
+from_eight bs at =
+    eight (get_or bs at 0) (get_or bs (at + 1) 0) (get_or bs (at + 2) 0) (get_or bs (at + 3) 0) (get_or bs (at + 4) 0) (get_or bs (at + 5) 0) (get_or bs (at + 6) 0) (get_or bs (at + 7) 0)
+    ∙ ap (λ (n : ℕ). (((get_or bs at 0 * 256 + get_or bs (at + 1) 0) * 256 + get_or bs (at + 2) 0) * 256 + get_or bs (at + 3) 0) * 2 ^ 32 + n) places
+  where
+    place : (k l m : ℕ) → k + l ≡ m → get_or bs (at + m) 0 ≡ get_or bs (at + k + l) 0
+    place k l m e = ap (λ (n : ℕ). get_or bs n 0) (omega arith)
+
+    places : ((get_or bs (at + 4) 0 * 256 + get_or bs (at + 5) 0) * 256 + get_or bs (at + 6) 0) * 256 + get_or bs (at + 7) 0
+        ≡ ((get_or bs (at + 4) 0 * 256 + get_or bs (at + 4 + 1) 0) * 256 + get_or bs (at + 4 + 2) 0) * 256 + get_or bs (at + 4 + 3) 0
+    places = rw (place 4 1 5 refl, place 4 2 6 refl, place 4 3 7 refl)
+
+    eight : (a b c d e f g h : ℕ) → from_be_bytes w64 (a ∷ b ∷ c ∷ d ∷ e ∷ f ∷ g ∷ h ∷ []) ≡ (((a * 256 + b) * 256 + c) * 256 + d) * 2 ^ 32 + (((e * 256 + f) * 256 + g) * 256 + h)
+    eight a b c d e f g h = omega arith

@@ -14,8 +14,10 @@ use lib.ListN.{length, get_or, take, replicate, length-append, length-replicate}
 use lib.Seq.{take_all, take-suc}
 use lib.Signed.{lt_z, lt_z_yes, ◌<ℤ◌}
 use borrow.Author.Tests.{lt-ltb, le-ltb, ltb-true, ltb-false}
-use Rattle.decimal_bytes.specs.declared.order.Order.{Order}
-use Rattle.decimal_bytes.specs.declared.order.Order.TheVariants.{Less, Equal, Greater, WrongLength}
+use Rattle.std.specs.Prelude.{Result, Ok, Err}
+use Rattle.std.specs.declared.cmp.Ordering.{Ordering}
+use Rattle.std.specs.declared.cmp.Ordering.TheVariants.{Less, Equal, Greater}
+use Rattle.decimal_bytes.specs.declared.precision.WrongLength.{WrongLength}
 use Rattle.decimal_bytes.specs.Precision.{is_length}
 use Rattle.decimal_bytes.specs.Number.{unsigned, is_negative, number}
 use Rattle.decimal_bytes.specs.Significant.{sign_byte}
@@ -56,7 +58,7 @@ order-≡ x = simp (lt_z_irrefl x)
 -- ---- each answer exactly where the numbers are so
 
 -- what an answer says of the two tests that give it
-by_tests_lem : (x y : ℤ) (o : Order) {A : Type 0} → order x y ≡ o
+by_tests_lem : (x y : ℤ) (o : Ordering) {A : Type 0} → order x y ≡ o
     → (lt_z x y ≡ true → Less ≡ o → A) → (lt_z y x ≡ true → Greater ≡ o → A) → (x ≡ y → Equal ≡ o → A) → A
 by_tests_lem x y o {A} e l g s = go (lt_z x y) refl (lt_z y x) refl e
   where
@@ -84,20 +86,27 @@ order_greater x y = (
   λ h. order-> x y (T_true (lt_z y x) h.lt),
 )
 
-pub order_of_order : (a b : List ℕ) → is_length (length a) ≡ true → is_length (length b) ≡ true → order_of a b ≡ order (number a) (number b)
+-- an order as the answer of comparing decimals has it
+abbrev pub answer : Ordering → Result Ordering WrongLength
+answer o = Ok o
+
+answer_as : {o p : Ordering} {P : Type 0} → (o ≡ p) ↔ P → (answer o ≡ answer p) ↔ P
+answer_as h = (λ e. h.0 cc, λ p. ap answer (h.1 p))
+
+pub order_of_order : (a b : List ℕ) → is_length (length a) ≡ true → is_length (length b) ≡ true → order_of a b ≡ answer (order (number a) (number b))
 unfolding order_of
 order_of_order a b p q = rw (p, q)
 
 -- of two decimals of any two lengths: each answer exactly where the numbers that they stand for are so
 module _ (a b : List ℕ) (p : is_length (length a) ≡ true) (q : is_length (length b) ≡ true) where
-  pub order_of_less : (order_of a b ≡ Less) ↔ (number a <ℤ number b)
-  order_of_less = rw (order_of_order a b p q) (order_less (number a) (number b))
+  pub order_of_less : (order_of a b ≡ Ok Less) ↔ (number a <ℤ number b)
+  order_of_less = rw (order_of_order a b p q) (answer_as (order_less (number a) (number b)))
 
-  pub order_of_equal : (order_of a b ≡ Equal) ↔ (number a ≡ number b)
-  order_of_equal = rw (order_of_order a b p q) (order_equal (number a) (number b))
+  pub order_of_equal : (order_of a b ≡ Ok Equal) ↔ (number a ≡ number b)
+  order_of_equal = rw (order_of_order a b p q) (answer_as (order_equal (number a) (number b)))
 
-  pub order_of_greater : (order_of a b ≡ Greater) ↔ (number b <ℤ number a)
-  order_of_greater = rw (order_of_order a b p q) (order_greater (number a) (number b))
+  pub order_of_greater : (order_of a b ≡ Ok Greater) ↔ (number b <ℤ number a)
+  order_of_greater = rw (order_of_order a b p q) (answer_as (order_greater (number a) (number b)))
 
 -- ---- two lists of one length and sign
 
@@ -214,27 +223,27 @@ number_signs a b h l = go (is_negative a) refl (is_negative b) refl l
     go false p true q k = absurd (not-suc-le-zero k)
     go false p false q k = absurd (not-suc-le-zero k)
 
-pub order_of_wrong_left : (a b : List ℕ) → is_length (length a) ≡ false → order_of a b ≡ WrongLength
+pub order_of_wrong_left : (a b : List ℕ) → is_length (length a) ≡ false → order_of a b ≡ Err (record {})
 unfolding order_of
 order_of_wrong_left a b p = rw p
 
-pub order_of_wrong_right : (a b : List ℕ) → is_length (length b) ≡ false → order_of a b ≡ WrongLength
+pub order_of_wrong_right : (a b : List ℕ) → is_length (length b) ≡ false → order_of a b ≡ Err (record {})
 unfolding order_of
 order_of_wrong_right a b p = rw p (go (is_length (length a)))
   where
-    go : (t : Bool) → cond (t && false) (order (number a) (number b)) WrongLength ≡ WrongLength
+    go : (t : Bool) → cond (t && false) (answer (order (number a) (number b))) (Err (record {})) ≡ Err (record {})
     go true = refl
     go false = refl
 
 -- document 01's own examples: FF and FFFF are equal, 80 is below 7F, 00FF is above 7F
-published_equal : order_of (255 ∷ []) (255 ∷ 255 ∷ []) ≡ Equal
+published_equal : order_of (255 ∷ []) (255 ∷ 255 ∷ []) ≡ Ok Equal
 unfolding order_of number
 published_equal = refl
 
-published_less : order_of (128 ∷ []) (127 ∷ []) ≡ Less
+published_less : order_of (128 ∷ []) (127 ∷ []) ≡ Ok Less
 unfolding order_of number
 published_less = refl
 
-published_greater : order_of (0 ∷ 255 ∷ []) (127 ∷ []) ≡ Greater
+published_greater : order_of (0 ∷ 255 ∷ []) (127 ∷ []) ≡ Ok Greater
 unfolding order_of number
 published_greater = refl

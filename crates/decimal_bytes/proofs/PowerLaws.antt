@@ -1,16 +1,20 @@
 -- Laws of multiplying the number of bytes by a factor, a byte at a time from the last to the first, and of powers of ten.
 -- Assumes nothing.
 use mathlib.Core.Path.{◌≡◌, refl, sym, ap, ap₂, ◌∙◌}
-use mathlib.Core.Logic.{◌≢◌}
+use mathlib.Core.Bool.{Bool}
 use mathlib.Core.List.{List}
 use Prim.Native.Nat.{ℕ, suc, ◌+◌, ◌*◌, ◌-◌, ◌/◌, ◌%◌, ◌^◌, ◌≤◌, ◌<◌, min}
 use native.Mathlib.Nat.{add-mul, mul_assoc, mul_comm, mul_right_comm, mul-le-mul_right, div-add-mod', mod-lt, mod-eq_of_lt, add-mul-mod_self_right, pow-suc, ne_of_lt, le_of_suc-le-suc, le_refl, mul-one, sub_self, one-le-pow, pow-le-pow_right}
 use native.Mathlib.Omega.{arith}
 use lib.Arith.{digits_lt}
+use lib.Dec.{T, eqb}
 use lib.ListN.{length, get_or, drop, set, length-set}
 use lib.Pow.{pow-add}
 use lib.Seq.{drop-set-lt, drop-length, get_or-set_same, get_or-set_other}
+use borrow.Author.Tests.{eqb-true}
+use Rattle.laws.proofs.BoolLaws.{T_true}
 use Rattle.decimal_bytes.specs.Number.{unsigned}
+use Rattle.decimal_bytes.proofs.Table.{every, at}
 use Rattle.decimal_bytes.proofs.UnsignedLaws.{unsigned_drop}
 
 -- the bytes from `at` on are those of the old number times the factor, but for a carry; those before are the old ones
@@ -133,17 +137,21 @@ pub power_more : (u v n f : ℕ) (i j k : ℕ) → v ≡ u * 10 ^ i % n → f �
 power_more u v n f i j k e h s =
     ap₂ (λ (x y : ℕ). x * y % n) e h ∙ mod_power u n i j ∙ ap (λ (m : ℕ). u * 10 ^ m % n) s
 
-pub power_none : (u n e : ℕ) → u < n → u ≡ u * 10 ^ (e - e) % n
-power_none u n e h = sym (ap (λ (m : ℕ). u * 10 ^ m % n) (sub_self e) ∙ ap (λ (m : ℕ). m % n) (mul-one u) ∙ mod-eq_of_lt h)
+pub power_none : (u n : ℕ) → u < n → u ≡ u * 10 ^ 0 % n
+power_none u n h = sym (ap (λ (m : ℕ). m % n) (mul-one u) ∙ mod-eq_of_lt h)
 
 pub power_bounds : (i : ℕ) → i ≤ 16 → (1 ≤ 10 ^ i) × (10 ^ i ≤ 10 ^ 16)
 power_bounds i h = (one-le-pow i 10 (omega arith), pow-le-pow_right (omega arith) h)
 
--- ---- the arms of a table of powers
+-- ---- a table of powers
 
--- a number from k on that is none of the next six
-pub past : (n k : ℕ) → k ≤ n → n ≢ k → n ≢ k + 1 → n ≢ k + 2 → n ≢ k + 3 → n ≢ k + 4 → n ≢ k + 5 → k + 6 ≤ n
-past n k h a b c d e f = omega arith
+-- the number at the place k is 10^k
+abbrev pub is_power : ℕ → ℕ → Bool
+is_power k n = eqb n (10 ^ k)
+
+-- in a table of which this is so everywhere, each entry is the power of its place
+pub power_entry : (table : List ℕ) → T (every is_power 0 table) → (k : ℕ) → k < length table → get_or table k 0 ≡ 10 ^ k
+power_entry table t k h = eqb-true _ _ (T_true _ (at is_power table t k h))
 
 -- what 64 bits hold of a power of ten is the power itself below the twentieth
 pub power_held : (r n : ℕ) → r ≡ 10 ^ min n 19 → n < 20 → r ≡ 10 ^ n

@@ -1,73 +1,53 @@
 // Whether a decimal keeps to its precision, by its bytes.
-ghost use Rattle.std.specs.Prelude.{◌≡◌, true, ◌≤◌, length};
+ghost use Rattle.std.specs.Prelude.{◌≡◌, true, ◌≤◌, length, Ok};
 ghost use Rattle.decimal_bytes.specs.Precision.{greatest_length, is_length, greatest_precision};
 ghost use Rattle.decimal_bytes.specs.Significant.{significant};
 ghost use Rattle.decimal_bytes.specs.Fit.{fit_of};
 
-use crate::order::Order;
+use crate::precision::WrongLength;
 use crate::{number, order, power, precision};
+use std::cmp::Ordering;
 
-// |number| < 10^precision, or not. A length outside 1 to 256 is wrong.
-#[derive(Clone, Copy)]
-pub enum Fit {
-    Within,
-    Beyond,
-    WrongLength,
-}
-
-// Holds a number of any length to a precision by its bytes.
-pub fn fits_by_bytes(number: &[u8], precision: u32) -> Fit
+// Whether |number| < 10^precision, by the bytes of a number of any length. A length outside 1 to 256 is wrong.
+pub fn fits_by_bytes(number: &[u8], precision: u32) -> Result<bool, WrongLength>
     ensures { result ≡ fit_of number.now precision }
 {
     if !precision::is_length(number.len()) {
-        return Fit::WrongLength;
+        return Err(WrongLength);
     }
-    fits_by_length(number::significant(number), precision)
+    Ok(fits_by_length(number::significant(number), precision))
 }
 
 // The number has n bytes, all needed, so |number| is at least 2^(8(n-1)-1), where n is not 1, and at most 2^(8n-1), which is no power
 // of ten. So it is within every precision above the greatest of n bytes, and beyond each up to the greatest of n - 1 bytes. The two or
 // three precisions between are left to the number itself.
-fn fits_by_length(number: &[u8], precision: u32) -> Fit
+fn fits_by_length(number: &[u8], precision: u32) -> bool
     requires { (is_length (length number.now) ≡ true) × (significant number.now ≡ number.now) }
-    ensures { result ≡ fit_of number.now precision }
+    ensures { Ok result ≡ fit_of number.now precision }
 {
     let length = number.len() as u32;
     if precision > precision::greatest_precision(length) {
-        return Fit::Within;
+        return true;
     }
-    if length > 1 {
-        if precision <= precision::greatest_precision(length - 1) {
-            return Fit::Beyond;
-        }
+    if length > 1 && precision <= precision::greatest_precision(length - 1) {
+        return false;
     }
     fits_exactly(number, precision)
 }
 
 // Compares with 10^precision, or with its negative, which the number's length holds.
-fn fits_exactly(number: &[u8], precision: u32) -> Fit
+fn fits_exactly(number: &[u8], precision: u32) -> bool
     requires { (is_length (length number.now) ≡ true) × (precision ≤ greatest_precision (length number.now)) }
-    ensures { result ≡ fit_of number.now precision }
+    ensures { Ok result ≡ fit_of number.now precision }
 {
     let n = number.len();
     let negative = number::is_negative(number);
     let mut bound = room();
     power::write_power(&mut bound[..n], negative, precision);
-    match order::compare_by_bytes(number, &bound[..n]) {
-        Order::Less => {
-            if negative {
-                return Fit::Beyond;
-            }
-            Fit::Within
-        }
-        Order::Equal => Fit::Beyond,
-        Order::Greater => {
-            if negative {
-                return Fit::Within;
-            }
-            Fit::Beyond
-        }
-        Order::WrongLength => Fit::WrongLength,
+    match order::compare_numbers(number, &bound[..n]) {
+        Ordering::Less => !negative,
+        Ordering::Equal => false,
+        Ordering::Greater => negative,
     }
 }
 

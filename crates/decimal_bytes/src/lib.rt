@@ -8,7 +8,7 @@ mod order; // order.rt: the order of two numbers of any two lengths
 mod power; // power.rt: powers of ten, as words and as bytes
 mod precision; // precision.rt: the lengths, and the greatest precision of each
 
-pub use fit::{Fit, fits_by_bytes};
-pub use order::{Order, compare_by_bytes};
+pub use fit::fits_by_bytes;
+pub use order::compare_by_bytes;
 pub use power::{BEYOND_WORD, is_below_power, power_of_ten};
-pub use precision::{greatest_precision, is_length};
+pub use precision::{WrongLength, greatest_precision, is_length};

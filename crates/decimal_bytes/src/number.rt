@@ -30,13 +30,11 @@ pub(crate) fn sign_byte(number: &[u8]) -> u8
 pub(crate) fn significant(number: &[u8]) -> &[u8]
     ensures { result.now ≡ significant number.now }
 {
-    let mut at = 0;
-    while at + 1 < number.len() {
-        let next = at + 1;
-        if number[at] != sign_byte(&number[next..]) {
+    let last = number.len().saturating_sub(1);
+    for at in 0..last {
+        if number[at] != sign_byte(&number[at + 1..]) {
             return &number[at..];
         }
-        at = next;
     }
-    &number[at..]
+    &number[last..]
 }

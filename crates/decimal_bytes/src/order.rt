@@ -1,72 +1,61 @@
 // The order of two decimals by their bytes, as the numbers that they stand for.
-ghost use Rattle.std.specs.Prelude.{◌≡◌, ◌++◌, ◌+◌, ◌<◌, max, length, get_or, replicate};
+ghost use Rattle.std.specs.Prelude.{◌≡◌, ◌++◌, ◌+◌, ◌<◌, length, get_or, replicate};
 ghost use Rattle.decimal_bytes.specs.Number.{number};
 ghost use Rattle.decimal_bytes.specs.Significant.{sign_byte};
 ghost use Rattle.decimal_bytes.specs.Order.{order, order_of};
 
+use crate::precision::WrongLength;
 use crate::{number, precision};
+use std::cmp::Ordering;
 
-// The first number against the second. A length outside 1 to 256 is wrong, in either.
-#[derive(Clone, Copy)]
-pub enum Order {
-    Less,
-    Equal,
-    Greater,
-    WrongLength,
-}
-
-// Compares two numbers of any two lengths by their bytes.
-pub fn compare_by_bytes(a: &[u8], b: &[u8]) -> Order
+// Compares two numbers of any two lengths by their bytes. A length outside 1 to 256 is wrong, in either.
+pub fn compare_by_bytes(a: &[u8], b: &[u8]) -> Result<Ordering, WrongLength>
     ensures { result ≡ order_of a.now b.now }
 {
     if !precision::is_length(a.len()) {
-        return Order::WrongLength;
+        return Err(WrongLength);
     }
     if !precision::is_length(b.len()) {
-        return Order::WrongLength;
+        return Err(WrongLength);
     }
+    Ok(compare_numbers(a, b))
+}
+
+// Compares the numbers of any bytes: first their signs.
+pub(crate) fn compare_numbers(a: &[u8], b: &[u8]) -> Ordering
+    ensures { result ≡ order (number a.now) (number b.now) }
+{
     let sign = number::sign_byte(a);
     let other = number::sign_byte(b);
     if sign > other {
-        return Order::Less;
+        return Ordering::Less;
     }
     if sign < other {
-        return Order::Greater;
+        return Ordering::Greater;
     }
     compare_alike(a, b, sign)
 }
 
 // Compares two numbers of one sign: once the shorter has its sign in front, the first byte that differs decides.
-fn compare_alike(a: &[u8], b: &[u8], sign: u8) -> Order
+fn compare_alike(a: &[u8], b: &[u8], sign: u8) -> Ordering
     requires sign_value { sign ≡ sign_byte a.now }
     requires sign_value_2 { sign ≡ sign_byte b.now }
     ensures { result ≡ order (number a.now) (number b.now) }
 {
-    let width = greater(a.len(), b.len());
+    let width = a.len().max(b.len());
     let before_a = width - a.len();
     let before_b = width - b.len();
-    let mut at = 0;
-    while at < width {
+    for at in 0..width {
         let x = extended(a, sign, before_a, at);
         let y = extended(b, sign, before_b, at);
         if x < y {
-            return Order::Less;
+            return Ordering::Less;
         }
         if x > y {
-            return Order::Greater;
+            return Ordering::Greater;
         }
-        at += 1;
     }
-    Order::Equal
-}
-
-fn greater(m: usize, n: usize) -> usize
-    ensures { result ≡ max m n }
-{
-    if m < n {
-        return n;
-    }
-    m
+    Ordering::Equal
 }
 
 // The byte at `at` of a number with `before` bytes of its sign in front.
@@ -77,6 +66,5 @@ fn extended(number: &[u8], sign: u8, before: usize, at: usize) -> u8
     if at < before {
         return sign;
     }
-    let from = at - before;
-    number[from]
+    number[at - before]
 }

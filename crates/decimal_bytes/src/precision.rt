@@ -23,14 +23,15 @@ const GREATEST_PRECISION: [u16; GREATEST_LENGTH] = [
     572, 575, 577, 580, 582, 584, 587, 589, 592, 594, 596, 599, 601, 604, 606, 608, 611, 613, 616,
 ];
 
+// A length outside 1 to 256.
+#[derive(Clone, Copy, Debug, PartialEq, Eq)]
+pub struct WrongLength;
+
 // Whether a decimal can be `length` bytes long: 1 to 256.
 pub fn is_length(length: usize) -> bool
     ensures { result ≡ is_length length }
 {
-    if length < 1 {
-        return false;
-    }
-    length <= GREATEST_LENGTH
+    (1..=GREATEST_LENGTH).contains(&length)
 }
 
 // The greatest precision of a decimal of `length` bytes; 0 for a length outside 1 to 256.
@@ -41,7 +42,7 @@ pub fn greatest_precision(length: u32) -> u32
     if !is_length(n) {
         return 0;
     }
-    wide(entry_of(n))
+    u32::from(entry_of(n))
 }
 
 // The table's entry for a length.
@@ -50,11 +51,4 @@ fn entry_of(n: usize) -> u16
     ensures { result ≡ greatest_precision n }
 {
     GREATEST_PRECISION[n - 1]
-}
-
-// An entry as a number.
-fn wide(d: u16) -> u32
-    ensures { result ≡ d }
-{
-    d as u32
 }

@@ -14,17 +14,17 @@ use Rattle.laws.proofs.BoolLaws.{and_left, and_both, both_and, or_cases, or_neit
 use Rattle.refusal.specs.Outcome as outcome
 use Rattle.refusal.specs.Outcome.{Outcome, given, refused, refusal}
 use Rattle.refusal.specs.declared.answers.Refusal.{Refusal}
-use Rattle.refusal.specs.declared.answers.Verdict.{Verdict}
+use Rattle.refusal.specs.Outcome.{Verdict}
+use Rattle.std.specs.Prelude.{Ok, Err}
 use Rattle.parquet.specs.Logical.{GEOMETRY, GEOGRAPHY, is_geospatial}
 use Rattle.float_order.specs.Floats.{float_order, less_or_equal}
-use Rattle.float_order.specs.declared.relation.Relation.{Relation}
-use Rattle.float_order.specs.declared.relation.Relation.TheVariants.{Less, Equal, Greater, Unordered}
+use Rattle.std.specs.Prelude.{Option, Some, None}
+use Rattle.std.specs.declared.cmp.Ordering.{Ordering}
+use Rattle.std.specs.declared.cmp.Ordering.TheVariants.{Less, Equal, Greater}
 use Rattle.boxes.specs.Coordinates.{is_greater, at_most, is_above, is_between, X, Y, in_range, is_allowed}
-use Rattle.boxes.specs.Points.{points_in, coordinate_of, Counted, NoneCounted, allows_points, judgement, Answers}
+use Rattle.boxes.specs.Points.{Boxed, points_in, coordinate_of, Counted, NoneCounted, allows_points, judgement, Answers}
 use Rattle.boxes.specs.Membership.{inside_x, inside_y, has_nan, allows_bounds, is_box, allows_point, membership}
 use Rattle.boxes.specs.declared.bounding_box.BoundingBox.{BoundingBox}
-use Rattle.boxes.specs.declared.points.Boxed
-use Rattle.boxes.specs.declared.points.Boxed.{Boxed}
 use Rattle.boxes.proofs.CoordinateLaws.{at_most_numbers, allowed_any, allowed_degrees}
 use Rattle.boxes.proofs.RangeLaws.{each_allowed}
 use Rattle.boxes.proofs.PromiseLaws.{promised}
@@ -49,25 +49,25 @@ or-true a b = (or_cases a b, λ h. ⊎_elim (λ e. rw e) (λ e. rw e (right a)) 
 
 -- one coordinate -----------------------------------------------------------------------------------------------------------
 
-at_most_lem : (v w : Float) → (at_most v w ≡ true) ↔ ((float_order v w ≡ Less) ⊎ (float_order v w ≡ Equal))
+at_most_lem : (v w : Float) → (at_most v w ≡ true) ↔ ((float_order v w ≡ Some Less) ⊎ (float_order v w ≡ Some Equal))
 unfolding at_most
 at_most_lem v w = (to (float_order v w), ⊎_elim (λ e. rw e) (λ e. rw e))
   where
-    to : (r : Relation) → less_or_equal r ≡ true → (r ≡ Less) ⊎ (r ≡ Equal)
-    to Less e = inl refl
-    to Equal e = inr refl
-    to Greater e = absurd (true≢false (sym e))
-    to Unordered e = absurd (true≢false (sym e))
+    to : (r : Option Ordering) → less_or_equal r ≡ true → (r ≡ Some Less) ⊎ (r ≡ Some Equal)
+    to (Some Less) e = inl refl
+    to (Some Equal) e = inr refl
+    to (Some Greater) e = absurd (true≢false (sym e))
+    to None e = absurd (true≢false (sym e))
 
-above : (v w : Float) → (is_above v w ≡ true) ↔ (float_order v w ≡ Greater)
+above : (v w : Float) → (is_above v w ≡ true) ↔ (float_order v w ≡ Some Greater)
 unfolding is_above
 above v w = (to (float_order v w), λ e. rw e)
   where
-    to : (r : Relation) → is_greater r ≡ true → r ≡ Greater
-    to Less e = absurd (true≢false (sym e))
-    to Equal e = absurd (true≢false (sym e))
-    to Greater e = refl
-    to Unordered e = absurd (true≢false (sym e))
+    to : (r : Option Ordering) → is_greater r ≡ true → r ≡ Some Greater
+    to (Some Less) e = absurd (true≢false (sym e))
+    to (Some Equal) e = absurd (true≢false (sym e))
+    to (Some Greater) e = refl
+    to None e = absurd (true≢false (sym e))
 
 between : (least greatest v : Float) → (is_between least greatest v ≡ true) ↔ ((at_most least v ≡ true) × (at_most v greatest ≡ true))
 unfolding is_between
@@ -116,8 +116,8 @@ kind_other kind = (
 -- a list of points -----------------------------------------------------------------------------------------------------------
 
 number : Verdict → ℕ
-number Verdict.Lawful = 0
-number (Verdict.Refused r) = r.number
+number (Ok _) = 0
+number (Err r) = r.number
 
 module _ (kind : ℕ) (coordinates : List Float) where
   even : Bool
@@ -128,7 +128,7 @@ module _ (kind : ℕ) (coordinates : List Float) where
 
   -- the three tests in their order
   shape : Bool → Bool → Bool → Verdict
-  shape g e a = cond g (cond e (cond a Verdict.Lawful (Verdict.Refused (refusal 16 0))) (Verdict.Refused (refusal 15 0))) (Verdict.Refused (refusal 20 0))
+  shape g e a = cond g (cond e (cond a (Ok tt) (Err (refusal 16 0))) (Err (refusal 15 0))) (Err (refusal 20 0))
 
   judged : judgement kind coordinates ≡ shape (is_geospatial kind) even allowed
   unfolding judgement shape even allowed
@@ -156,15 +156,15 @@ module _ (kind : ℕ) (coordinates : List Float) where
   sixteen true true false q = (refl, refl, refl)
   sixteen true true true q = absurd (omega (arith, q))
 
-  numbered : (n : ℕ) → judgement kind coordinates ≡ Verdict.Refused (refusal n 0) → number (shape (is_geospatial kind) even allowed) ≡ n
+  numbered : (n : ℕ) → judgement kind coordinates ≡ Err (refusal n 0) → number (shape (is_geospatial kind) even allowed) ≡ n
   unfolding number
   numbered n e = ap number (sym judged ∙ e)
 
-  unknown_kind : (judgement kind coordinates ≡ Verdict.Refused (refusal 20 0)) ↔ ((kind ≡ 17 → ⊥) × (kind ≡ 18 → ⊥))
+  unknown_kind : (judgement kind coordinates ≡ Err (refusal 20 0)) ↔ ((kind ≡ 17 → ⊥) × (kind ≡ 18 → ⊥))
   unfolding shape
   unknown_kind = ((λ e. (kind_other kind).0 (twenty (is_geospatial kind) even allowed (numbered 20 e))), λ h. judged ∙ rw ((kind_other kind).1 h))
 
-  odd_run : (judgement kind coordinates ≡ Verdict.Refused (refusal 15 0)) ↔ (((kind ≡ 17) ⊎ (kind ≡ 18)) × (length coordinates % 2 ≡ 1))
+  odd_run : (judgement kind coordinates ≡ Err (refusal 15 0)) ↔ (((kind ≡ 17) ⊎ (kind ≡ 18)) × (length coordinates % 2 ≡ 1))
   unfolding shape even
   odd_run = (
     (λ e. let h = fifteen (is_geospatial kind) even allowed (numbered 15 e) in let odd : (length coordinates % 2 ≡ 0 → ⊥) = eqb-false (length coordinates % 2) 0 h.1 in ((kind_is kind).0 h.0, omega (arith, odd))),
@@ -207,7 +207,7 @@ module _ (kind : ℕ) (coordinates : List Float) where
       clash : (axis : ℕ) → o.axis ≡ axis → is_allowed kind axis (coordinate_of coordinates axis o.counted.point) ≡ true → ⊥
       clash axis e t = true≢false (sym t ∙ ap (λ (i : ℕ). is_allowed kind i (coordinate_of coordinates i o.counted.point)) (sym e) ∙ ap (is_allowed kind o.axis) o.counted.there ∙ out)
 
-  out_of_range : (judgement kind coordinates ≡ Verdict.Refused (refusal 16 0)) ↔ ((kind ≡ 18) × (length coordinates % 2 ≡ 0) × Outside coordinates)
+  out_of_range : (judgement kind coordinates ≡ Err (refusal 16 0)) ↔ ((kind ≡ 18) × (length coordinates % 2 ≡ 0) × Outside coordinates)
   unfolding shape even allowed
   out_of_range = (
     (λ e.
@@ -218,29 +218,29 @@ module _ (kind : ℕ) (coordinates : List Float) where
     λ h. judged ∙ rw ((kind_is kind).1 (inr h.0), h.1, not_allowed h.0 h.2),
   )
 
-  refused_only : (r : Refusal) → judgement kind coordinates ≡ Verdict.Refused r → (r.place ≡ 0) × ((r.number ≡ 20) ⊎ ((r.number ≡ 15) ⊎ (r.number ≡ 16)))
+  refused_only : (r : Refusal) → judgement kind coordinates ≡ Err r → (r.place ≡ 0) × ((r.number ≡ 20) ⊎ ((r.number ≡ 15) ⊎ (r.number ≡ 16)))
   unfolding shape
   refused_only r e = on (is_geospatial kind) even allowed (sym judged ∙ e)
     where
-      parts : (n : ℕ) → Verdict.Refused (refusal n 0) ≡ Verdict.Refused r → (r.place ≡ 0) × (r.number ≡ n)
+      parts : (n : ℕ) → ◌≡◌ {A = Verdict} (Err (refusal n 0)) (Err r) → (r.place ≡ 0) × (r.number ≡ n)
       parts n q = let s : refusal n 0 ≡ r = cc in (sym (ap (λ (x : Refusal). x.place) s), sym (ap (λ (x : Refusal). x.number) s))
 
-      on : (g v a : Bool) → shape g v a ≡ Verdict.Refused r → (r.place ≡ 0) × ((r.number ≡ 20) ⊎ ((r.number ≡ 15) ⊎ (r.number ≡ 16)))
+      on : (g v a : Bool) → shape g v a ≡ Err r → (r.place ≡ 0) × ((r.number ≡ 20) ⊎ ((r.number ≡ 15) ⊎ (r.number ≡ 16)))
       on false v a q = let p = parts 20 q in (p.0, inl p.1)
       on true false a q = let p = parts 15 q in (p.0, inr (inl p.1))
       on true true false q = let p = parts 16 q in (p.0, inr (inr p.1))
       on true true true q = absurd (lawful_not q)
         where
-          lawful_not : Verdict.Lawful ≡ Verdict.Refused r → ⊥
+          lawful_not : ◌≡◌ {A = Verdict} (Ok tt) (Err r) → ⊥
           lawful_not d = let z : ◌≡◌ {A = ℕ} 0 1 = cc in omega arith
 
-  none_or_box : (a : Boxed) → Answers kind coordinates a → judgement kind coordinates ≡ Verdict.Lawful → (a ≡ Boxed.NoBox) ↔ (NoneCounted 0 coordinates ⊎ NoneCounted 1 coordinates)
-  none_or_box (Boxed.Box b) h lawful = (
+  none_or_box : (a : Boxed) → Answers kind coordinates a → judgement kind coordinates ≡ Ok tt → (a ≡ Ok None) ↔ (NoneCounted 0 coordinates ⊎ NoneCounted 1 coordinates)
+  none_or_box (Ok (Some b)) h lawful = (
     (λ e. absurd (let z : ◌≡◌ {A = ℕ} 0 1 = cc in omega arith)),
     ⊎_elim (λ none. absurd (none _ h.1.x.least_met.1)) (λ none. absurd (none _ h.1.y.least_met.1)),
   )
-  none_or_box Boxed.NoBox h lawful = ((λ e. h.1), λ n. refl)
-  none_or_box (Boxed.Refused r) h lawful = absurd (let d = sym h ∙ lawful in let z : ◌≡◌ {A = ℕ} 0 1 = cc in omega arith)
+  none_or_box (Ok None) h lawful = ((λ e. h.1), λ n. refl)
+  none_or_box (Err r) h lawful = absurd (let d = sym h ∙ lawful in let z : ◌≡◌ {A = ℕ} 0 1 = cc in omega arith)
 
 -- a test ---------------------------------------------------------------------------------------------------------------------
 
@@ -351,8 +351,8 @@ geography_point x y = (
 
 -- what follows where nothing is refused
 unless : {A : Type 0} → Verdict → Outcome A → Outcome A
-unless Verdict.Lawful next = next
-unless (Verdict.Refused r) next = refused r
+unless (Ok _) next = next
+unless (Err r) next = refused r
 
 module _ (kind : ℕ) (coordinates : List Float) where
   tested_first : {A : Type 0} (g e a : Bool) (rest : List Ground) (x : A) → unless (shape kind coordinates g e a) (first rest x) ≡ first (ground 20 0 (not g) ∷ ground 15 0 (not e) ∷ ground 16 0 (not a) ∷ rest) x
@@ -363,9 +363,9 @@ module _ (kind : ℕ) (coordinates : List Float) where
   tested_first true true true rest x = refl
 
   verdict_is : (a : Boxed) → Answers kind coordinates a → box_verdict a ≡ shape kind coordinates (is_geospatial kind) (even kind coordinates) (allowed kind coordinates)
-  verdict_is (Boxed.Box b) h = sym h.0 ∙ judged kind coordinates
-  verdict_is Boxed.NoBox h = sym h.0 ∙ judged kind coordinates
-  verdict_is (Boxed.Refused r) h = sym h ∙ judged kind coordinates
+  verdict_is (Ok (Some b)) h = sym h.0 ∙ judged kind coordinates
+  verdict_is (Ok None) h = sym h.0 ∙ judged kind coordinates
+  verdict_is (Err r) h = sym h ∙ judged kind coordinates
 
   answer_first : {A : Type 0} (a : Boxed) → Answers kind coordinates a → (rest : List Ground) (x : A) → unless (box_verdict a) (first rest x) ≡ first (ground 20 0 (not (is_geospatial kind)) ∷ ground 15 0 (not (eqb (length coordinates % 2) 0)) ∷ ground 16 0 (not (allows_points kind coordinates (points_in coordinates))) ∷ rest) x
   unfolding even allowed
@@ -376,17 +376,17 @@ module _ (kind : ℕ) (coordinates : List Float) where
   boxing_first a h = on (box_verdict a) ∙ answer_first a h [] tt
     where
       on : (v : Verdict) → outcome.judged v ≡ unless v (given tt)
-      on Verdict.Lawful = refl
-      on (Verdict.Refused r) = refl
+      on (Ok _) = refl
+      on (Err r) = refl
 
   pub c_boxing_first : (lent : ℕ) (a : Boxed) → Answers kind coordinates a → within lent (box_effect a) ≡ first (c_box_grounds kind coordinates a lent) (record { value = length (box_numbers a); numbers = box_numbers a })
   unfolding unless
   c_boxing_first lent a h = on a ∙ answer_first a h (short_for (length (box_numbers a)) lent ∷ []) (record { value = length (box_numbers a); numbers = box_numbers a })
     where
       on : (b : Boxed) → within lent (box_effect b) ≡ unless (box_verdict b) (first (short_for (length (box_numbers b)) lent ∷ []) (record { value = length (box_numbers b); numbers = box_numbers b }))
-      on (Boxed.Box b) = within_first lent 4 (box_numbers (Boxed.Box b))
-      on Boxed.NoBox = within_first lent 0 []
-      on (Boxed.Refused r) = refl
+      on (Ok (Some b)) = within_first lent 4 (box_numbers (Ok (Some b)))
+      on (Ok None) = within_first lent 0 []
+      on (Err r) = refl
 
 pub testing_first : (kind : ℕ) (b : BoundingBox) (x y : Float) → membership kind b x y ≡ first (test_grounds kind b x y) (inside_x b x && inside_y b y)
 unfolding membership first

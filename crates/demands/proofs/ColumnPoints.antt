@@ -29,8 +29,9 @@ use Rattle.decimal_bytes.specs.Number.{number}
 use Rattle.tree.specs.Rules.{is_nought, length_shape}
 use Rattle.sheet.specs.Sound.{listed, physical_listed}
 use Rattle.float_order.specs.Keys.{whole_order}
-use Rattle.float_order.specs.declared.relation.Relation.{Relation}
-use Rattle.float_order.specs.declared.relation.Relation.TheVariants.{Less, Equal, Greater}
+use Rattle.std.specs.Prelude.{Option, Some}
+use Rattle.std.specs.declared.cmp.Ordering.{Ordering}
+use Rattle.std.specs.declared.cmp.Ordering.TheVariants.{Less, Equal, Greater}
 use Rattle.column_order.specs.Keys.{number_of, key_of, key_order}
 use Rattle.column_order.specs.Order.{order_of}
 use Rattle.column_order.specs.Outcome.{outcome}
@@ -45,7 +46,7 @@ read : (edition : ℕ) → ColumnType → List ℕ → Outcome Value
 unfolding reading.outcome read_of value_of annotation_place keeps whole_keeps bytes_keep in_signed_bits length_right little twos_complement number is_lawful slot_keeps is_known scale_may_equal int96_retired fits is_leaf physical_listed listed length_shape is_nought slot_of rule9 is_placed is_retired rule10 rule11 decimal_holds ordered scale_allowed physical_holds annotation_of backward_of stated_of named_of valid_parameters unit_of bit_width_of natural
 read edition = reading.outcome edition
 
-order : (edition : ℕ) → ColumnType → List ℕ → List ℕ → Sided Relation
+order : (edition : ℕ) → ColumnType → List ℕ → List ℕ → Sided (Option Ordering)
 unfolding read outcome order_of key_order key_of whole_order number_of
 order edition = outcome edition
 
@@ -73,15 +74,15 @@ unfolding read
 three_digits = each_edition _ refl refl refl
 
 -- "BYTE_ARRAY decimals of precision 3: *FF and FFFF equal; *80 below 7F; *00FF above 7F"
-pub ff_ffff : (edition : ℕ) → is_known edition ≡ true → outcome edition (decimals 3) (0xFF ∷ []) (0xFF ∷ 0xFF ∷ []) ≡ sided.given Equal
+pub ff_ffff : (edition : ℕ) → is_known edition ≡ true → outcome edition (decimals 3) (0xFF ∷ []) (0xFF ∷ 0xFF ∷ []) ≡ sided.given (Some Equal)
 unfolding order
 ff_ffff = each_edition _ refl refl refl
 
-pub minus_below_plus : (edition : ℕ) → is_known edition ≡ true → outcome edition (decimals 3) (0x80 ∷ []) (0x7F ∷ []) ≡ sided.given Less
+pub minus_below_plus : (edition : ℕ) → is_known edition ≡ true → outcome edition (decimals 3) (0x80 ∷ []) (0x7F ∷ []) ≡ sided.given (Some Less)
 unfolding order
 minus_below_plus = each_edition _ refl refl refl
 
-pub longer_above : (edition : ℕ) → is_known edition ≡ true → outcome edition (decimals 3) (0x00 ∷ 0xFF ∷ []) (0x7F ∷ []) ≡ sided.given Greater
+pub longer_above : (edition : ℕ) → is_known edition ≡ true → outcome edition (decimals 3) (0x00 ∷ 0xFF ∷ []) (0x7F ∷ []) ≡ sided.given (Some Greater)
 unfolding order
 longer_above = each_edition _ refl refl refl
 

@@ -1,5 +1,5 @@
 -- What document 02's R-10 asks of the converter.
-use Prim.Native.Nat.{ℕ, ◌*◌, ◌≤◌, ◌<◌}
+use Prim.Native.Nat.{ℕ, ◌≤◌, ◌<◌}
 use mathlib.Core.Path.{◌≡◌, refl, sym, ap, ◌∙◌}
 use mathlib.Core.Bool.{true}
 use mathlib.Core.List.{List}
@@ -9,7 +9,7 @@ use lib.ListN.{length, take, drop}
 use lib.Seq.{take_at}
 use Rattle.laws.specs.Bytes.{little}
 use Rattle.refusal.specs.Outcome.{given, refusal}
-use Rattle.refusal.specs.declared.answers.Counted.{Counted}
+use Rattle.std.specs.Prelude.{Ok, Err}
 use Rattle.timestamp.specs.Calendar.{day_number}
 use Rattle.timestamp.specs.Clock.{tick_of_day}
 use Rattle.timestamp.specs.Units.{unit_of}
@@ -58,11 +58,11 @@ written_returns z lent signed room =
     rw (le-ltb (length lent) 12 room)
     (ap decoding (take_at (value_of z) (drop 12 lent) 12 (value.length_value z)) ∙ value.count_returns z signed)
 
-short : (lent : ℕ) → lent < 12 → encoding lent ≡ Counted.Refused (refusal 14 0)
+short : (lent : ℕ) → lent < 12 → encoding lent ≡ Err (refusal 14 0)
 unfolding encoding
 short lent h = rw (lt-ltb lent 12 h)
 
-enough : (lent : ℕ) → 12 ≤ lent → encoding lent ≡ Counted.Count 12
+enough : (lent : ℕ) → 12 ≤ lent → encoding lent ≡ Ok 12
 unfolding encoding
 enough lent h = rw (le-ltb lent 12 h)
 

@@ -59,20 +59,12 @@ use Rattle.timestamp.proofs.encode.Statement as timestamp-encode-stated
 use Rattle.timestamp.proofs.encode.Met as timestamp-encode-met
 use Rattle.timestamp.proofs.in_day.Statement as timestamp-in-day-stated
 use Rattle.timestamp.proofs.in_day.Met as timestamp-in-day-met
-use Rattle.timestamp.proofs.units.Millis.divide.Statement as timestamp-Millis-divide-stated
-use Rattle.timestamp.proofs.units.Millis.divide.Met as timestamp-Millis-divide-met
-use Rattle.timestamp.proofs.units.Millis.has_tick.Statement as timestamp-Millis-has-tick-stated
-use Rattle.timestamp.proofs.units.Millis.has_tick.Met as timestamp-Millis-has-tick-met
-use Rattle.timestamp.proofs.units.Micros.divide.Statement as timestamp-Micros-divide-stated
-use Rattle.timestamp.proofs.units.Micros.divide.Met as timestamp-Micros-divide-met
-use Rattle.timestamp.proofs.units.Micros.has_tick.Statement as timestamp-Micros-has-tick-stated
-use Rattle.timestamp.proofs.units.Micros.has_tick.Met as timestamp-Micros-has-tick-met
-use Rattle.timestamp.proofs.units.Nanos.divide.Statement as timestamp-Nanos-divide-stated
-use Rattle.timestamp.proofs.units.Nanos.divide.Met as timestamp-Nanos-divide-met
-use Rattle.timestamp.proofs.units.Nanos.has_tick.Statement as timestamp-Nanos-has-tick-stated
-use Rattle.timestamp.proofs.units.Nanos.has_tick.Met as timestamp-Nanos-has-tick-met
-use Rattle.timestamp.proofs.units.Nanos.join.Statement as timestamp-Nanos-join-stated
-use Rattle.timestamp.proofs.units.Nanos.join.Met as timestamp-Nanos-join-met
+use Rattle.timestamp.proofs.units.Unit.divide.Statement as timestamp-Unit-divide-stated
+use Rattle.timestamp.proofs.units.Unit.divide.Met as timestamp-Unit-divide-met
+use Rattle.timestamp.proofs.units.Unit.has_tick.Statement as timestamp-Unit-has-tick-stated
+use Rattle.timestamp.proofs.units.Unit.has_tick.Met as timestamp-Unit-has-tick-met
+use Rattle.timestamp.proofs.units.Unit.join.Statement as timestamp-Unit-join-stated
+use Rattle.timestamp.proofs.units.Unit.join.Met as timestamp-Unit-join-met
 use Rattle.int96.proofs.decode.Statement as int96-decode-stated
 use Rattle.int96.proofs.decode.Met as int96-decode-met
 use Rattle.int96.proofs.encode.Statement as int96-encode-stated
@@ -214,7 +206,7 @@ column_read_both = column-read-both-met.met
 pub column_order_order : {M : Type 1} → column-order-order-stated.statement M
 column_order_order = column-order-order-met.met
 
--- timestamps, the unit types' own functions, and INT96 values ------------------------------------------------------------------------
+-- timestamps, the functions of every unit type, and INT96 values ---------------------------------------------------------------------
 
 pub timestamp_decode : {M : Type 1} → timestamp-decode-stated.statement M
 timestamp_decode = timestamp-decode-met.met
@@ -225,26 +217,14 @@ timestamp_encode = timestamp-encode-met.met
 pub timestamp_in_day : {M : Type 1} → timestamp-in-day-stated.statement M
 timestamp_in_day = timestamp-in-day-met.met
 
-pub timestamp_Millis_divide : {M : Type 1} → timestamp-Millis-divide-stated.statement M
-timestamp_Millis_divide = timestamp-Millis-divide-met.met
+pub timestamp_Unit_divide : {M : Type 1} → timestamp-Unit-divide-stated.statement M
+timestamp_Unit_divide = timestamp-Unit-divide-met.met
 
-pub timestamp_Millis_has_tick : {M : Type 1} → timestamp-Millis-has-tick-stated.statement M
-timestamp_Millis_has_tick = timestamp-Millis-has-tick-met.met
+pub timestamp_Unit_has_tick : {M : Type 1} → timestamp-Unit-has-tick-stated.statement M
+timestamp_Unit_has_tick = timestamp-Unit-has-tick-met.met
 
-pub timestamp_Micros_divide : {M : Type 1} → timestamp-Micros-divide-stated.statement M
-timestamp_Micros_divide = timestamp-Micros-divide-met.met
-
-pub timestamp_Micros_has_tick : {M : Type 1} → timestamp-Micros-has-tick-stated.statement M
-timestamp_Micros_has_tick = timestamp-Micros-has-tick-met.met
-
-pub timestamp_Nanos_divide : {M : Type 1} → timestamp-Nanos-divide-stated.statement M
-timestamp_Nanos_divide = timestamp-Nanos-divide-met.met
-
-pub timestamp_Nanos_has_tick : {M : Type 1} → timestamp-Nanos-has-tick-stated.statement M
-timestamp_Nanos_has_tick = timestamp-Nanos-has-tick-met.met
-
-pub timestamp_Nanos_join : {M : Type 1} → timestamp-Nanos-join-stated.statement M
-timestamp_Nanos_join = timestamp-Nanos-join-met.met
+pub timestamp_Unit_join : {M : Type 1} → timestamp-Unit-join-stated.statement M
+timestamp_Unit_join = timestamp-Unit-join-met.met
 
 pub int96_decode : {M : Type 1} → int96-decode-stated.statement M
 int96_decode = int96-decode-met.met

@@ -8,6 +8,7 @@ use native.Mathlib.Omega.{arith}
 use borrow.Author.Tests.{lt-ltb, le-ltb, leb-true, leb-false}
 use lib.Dec.{leb, ltb}
 use lib.ListN.{length}
+use Rattle.std.specs.Prelude.{Result}
 use Rattle.refusal.specs.Outcome.{Outcome, given, refused, refusal, short_output, counted}
 use Rattle.edition.specs.Editions.{is_known}
 use Rattle.sheet.specs.Block.{slots_in_block, block_count, total_of}
@@ -28,12 +29,11 @@ use Rattle.tree.specs.Reading.{tree_of}
 use Rattle.tree.specs.Judgement.{or_else, left_over, missing, first_fault, deepness, too_deep, unlawful, tree_refusal, judged_as, judgement, judged_nodes, judgement_of}
 use Rattle.tree.specs.declared.standing.Standing.{Standing}
 use Rattle.tree.specs.declared.standing.Standing.TheVariants.{Root}
-use Rattle.refusal.specs.declared.answers.Verdict.{Verdict}
 use Rattle.tree.proofs.FaultLaws.{first_fault_append}
 use Rattle.tree.proofs.JudgingLaws.{length_faults}
 use Rattle.tree.proofs.JudgementLaws.{judgement_refused}
 use Rattle.differences.specs.Outcome.{list_for, compare_outcome, outcome_of}
-use Rattle.differences.specs.declared.comparison.Compared.{Compared}
+use Rattle.refusal.specs.declared.answers.Fault.{Fault}
 use Rattle.differences.proofs.OutcomeLaws.{compared_by, compared_is}
 use Rattle.laws.proofs.BoolLaws.{by_test}
 use Rattle.annotation.specs.Outcome as annotation
@@ -48,7 +48,8 @@ use Rattle.schema.specs.Outcome as schema
 use Rattle.schema.specs.Rewriting.{rewrite_answer, rewrite_outcome}
 use mathlib.Core.Option.{Option, none, some}
 use Rattle.text.specs.Placing.{placed_text}
-use Rattle.refusal.specs.declared.answers.Counted.{Counted}
+use Rattle.refusal.specs.Outcome.{Counted, Verdict}
+use Rattle.std.specs.Prelude.{Ok, Err}
 use Rattle.schema_text.specs.Rows.{rows_text, rows_text_of, refusal_line, answer_text}
 use Rattle.schema_text.specs.Making.{made, made_in}
 use Rattle.refusal.specs.declared.answers.Refusal.{Refusal}
@@ -110,7 +111,7 @@ opened_first : (number n : ℕ) (right : ℕ → Bool) (next : Counted) (gs : Li
 unfolding at_first
 opened_first number n right next gs a rest = either (ltb (first_wrong right n) n) ∙ sym (each_then number n right (λ k. not (right k)) (λ k. refl) gs a)
   where
-    either : (b : Bool) → counted (cond b (Counted.Refused (refusal number (first_wrong right n))) next) ≡ cond b (refused (refusal number (first_wrong right n))) (first gs a)
+    either : (b : Bool) → counted (cond b (Err (refusal number (first_wrong right n))) next) ≡ cond b (refused (refusal number (first_wrong right n))) (first gs a)
     either true = refl
     either false = rest
 
@@ -129,7 +130,7 @@ opening_first edition sheet = by_edition (is_known edition)
     unsound = each 4 (λ k. not (slot_right edition sheet k)) (slots_in_block * block_count sheet)
 
     slots_opened : Counted
-    slots_opened = at_first (slot_right edition sheet) (slots_in_block * block_count sheet) 4 (Counted.Count (total_of sheet))
+    slots_opened = at_first (slot_right edition sheet) (slots_in_block * block_count sheet) 4 (Ok (total_of sheet))
 
     headers_opened : Counted
     headers_opened = at_first (header_right sheet) (block_count sheet) 3 slots_opened
@@ -138,16 +139,16 @@ opening_first edition sheet = by_edition (is_known edition)
     behind =
         opened_first 2 (block_count sheet) (check_right sheet) headers_opened (headers ++ unsound) (total_of sheet)
         (opened_first 3 (block_count sheet) (header_right sheet) slots_opened unsound (total_of sheet)
-        (opened_first 4 (slots_in_block * block_count sheet) (slot_right edition sheet) (Counted.Count (total_of sheet)) [] (total_of sheet) refl
+        (opened_first 4 (slots_in_block * block_count sheet) (slot_right edition sheet) (Ok (total_of sheet)) [] (total_of sheet) refl
         ∙ ap (λ (gs : List Ground). first gs (total_of sheet)) (append-nil unsound)))
         ∙ ap (λ (gs : List Ground). first gs (total_of sheet)) (sym (append_assoc checks headers unsound))
 
-    by_length : (b : Bool) → counted (cond b (at_first (check_right sheet) (block_count sheet) 2 headers_opened) (Counted.Refused (refusal 1 0))) ≡ cond (not b) (refused (refusal 1 0)) (first ((checks ++ headers) ++ unsound) (total_of sheet))
+    by_length : (b : Bool) → counted (cond b (at_first (check_right sheet) (block_count sheet) 2 headers_opened) (Err (refusal 1 0))) ≡ cond (not b) (refused (refusal 1 0)) (first ((checks ++ headers) ++ unsound) (total_of sheet))
     by_length true = behind
     by_length false = refl
 
     by_edition : (b : Bool)
-        → counted (cond b (cond (length_right (length sheet)) (at_first (check_right sheet) (block_count sheet) 2 headers_opened) (Counted.Refused (refusal 1 0))) (Counted.Refused (refusal 21 0)))
+        → counted (cond b (cond (length_right (length sheet)) (at_first (check_right sheet) (block_count sheet) 2 headers_opened) (Err (refusal 1 0))) (Err (refusal 21 0)))
         ≡ cond (not b) (refused (refusal 21 0)) (cond (not (length_right (length sheet))) (refused (refusal 1 0)) (first ((checks ++ headers) ++ unsound) (total_of sheet)))
     by_edition true = by_length (length_right (length sheet))
     by_edition false = refl
@@ -156,13 +157,13 @@ opening_first edition sheet = by_edition (is_known edition)
 
 -- what judging ends with, for a result
 abbrev judging_end : Verdict → ℕ → Outcome ℕ
-judging_end Verdict.Lawful a = given a
-judging_end (Verdict.Refused r) a = refused r
+judging_end (Ok _) a = given a
+judging_end (Err r) a = refused r
 
 end_or_else : (v w : Verdict) (a : ℕ) → judging_end (or_else v w) a ≡ and_then (judging_end v a) (judging_end w a)
 unfolding or_else
-end_or_else Verdict.Lawful w a = refl
-end_or_else (Verdict.Refused r) w a = refl
+end_or_else (Ok _) w a = refl
+end_or_else (Err r) w a = refl
 
 -- two parts one behind the other
 end_both : (v w : Verdict) (gs hs : List Ground) (a : ℕ) → judging_end v a ≡ first gs a → judging_end w a ≡ first hs a → judging_end (or_else v w) a ≡ first (gs ++ hs) a
@@ -224,7 +225,7 @@ places_first ss rest gs a e =
     none_left : noneHolds (left_over_grounds ss) ≡ not (ltb (first_wrong right n) n)
     none_left = none_all 6 n right (λ k. is_no_place (open_places ss k)) opposite
 
-    either : (some full : Bool) → judging_end (or_else (cond some (Verdict.Refused (refusal 6 (first_wrong right n))) Verdict.Lawful) (or_else (cond full Verdict.Lawful (Verdict.Refused (refusal 5 n))) rest)) a ≡ cond (not some && not full) (refused (refusal 5 n)) (cond some (refused (refusal 6 (first_wrong right n))) (first gs a))
+    either : (some full : Bool) → judging_end (or_else (cond some (Err (refusal 6 (first_wrong right n))) (Ok tt)) (or_else (cond full (Ok tt) (Err (refusal 5 n))) rest)) a ≡ cond (not some && not full) (refused (refusal 5 n)) (cond some (refused (refusal 6 (first_wrong right n))) (first gs a))
     either true full = refl
     either false true = e
     either false false = refl
@@ -246,19 +247,19 @@ judgement_first edition sheet =
     ∙ sym (first_append (opening_grounds edition sheet) (tree_grounds edition (slots sheet)) (total_of sheet))
   where
     behind : (o : Counted) → judging_end (judged_as edition (opened.outcome_of sheet o)) (total_of sheet) ≡ and_then (counted o) (first (tree_grounds edition (slots sheet)) (total_of sheet))
-    behind (Counted.Count t) = tree_first edition (slots sheet) (total_of sheet)
-    behind (Counted.Refused r) = refl
+    behind (Ok t) = tree_first edition (slots sheet) (total_of sheet)
+    behind (Err r) = refl
 
 -- and so for any result: what is refused does not go by it
 other_result : (gs : List Ground) (m n : ℕ) (v : Verdict) → judging_end v m ≡ first gs m → judging_end v n ≡ first gs n
 unfolding first
-other_result [] m n Verdict.Lawful e = refl
-other_result [] m n (Verdict.Refused r) e = absurd (let z : ◌≡◌ {A = ℕ} 0 1 = cc in omega arith)
+other_result [] m n (Ok _) e = refl
+other_result [] m n (Err r) e = absurd (let z : ◌≡◌ {A = ℕ} 0 1 = cc in omega arith)
 other_result (g ∷ gs) m n v e = by_test g.holds (λ h. held v h (rw h at e)) (λ h. rw h (other_result gs m n v (rw h at e)))
   where
     held : (v : Verdict) → g.holds ≡ true → judging_end v m ≡ refused (refusal g.number g.place) → judging_end v n ≡ cond g.holds (refused (refusal g.number g.place)) (first gs n)
-    held Verdict.Lawful h f = absurd (let z : ◌≡◌ {A = ℕ} 0 1 = cc in omega arith)
-    held (Verdict.Refused r) h f = rw h f
+    held (Ok _) h f = absurd (let z : ◌≡◌ {A = ℕ} 0 1 = cc in omega arith)
+    held (Err r) h f = rw h f
 
 judgement_end : (edition : ℕ) (sheet : List ℕ) (n : ℕ) → judging_end (judgement edition sheet) n ≡ first (judging_grounds edition sheet) n
 judgement_end edition sheet n = other_result (judging_grounds edition sheet) (total_of sheet) n (judgement edition sheet) (judgement_first edition sheet)
@@ -268,8 +269,8 @@ unfolding judgement_of judged_nodes
 judging_first edition sheet = by_verdict (judgement edition sheet) ∙ judgement_first edition sheet
   where
     by_verdict : (v : Verdict) → counted (judged_nodes v (total_of sheet)) ≡ judging_end v (total_of sheet)
-    by_verdict Verdict.Lawful = refl
-    by_verdict (Verdict.Refused r) = refl
+    by_verdict (Ok _) = refl
+    by_verdict (Err r) = refl
 
 -- 14 behind them ---------------------------------------------------------------------------------------------------------------------
 
@@ -281,8 +282,8 @@ resolving_first edition sheet lent =
     ∙ sym (first_append (judging_grounds edition sheet) (ground 14 0 (ltb lent (11 * total_of sheet)) ∷ []) (total_of sheet))
   where
     behind : (v : Verdict) → counted (schema.answer v (total_of sheet) lent) ≡ and_then (judging_end v (total_of sheet)) (first (ground 14 0 (ltb lent (11 * total_of sheet)) ∷ []) (total_of sheet))
-    behind (Verdict.Refused r) = refl
-    behind Verdict.Lawful = by_test (ltb lent (11 * total_of sheet)) (λ e. rw e) (λ e. rw e)
+    behind (Err r) = refl
+    behind (Ok _) = by_test (ltb lent (11 * total_of sheet)) (λ e. rw e) (λ e. rw e)
 
 pub rewriting_first : (edition : ℕ) (sheet : List ℕ) (lent start : ℕ) → counted (rewrite_outcome edition sheet lent start) ≡ first (rewriting_grounds edition sheet lent start) (length sheet)
 unfolding rewrite_outcome rewrite_answer first
@@ -298,22 +299,22 @@ rewriting_first edition sheet lent start =
     short = first grounds (length sheet)
 
     -- a sheet that fits starts within the output
-    fits_or_not : counted (cond (leb (start + length sheet) lent) (Counted.Count (length sheet)) (Counted.Refused short_output)) ≡ short
+    fits_or_not : counted (cond (leb (start + length sheet) lent) (Ok (length sheet)) (Err short_output)) ≡ short
     fits_or_not =
         by_test (leb (start + length sheet) lent)
         (λ e. let l = leb-true (start + length sheet) lent e in rw (e, le-ltb lent (start + length sheet) l, le-ltb lent start (omega (arith, l))))
         (λ e. rw (e, lt-ltb lent (start + length sheet) (leb-false (start + length sheet) lent e)))
 
     behind : (v : Verdict) → counted (rewrite_answer v (leb (start + length sheet) lent) (length sheet)) ≡ and_then (judging_end v (length sheet)) short
-    behind (Verdict.Refused r) = refl
-    behind Verdict.Lawful = fits_or_not
+    behind (Err r) = refl
+    behind (Ok _) = fits_or_not
 
 -- two sheets ---------------------------------------------------------------------------------------------------------------------------
 
 -- the first sheet's, then the second's, then 14
 pub comparing_first : (edition : ℕ) (one two : List ℕ) (lent : ℕ) → unsided (outcome_of (compare_outcome edition one two lent)) ≡ first (comparing_grounds edition one two lent) (length (list_for one two))
 comparing_first edition one two lent =
-    ap (λ (o : Compared). unsided (outcome_of o)) (compared_is edition one two lent)
+    ap (λ (o : Result ℕ Fault). unsided (outcome_of o)) (compared_is edition one two lent)
     ∙ by_test (is_known edition) (λ k. rw k (known (judgement edition one) (judgement edition two) (ltb lent (148 * n)))) (λ u. rw (u, judgement_refused edition one _ (open_of_unknown edition one u)))
     ∙ ap₂ (λ (v w : Outcome ℕ). and_then (and_then v w) short) (judgement_end edition one n) (judgement_end edition two n)
     ∙ ap (λ (o : Outcome ℕ). and_then o short) (sym (first_append (judging_grounds edition one) (judging_grounds edition two) n))
@@ -326,10 +327,10 @@ comparing_first edition one two lent =
     short = first (ground 14 0 (ltb lent (148 * n)) ∷ []) n
 
     known : (v w : Verdict) (s : Bool) → unsided (outcome_of (compared_by true v w s n)) ≡ and_then (and_then (judging_end v n) (judging_end w n)) (first (ground 14 0 s ∷ []) n)
-    known (Verdict.Refused r) w s = refl
-    known Verdict.Lawful (Verdict.Refused r) s = refl
-    known Verdict.Lawful Verdict.Lawful true = unfold first in refl
-    known Verdict.Lawful Verdict.Lawful false = unfold first in refl
+    known (Err r) w s = refl
+    known (Ok _) (Err r) s = refl
+    known (Ok _) (Ok _) true = unfold first in refl
+    known (Ok _) (Ok _) false = unfold first in refl
 
 -- slots --------------------------------------------------------------------------------------------------------------------------------
 
@@ -362,16 +363,16 @@ unfolding rows_text_of first made
 rows_text_first total numbers room =
     by_test (ltb (length numbers) (11 * total)) (λ e. rw e) (λ e. rw e (fits_first (rows_text total numbers) room))
 
-pub answer_rows_first : (total : ℕ) (numbers : List ℕ) (room : ℕ) → counted (made (answer_text (Counted.Count total) numbers) room) ≡ first (rows_text_grounds total numbers room) (length (rows_text total numbers))
+pub answer_rows_first : (total : ℕ) (numbers : List ℕ) (room : ℕ) → counted (made (answer_text (Ok total) numbers) room) ≡ first (rows_text_grounds total numbers room) (length (rows_text total numbers))
 unfolding answer_text
 answer_rows_first total numbers room = rows_text_first total numbers room
 
-pub answer_refusal_first : (r : Refusal) (numbers : List ℕ) (room : ℕ) → counted (made (answer_text (Counted.Refused r) numbers) room) ≡ first (short_for (length (refusal_line r)) room ∷ []) (length (refusal_line r))
+pub answer_refusal_first : (r : Refusal) (numbers : List ℕ) (room : ℕ) → counted (made (answer_text (Err r) numbers) room) ≡ first (short_for (length (refusal_line r)) room ∷ []) (length (refusal_line r))
 unfolding answer_text
 answer_refusal_first r numbers room = fits_first (refusal_line r) room
 
 -- a buffer for which a text is too long stays
-pub text_left : (may : Option (List ℕ)) (lent : List ℕ) (r : Refusal) → made may (length lent) ≡ Counted.Refused r → made_in may lent ≡ lent
+pub text_left : (may : Option (List ℕ)) (lent : List ℕ) (r : Refusal) → made may (length lent) ≡ Err r → made_in may lent ≡ lent
 unfolding made made_in placed_text
 text_left none lent r e = refl
 text_left (some bytes) lent r e =

@@ -9,7 +9,8 @@ use borrow.Author.Tests.{lt-ltb, eq-eqb, eqb-true, not-false}
 use lib.Dec.{eqb, ltb}
 use lib.ListN.{length, drop}
 use lib.Seq.{drop_at}
-use Rattle.refusal.specs.Outcome.{refused, refusal, short_output}
+use Rattle.refusal.specs.Outcome.{refused, refusal, short_output, no_refusal}
+use Rattle.std.specs.Prelude.{Result, Err}
 use Rattle.refusal.specs.Faults as sided
 use Rattle.refusal.specs.Faults.{fault}
 use Rattle.refusal.specs.declared.answers.Refusal.{Refusal}
@@ -36,13 +37,13 @@ use Rattle.c_sheets.proofs.PromiseLaws.{resolve_unknown, rewrite_unknown}
 use Rattle.tree.specs.Tree.{Tree, size}
 use Rattle.tree.specs.Judgement.{judgement, judged_nodes, judgement_of}
 use Rattle.tree.proofs.JudgementLaws.{judgement_refused, judged_refused}
-use Rattle.refusal.specs.declared.answers.Verdict.{Verdict}
 use Rattle.schema.specs.Rows.{row_width, rows, number_in}
 use Rattle.schema.specs.Outcome.{answer, outcome, written}
 use Rattle.schema.specs.Rewriting.{fits, rewrite_answer, rewrite_outcome, rewrite_written}
 use Rattle.schema.proofs.EditionLaws.{second_lawful, first_refused, first_lawful}
 use Rattle.schema.specs.Demand.{IsTreeOf, Sound, Accepted, kind_in}
-use Rattle.refusal.specs.declared.answers.Counted.{Counted}
+use Rattle.refusal.specs.Outcome.{Counted, Verdict}
+use Rattle.std.specs.Prelude.{Ok}
 use Rattle.schema.proofs.AcceptedLaws.{accepted_rows}
 use Rattle.schema.proofs.DemandLaws.{no_refusal_rows, size_is, rows_length, refused_unchanged}
 use Rattle.schema.proofs.NodeLevelsLaws.{InRow, root_levels, field_levels}
@@ -51,7 +52,7 @@ use Rattle.matching.proofs.NodeLaws.{node_at, node_once, node_slot}
 use Rattle.matching.proofs.MatchingLaws.{matching_sym}
 use Rattle.matching.proofs.MatchedLaws.{roots_match, fields_match, parents_match, unmatched_field, matched_or_not, matched_alone}
 use Rattle.differences.specs.Outcome.{compare_outcome, compare_written}
-use Rattle.differences.specs.declared.comparison.Compared.{Compared}
+use Rattle.refusal.specs.declared.answers.Fault.{Fault}
 use Rattle.differences.proofs.ListedLaws.{listed_exactly}
 use Rattle.differences.proofs.OrderLaws.{rising_list, only_first_once, matched_first, only_second_once, matched_second, places_once, same_places}
 use Rattle.differences.proofs.EntryLaws.{sides_filled, field_codes, field_widths, field_contents}
@@ -142,18 +143,18 @@ editions edition = ((λ k. each (one_of_known edition k)), λ h. on h)
     on (inr (inr e)) = rw e (known_of third)
 
 -- both are lawful, so both give the same
-same_rows : (sheet lent : List ℕ) → judgement 1 sheet ≡ Verdict.Lawful → (outcome 2 sheet (length lent) ≡ outcome 1 sheet (length lent)) × (written (outcome 2 sheet (length lent)) sheet lent ≡ written (outcome 1 sheet (length lent)) sheet lent)
+same_rows : (sheet lent : List ℕ) → judgement 1 sheet ≡ Ok tt → (outcome 2 sheet (length lent) ≡ outcome 1 sheet (length lent)) × (written (outcome 2 sheet (length lent)) sheet lent ≡ written (outcome 1 sheet (length lent)) sheet lent)
 unfolding outcome
 same_rows sheet lent e = let f = second_lawful sheet e in (rw (e, f), rw (e, f))
 
-same_rewritten : (sheet lent : List ℕ) (start : ℕ) → judgement 1 sheet ≡ Verdict.Lawful → (rewrite_outcome 2 sheet (length lent) start ≡ rewrite_outcome 1 sheet (length lent) start) × (rewrite_written (rewrite_outcome 2 sheet (length lent) start) sheet lent start ≡ rewrite_written (rewrite_outcome 1 sheet (length lent) start) sheet lent start)
+same_rewritten : (sheet lent : List ℕ) (start : ℕ) → judgement 1 sheet ≡ Ok tt → (rewrite_outcome 2 sheet (length lent) start ≡ rewrite_outcome 1 sheet (length lent) start) × (rewrite_written (rewrite_outcome 2 sheet (length lent) start) sheet lent start ≡ rewrite_written (rewrite_outcome 1 sheet (length lent) start) sheet lent start)
 unfolding rewrite_outcome
 same_rewritten sheet lent start e = let f = second_lawful sheet e in (rw (e, f), rw (e, f))
 
-same_comparison : (a b lent : List ℕ) → judgement 1 a ≡ Verdict.Lawful → judgement 1 b ≡ Verdict.Lawful → (compare_outcome 2 a b (length lent) ≡ compare_outcome 1 a b (length lent)) × (output 2 a b lent ≡ output 1 a b lent)
+same_comparison : (a b lent : List ℕ) → judgement 1 a ≡ Ok tt → judgement 1 b ≡ Ok tt → (compare_outcome 2 a b (length lent) ≡ compare_outcome 1 a b (length lent)) × (output 2 a b lent ≡ output 1 a b lent)
 same_comparison a b lent e d =
     let same = compared.same_outcome 2 1 a b (length lent) (second_lawful a e) (second_lawful b d) e d in
-    (same, ap (λ (o : Compared). compare_written o a b lent) same)
+    (same, ap (λ (o : Result ℕ Fault). compare_written o a b lent) same)
 
 -- the test of a kind, and what it says of a row
 equal_in : (numbers : List ℕ) (k : ℕ) → is_equal (kind_in numbers k) ≡ true → EqualIn numbers k
@@ -166,14 +167,14 @@ in_equal : (numbers : List ℕ) (k : ℕ) → EqualIn numbers k → is_equal (ki
 unfolding is_equal
 in_equal numbers k h = both_and (eqb (number_in numbers k 3) DECIMAL) (eqb (number_in numbers k 4) (number_in numbers k 5)) (eq-eqb _ _ h.is_decimal_lem) (eq-eqb _ _ h.digits)
 
-refused_alone : (sheet : List ℕ) (t : Tree) (r : Refusal) → Sound 2 sheet → IsTreeOf 2 sheet t → judgement 1 sheet ≡ Verdict.Refused r → (r.number ≡ 11) × FirstEqual t r.place
+refused_alone : (sheet : List ℕ) (t : Tree) (r : Refusal) → Sound 2 sheet → IsTreeOf 2 sheet t → judgement 1 sheet ≡ Err r → (r.number ≡ 11) × FirstEqual t r.place
 refused_alone sheet t r sound tree e =
     let found = first_refused sheet t sound tree r e in
     let at : r.place ≡ found.0 = ap (λ (q : Refusal). q.place) found.1 in
     let equal : FirstEqual t found.0 = record { below = found.2.below; here = equal_in (rows t) found.0 found.2.here; earlier = λ j h q. true≢false (sym (in_equal (rows t) j q) ∙ found.2.earlier j h) } in
     (ap (λ (q : Refusal). q.number) found.1, subst (FirstEqual t) (sym at) equal)
 
-not_accepted : (sheet : List ℕ) (t : Tree) (k : ℕ) → Sound 2 sheet → IsTreeOf 2 sheet t → k < size t → EqualIn (rows t) k → judgement 1 sheet ≡ Verdict.Lawful → ⊥
+not_accepted : (sheet : List ℕ) (t : Tree) (k : ℕ) → Sound 2 sheet → IsTreeOf 2 sheet t → k < size t → EqualIn (rows t) k → judgement 1 sheet ≡ Ok tt → ⊥
 not_accepted sheet t k sound tree h q e = true≢false (sym (in_equal (rows t) k q) ∙ first_lawful sheet t sound tree e k h)
 
 same_reading : (c : ColumnType) (bs : List ℕ) → is_lawful 1 c ≡ true → read.outcome 2 c bs ≡ read.outcome 1 c bs
@@ -193,23 +194,23 @@ lawful_alone c e = (
 )
 
 -- 21: where the edition is known, no other refusal has its number
-other_number : (number place : ℕ) (v : Verdict) → number < 21 → VerdictBounded number place v → v ≡ Verdict.Refused (refusal 21 0) → ⊥
-other_number number place Verdict.Lawful h b e = let z : ◌≡◌ {A = ℕ} 0 1 = cc in omega arith
-other_number number place (Verdict.Refused r) h b e =
+other_number : (number place : ℕ) (v : Verdict) → number < 21 → VerdictBounded number place v → v ≡ Err (refusal 21 0) → ⊥
+other_number number place (Ok _) h b e = let z : ◌≡◌ {A = ℕ} 0 1 = cc in omega arith
+other_number number place (Err r) h b e =
     let q : r ≡ refusal 21 0 = cc in
     let n : r.number ≡ 21 = ap (λ (s : Refusal). s.number) q in
     omega (arith, b.most_number, n)
 
-unknown_judgement : (edition : ℕ) (sheet : List ℕ) → (judgement edition sheet ≡ Verdict.Refused (refusal 21 0)) ↔ (is_known edition ≡ false)
+unknown_judgement : (edition : ℕ) (sheet : List ℕ) → (judgement edition sheet ≡ Err (refusal 21 0)) ↔ (is_known edition ≡ false)
 unknown_judgement edition sheet = (
   (λ e. by_test (is_known edition) (λ k. absurd (other_number 13 most_nodes (judgement edition sheet) (omega arith) (known_bounded edition sheet k) e)) (λ u. u)),
   λ u. judgement_refused edition sheet _ (open_of_unknown edition sheet u),
 )
 
-unknown_opening : (edition : ℕ) (sheet : List ℕ) → (open_of edition sheet ≡ Counted.Refused (refusal 21 0)) ↔ (is_known edition ≡ false)
+unknown_opening : (edition : ℕ) (sheet : List ℕ) → (open_of edition sheet ≡ Err (refusal 21 0)) ↔ (is_known edition ≡ false)
 unknown_opening edition sheet = (λ e. (unknown_judgement edition sheet).0 (judgement_refused edition sheet _ e), λ u. open_of_unknown edition sheet u)
 
-unknown_judging : (edition : ℕ) (sheet : List ℕ) → (judgement_of edition sheet ≡ Counted.Refused (refusal 21 0)) ↔ (is_known edition ≡ false)
+unknown_judging : (edition : ℕ) (sheet : List ℕ) → (judgement_of edition sheet ≡ Err (refusal 21 0)) ↔ (is_known edition ≡ false)
 unfolding judgement_of judged_nodes
 unknown_judging edition sheet = (
   (λ e. (unknown_judgement edition sheet).0 (judged_refused edition sheet _ e)),
@@ -217,53 +218,53 @@ unknown_judging edition sheet = (
 )
 
 -- an answer of 21 is the verdict's: 14 has another number
-answered_refused : (v : Verdict) (total lent : ℕ) → answer v total lent ≡ Counted.Refused (refusal 21 0) → v ≡ Verdict.Refused (refusal 21 0)
+answered_refused : (v : Verdict) (total lent : ℕ) → answer v total lent ≡ Err (refusal 21 0) → v ≡ Err (refusal 21 0)
 unfolding answer
-answered_refused (Verdict.Refused r) total lent e = cc
-answered_refused Verdict.Lawful total lent e = absurd (on (ltb lent (11 * total)) e)
+answered_refused (Err r) total lent e = cc
+answered_refused (Ok _) total lent e = absurd (on (ltb lent (11 * total)) e)
   where
-    on : (b : Bool) → cond b (Counted.Refused short_output) (Counted.Count total) ≡ Counted.Refused (refusal 21 0) → ⊥
+    on : (b : Bool) → cond b (Err short_output) (Ok total) ≡ Err (refusal 21 0) → ⊥
     on true q = let z : short_output ≡ refusal 21 0 = cc in let n : ◌≡◌ {A = ℕ} 14 21 = ap (λ (r : Refusal). r.number) z in omega arith
     on false q = let z : ◌≡◌ {A = ℕ} 0 1 = cc in omega arith
 
-unknown_resolving : (edition : ℕ) (sheet : List ℕ) (lent : ℕ) → (outcome edition sheet lent ≡ Counted.Refused (refusal 21 0)) ↔ (is_known edition ≡ false)
+unknown_resolving : (edition : ℕ) (sheet : List ℕ) (lent : ℕ) → (outcome edition sheet lent ≡ Err (refusal 21 0)) ↔ (is_known edition ≡ false)
 unfolding outcome
 unknown_resolving edition sheet lent = (
   (λ e. (unknown_judgement edition sheet).0 (answered_refused (judgement edition sheet) (total_of sheet) lent e)),
   resolve_unknown edition sheet lent,
 )
 
-rewritten_refused : (v : Verdict) (enough : Bool) (n : ℕ) → rewrite_answer v enough n ≡ Counted.Refused (refusal 21 0) → v ≡ Verdict.Refused (refusal 21 0)
+rewritten_refused : (v : Verdict) (enough : Bool) (n : ℕ) → rewrite_answer v enough n ≡ Err (refusal 21 0) → v ≡ Err (refusal 21 0)
 unfolding rewrite_answer
-rewritten_refused (Verdict.Refused r) enough n e = cc
-rewritten_refused Verdict.Lawful true n e = absurd (let z : ◌≡◌ {A = ℕ} 0 1 = cc in omega arith)
-rewritten_refused Verdict.Lawful false n e = absurd (let z : short_output ≡ refusal 21 0 = cc in let n : ◌≡◌ {A = ℕ} 14 21 = ap (λ (r : Refusal). r.number) z in omega arith)
+rewritten_refused (Err r) enough n e = cc
+rewritten_refused (Ok _) true n e = absurd (let z : ◌≡◌ {A = ℕ} 0 1 = cc in omega arith)
+rewritten_refused (Ok _) false n e = absurd (let z : short_output ≡ refusal 21 0 = cc in let n : ◌≡◌ {A = ℕ} 14 21 = ap (λ (r : Refusal). r.number) z in omega arith)
 
-unknown_rewriting : (edition : ℕ) (sheet : List ℕ) (lent start : ℕ) → (rewrite_outcome edition sheet lent start ≡ Counted.Refused (refusal 21 0)) ↔ (is_known edition ≡ false)
+unknown_rewriting : (edition : ℕ) (sheet : List ℕ) (lent start : ℕ) → (rewrite_outcome edition sheet lent start ≡ Err (refusal 21 0)) ↔ (is_known edition ≡ false)
 unfolding rewrite_outcome
 unknown_rewriting edition sheet lent start = (
   (λ e. (unknown_judgement edition sheet).0 (rewritten_refused (judgement edition sheet) (fits sheet lent start) (length sheet) e)),
   rewrite_unknown edition sheet lent start,
 )
 
-unknown_comparing : (edition : ℕ) (a b : List ℕ) (lent : ℕ) → (compare_outcome edition a b lent ≡ Compared.Refused (fault 0 (refusal 21 0))) ↔ (is_known edition ≡ false)
+unknown_comparing : (edition : ℕ) (a b : List ℕ) (lent : ℕ) → (compare_outcome edition a b lent ≡ Err (fault 0 (refusal 21 0))) ↔ (is_known edition ≡ false)
 unknown_comparing edition a b lent = ((λ e. on ((compared.neither_exactly edition a b lent 21 0).0 e)), λ u. (compared.neither_exactly edition a b lent 21 0).1 (inl (u, refl, refl)))
   where
     on : compared.OfNeither edition a b lent 21 0 → is_known edition ≡ false
     on (inl h) = h.0
     on (inr h) = absurd (omega (arith, h.3))
 
-unknown_typing : (edition : ℕ) (c : ColumnType) → (typeJudgement edition c ≡ Verdict.Refused (refusal 21 0)) ↔ (is_known edition ≡ false)
+unknown_typing : (edition : ℕ) (c : ColumnType) → (typeJudgement edition c ≡ Err (refusal 21 0)) ↔ (is_known edition ≡ false)
 unfolding typeJudgement
 unknown_typing edition c = (
   (λ e. by_test (is_known edition) (λ k. absurd (known k e)) (λ u. u)),
   λ u. rw (unknown_unlawful edition c u, refusal_unknown edition u),
 )
   where
-    known : is_known edition ≡ true → cond (is_lawful edition c) Verdict.Lawful (Verdict.Refused (type_refusal edition)) ≡ Verdict.Refused (refusal 21 0) → ⊥
+    known : is_known edition ≡ true → cond (is_lawful edition c) no_refusal (Err (type_refusal edition)) ≡ Err (refusal 21 0) → ⊥
     known k e =
-        by_test (is_lawful edition c) (λ l. other_number 20 0 Verdict.Lawful (omega arith) tt (rw l at e))
-        (λ l. other_number 20 0 (Verdict.Refused (refusal 20 0)) (omega arith) (record { some_number = omega arith; most_number = omega arith; most_place = omega arith }) (rw (l, refusal_known edition k) at e))
+        by_test (is_lawful edition c) (λ l. other_number 20 0 (Ok tt) (omega arith) tt (rw l at e))
+        (λ l. other_number 20 0 (Err (refusal 20 0)) (omega arith) (record { some_number = omega arith; most_number = omega arith; most_place = omega arith }) (rw (l, refusal_known edition k) at e))
 
 unknown_ordering : (edition : ℕ) (c : ColumnType) (a b : List ℕ) → (order.outcome edition c a b ≡ sided.refused (fault 0 (refusal 21 0))) ↔ (is_known edition ≡ false)
 unknown_ordering edition c a b = ((λ e. on ((neither_exactly edition c a b 21 0).0 e)), λ u. (neither_exactly edition c a b 21 0).1 (inl (u, refl, refl)))
@@ -347,15 +348,15 @@ module _ (edition : ℕ) (sheet lent : List ℕ) (a : Accepted (outcome edition 
       ap (drop (11 * total_of sheet)) tree.2
       ∙ drop_at (rows tree.0) (drop (11 * total_of sheet) lent) (11 * total_of sheet) (rows_length edition sheet tree.0 tree.1)
 
-short_output_lem : (edition : ℕ) (sheet : List ℕ) (lent : ℕ) → judgement edition sheet ≡ Verdict.Lawful → lent < 11 * total_of sheet → outcome edition sheet lent ≡ Counted.Refused (refusal 14 0)
+short_output_lem : (edition : ℕ) (sheet : List ℕ) (lent : ℕ) → judgement edition sheet ≡ Ok tt → lent < 11 * total_of sheet → outcome edition sheet lent ≡ Err (refusal 14 0)
 unfolding outcome answer
 short_output_lem edition sheet lent e h = rw (e, lt-ltb lent (row_width * total_of sheet) h)
 
-enough_output : (edition : ℕ) (sheet : List ℕ) (lent : ℕ) → judgement edition sheet ≡ Verdict.Lawful → 11 * total_of sheet ≤ lent → outcome edition sheet lent ≡ Counted.Count (total_of sheet)
+enough_output : (edition : ℕ) (sheet : List ℕ) (lent : ℕ) → judgement edition sheet ≡ Ok tt → 11 * total_of sheet ≤ lent → outcome edition sheet lent ≡ Ok (total_of sheet)
 unfolding outcome
 enough_output edition sheet lent e h = no_refusal_rows (judgement edition sheet) (total_of sheet) lent e h
 
-accepted_answer : (o : Counted) (n : ℕ) → o ≡ Counted.Count n → Accepted o
+accepted_answer : (o : Counted) (n : ℕ) → o ≡ Ok n → Accepted o
 unfolding Accepted
 accepted_answer o n e = rw e tt
 
@@ -363,8 +364,8 @@ past_left : (edition : ℕ) (sheet lent : List ℕ) → drop (11 * total_of shee
 past_left edition sheet lent = cases (outcome edition sheet (length lent)) refl
   where
     cases : (o : Counted) → outcome edition sheet (length lent) ≡ o → drop (11 * total_of sheet) (left edition sheet lent) ≡ drop (11 * total_of sheet) lent
-    cases (Counted.Count n) e = rows_past edition sheet lent (accepted_answer (outcome edition sheet (length lent)) n e)
-    cases (Counted.Refused r) e = ap (drop (11 * total_of sheet)) (refused_unchanged edition sheet lent r e)
+    cases (Ok n) e = rows_past edition sheet lent (accepted_answer (outcome edition sheet (length lent)) n e)
+    cases (Err r) e = ap (drop (11 * total_of sheet)) (refused_unchanged edition sheet lent r e)
 
 pub request8 : (edition : ℕ) → Request8 edition
 request8 edition =

@@ -7,13 +7,14 @@ use mathlib.Core.List.{List}
 use borrow.Author.Tests.{eq-eqb, ne_eqb, eqb-true, eqb-false}
 use lib.Dec.{eqb}
 use lib.ListN.{length}
+use Rattle.std.specs.Prelude.{Result}
 use Rattle.laws.proofs.BoolLaws.{and_right, is_false}
 use Rattle.refusal.specs.Outcome.{refused, refusal}
 use Rattle.refusal.specs.Faults as sided
 use Rattle.refusal.specs.Faults.{fault}
-use Rattle.refusal.specs.declared.answers.Counted.{Counted}
+use Rattle.refusal.specs.Outcome.{Counted, Verdict}
+use Rattle.std.specs.Prelude.{Ok, Err}
 use Rattle.refusal.specs.declared.answers.Refusal.{Refusal}
-use Rattle.refusal.specs.declared.answers.Verdict.{Verdict}
 use Rattle.edition.specs.Editions.{is_known}
 use Rattle.edition.proofs.EditionLaws.{second, third, known_of}
 use Rattle.parquet.specs.Physical.{INT96}
@@ -38,10 +39,10 @@ use Rattle.schema.specs.Rewriting.{fits, rewrite_answer, rewrite_outcome, rewrit
 use Rattle.schema.proofs.EditionLaws as sheets
 use Rattle.schema.proofs.EditionLaws.{third_answers, third_refused, third_none, second_none, third_same}
 use Rattle.matching.specs.Outcome.{matched_of}
-use Rattle.matching.specs.declared.sheets.Matched.{Matched}
+use Rattle.matching.specs.declared.sheets.Totals.{Totals}
 use Rattle.differences.specs.Outcome as differences
 use Rattle.differences.specs.Outcome.{list_for, compare_outcome, compare_written}
-use Rattle.differences.specs.declared.comparison.Compared.{Compared}
+use Rattle.refusal.specs.declared.answers.Fault.{Fault}
 use Rattle.column_type.specs.Lawful.{is_lawful, type_refusal, judgement_of as typeJudgement}
 use Rattle.column_type.specs.declared.types.ColumnType.{ColumnType}
 use Rattle.column_type.proofs.EditionLaws.{lawful_third, int96_unlawful}
@@ -98,19 +99,19 @@ first_of_lem : (sheet : List ℕ) (k : ℕ) → sheets.FirstInt96 sheet k → Fi
 first_of_lem sheet k m = record { here = record { below = m.below; is_int96_lem = eqb-true _ _ m.here }; earlier = λ j h q. eqb-false _ _ (m.earlier j h) q.is_int96_lem }
 
 -- of any sheet, as R-11 says it
-pub any_answered : (sheet : List ℕ) → (judgement 3 sheet ≡ judgement 2 sheet) ⊎ (((k : ℕ) × (judgement 3 sheet ≡ Verdict.Refused (refusal 10 k)) × FirstInt96 sheet k) ⊎ ((k : ℕ) × (judgement 2 sheet ≡ Verdict.Refused (refusal 4 k)) × FirstGeospatial sheet k))
+pub any_answered : (sheet : List ℕ) → (judgement 3 sheet ≡ judgement 2 sheet) ⊎ (((k : ℕ) × (judgement 3 sheet ≡ Err (refusal 10 k)) × FirstInt96 sheet k) ⊎ ((k : ℕ) × (judgement 2 sheet ≡ Err (refusal 4 k)) × FirstGeospatial sheet k))
 any_answered sheet = ⊎_elim inl (⊎_elim (λ r. inr (inl (r.0, r.1, first_of_lem sheet r.0 r.2))) (λ r. inr (inr (r.0, r.1, first_other sheet r.0 r.2)))) (third_answers sheet)
 
-pub answered : (sheet : List ℕ) → NoGeospatial sheet → (judgement 3 sheet ≡ judgement 2 sheet) ⊎ ((k : ℕ) × (judgement 3 sheet ≡ Verdict.Refused (refusal 10 k)) × FirstInt96 sheet k)
+pub answered : (sheet : List ℕ) → NoGeospatial sheet → (judgement 3 sheet ≡ judgement 2 sheet) ⊎ ((k : ℕ) × (judgement 3 sheet ≡ Err (refusal 10 k)) × FirstInt96 sheet k)
 answered sheet none = ⊎_elim inl (⊎_elim inr (λ r. absurd (none r.0 r.2.here))) (any_answered sheet)
 
-pub accepted : (sheet : List ℕ) → ((judgement 3 sheet ≡ Verdict.Lawful) × NoGeospatial sheet) ↔ ((judgement 2 sheet ≡ Verdict.Lawful) × NoInt96 sheet)
+pub accepted : (sheet : List ℕ) → ((judgement 3 sheet ≡ Ok tt) × NoGeospatial sheet) ↔ ((judgement 2 sheet ≡ Ok tt) × NoInt96 sheet)
 accepted sheet = (
   (λ h. let none = third_none sheet h.0 in (sym (third_same sheet none (to_other sheet h.1)) ∙ h.0, from_test sheet none)),
   λ h. let none = second_none sheet h.0 in (third_same sheet (to_test sheet h.1) none ∙ h.0, from_other sheet none),
 )
 
-pub refused_alone : (sheet : List ℕ) (r : Refusal) → judgement 2 sheet ≡ Verdict.Lawful → judgement 3 sheet ≡ Verdict.Refused r → (r.number ≡ 10) × FirstInt96 sheet r.place
+pub refused_alone : (sheet : List ℕ) (r : Refusal) → judgement 2 sheet ≡ Ok tt → judgement 3 sheet ≡ Err r → (r.number ≡ 10) × FirstInt96 sheet r.place
 refused_alone sheet r lawful e =
     let found = third_refused sheet lawful r e in
     let at : r.place ≡ found.0 = ap (λ (q : Refusal). q.place) found.1 in
@@ -144,8 +145,8 @@ matched_alike a b n g m h = rw (same_judgement a n g, same_judgement b m h)
 pub same_comparison : (a b lent : List ℕ) → NoInt96 a → NoGeospatial a → NoInt96 b → NoGeospatial b → (compare_outcome 3 a b (length lent) ≡ compare_outcome 2 a b (length lent)) × (output 3 a b lent ≡ output 2 a b lent)
 unfolding compare_outcome
 same_comparison a b lent n g m h =
-    let same = ap (λ (x : Matched). differences.answer x (length (list_for a b)) (length lent)) (matched_alike a b n g m h) in
-    (same, ap (λ (o : Compared). compare_written o a b lent) same)
+    let same = ap (λ (x : Result Totals Fault). differences.answer x (length (list_for a b)) (length lent)) (matched_alike a b n g m h) in
+    (same, ap (λ (o : Result ℕ Fault). compare_written o a b lent) same)
 
 -- a column type -------------------------------------------------------------------------------------------------------------
 
@@ -181,7 +182,7 @@ module _ (c : ColumnType) (int96 : c.physical ≡ INT96) where
   twenty : type_refusal 3 ≡ refusal 20 0
   twenty = refusal_known 3 (known_of third)
 
-  pub int96_type : typeJudgement 3 c ≡ Verdict.Refused (refusal 20 0)
+  pub int96_type : typeJudgement 3 c ≡ Err (refusal 20 0)
   unfolding typeJudgement
   int96_type = rw (unlawful, twenty)
 

@@ -9,7 +9,7 @@ use Rattle.edition.proofs.EditionLaws.{each_edition}
 use Rattle.laws.specs.Bytes.{little, twos_complement, bytes_of}
 use Rattle.block_check.specs.Check.{sum_below, weighted, check}
 use Rattle.refusal.specs.Outcome.{Outcome, refusal}
-use Rattle.sheet.specs.Number.{number_at, signed32}
+use Rattle.sheet.specs.Number.{number_at}
 use Rattle.sheet.specs.Block.{block_count, block_at, block_number, nodes_here, version, total, stored_check, total_of}
 use Rattle.sheet.specs.Check.{check_right}
 use Rattle.sheet.specs.Slot.{physical, repetition, converted, logical, parameter_a, parameter_b, child_count, type_length_of, scale, precision, name_length_of, name, numbers_of, slot_start, reaches, slot_at, slots_from, slots, empty_slot}
@@ -20,7 +20,6 @@ use Rattle.sheet.specs.Name.{same_bytes}
 use Rattle.sheet.specs.Sheet.{join_below, unchecked_block, block_of, sheet_of}
 use Rattle.sheet.specs.Opening as sheet
 use Rattle.decimal_bytes.specs.Precision.{greatest_precision, greatest}
-use Rattle.parquet.specs.Repetition as repetition
 use Rattle.parquet.specs.Physical as physical
 use Rattle.parquet.specs.Converted as converted
 use Rattle.parquet.specs.Logical as logical
@@ -37,7 +36,6 @@ use Rattle.logical_type.specs.declared.types.TimeUnit.{TimeUnit}
 use Rattle.tree.specs.Annotated.{annotated, kind, rule9, rule10, rule11}
 use Rattle.annotation.specs.declared.resolution.Kind.{Kind}
 use Rattle.tree.specs.declared.standing.Standing.{Standing}
-use Rattle.refusal.specs.declared.answers.Verdict.{Verdict}
 use Rattle.tree.specs.Tree.{SlotBytes, Fields, listing, count, size, depths}
 use Rattle.tree.specs.Rules.{is_list, is_map, standing_below, is_nought, length_shape, decimal_shape, shape, rule8, named_element, is_repeated, is_element_group, holds_element, list_child, list_run, list_kept, rule12, rule13}
 use Rattle.tree.specs.Faults.{broken, faults}
@@ -47,7 +45,8 @@ use Rattle.tree.specs.Reading.{take_fields, drop_fields, trees, first_tree, tree
 use Rattle.tree.specs.OpenPlaces.{sum, open_places, is_no_place}
 use Rattle.tree.specs.Judgement.{or_else, left_over, missing, first_fault, deepness, too_deep, unlawful, tree_refusal, judged_as, judgement}
 use Rattle.schema.specs.Outcome.{answer, outcome, written}
-use Rattle.refusal.specs.declared.answers.Counted.{Counted}
+use Rattle.refusal.specs.Outcome.{Counted, Verdict}
+use Rattle.std.specs.Prelude.{Ok, Err}
 use Rattle.demands.specs.Sheets.{root_slot, leaf_sheet, int96_sheet, geospatial_sheet, example_sheet, repeated_sheet}
 use Rattle.demands.specs.Points.{equal_sheet}
 use Rattle.demands.specs.Requests.{repeated_rows, example_rows, karney_rows}
@@ -89,29 +88,29 @@ unfolding outcome answer sheet_of block_of unchecked_block join_below bytes_of e
 opened edition = outcome edition
 
 -- "One root alone: accepted"
-pub root_alone : (edition : ℕ) → is_known edition ≡ true → outcome edition (sheet_of (root_slot 0 ∷ [])) row_width ≡ Counted.Count 1
+pub root_alone : (edition : ℕ) → is_known edition ≡ true → outcome edition (sheet_of (root_slot 0 ∷ [])) row_width ≡ Ok 1
 unfolding opened
 root_alone = each_edition _ refl refl refl
 
 -- "Scale = precision: 11", in edition 1, and accepted in edition 2
-pub equal_refused : outcome FIRST equal_sheet (row_width * 2) ≡ Counted.Refused (refusal 11 1)
+pub equal_refused : outcome FIRST equal_sheet (row_width * 2) ≡ Err (refusal 11 1)
 unfolding opened
 equal_refused = refl
 
-pub equal_accepted : outcome SECOND equal_sheet (row_width * 2) ≡ Counted.Count 2
+pub equal_accepted : outcome SECOND equal_sheet (row_width * 2) ≡ Ok 2
 unfolding opened
 equal_accepted = refl
 
-pub equal_third : outcome THIRD equal_sheet (row_width * 2) ≡ Counted.Count 2
+pub equal_third : outcome THIRD equal_sheet (row_width * 2) ≡ Ok 2
 unfolding opened
 equal_third = refl
 
 -- "TIME_MILLIS with TIME(NANOS): 9"
-pub time_millis_with_nanos : (edition : ℕ) → is_known edition ≡ true → outcome edition (leaf_sheet physical.INT64 converted.TIME_MILLIS logical.TIME (unit_code TimeUnit.Nanos) (flag_code true) 0 0 0) (row_width * 2) ≡ Counted.Refused (refusal 9 1)
+pub time_millis_with_nanos : (edition : ℕ) → is_known edition ≡ true → outcome edition (leaf_sheet physical.INT64 converted.TIME_MILLIS logical.TIME (unit_code TimeUnit.Nanos) (flag_code true) 0 0 0) (row_width * 2) ≡ Err (refusal 9 1)
 unfolding opened
 time_millis_with_nanos = each_edition _ refl refl refl
 
-pub example_accepted : (edition : ℕ) → is_known edition ≡ true → outcome edition example_sheet (row_width * 4) ≡ Counted.Count 4
+pub example_accepted : (edition : ℕ) → is_known edition ≡ true → outcome edition example_sheet (row_width * 4) ≡ Ok 4
 unfolding opened
 example_accepted = each_edition _ refl refl refl
 
@@ -126,32 +125,32 @@ unfolding opened written rows rows_from row parent_of parent_by role list_role h
 repeated_rows_lem = each_edition _ refl refl refl
 
 -- "FIXED 1 precision 3: 11"
-pub fixed_1_precision_3 : (edition : ℕ) → is_known edition ≡ true → outcome edition (leaf_sheet physical.FIXED_LEN_BYTE_ARRAY converted.NONE logical.DECIMAL UNUSED UNUSED 1 0 3) (row_width * 2) ≡ Counted.Refused (refusal 11 1)
+pub fixed_1_precision_3 : (edition : ℕ) → is_known edition ≡ true → outcome edition (leaf_sheet physical.FIXED_LEN_BYTE_ARRAY converted.NONE logical.DECIMAL UNUSED UNUSED 1 0 3) (row_width * 2) ≡ Err (refusal 11 1)
 unfolding opened greatest_precision greatest
 fixed_1_precision_3 = each_edition _ refl refl refl
 
 -- document 02, R-10
-pub plain_refused : outcome THIRD (int96_sheet converted.NONE logical.NONE 0) (row_width * 2) ≡ Counted.Refused (refusal 10 1)
+pub plain_refused : outcome THIRD (int96_sheet converted.NONE logical.NONE 0) (row_width * 2) ≡ Err (refusal 10 1)
 unfolding opened
 plain_refused = refl
 
-pub plain_accepted : outcome SECOND (int96_sheet converted.NONE logical.NONE 0) (row_width * 2) ≡ Counted.Count 2
+pub plain_accepted : outcome SECOND (int96_sheet converted.NONE logical.NONE 0) (row_width * 2) ≡ Ok 2
 unfolding opened
 plain_accepted = refl
 
-pub unknown_refused : outcome THIRD (int96_sheet converted.NONE logical.UNKNOWN 0) (row_width * 2) ≡ Counted.Refused (refusal 10 1)
+pub unknown_refused : outcome THIRD (int96_sheet converted.NONE logical.UNKNOWN 0) (row_width * 2) ≡ Err (refusal 10 1)
 unfolding opened
 unknown_refused = refl
 
-pub unknown_accepted : outcome SECOND (int96_sheet converted.NONE logical.UNKNOWN 0) (row_width * 2) ≡ Counted.Count 2
+pub unknown_accepted : outcome SECOND (int96_sheet converted.NONE logical.UNKNOWN 0) (row_width * 2) ≡ Ok 2
 unfolding opened
 unknown_accepted = refl
 
-pub nine_first : outcome THIRD (int96_sheet converted.UTF8 logical.UNKNOWN 0) (row_width * 2) ≡ Counted.Refused (refusal 9 1)
+pub nine_first : outcome THIRD (int96_sheet converted.UTF8 logical.UNKNOWN 0) (row_width * 2) ≡ Err (refusal 9 1)
 unfolding opened
 nine_first = refl
 
-pub eight_first : outcome THIRD (int96_sheet converted.UTF8 logical.UNKNOWN 12) (row_width * 2) ≡ Counted.Refused (refusal 8 1)
+pub eight_first : outcome THIRD (int96_sheet converted.UTF8 logical.UNKNOWN 12) (row_width * 2) ≡ Err (refusal 8 1)
 unfolding opened
 eight_first = refl
 
@@ -160,22 +159,22 @@ pub karney : written (outcome THIRD (geospatial_sheet 255 18 4) (row_width * 2))
 unfolding opened edge_of written rows rows_from row parent_of parent_by role list_role how_many size listing
 karney = refl
 
-pub edge_5 : outcome THIRD (geospatial_sheet 255 18 5) (row_width * 2) ≡ Counted.Refused (refusal 10 1)
+pub edge_5 : outcome THIRD (geospatial_sheet 255 18 5) (row_width * 2) ≡ Err (refusal 10 1)
 unfolding opened
 edge_5 = refl
 
-pub geometry_edge : outcome THIRD (geospatial_sheet 255 17 1) (row_width * 2) ≡ Counted.Refused (refusal 10 1)
+pub geometry_edge : outcome THIRD (geospatial_sheet 255 17 1) (row_width * 2) ≡ Err (refusal 10 1)
 unfolding opened
 geometry_edge = refl
 
-pub utf8_beside : outcome THIRD (geospatial_sheet 0 17 0) (row_width * 2) ≡ Counted.Refused (refusal 9 1)
+pub utf8_beside : outcome THIRD (geospatial_sheet 0 17 0) (row_width * 2) ≡ Err (refusal 9 1)
 unfolding opened
 utf8_beside = refl
 
-pub code_15 : outcome THIRD (geospatial_sheet 255 15 0) (row_width * 2) ≡ Counted.Refused (refusal 4 1)
+pub code_15 : outcome THIRD (geospatial_sheet 255 15 0) (row_width * 2) ≡ Err (refusal 4 1)
 unfolding opened
 code_15 = refl
 
-pub karney_before : outcome SECOND (geospatial_sheet 255 18 4) (row_width * 2) ≡ Counted.Refused (refusal 4 1)
+pub karney_before : outcome SECOND (geospatial_sheet 255 18 4) (row_width * 2) ≡ Err (refusal 4 1)
 unfolding opened
 karney_before = refl

@@ -13,7 +13,7 @@ use Rattle.laws.proofs.BoolLaws.{and_right, and_both, both_and, is_false, by_tes
 use Rattle.refusal.specs.Outcome.{given, refusal}
 use Rattle.refusal.specs.Faults as sided
 use Rattle.refusal.specs.Faults.{fault}
-use Rattle.refusal.specs.declared.answers.Verdict.{Verdict}
+use Rattle.std.specs.Prelude.{Err}
 use Rattle.edition.specs.Editions.{has_geospatial}
 use Rattle.edition.proofs.EditionLaws.{first, second, known_of}
 use Rattle.parquet.specs.Physical as physical
@@ -272,7 +272,7 @@ module _ (c : ColumnType) (g : is_geospatial c.kind ≡ true) where
   first_not : is_lawful 1 c ≡ false
   first_not = is_false (is_lawful 1 c) (λ e. true≢false (sym (lawful_second c e) ∙ second_not))
 
-  pub early_type : (typeJudgement 1 c ≡ Verdict.Refused (refusal 20 0)) × (typeJudgement 2 c ≡ Verdict.Refused (refusal 20 0))
+  pub early_type : (typeJudgement 1 c ≡ Err (refusal 20 0)) × (typeJudgement 2 c ≡ Err (refusal 20 0))
   unfolding typeJudgement
   early_type = (rw (first_not, refusal_known 1 (known_of first)), rw (second_not, refusal_known 2 (known_of second)))
 

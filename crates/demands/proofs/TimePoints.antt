@@ -5,7 +5,7 @@ use lib.IntN.{ℤ, pos, negsuc}
 use Rattle.timestamp.specs.Calendar.{is_leap, sum, days_of_month, days_before_month, days_of_year, days_before_year, day_of, epoch, day_number, is_date}
 use Rattle.timestamp.specs.Clock.{is_time, tick_of_day}
 use Rattle.timestamp.specs.Units.{unit_of}
-use Rattle.timestamp.specs.Count.{is_date_time, count_of, FieldsOf}
+use Rattle.timestamp.specs.Count.{is_date_time, count_of}
 use Rattle.refusal.specs.Outcome.{given}
 use Rattle.timestamp.specs.Outcomes.{Decodes, encoding_in}
 use Rattle.timestamp.specs.declared.fields.Fields.{Fields}

@@ -4,10 +4,10 @@
 -- "Any bytes may be offered to any public entry, with no condition on the caller": no public function has a `requires`, and `proofs/Entries` cites each entry's
 -- contract for any arguments. The contract gives the answer, and what lent memory holds at the end, as the outcome that is named here: what was asked for, or
 -- a refusal (`refusal/specs/Outcome`).
-use Rattle.std.specs.Prelude.{ℕ, ◌*◌, ◌≡◌, Bool, ◌&&◌, List, [], ◌∷◌, ltb, Float, ℤ, length}
+use Rattle.std.specs.Prelude.{ℕ, ◌*◌, ◌≡◌, Bool, ◌&&◌, List, [], ◌∷◌, ltb, Float, ℤ, length, Err}
 use Rattle.std.proofs.Math.Option.{Option}
 use Rattle.refusal.specs.Outcome.{Outcome, refused, judged, counted}
-use Rattle.refusal.specs.declared.answers.Counted.{Counted}
+use Rattle.std.specs.Prelude.{Ok}
 use Rattle.refusal.specs.declared.answers.Fault.{Fault}
 use Rattle.refusal.specs.declared.answers.Refusal.{Refusal}
 use Rattle.sheet.specs.Block.{total_of}
@@ -23,7 +23,6 @@ use Rattle.schema.specs.Outcome.{written}
 use Rattle.schema.specs.Rewriting.{rewrite_outcome, rewrite_written}
 use Rattle.differences.specs.Outcome as differences
 use Rattle.differences.specs.Outcome.{list_for, compare_outcome, compare_written}
-use Rattle.differences.specs.declared.comparison.Compared.{Compared}
 use Rattle.column_type.specs.Lawful.{judgement_of as typeJudgement}
 use Rattle.column_type.specs.declared.types.ColumnType.{ColumnType}
 use Rattle.column.specs.Outcome as column
@@ -37,10 +36,9 @@ use Rattle.timestamp.specs.Outcomes.{Decodes}
 use Rattle.timestamp.specs.declared.fields.Fields.{Fields}
 use Rattle.int96.specs.Value as int96
 use Rattle.int96.specs.Outcomes as conversion
-use Rattle.boxes.specs.Points.{Answers}
+use Rattle.boxes.specs.Points.{Boxed, Answers}
 use Rattle.boxes.specs.Membership.{inside_x, inside_y, membership}
 use Rattle.boxes.specs.declared.bounding_box.BoundingBox.{BoundingBox}
-use Rattle.boxes.specs.declared.points.Boxed.{Boxed}
 use Rattle.schema_text.specs.Rows.{rows_text, rows_text_of, refusal_line, answer_text}
 use Rattle.schema_text.specs.Making.{made, made_in}
 use Rattle.c_answer.specs.Answers.{within, left}
@@ -89,8 +87,8 @@ pub record Chosen (edition : ℕ) : Type 1 where
   pub testing : (kind : ℕ) (b : BoundingBox) (x y : Float) → membership kind b x y ≡ first (test_grounds kind b x y) (inside_x b x && inside_y b y)
   -- `schema_text::rows_text`, and `schema_text::answer_text` of rows and of a refusal
   pub rows_text_lem : (total : ℕ) (numbers : List ℕ) (room : ℕ) → counted (made (rows_text_of total numbers) room) ≡ first (rows_text_grounds total numbers room) (length (rows_text total numbers))
-  pub answer_rows : (total : ℕ) (numbers : List ℕ) (room : ℕ) → counted (made (answer_text (Counted.Count total) numbers) room) ≡ first (rows_text_grounds total numbers room) (length (rows_text total numbers))
-  pub answer_refusal : (r : Refusal) (numbers : List ℕ) (room : ℕ) → counted (made (answer_text (Counted.Refused r) numbers) room) ≡ first (short_for (length (refusal_line r)) room ∷ []) (length (refusal_line r))
+  pub answer_rows : (total : ℕ) (numbers : List ℕ) (room : ℕ) → counted (made (answer_text (Ok total) numbers) room) ≡ first (rows_text_grounds total numbers room) (length (rows_text total numbers))
+  pub answer_refusal : (r : Refusal) (numbers : List ℕ) (room : ℕ) → counted (made (answer_text (Err r) numbers) room) ≡ first (short_for (length (refusal_line r)) room ∷ []) (length (refusal_line r))
   -- `griffeljol_read`, `griffeljol_decode`, `griffeljol_encode`, `griffeljol_from_int96` and `griffeljol_box`
   pub c_reading : (c : ColumnType) (bs : List ℕ) (lent : ℕ) → c_values.reading edition c bs lent ≡ first (c_reading_grounds edition c bs lent) (record { value = case_of (value_of c bs); numbers = numbers_of (value_of c bs) })
   pub c_decoding : (unit : ℕ) (count : ℤ) (lent : ℕ) (o : Outcome Fields) → Decodes (unit_of unit) count o → (f : Fields) × (o ≡ first (unknown_unit unit ∷ []) f) × (within lent (decode_effect o) ≡ first (c_decoding_grounds unit lent) (record { value = 7; numbers = field_numbers f }))
@@ -101,15 +99,15 @@ pub record Chosen (edition : ℕ) : Type 1 where
 -- "A refusal changes no lent buffer"
 pub record Unchanged (edition : ℕ) : Type 1 where
   -- the rows of `schema::resolve`, and in C
-  pub rows : (sheet lent : List ℕ) (r : Refusal) → schema.outcome edition sheet (length lent) ≡ Counted.Refused r → written (schema.outcome edition sheet (length lent)) sheet lent ≡ lent
+  pub rows : (sheet lent : List ℕ) (r : Refusal) → schema.outcome edition sheet (length lent) ≡ Err r → written (schema.outcome edition sheet (length lent)) sheet lent ≡ lent
   -- the output of `schema::rewrite`, and in C
-  pub output : (sheet lent : List ℕ) (start : ℕ) (r : Refusal) → rewrite_outcome edition sheet (length lent) start ≡ Counted.Refused r → rewrite_written (rewrite_outcome edition sheet (length lent) start) sheet lent start ≡ lent
+  pub output : (sheet lent : List ℕ) (start : ℕ) (r : Refusal) → rewrite_outcome edition sheet (length lent) start ≡ Err r → rewrite_written (rewrite_outcome edition sheet (length lent) start) sheet lent start ≡ lent
   -- the output of `differences::compare`, and in C
-  pub differences : (one two lent : List ℕ) (f : Fault) → compare_outcome edition one two (length lent) ≡ Compared.Refused f → compare_written (compare_outcome edition one two (length lent)) one two lent ≡ lent
+  pub differences : (one two lent : List ℕ) (f : Fault) → compare_outcome edition one two (length lent) ≡ Err f → compare_written (compare_outcome edition one two (length lent)) one two lent ≡ lent
   -- the output of `int96::encode`, and in C
-  pub int96_value : (count : ℤ) (lent : List ℕ) (r : Refusal) → conversion.encoding (length lent) ≡ Counted.Refused r → conversion.encoded count lent ≡ lent
+  pub int96_value : (count : ℤ) (lent : List ℕ) (r : Refusal) → conversion.encoding (length lent) ≡ Err r → conversion.encoded count lent ≡ lent
   -- the buffer of a text
-  pub text_buffer : (may : Option (List ℕ)) (lent : List ℕ) (r : Refusal) → made may (length lent) ≡ Counted.Refused r → made_in may lent ≡ lent
+  pub text_buffer : (may : Option (List ℕ)) (lent : List ℕ) (r : Refusal) → made may (length lent) ≡ Err r → made_in may lent ≡ lent
   -- the outputs of `griffeljol_read`, `griffeljol_encode` and `griffeljol_from_int96`
   pub c_value : (c : ColumnType) (bs lent : List ℕ) (r : Refusal) → c_values.reading edition c bs (length lent) ≡ refused r → left (c_values.reading edition c bs (length lent)) lent ≡ lent
   pub c_count : (unit : ℕ) (numbers lent : List ℤ) (r : Refusal) → c_timestamps.encoding unit numbers (length lent) ≡ refused r → left (c_timestamps.encoding unit numbers (length lent)) lent ≡ lent

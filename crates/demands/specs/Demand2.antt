@@ -17,13 +17,13 @@ use Rattle.logical_type.specs.declared.types.Annotation.{Annotation}
 use Rattle.logical_type.proofs.ConversionLaws.{adjusted}
 use Rattle.refusal.specs.Faults as sided
 use Rattle.refusal.specs.Faults.{fault}
-use Rattle.refusal.specs.Outcome.{Outcome, given, refused, refusal}
+use Rattle.refusal.specs.Outcome.{Outcome, given, refused, refusal, no_refusal}
 use Rattle.sheet.specs.Slot.{slot_at, slots}
 use Rattle.tree.specs.Tree.{Tree, size}
 use Rattle.tree.specs.Rules.{judged_kinds}
 use Rattle.tree.specs.Judgement.{judgement}
 use Rattle.tree.specs.declared.standing.Standing.TheVariants.{Root}
-use Rattle.refusal.specs.declared.answers.Verdict.{Verdict}
+use Rattle.std.specs.Prelude.{Ok}
 use Rattle.schema.specs.Rows.{rows, kinds_in, number_in, KEY_VALUE_LAYER}
 use Rattle.schema.specs.Outcome.{outcome, written}
 use Rattle.schema.specs.Rewriting.{rewritten, rewrite_outcome, rewrite_written}
@@ -43,13 +43,13 @@ use Rattle.column_order.specs.Order.{has_order, order_of}
 use Rattle.column_order.specs.Outcome as order
 use Rattle.column_order.specs.Promises.{AsNumbers, AsBytes, bits_below, FLOAT_SIGN, FLOAT_INFINITY, DOUBLE_SIGN, DOUBLE_INFINITY, IsNan}
 use Rattle.column_order.specs.Comparison.{Valid, NotANumber, turned, at_most}
-use Rattle.column_order.specs.declared.answer.Order.TheVariants.{Related}
-use Rattle.float_order.specs.declared.relation.Relation.{Relation}
-use Rattle.float_order.specs.declared.relation.Relation.TheVariants.{Equal, Unordered}
+use Rattle.std.specs.Prelude.{Some, None}
+use Rattle.std.specs.declared.option.Option as answer
+use Rattle.std.specs.declared.cmp.Ordering as comparison
+use Rattle.std.specs.declared.cmp.Ordering.TheVariants.{Equal}
 use Rattle.decimal_bytes.specs.Precision.{is_length}
 use Rattle.decimal_bytes.specs.Number.{number}
 use Rattle.decimal_bytes.specs.Fit.{fit_of}
-use Rattle.decimal_bytes.specs.declared.fit.Fit.TheVariants.{Within}
 use Rattle.utf8.specs.Text.{Text}
 use Rattle.utf8.specs.Valid.{valid_up_to}
 use Rattle.logical_type.specs.declared.types.TimeUnit.{TimeUnit}
@@ -78,11 +78,11 @@ pub record Rewriting (edition : ℕ) : Type 1 where
   -- "rewriting accepts the same sheets where its own output is enough"
   pub accepts : (sheet : List ℕ) (lent start places : ℕ) → EnoughRoom sheet lent start → EnoughOutput sheet places → AcceptedRewriting (rewrite_outcome edition sheet lent start) ↔ Accepted (outcome edition sheet places)
   -- "It resolves to the same rows"
-  pub lawful : (sheet : List ℕ) → judgement edition sheet ≡ Verdict.Lawful → judgement edition (rewritten sheet) ≡ Verdict.Lawful
-  pub same_outcome : (sheet : List ℕ) → judgement edition sheet ≡ Verdict.Lawful → (lent : ℕ) → outcome edition (rewritten sheet) lent ≡ outcome edition sheet lent
-  pub same_rows : (sheet : List ℕ) → judgement edition sheet ≡ Verdict.Lawful → (lent : List ℕ) → written (outcome edition (rewritten sheet) (length lent)) (rewritten sheet) lent ≡ written (outcome edition sheet (length lent)) sheet lent
+  pub lawful : (sheet : List ℕ) → judgement edition sheet ≡ no_refusal → judgement edition (rewritten sheet) ≡ no_refusal
+  pub same_outcome : (sheet : List ℕ) → judgement edition sheet ≡ no_refusal → (lent : ℕ) → outcome edition (rewritten sheet) lent ≡ outcome edition sheet lent
+  pub same_rows : (sheet : List ℕ) → judgement edition sheet ≡ no_refusal → (lent : List ℕ) → written (outcome edition (rewritten sheet) (length lent)) (rewritten sheet) lent ≡ written (outcome edition sheet (length lent)) sheet lent
   -- "and rewriting it again changes no byte"
-  pub again : (sheet : List ℕ) → judgement edition sheet ≡ Verdict.Lawful → rewritten (rewritten sheet) ≡ rewritten sheet
+  pub again : (sheet : List ℕ) → judgement edition sheet ≡ no_refusal → rewritten (rewritten sheet) ≡ rewritten sheet
   -- "every resolved logical annotation with its parameters and its forward image; INTERVAL keeps converted alone", of each node of the tree of a sound sheet,
   -- by the kind in its row
   pub written_back : (sheet : List ℕ) (t : Tree) → Sound edition sheet → IsTreeOf edition sheet t → (k : ℕ) → k < size t → WrittenBack (kind_in (rows t) k) (slot_at (rewritten sheet) k)
@@ -91,10 +91,10 @@ pub record Rewriting (edition : ℕ) : Type 1 where
   -- "All else but the checks is copied"
   pub copied : (sheet : List ℕ) (k : ℕ) → Copied (slot_at (rewritten sheet) k) (slot_at sheet k)
   -- "It is written into a stretch of the lent output that may begin anywhere"
-  pub stretch : (sheet lent : List ℕ) (start : ℕ) → judgement edition sheet ≡ Verdict.Lawful → EnoughRoom sheet (length lent) start → take (length sheet) (drop start (rewrite_written (rewrite_outcome edition sheet (length lent) start) sheet lent start)) ≡ rewritten sheet
+  pub stretch : (sheet lent : List ℕ) (start : ℕ) → judgement edition sheet ≡ no_refusal → EnoughRoom sheet (length lent) start → take (length sheet) (drop start (rewrite_written (rewrite_outcome edition sheet (length lent) start) sheet lent start)) ≡ rewritten sheet
   -- "bytes before and after stay"
-  pub before : (sheet lent : List ℕ) (start : ℕ) → judgement edition sheet ≡ Verdict.Lawful → EnoughRoom sheet (length lent) start → take start (rewrite_written (rewrite_outcome edition sheet (length lent) start) sheet lent start) ≡ take start lent
-  pub after : (sheet lent : List ℕ) (start : ℕ) → judgement edition sheet ≡ Verdict.Lawful → EnoughRoom sheet (length lent) start → drop (start + length sheet) (rewrite_written (rewrite_outcome edition sheet (length lent) start) sheet lent start) ≡ drop (start + length sheet) lent
+  pub before : (sheet lent : List ℕ) (start : ℕ) → judgement edition sheet ≡ no_refusal → EnoughRoom sheet (length lent) start → take start (rewrite_written (rewrite_outcome edition sheet (length lent) start) sheet lent start) ≡ take start lent
+  pub after : (sheet lent : List ℕ) (start : ℕ) → judgement edition sheet ≡ no_refusal → EnoughRoom sheet (length lent) start → drop (start + length sheet) (rewrite_written (rewrite_outcome edition sheet (length lent) start) sheet lent start) ≡ drop (start + length sheet) lent
 
 -- "Value checks .. follow those rules too": each sentence of "Single values", of what `column::read` gives (`read.outcome`) in a lawful column
 pub record Values (edition : ℕ) : Type 1 where
@@ -118,7 +118,7 @@ pub record Values (edition : ℕ) : Type 1 where
   pub text : (c : ColumnType) (bs : List ℕ) → is_lawful edition c ≡ true → RightLength c (length bs) → is_text c.kind ≡ true → Held edition c bs (Text bs) (Bytes 0 (length bs)) (valid_up_to bs)
   -- of `utf8::valid_up_to`: it stops at the end exactly of such a run; and of `decimal::fits_precision`, of byte forms of any length
   pub text_exactly : (s : List ℕ) → (valid_up_to s ≡ length s) ↔ Text s
-  pub fits_exactly : (bs : List ℕ) (precision : ℕ) → is_length (length bs) ≡ true → (fit_of bs precision ≡ Within) ↔ (nat_abs (number bs) < 10 ^ precision)
+  pub fits_exactly : (bs : List ℕ) (precision : ℕ) → is_length (length bs) ≡ true → (fit_of bs precision ≡ Ok true) ↔ (nat_abs (number bs) < 10 ^ precision)
   -- "UNKNOWN: no value, so 16"
   pub unknown : (c : ColumnType) (bs : List ℕ) → is_lawful edition c ≡ true → RightLength c (length bs) → c.kind ≡ logical.UNKNOWN → read.outcome edition c bs ≡ refused (refusal 16 0)
   -- "Others: any"; "a whole number, a FLOAT, a DOUBLE or, for INT96 and all byte forms, a stretch of bytes (start and length)"
@@ -131,7 +131,7 @@ pub record Values (edition : ℕ) : Type 1 where
 -- ".. column order ..": of two valid values of a column that has an order
 pub record Ordering (edition : ℕ) : Type 1 where
   -- what `column_order::order` gives (`order.outcome`) is the relation that is spoken of here
-  pub given_exactly : (c : ColumnType) (a b : List ℕ) (r : Relation) → (order.outcome edition c a b ≡ sided.given r) ↔ (order_of edition c a b ≡ Related r)
+  pub given_exactly : (c : ColumnType) (a b : List ℕ) (r : answer.Option comparison.Ordering) → (order.outcome edition c a b ≡ sided.given r) ↔ (order_of edition c a b ≡ Ok r)
   -- "INTERVAL and INT96 have none": 17 for these, for GEOMETRY and GEOGRAPHY (document 02, R-11), and for no others
   pub no_order : (c : ColumnType) (a b : List ℕ) → (order.outcome edition c a b ≡ sided.refused (fault 0 (refusal 17 0))) ↔ ((is_lawful edition c ≡ true) × ((c.physical ≡ INT96) ⊎ ((c.kind ≡ converted.INTERVAL) ⊎ (is_geospatial c.kind ≡ true))))
   pub has_order_lem : (c : ColumnType) → (has_order c ≡ false) ↔ ((c.physical ≡ INT96) ⊎ ((c.kind ≡ converted.INTERVAL) ⊎ (is_geospatial c.kind ≡ true)))
@@ -151,12 +151,12 @@ pub record Ordering (edition : ℕ) : Type 1 where
   pub float : (c : ColumnType) → has_order c ≡ true → (a b : List ℕ) → Valid edition c a → Valid edition c b → c.physical ≡ FLOAT → (IsNan FLOAT_SIGN FLOAT_INFINITY (little a) → ⊥) → (IsNan FLOAT_SIGN FLOAT_INFINITY (little b) → ⊥) → AsNumbers edition c a b (bits_below FLOAT_SIGN (little a)) (bits_below FLOAT_SIGN (little b))
   pub double : (c : ColumnType) → has_order c ≡ true → (a b : List ℕ) → Valid edition c a → Valid edition c b → c.physical ≡ DOUBLE → (IsNan DOUBLE_SIGN DOUBLE_INFINITY (little a) → ⊥) → (IsNan DOUBLE_SIGN DOUBLE_INFINITY (little b) → ⊥) → AsNumbers edition c a b (bits_below DOUBLE_SIGN (little a)) (bits_below DOUBLE_SIGN (little b))
   -- "NaN is answered as unordered", and nothing else is
-  pub float_unordered : (c : ColumnType) → has_order c ≡ true → (a b : List ℕ) → Valid edition c a → Valid edition c b → c.physical ≡ FLOAT → (order_of edition c a b ≡ Related Unordered) ↔ (IsNan FLOAT_SIGN FLOAT_INFINITY (little a) ⊎ IsNan FLOAT_SIGN FLOAT_INFINITY (little b))
-  pub double_unordered : (c : ColumnType) → has_order c ≡ true → (a b : List ℕ) → Valid edition c a → Valid edition c b → c.physical ≡ DOUBLE → (order_of edition c a b ≡ Related Unordered) ↔ (IsNan DOUBLE_SIGN DOUBLE_INFINITY (little a) ⊎ IsNan DOUBLE_SIGN DOUBLE_INFINITY (little b))
+  pub float_unordered : (c : ColumnType) → has_order c ≡ true → (a b : List ℕ) → Valid edition c a → Valid edition c b → c.physical ≡ FLOAT → (order_of edition c a b ≡ Ok None) ↔ (IsNan FLOAT_SIGN FLOAT_INFINITY (little a) ⊎ IsNan FLOAT_SIGN FLOAT_INFINITY (little b))
+  pub double_unordered : (c : ColumnType) → has_order c ≡ true → (a b : List ℕ) → Valid edition c a → Valid edition c b → c.physical ≡ DOUBLE → (order_of edition c a b ≡ Ok None) ↔ (IsNan DOUBLE_SIGN DOUBLE_INFINITY (little a) ⊎ IsNan DOUBLE_SIGN DOUBLE_INFINITY (little b))
   -- the order of every column that has one: the other way round for values exchanged, transitive, antisymmetric up to equal, total but for NaNs
   pub order_turned : (c : ColumnType) → has_order c ≡ true → (a b : List ℕ) → Valid edition c a → Valid edition c b → order_of edition c b a ≡ turned (order_of edition c a b)
   pub order_trans : (c : ColumnType) → has_order c ≡ true → (a b d : List ℕ) → Valid edition c a → Valid edition c b → Valid edition c d → at_most (order_of edition c a b) ≡ true → at_most (order_of edition c b d) ≡ true → at_most (order_of edition c a d) ≡ true
-  pub order_antisym : (c : ColumnType) → has_order c ≡ true → (a b : List ℕ) → Valid edition c a → Valid edition c b → at_most (order_of edition c a b) ≡ true → at_most (order_of edition c b a) ≡ true → order_of edition c a b ≡ Related Equal
+  pub order_antisym : (c : ColumnType) → has_order c ≡ true → (a b : List ℕ) → Valid edition c a → Valid edition c b → at_most (order_of edition c a b) ≡ true → at_most (order_of edition c b a) ≡ true → order_of edition c a b ≡ Ok (Some Equal)
   pub order_total : (c : ColumnType) → has_order c ≡ true → (a b : List ℕ) → Valid edition c a → Valid edition c b → (NotANumber c a → ⊥) → (NotANumber c b → ⊥) → (at_most (order_of edition c a b) || at_most (order_of edition c b a)) ≡ true
 
 -- ".. and timestamps, decoded and encoded"

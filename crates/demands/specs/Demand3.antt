@@ -8,11 +8,10 @@
 use Rattle.std.specs.Prelude.{ℕ, ◌*◌, ◌<◌, ◌≡◌, ◌⊎◌, ◌↔◌, List, ◌++◌, length, drop}
 use Rattle.sheet.specs.Block.{total_of}
 use Rattle.sheet.specs.Opening.{open_of}
-use Rattle.refusal.specs.Outcome.{refusal}
-use Rattle.refusal.specs.declared.answers.Counted.{Counted}
+use Rattle.refusal.specs.Outcome.{refusal, no_refusal}
+use Rattle.std.specs.Prelude.{Ok, Err}
 use Rattle.tree.specs.Tree.{SlotBytes, Tree, Claims, listing, size}
 use Rattle.tree.specs.Judgement.{or_else, left_over, missing, too_deep, unlawful, tree_refusal}
-use Rattle.refusal.specs.declared.answers.Verdict.{Verdict}
 use Rattle.schema.specs.Rows.{rows, row_width, number_in}
 use Rattle.schema.specs.Roles.{Ascent, ascent, IsField, IsListLayer, IsElement, IsElementLayer, IsKeyValueLayer, IsKey, IsValue, IsBareRepeated}
 use Rattle.schema.specs.Outcome.{outcome, written}
@@ -42,10 +41,10 @@ pub record Demand3 (edition : ℕ) : Type 1 where
   -- the roles in terms of the tree
   pub roles : (sheet : List ℕ) (t : Tree) → IsTreeOf edition sheet t → (k : ℕ) → k < size t → RoleIn (number_in (rows t) k 8) (ascent t k)
   -- "blocks are sound where refusals 1 to 3 don't hold, node slots where 4 doesn't", and the edition is known: together, exactly where opening refuses nothing
-  pub sound_exactly : (sheet : List ℕ) → Sound edition sheet ↔ (open_of edition sheet ≡ Counted.Count (total_of sheet))
+  pub sound_exactly : (sheet : List ℕ) → Sound edition sheet ↔ (open_of edition sheet ≡ Ok (total_of sheet))
   -- of refusal 6, refusal 5 and a tree that claims rightly and lists the slots, one holds, with the refusal's place
-  pub six_five_or_tree : (ss : List SlotBytes) → ((k : ℕ) × (k < length ss) × (left_over ss ≡ Verdict.Refused (refusal 6 k))) ⊎ (((left_over ss ≡ Verdict.Lawful) × (missing ss ≡ Verdict.Refused (refusal 5 (length ss)))) ⊎ ((t : Tree) × Claims t × (listing t ≡ ss)))
+  pub six_five_or_tree : (ss : List SlotBytes) → ((k : ℕ) × (k < length ss) × (left_over ss ≡ Err (refusal 6 k))) ⊎ (((left_over ss ≡ no_refusal) × (missing ss ≡ Err (refusal 5 (length ss)))) ⊎ ((t : Tree) × Claims t × (listing t ≡ ss)))
   -- and where there is such a tree, neither refusal is given
-  pub tree_neither : (ss : List SlotBytes) (t : Tree) → Claims t → listing t ≡ ss → (left_over ss ≡ Verdict.Lawful) × (missing ss ≡ Verdict.Lawful)
+  pub tree_neither : (ss : List SlotBytes) (t : Tree) → Claims t → listing t ≡ ss → (left_over ss ≡ no_refusal) × (missing ss ≡ no_refusal)
   -- refusals 7 to 13, with their places, are then those of that tree: its first node that is too deep, else its first node that breaks a rule
   pub seven_to_thirteen : (ss : List SlotBytes) (t : Tree) → Claims t → listing t ≡ ss → tree_refusal edition ss ≡ or_else (too_deep t) (unlawful edition t)

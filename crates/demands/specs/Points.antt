@@ -8,7 +8,7 @@ use Rattle.logical_type.specs.declared.types.BitWidth.{BitWidth}
 use Rattle.logical_type.specs.declared.types.TimeUnit.{TimeUnit}
 use Rattle.refusal.specs.Faults as sided
 use Rattle.refusal.specs.Outcome.{given, refused, refusal}
-use Rattle.refusal.specs.declared.answers.Counted.{Counted}
+use Rattle.std.specs.Prelude.{Ok, Err}
 use Rattle.edition.specs.Editions.{FIRST, SECOND, THIRD}
 use Rattle.sheet.specs.Sheet.{sheet_of}
 use Rattle.schema.specs.Rows.{row_width}
@@ -16,7 +16,8 @@ use Rattle.schema.specs.Outcome as schema
 use Rattle.column_type.specs.declared.types.ColumnType.{ColumnType}
 use Rattle.column.specs.Outcome as reading
 use Rattle.column.specs.declared.value.Value.TheVariants.{Unsigned, Bytes}
-use Rattle.float_order.specs.declared.relation.Relation.TheVariants.{Less, Equal, Greater}
+use Rattle.std.specs.Prelude.{Some}
+use Rattle.std.specs.declared.cmp.Ordering.TheVariants.{Less, Equal, Greater}
 use Rattle.column_order.specs.Outcome as ordering
 use Rattle.timestamp.specs.Units.{unit_of}
 use Rattle.timestamp.specs.Outcomes as timestamp
@@ -62,21 +63,21 @@ points edition =
     ∷ NoSuchDay MICROS
     ∷ NoSuchDay NANOS
     -- "BYTE_ARRAY decimals of precision 3: *FF and FFFF equal; *80 below 7F; *00FF above 7F"
-    ∷ (ordering.outcome edition (decimals 3) (0xFF ∷ []) (0xFF ∷ 0xFF ∷ []) ≡ sided.given Equal)
-    ∷ (ordering.outcome edition (decimals 3) (0x80 ∷ []) (0x7F ∷ []) ≡ sided.given Less)
-    ∷ (ordering.outcome edition (decimals 3) (0x00 ∷ 0xFF ∷ []) (0x7F ∷ []) ≡ sided.given Greater)
+    ∷ (ordering.outcome edition (decimals 3) (0xFF ∷ []) (0xFF ∷ 0xFF ∷ []) ≡ sided.given (Some Equal))
+    ∷ (ordering.outcome edition (decimals 3) (0x80 ∷ []) (0x7F ∷ []) ≡ sided.given (Some Less))
+    ∷ (ordering.outcome edition (decimals 3) (0x00 ∷ 0xFF ∷ []) (0x7F ∷ []) ≡ sided.given (Some Greater))
     -- "*Precision 2: 63 hex valid, 64 hex 16"
     ∷ (reading.outcome edition (decimals 2) (0x63 ∷ []) ≡ given (Bytes 0 1))
     ∷ (reading.outcome edition (decimals 2) (0x64 ∷ []) ≡ refused (refusal 16 0))
     -- "*FIXED 1 precision 3: 11"
-    ∷ (schema.outcome edition (leaf_sheet physical.FIXED_LEN_BYTE_ARRAY converted.NONE logical.DECIMAL UNUSED UNUSED 1 0 3) (row_width * 2) ≡ Counted.Refused (refusal 11 1))
+    ∷ (schema.outcome edition (leaf_sheet physical.FIXED_LEN_BYTE_ARRAY converted.NONE logical.DECIMAL UNUSED UNUSED 1 0 3) (row_width * 2) ≡ Err (refusal 11 1))
     -- "*INT(8, false): 255 valid, 256: 16"
     ∷ (reading.outcome edition uint8 (255 ∷ 0 ∷ 0 ∷ 0 ∷ []) ≡ given (Unsigned 255))
     ∷ (reading.outcome edition uint8 (0 ∷ 1 ∷ 0 ∷ 0 ∷ []) ≡ refused (refusal 16 0))
     -- "*TIME_MILLIS with TIME(NANOS): 9"
-    ∷ (schema.outcome edition (leaf_sheet physical.INT64 converted.TIME_MILLIS logical.TIME (unit_code TimeUnit.Nanos) (flag_code true) 0 0 0) (row_width * 2) ≡ Counted.Refused (refusal 9 1))
+    ∷ (schema.outcome edition (leaf_sheet physical.INT64 converted.TIME_MILLIS logical.TIME (unit_code TimeUnit.Nanos) (flag_code true) 0 0 0) (row_width * 2) ≡ Err (refusal 9 1))
     -- "*One root alone: accepted"
-    ∷ (schema.outcome edition (sheet_of (root_slot 0 ∷ [])) row_width ≡ Counted.Count 1)
+    ∷ (schema.outcome edition (sheet_of (root_slot 0 ∷ [])) row_width ≡ Ok 1)
     ∷ []
 
 -- a DECIMAL on INT32 whose scale equals its precision
@@ -87,10 +88,10 @@ equal_sheet = leaf_sheet physical.INT32 converted.NONE logical.DECIMAL UNUSED UN
 abbrev pub edition_points : List (Type 0)
 edition_points =
     -- "*Scale = precision: 11", in edition 1
-    (schema.outcome FIRST equal_sheet (row_width * 2) ≡ Counted.Refused (refusal 11 1))
+    (schema.outcome FIRST equal_sheet (row_width * 2) ≡ Err (refusal 11 1))
     -- and from edition 2 on it is accepted
-    ∷ (schema.outcome SECOND equal_sheet (row_width * 2) ≡ Counted.Count 2)
-    ∷ (schema.outcome THIRD equal_sheet (row_width * 2) ≡ Counted.Count 2)
+    ∷ (schema.outcome SECOND equal_sheet (row_width * 2) ≡ Ok 2)
+    ∷ (schema.outcome THIRD equal_sheet (row_width * 2) ≡ Ok 2)
     ∷ []
 
 -- all claims of a list hold

@@ -1,10 +1,11 @@
 -- "One numbered refusal, chosen in the order document 01 states": each refusal's own condition with its place, the paper's order as a list, and what a call
 -- ends with: the first of the list that holds, or the result where none does. No condition here speaks of another, but for the one "otherwise" of the paper.
 use Rattle.std.specs.Prelude.{ℕ, zero, suc, ◌+◌, ◌*◌, ◌%◌, ◌^◌, Bool, true, cond, not, ◌&&◌, List, [], ◌∷◌, ◌++◌, eqb, leb, ltb, Float, ℤ, length}
-use Rattle.refusal.specs.Outcome.{Outcome, given, refused, refusal}
+use Rattle.refusal.specs.Outcome.{Outcome, given, refused, refusal, no_refusal}
 use Rattle.refusal.specs.Faults as sided
 use Rattle.refusal.specs.Faults.{Sided}
-use Rattle.refusal.specs.declared.answers.Verdict.{Verdict}
+use Rattle.refusal.specs.Outcome.{Verdict}
+use Rattle.std.specs.Prelude.{Err}
 use Rattle.edition.specs.Editions.{is_known}
 use Rattle.parquet.specs.Logical.{is_geospatial}
 use Rattle.sheet.specs.Block.{slots_in_block, block_count, total_of}
@@ -33,11 +34,10 @@ use Rattle.timestamp.specs.Count.{is_date_time, count_of}
 use Rattle.timestamp.specs.Outcomes.{is_signed64}
 use Rattle.timestamp.specs.declared.fields.Fields.{Fields as DateTime}
 use Rattle.int96.specs.Value as int96
-use Rattle.boxes.specs.Points.{points_in, allows_points}
+use Rattle.boxes.specs.Points.{Boxed, points_in, allows_points}
 use Rattle.boxes.specs.Membership.{is_box, allows_point}
 use Rattle.boxes.specs.declared.bounding_box.BoundingBox.{BoundingBox}
-use Rattle.boxes.specs.declared.points.Boxed
-use Rattle.boxes.specs.declared.points.Boxed.{Boxed}
+use Rattle.std.specs.Prelude.{Some, None, Ok}
 use Rattle.schema_text.specs.Rows.{rows_text}
 use Rattle.c_timestamps.specs.Timestamps.{are_fields, fields_of}
 
@@ -213,14 +213,14 @@ box_grounds kind coordinates =
 
 -- what each answer of a list of points refuses, and the numbers that it gives
 abbrev pub box_verdict : Boxed → Verdict
-box_verdict (Boxed.Box b) = Verdict.Lawful
-box_verdict Boxed.NoBox = Verdict.Lawful
-box_verdict (Boxed.Refused r) = Verdict.Refused r
+box_verdict (Ok (Some b)) = no_refusal
+box_verdict (Ok None) = no_refusal
+box_verdict (Err r) = Err r
 
 abbrev pub box_numbers : Boxed → List Float
-box_numbers (Boxed.Box b) = b.xmin ∷ b.xmax ∷ b.ymin ∷ b.ymax ∷ []
-box_numbers Boxed.NoBox = []
-box_numbers (Boxed.Refused r) = []
+box_numbers (Ok (Some b)) = b.xmin ∷ b.xmax ∷ b.ymin ∷ b.ymax ∷ []
+box_numbers (Ok None) = []
+box_numbers (Err r) = []
 
 -- "16 for a box with a NaN, with ymin above ymax, or, for GEOGRAPHY, with any bound outside ..; the same range holds for its points", behind 20
 abbrev pub test_grounds : ℕ → BoundingBox → Float → Float → List Ground

@@ -1,5 +1,5 @@
 -- What the requests of document 02 ask of the definitions.
-use Rattle.std.specs.Prelude.{ℕ, ◌+◌, ◌*◌, ◌-◌, ◌/◌, ◌%◌, ◌^◌, ◌≤◌, ◌<◌, ◌≡◌, Bool, true, false, cond, ◌&&◌, List, [], ◌∷◌, ◌++◌, map, ◌⊎◌, ◌↔◌, ℤ, pos, negsuc, neg_ℤ, ◌+ℤ◌, ◌-ℤ◌, ◌*ℤ◌, Float, length, get_or, take, drop, replicate}
+use Rattle.std.specs.Prelude.{ℕ, ◌+◌, ◌*◌, ◌-◌, ◌/◌, ◌%◌, ◌^◌, ◌≤◌, ◌<◌, ◌≡◌, Bool, true, false, cond, ◌&&◌, List, [], ◌∷◌, ◌++◌, map, ◌⊎◌, ◌↔◌, ℤ, pos, negsuc, neg_ℤ, ◌+ℤ◌, ◌-ℤ◌, ◌*ℤ◌, Float, length, get_or, take, drop, replicate, Ok, Err}
 use Rattle.std.proofs.Math.Option.{some}
 use Rattle.std.specs.Float.{binary64, nan}
 use Rattle.std.specs.Float.Ieee.{of_int}
@@ -7,7 +7,7 @@ use Rattle.std.proofs.Math.ListN.{get_elem?}
 use Rattle.laws.specs.Bytes.{Bytes, little}
 use Rattle.refusal.specs.Faults as sided
 use Rattle.refusal.specs.Faults.{fault}
-use Rattle.refusal.specs.Outcome.{given, refused, refusal}
+use Rattle.refusal.specs.Outcome.{given, refused, refusal, no_refusal}
 use Rattle.edition.specs.Editions.{is_known}
 use Rattle.annotation.specs.Rule9 as nine
 use Rattle.annotation.specs.Rule10.{is_placed, rule10}
@@ -33,15 +33,15 @@ use Rattle.timestamp.specs.declared.fields.Fields.{Fields as DateTime}
 use Rattle.int96.specs.Value.{nanos_in, day_in, count_of, ValueOf, value_of}
 use Rattle.int96.specs.Outcomes.{decoding, encoding, encoded}
 use Rattle.float_order.specs.Floats.{float_order}
-use Rattle.float_order.specs.declared.relation.Relation.TheVariants.{Less, Equal, Greater}
+use Rattle.std.specs.Prelude.{Some}
+use Rattle.std.specs.declared.cmp.Ordering.TheVariants.{Less, Equal, Greater}
 use Rattle.boxes.specs.Coordinates.{at_most, is_above, in_range}
 use Rattle.boxes.specs.Points as boxes
-use Rattle.boxes.specs.Points.{Counted as CountedIn, NoneCounted, Met, Answers}
+use Rattle.boxes.specs.Points.{Boxed, Counted as CountedIn, NoneCounted, Met, Answers}
 use Rattle.boxes.specs.Membership.{inside_x, inside_y, has_nan, is_box, allows_point, membership}
 use Rattle.boxes.specs.Promises as boxes-promised
 use Rattle.boxes.specs.declared.bounding_box.BoundingBox.{BoundingBox}
-use Rattle.boxes.specs.declared.points.Boxed
-use Rattle.boxes.specs.declared.points.Boxed.{Boxed}
+use Rattle.std.specs.Prelude.{None}
 use Rattle.utf8.specs.Valid.{valid_up_to, Stops}
 use Rattle.column_type.specs.Lawful.{is_lawful, judgement_of as typeJudgement}
 use Rattle.column_type.specs.declared.types.ColumnType.{ColumnType}
@@ -58,9 +58,7 @@ use Rattle.tree.specs.Faults.{broken}
 use Rattle.tree.specs.declared.standing.Standing.{Standing}
 use Rattle.tree.specs.declared.standing.Standing.TheVariants.{Field}
 use Rattle.tree.specs.Judgement.{judgement, judgement_of}
-use Rattle.refusal.specs.declared.answers.Counted.{Counted}
 use Rattle.refusal.specs.declared.answers.Refusal.{Refusal}
-use Rattle.refusal.specs.declared.answers.Verdict.{Verdict}
 use Rattle.schema.specs.Levels.{is_optional_or_repeated, is_repeated_code, counted}
 use Rattle.schema.specs.Rows.{is_map_parent, ELEMENT_LAYER, BARE_REPEATED, role, parent_of, rows, row_width, number_in}
 use Rattle.schema.specs.Outcome.{outcome, written}
@@ -75,7 +73,6 @@ use Rattle.differences.specs.Listed.{◌∈◌, Difference, times_listed, Rising
 use Rattle.differences.specs.Paths.{paths}
 use Rattle.differences.specs.Outcome.{compare_outcome, compare_written}
 use Rattle.differences.specs.Rebuilding.{rebuilt}
-use Rattle.differences.specs.declared.comparison.Compared.{Compared}
 use Rattle.demands.specs.Sheets.{example_sheet, repeated_sheet, int96_sheet, geospatial_sheet}
 
 -- R-1. "Comparing the two custodians' sheets" ------------------------------------------------------------------------------
@@ -131,7 +128,7 @@ pub record Request1 (edition : ℕ) : Type 1 where
   -- "72 for places .., 73 or 74 for a node only in the first or second"
   pub other_codes : (PLACES ≡ 72) × (ONLY_FIRST ≡ 73) × (ONLY_SECOND ≡ 74)
   -- "The number of entries .. is returned"
-  pub number_returned : (first second : List ℕ) (lent : ℕ) (t u : Tree) → IsSheetOf edition first t → IsSheetOf edition second u → 148 * length (differences t u) ≤ lent → compare_outcome edition first second lent ≡ Compared.Entries (length (differences t u))
+  pub number_returned : (first second : List ℕ) (lent : ℕ) (t u : Tree) → IsSheetOf edition first t → IsSheetOf edition second u → 148 * length (differences t u) ≤ lent → compare_outcome edition first second lent ≡ Ok (length (differences t u))
   -- "and the rest of the output stays"
   pub rest_stays : (first second lent : List ℕ) (t u : Tree) → IsSheetOf edition first t → IsSheetOf edition second u → 148 * length (differences t u) ≤ length lent → drop (148 * length (differences t u)) (output edition first second lent) ≡ drop (148 * length (differences t u)) lent
   -- "The list is empty exactly when both sheets have the same paths in the same order with equal slots"
@@ -144,13 +141,13 @@ pub record Request1 (edition : ℕ) : Type 1 where
   -- "From the list and the first sheet, the second can be rebuilt": from the bytes that are written of it
   pub rebuilds : (first second lent : List ℕ) (t u : Tree) → IsSheetOf edition first t → IsSheetOf edition second u → Bytes second → 148 * length (differences t u) ≤ length lent → rebuilt (take (148 * length (differences t u)) (output edition first second lent)) first ≡ second
   -- "Refusals: the first sheet's": as judging refuses it, and laid on sheet 1
-  pub first_refused : (first second : List ℕ) (lent number place : ℕ) → (compare_outcome edition first second lent ≡ Compared.Refused (fault 1 (refusal number place))) ↔ ((is_known edition ≡ true) × (judgement edition first ≡ Verdict.Refused (refusal number place)))
+  pub first_refused : (first second : List ℕ) (lent number place : ℕ) → (compare_outcome edition first second lent ≡ Err (fault 1 (refusal number place))) ↔ ((is_known edition ≡ true) × (judgement edition first ≡ Err (refusal number place)))
   -- "then the second's", laid on sheet 2
-  pub second_refused : (first second : List ℕ) (lent number place : ℕ) → (compare_outcome edition first second lent ≡ Compared.Refused (fault 2 (refusal number place))) ↔ ((judgement edition first ≡ Verdict.Lawful) × (judgement edition second ≡ Verdict.Refused (refusal number place)))
+  pub second_refused : (first second : List ℕ) (lent number place : ℕ) → (compare_outcome edition first second lent ≡ Err (fault 2 (refusal number place))) ↔ ((judgement edition first ≡ no_refusal) × (judgement edition second ≡ Err (refusal number place)))
   -- "then 14"; it and 21, which comes before all others, are laid on neither
-  pub neither_refused : (first second : List ℕ) (lent number place : ℕ) → (compare_outcome edition first second lent ≡ Compared.Refused (fault 0 (refusal number place))) ↔ (((is_known edition ≡ false) × (number ≡ 21) × (place ≡ 0)) ⊎ ((t : Tree) × (u : Tree) × IsSheetOf edition first t × IsSheetOf edition second u × (lent < 148 * length (differences t u)) × (number ≡ 14) × (place ≡ 0)))
+  pub neither_refused : (first second : List ℕ) (lent number place : ℕ) → (compare_outcome edition first second lent ≡ Err (fault 0 (refusal number place))) ↔ (((is_known edition ≡ false) × (number ≡ 21) × (place ≡ 0)) ⊎ ((t : Tree) × (u : Tree) × IsSheetOf edition first t × IsSheetOf edition second u × (lent < 148 * length (differences t u)) × (number ≡ 14) × (place ≡ 0)))
   -- and there is no other number of a sheet
-  pub no_other : (first second : List ℕ) (lent number place sheet : ℕ) → compare_outcome edition first second lent ≡ Compared.Refused (fault sheet (refusal number place)) → sheet ≤ 2
+  pub no_other : (first second : List ℕ) (lent number place sheet : ℕ) → compare_outcome edition first second lent ≡ Err (fault sheet (refusal number place)) → sheet ≤ 2
 
 -- R-2. "A list whose one field repeats" ----------------------------------------------------------------------------------
 
@@ -210,16 +207,16 @@ pub record Request4 : Type 1 where
   -- opening asks the same in both
   pub same_opening : (sheet : List ℕ) → open_of 2 sheet ≡ open_of 1 sheet
   -- "Whatever edition 1 accepts, edition 2 accepts"
-  pub accepted : (sheet : List ℕ) → judgement 1 sheet ≡ Verdict.Lawful → judgement 2 sheet ≡ Verdict.Lawful
+  pub accepted : (sheet : List ℕ) → judgement 1 sheet ≡ no_refusal → judgement 2 sheet ≡ no_refusal
   -- "with the same rows", and the same rewritten sheet: the same answer, and the same in what was lent
-  pub same_rows : (sheet lent : List ℕ) → judgement 1 sheet ≡ Verdict.Lawful → (outcome 2 sheet (length lent) ≡ outcome 1 sheet (length lent)) × (written (outcome 2 sheet (length lent)) sheet lent ≡ written (outcome 1 sheet (length lent)) sheet lent)
-  pub same_rewritten : (sheet lent : List ℕ) (start : ℕ) → judgement 1 sheet ≡ Verdict.Lawful → (rewrite_outcome 2 sheet (length lent) start ≡ rewrite_outcome 1 sheet (length lent) start) × (rewrite_written (rewrite_outcome 2 sheet (length lent) start) sheet lent start ≡ rewrite_written (rewrite_outcome 1 sheet (length lent) start) sheet lent start)
+  pub same_rows : (sheet lent : List ℕ) → judgement 1 sheet ≡ no_refusal → (outcome 2 sheet (length lent) ≡ outcome 1 sheet (length lent)) × (written (outcome 2 sheet (length lent)) sheet lent ≡ written (outcome 1 sheet (length lent)) sheet lent)
+  pub same_rewritten : (sheet lent : List ℕ) (start : ℕ) → judgement 1 sheet ≡ no_refusal → (rewrite_outcome 2 sheet (length lent) start ≡ rewrite_outcome 1 sheet (length lent) start) × (rewrite_written (rewrite_outcome 2 sheet (length lent) start) sheet lent start ≡ rewrite_written (rewrite_outcome 1 sheet (length lent) start) sheet lent start)
   -- and the same list of two sheets that edition 1 accepts
-  pub same_comparison : (first second lent : List ℕ) → judgement 1 first ≡ Verdict.Lawful → judgement 1 second ≡ Verdict.Lawful → (compare_outcome 2 first second (length lent) ≡ compare_outcome 1 first second (length lent)) × (output 2 first second lent ≡ output 1 first second lent)
+  pub same_comparison : (first second lent : List ℕ) → judgement 1 first ≡ no_refusal → judgement 1 second ≡ no_refusal → (compare_outcome 2 first second (length lent) ≡ compare_outcome 1 first second (length lent)) × (output 2 first second lent ≡ output 1 first second lent)
   -- what 2 accepts and 1 refuses, 1 refuses with 11 at the first DECIMAL whose scale equals its precision
-  pub refused_alone : (sheet : List ℕ) (t : Tree) (r : Refusal) → Sound 2 sheet → IsTreeOf 2 sheet t → judgement 1 sheet ≡ Verdict.Refused r → (r.number ≡ 11) × FirstEqual t r.place
+  pub refused_alone : (sheet : List ℕ) (t : Tree) (r : Refusal) → Sound 2 sheet → IsTreeOf 2 sheet t → judgement 1 sheet ≡ Err r → (r.number ≡ 11) × FirstEqual t r.place
   -- and a sheet that has one it does not accept
-  pub not_accepted : (sheet : List ℕ) (t : Tree) (k : ℕ) → Sound 2 sheet → IsTreeOf 2 sheet t → k < size t → EqualIn (rows t) k → judgement 1 sheet ≡ Verdict.Lawful → ⊥
+  pub not_accepted : (sheet : List ℕ) (t : Tree) (k : ℕ) → Sound 2 sheet → IsTreeOf 2 sheet t → k < size t → EqualIn (rows t) k → judgement 1 sheet ≡ no_refusal → ⊥
   -- "document 01's .. refusal 20 read per edition": a column type that is lawful in 1 is so in 2, and is read and ordered as there
   pub lawful : (c : ColumnType) → is_lawful 1 c ≡ true → is_lawful 2 c ≡ true
   pub same_reading : (c : ColumnType) (bs : List ℕ) → is_lawful 1 c ≡ true → read.outcome 2 c bs ≡ read.outcome 1 c bs
@@ -227,12 +224,12 @@ pub record Request4 : Type 1 where
   -- one that is lawful in 2 is not so in 1 exactly where it is a DECIMAL whose scale equals its precision
   pub lawful_alone : (c : ColumnType) → is_lawful 2 c ≡ true → (is_lawful 1 c ≡ false) ↔ ((c.kind ≡ logical.DECIMAL) × (c.p1 ≡ c.p2))
   -- "21, edition unknown, before all others, place 0": given exactly for an unknown edition, whatever else is offered
-  pub unknown_opening : (edition : ℕ) (sheet : List ℕ) → (open_of edition sheet ≡ Counted.Refused (refusal 21 0)) ↔ (is_known edition ≡ false)
-  pub unknown_judging : (edition : ℕ) (sheet : List ℕ) → (judgement_of edition sheet ≡ Counted.Refused (refusal 21 0)) ↔ (is_known edition ≡ false)
-  pub unknown_resolving : (edition : ℕ) (sheet : List ℕ) (lent : ℕ) → (outcome edition sheet lent ≡ Counted.Refused (refusal 21 0)) ↔ (is_known edition ≡ false)
-  pub unknown_rewriting : (edition : ℕ) (sheet : List ℕ) (lent start : ℕ) → (rewrite_outcome edition sheet lent start ≡ Counted.Refused (refusal 21 0)) ↔ (is_known edition ≡ false)
-  pub unknown_comparing : (edition : ℕ) (first second : List ℕ) (lent : ℕ) → (compare_outcome edition first second lent ≡ Compared.Refused (fault 0 (refusal 21 0))) ↔ (is_known edition ≡ false)
-  pub unknown_typing : (edition : ℕ) (c : ColumnType) → (typeJudgement edition c ≡ Verdict.Refused (refusal 21 0)) ↔ (is_known edition ≡ false)
+  pub unknown_opening : (edition : ℕ) (sheet : List ℕ) → (open_of edition sheet ≡ Err (refusal 21 0)) ↔ (is_known edition ≡ false)
+  pub unknown_judging : (edition : ℕ) (sheet : List ℕ) → (judgement_of edition sheet ≡ Err (refusal 21 0)) ↔ (is_known edition ≡ false)
+  pub unknown_resolving : (edition : ℕ) (sheet : List ℕ) (lent : ℕ) → (outcome edition sheet lent ≡ Err (refusal 21 0)) ↔ (is_known edition ≡ false)
+  pub unknown_rewriting : (edition : ℕ) (sheet : List ℕ) (lent start : ℕ) → (rewrite_outcome edition sheet lent start ≡ Err (refusal 21 0)) ↔ (is_known edition ≡ false)
+  pub unknown_comparing : (edition : ℕ) (first second : List ℕ) (lent : ℕ) → (compare_outcome edition first second lent ≡ Err (fault 0 (refusal 21 0))) ↔ (is_known edition ≡ false)
+  pub unknown_typing : (edition : ℕ) (c : ColumnType) → (typeJudgement edition c ≡ Err (refusal 21 0)) ↔ (is_known edition ≡ false)
   pub unknown_reading : (edition : ℕ) (c : ColumnType) (bs : List ℕ) → (read.outcome edition c bs ≡ refused (refusal 21 0)) ↔ (is_known edition ≡ false)
   pub unknown_ordering : (edition : ℕ) (c : ColumnType) (a b : List ℕ) → (order.outcome edition c a b ≡ sided.refused (fault 0 (refusal 21 0))) ↔ (is_known edition ≡ false)
 
@@ -310,8 +307,8 @@ pub record Request8 (edition : ℕ) : Type 1 where
   pub ordered : (sheet lent : List ℕ) (k : ℕ) → Accepted (outcome edition sheet (length lent)) → k < total_of sheet → repetition_level_in (left edition sheet lent) k ≤ definition_in (left edition sheet lent) k
   pub at_most_32 : (sheet lent : List ℕ) (k : ℕ) → Accepted (outcome edition sheet (length lent)) → k < total_of sheet → definition_in (left edition sheet lent) k ≤ 32
   -- "14 now compares with 11T"
-  pub short : (sheet : List ℕ) (lent : ℕ) → judgement edition sheet ≡ Verdict.Lawful → lent < 11 * total_of sheet → outcome edition sheet lent ≡ Counted.Refused (refusal 14 0)
-  pub enough : (sheet : List ℕ) (lent : ℕ) → judgement edition sheet ≡ Verdict.Lawful → 11 * total_of sheet ≤ lent → outcome edition sheet lent ≡ Counted.Count (total_of sheet)
+  pub short : (sheet : List ℕ) (lent : ℕ) → judgement edition sheet ≡ no_refusal → lent < 11 * total_of sheet → outcome edition sheet lent ≡ Err (refusal 14 0)
+  pub enough : (sheet : List ℕ) (lent : ℕ) → judgement edition sheet ≡ no_refusal → 11 * total_of sheet ≤ lent → outcome edition sheet lent ≡ Ok (total_of sheet)
   -- "numbers beyond 11T stay"
   pub beyond : (sheet lent : List ℕ) → drop (11 * total_of sheet) (left edition sheet lent) ≡ drop (11 * total_of sheet) lent
   pub example : is_known edition ≡ true → left edition example_sheet (replicate (row_width * 4) 0) ≡ example_rows
@@ -373,8 +370,8 @@ pub record Conversion : Type 1 where
   -- "and so does each value it accepts"
   pub value_returns : (value : List ℕ) (z : ℤ) → Bytes value → decoding value ≡ given z → (value_of z ≡ value) × (is_signed64 z ≡ true)
   -- 14 for a short output; the rest of the output stays
-  pub short : (lent : ℕ) → lent < 12 → encoding lent ≡ Counted.Refused (refusal 14 0)
-  pub enough : (lent : ℕ) → 12 ≤ lent → encoding lent ≡ Counted.Count 12
+  pub short : (lent : ℕ) → lent < 12 → encoding lent ≡ Err (refusal 14 0)
+  pub enough : (lent : ℕ) → 12 ≤ lent → encoding lent ≡ Ok 12
   pub rest_stays : (z : ℤ) (lent : List ℕ) → drop 12 (encoded z lent) ≡ drop 12 lent
   -- the start of 1 January 1970, and the nanosecond before it
   pub epoch : decoding (0 ∷ 0 ∷ 0 ∷ 0 ∷ 0 ∷ 0 ∷ 0 ∷ 0 ∷ 0x8C ∷ 0x3D ∷ 0x25 ∷ 0 ∷ []) ≡ given (pos 0)
@@ -399,11 +396,11 @@ pub record Request10 : Type 1 where
   -- opening asks no other rule
   pub same_opening : (sheet : List ℕ) → NoGeospatial sheet → open_of 3 sheet ≡ open_of 2 sheet
   -- of the sheets without GEOMETRY and GEOGRAPHY, edition 3 accepts exactly those that edition 2 accepts and that have no INT96 leaf; and edition 2 accepts no others
-  pub accepted : (sheet : List ℕ) → ((judgement 3 sheet ≡ Verdict.Lawful) × NoGeospatial sheet) ↔ ((judgement 2 sheet ≡ Verdict.Lawful) × NoInt96 sheet)
+  pub accepted : (sheet : List ℕ) → ((judgement 3 sheet ≡ no_refusal) × NoGeospatial sheet) ↔ ((judgement 2 sheet ≡ no_refusal) × NoInt96 sheet)
   -- of any of them, whatever else is wrong with it, it answers what 2 does, or 10 at the first INT96 leaf
-  pub answered : (sheet : List ℕ) → NoGeospatial sheet → (judgement 3 sheet ≡ judgement 2 sheet) ⊎ ((k : ℕ) × (judgement 3 sheet ≡ Verdict.Refused (refusal 10 k)) × FirstInt96 sheet k)
+  pub answered : (sheet : List ℕ) → NoGeospatial sheet → (judgement 3 sheet ≡ judgement 2 sheet) ⊎ ((k : ℕ) × (judgement 3 sheet ≡ Err (refusal 10 k)) × FirstInt96 sheet k)
   -- of those that 2 accepts, it refuses the others with 10 at the first INT96 leaf
-  pub refused_alone : (sheet : List ℕ) (r : Refusal) → judgement 2 sheet ≡ Verdict.Lawful → judgement 3 sheet ≡ Verdict.Refused r → (r.number ≡ 10) × FirstInt96 sheet r.place
+  pub refused_alone : (sheet : List ℕ) (r : Refusal) → judgement 2 sheet ≡ no_refusal → judgement 3 sheet ≡ Err r → (r.number ≡ 10) × FirstInt96 sheet r.place
   -- a sheet without either is judged alike, whatever else is wrong with it
   pub same_judgement : (sheet : List ℕ) → NoInt96 sheet → NoGeospatial sheet → judgement_of 3 sheet ≡ judgement_of 2 sheet
   -- with the same rows, the same rewritten sheet and the same list: the same answer, and the same in what was lent
@@ -416,17 +413,17 @@ pub record Request10 : Type 1 where
   pub same_reading : (c : ColumnType) (bs : List ℕ) → (c.physical ≡ INT96 → ⊥) → is_geospatial c.kind ≡ false → read.outcome 3 c bs ≡ read.outcome 2 c bs
   pub same_order : (c : ColumnType) (a b : List ℕ) → (c.physical ≡ INT96 → ⊥) → is_geospatial c.kind ≡ false → order.outcome 3 c a b ≡ order.outcome 2 c a b
   -- one of INT96 is 20, before 17
-  pub int96_type : (c : ColumnType) → c.physical ≡ INT96 → typeJudgement 3 c ≡ Verdict.Refused (refusal 20 0)
+  pub int96_type : (c : ColumnType) → c.physical ≡ INT96 → typeJudgement 3 c ≡ Err (refusal 20 0)
   pub int96_read : (c : ColumnType) (bs : List ℕ) → c.physical ≡ INT96 → read.outcome 3 c bs ≡ refused (refusal 20 0)
   pub int96_ordered : (c : ColumnType) (a b : List ℕ) → c.physical ≡ INT96 → order.outcome 3 c a b ≡ sided.refused (fault 0 (refusal 20 0))
   -- a leaf without annotation, and one of UNKNOWN: 10 in edition 3, and rows in edition 2
-  pub plain_refused : outcome 3 (int96_sheet converted.NONE logical.NONE 0) (row_width * 2) ≡ Counted.Refused (refusal 10 1)
-  pub plain_accepted : outcome 2 (int96_sheet converted.NONE logical.NONE 0) (row_width * 2) ≡ Counted.Count 2
-  pub unknown_refused : outcome 3 (int96_sheet converted.NONE logical.UNKNOWN 0) (row_width * 2) ≡ Counted.Refused (refusal 10 1)
-  pub unknown_accepted : outcome 2 (int96_sheet converted.NONE logical.UNKNOWN 0) (row_width * 2) ≡ Counted.Count 2
+  pub plain_refused : outcome 3 (int96_sheet converted.NONE logical.NONE 0) (row_width * 2) ≡ Err (refusal 10 1)
+  pub plain_accepted : outcome 2 (int96_sheet converted.NONE logical.NONE 0) (row_width * 2) ≡ Ok 2
+  pub unknown_refused : outcome 3 (int96_sheet converted.NONE logical.UNKNOWN 0) (row_width * 2) ≡ Err (refusal 10 1)
+  pub unknown_accepted : outcome 2 (int96_sheet converted.NONE logical.UNKNOWN 0) (row_width * 2) ≡ Ok 2
   -- annotations that disagree are 9 there too, and a type length 8
-  pub nine_first : outcome 3 (int96_sheet converted.UTF8 logical.UNKNOWN 0) (row_width * 2) ≡ Counted.Refused (refusal 9 1)
-  pub eight_first : outcome 3 (int96_sheet converted.UTF8 logical.UNKNOWN 12) (row_width * 2) ≡ Counted.Refused (refusal 8 1)
+  pub nine_first : outcome 3 (int96_sheet converted.UTF8 logical.UNKNOWN 0) (row_width * 2) ≡ Err (refusal 9 1)
+  pub eight_first : outcome 3 (int96_sheet converted.UTF8 logical.UNKNOWN 12) (row_width * 2) ≡ Err (refusal 8 1)
   pub conversion : Conversion
 
 -- R-11. "Where the terminals stand" -----------------------------------------------------------------------------------------
@@ -454,27 +451,27 @@ pub record Outside (coordinates : List Float) : Type 0 where
 -- `membership` gives. No edition is asked
 pub record Boxes : Type 1 where
   -- "compared as document 01 orders DOUBLE": `float_order`, which demand 2 has over the bits
-  pub at_most_lem : (v w : Float) → (at_most v w ≡ true) ↔ ((float_order v w ≡ Less) ⊎ (float_order v w ≡ Equal))
-  pub above : (v w : Float) → (is_above v w ≡ true) ↔ (float_order v w ≡ Greater)
+  pub at_most_lem : (v w : Float) → (at_most v w ≡ true) ↔ ((float_order v w ≡ Some Less) ⊎ (float_order v w ≡ Some Equal))
+  pub above : (v w : Float) → (is_above v w ≡ true) ↔ (float_order v w ≡ Some Greater)
   -- "[-180, 180] or [-90, 90]"
   pub x_range : (v : Float) → (in_range 0 v ≡ true) ↔ ((at_most (of_int binary64 (neg_ℤ (pos 180))) v ≡ true) × (at_most v (of_int binary64 (pos 180)) ≡ true))
   pub y_range : (v : Float) → (in_range 1 v ≡ true) ↔ ((at_most (of_int binary64 (neg_ℤ (pos 90))) v ≡ true) × (at_most v (of_int binary64 (pos 90)) ≡ true))
   -- points are two coordinates each, x and then y; "NaN coordinates are skipped", the other one of the point counts
   pub counted : (coordinates : List Float) (axis : ℕ) (v : Float) → CountedIn axis coordinates v ↔ ((p : ℕ) × (2 * p + 1 < length coordinates) × (get_or coordinates (2 * p + axis) nan ≡ v) × (v ≡ nan → ⊥))
   -- "20, first, for a box of a kind not 17 or 18"
-  pub unknown_kind : (kind : ℕ) (coordinates : List Float) → (boxes.judgement kind coordinates ≡ Verdict.Refused (refusal 20 0)) ↔ ((kind ≡ 17 → ⊥) × (kind ≡ 18 → ⊥))
+  pub unknown_kind : (kind : ℕ) (coordinates : List Float) → (boxes.judgement kind coordinates ≡ Err (refusal 20 0)) ↔ ((kind ≡ 17 → ⊥) × (kind ≡ 18 → ⊥))
   -- "15, before 16, for an odd run of coordinates"
-  pub odd_run : (kind : ℕ) (coordinates : List Float) → (boxes.judgement kind coordinates ≡ Verdict.Refused (refusal 15 0)) ↔ (((kind ≡ 17) ⊎ (kind ≡ 18)) × (length coordinates % 2 ≡ 1))
+  pub odd_run : (kind : ℕ) (coordinates : List Float) → (boxes.judgement kind coordinates ≡ Err (refusal 15 0)) ↔ (((kind ≡ 17) ⊎ (kind ≡ 18)) × (length coordinates % 2 ≡ 1))
   -- "16 .. for GEOGRAPHY", "the same range holds for its points, NaN aside"
-  pub out_of_range : (kind : ℕ) (coordinates : List Float) → (boxes.judgement kind coordinates ≡ Verdict.Refused (refusal 16 0)) ↔ ((kind ≡ 18) × (length coordinates % 2 ≡ 0) × Outside coordinates)
+  pub out_of_range : (kind : ℕ) (coordinates : List Float) → (boxes.judgement kind coordinates ≡ Err (refusal 16 0)) ↔ ((kind ≡ 18) × (length coordinates % 2 ≡ 0) × Outside coordinates)
   -- and nothing else is refused
-  pub refused_only : (kind : ℕ) (coordinates : List Float) (r : Refusal) → boxes.judgement kind coordinates ≡ Verdict.Refused r → (r.place ≡ 0) × ((r.number ≡ 20) ⊎ ((r.number ≡ 15) ⊎ (r.number ≡ 16)))
+  pub refused_only : (kind : ℕ) (coordinates : List Float) (r : Refusal) → boxes.judgement kind coordinates ≡ Err r → (r.place ≡ 0) × ((r.number ≡ 20) ⊎ ((r.number ≡ 15) ⊎ (r.number ≡ 16)))
   -- "no box results exactly if an axis has none"
-  pub none_or_box : (kind : ℕ) (coordinates : List Float) (a : Boxed) → Answers kind coordinates a → boxes.judgement kind coordinates ≡ Verdict.Lawful → (a ≡ Boxed.NoBox) ↔ (NoneCounted 0 coordinates ⊎ NoneCounted 1 coordinates)
+  pub none_or_box : (kind : ℕ) (coordinates : List Float) (a : Boxed) → Answers kind coordinates a → boxes.judgement kind coordinates ≡ no_refusal → (a ≡ Ok None) ↔ (NoneCounted 0 coordinates ⊎ NoneCounted 1 coordinates)
   -- "every counted coordinate lies from its axis's min to its max"
-  pub from_min_to_max : (kind : ℕ) (coordinates : List Float) (b : BoundingBox) (v : Float) → Answers kind coordinates (Boxed.Box b) → (CountedIn 0 coordinates v → (at_most b.xmin v ≡ true) × (at_most v b.xmax ≡ true)) × (CountedIn 1 coordinates v → (at_most b.ymin v ≡ true) × (at_most v b.ymax ≡ true))
+  pub from_min_to_max : (kind : ℕ) (coordinates : List Float) (b : BoundingBox) (v : Float) → Answers kind coordinates (Ok (Some b)) → (CountedIn 0 coordinates v → (at_most b.xmin v ≡ true) × (at_most v b.xmax ≡ true)) × (CountedIn 1 coordinates v → (at_most b.ymin v ≡ true) × (at_most v b.ymax ≡ true))
   -- "and each bound numerically equals a counted one of its axis"
-  pub each_met : (kind : ℕ) (coordinates : List Float) (b : BoundingBox) → Answers kind coordinates (Boxed.Box b) → Met 0 coordinates b.xmin × Met 0 coordinates b.xmax × Met 1 coordinates b.ymin × Met 1 coordinates b.ymax
+  pub each_met : (kind : ℕ) (coordinates : List Float) (b : BoundingBox) → Answers kind coordinates (Ok (Some b)) → Met 0 coordinates b.xmin × Met 0 coordinates b.xmax × Met 1 coordinates b.ymin × Met 1 coordinates b.ymax
   -- two such boxes are numerically equal, there is one answer, and the box contains each of its points without NaN
   pub promised : boxes-promised.Promises
   -- "A test answers yes exactly if both a point's coordinates are inside"
@@ -512,21 +509,21 @@ pub record Request11 : Type 1 where
   -- before it they break rule 10, where no sheet was opened
   pub early : (n : Annotated) (under : Bool) → is_geospatial n.logical ≡ true → (rule10 1 n under ≡ false) × (rule10 2 n under ≡ false)
   -- of any sheet, whatever else is wrong with it: edition 3 answers what 2 does, or 10 at the first INT96 leaf, or 2 answers 4 at the first GEOMETRY or GEOGRAPHY
-  pub answered : (sheet : List ℕ) → (judgement 3 sheet ≡ judgement 2 sheet) ⊎ (((k : ℕ) × (judgement 3 sheet ≡ Verdict.Refused (refusal 10 k)) × FirstInt96 sheet k) ⊎ ((k : ℕ) × (judgement 2 sheet ≡ Verdict.Refused (refusal 4 k)) × FirstGeospatial sheet k))
+  pub answered : (sheet : List ℕ) → (judgement 3 sheet ≡ judgement 2 sheet) ⊎ (((k : ℕ) × (judgement 3 sheet ≡ Err (refusal 10 k)) × FirstInt96 sheet k) ⊎ ((k : ℕ) × (judgement 2 sheet ≡ Err (refusal 4 k)) × FirstGeospatial sheet k))
   -- the column types of these kinds that are lawful are these, in edition 3 alone; before it they are 20, and those of kinds 15 and 16 in every edition
   pub geometry_type : (c : ColumnType) → c.kind ≡ 17 → (is_lawful 3 c ≡ true) ↔ (c ≡ geometries)
   pub geography_type : (c : ColumnType) → c.kind ≡ 18 → (is_lawful 3 c ≡ true) ↔ ((edge : ℕ) × (edge ≤ 4) × (c ≡ geographies edge))
   pub never_type : (edition : ℕ) (c : ColumnType) → (c.kind ≡ 15) ⊎ (c.kind ≡ 16) → is_lawful edition c ≡ false
-  pub early_type : (c : ColumnType) → is_geospatial c.kind ≡ true → (typeJudgement 1 c ≡ Verdict.Refused (refusal 20 0)) × (typeJudgement 2 c ≡ Verdict.Refused (refusal 20 0))
+  pub early_type : (c : ColumnType) → is_geospatial c.kind ≡ true → (typeJudgement 1 c ≡ Err (refusal 20 0)) × (typeJudgement 2 c ≡ Err (refusal 20 0))
   -- any bytes are a value, up to document 01's length
   pub any_value : (c : ColumnType) (bs : List ℕ) → is_geospatial c.kind ≡ true → is_lawful 3 c ≡ true → length bs ≤ 65536 → read.outcome 3 c bs ≡ given (value.Bytes 0 (length bs))
   -- "17 for order"
   pub no_order : (c : ColumnType) (a b : List ℕ) → is_geospatial c.kind ≡ true → is_lawful 3 c ≡ true → order.outcome 3 c a b ≡ sided.refused (fault 0 (refusal 17 0))
   -- sheets of one such leaf: GEOGRAPHY(KARNEY), an edge rule that is none, a converted type beside it, code 15; and in edition 2
   pub karney : written (outcome 3 (geospatial_sheet 255 18 4) (row_width * 2)) (geospatial_sheet 255 18 4) (replicate (row_width * 2) 0) ≡ karney_rows
-  pub edge_5 : outcome 3 (geospatial_sheet 255 18 5) (row_width * 2) ≡ Counted.Refused (refusal 10 1)
-  pub geometry_edge : outcome 3 (geospatial_sheet 255 17 1) (row_width * 2) ≡ Counted.Refused (refusal 10 1)
-  pub utf8_beside : outcome 3 (geospatial_sheet 0 17 0) (row_width * 2) ≡ Counted.Refused (refusal 9 1)
-  pub code_15 : outcome 3 (geospatial_sheet 255 15 0) (row_width * 2) ≡ Counted.Refused (refusal 4 1)
-  pub before : outcome 2 (geospatial_sheet 255 18 4) (row_width * 2) ≡ Counted.Refused (refusal 4 1)
+  pub edge_5 : outcome 3 (geospatial_sheet 255 18 5) (row_width * 2) ≡ Err (refusal 10 1)
+  pub geometry_edge : outcome 3 (geospatial_sheet 255 17 1) (row_width * 2) ≡ Err (refusal 10 1)
+  pub utf8_beside : outcome 3 (geospatial_sheet 0 17 0) (row_width * 2) ≡ Err (refusal 9 1)
+  pub code_15 : outcome 3 (geospatial_sheet 255 15 0) (row_width * 2) ≡ Err (refusal 4 1)
+  pub before : outcome 2 (geospatial_sheet 255 18 4) (row_width * 2) ≡ Err (refusal 4 1)
   pub boxes : Boxes

@@ -4,7 +4,7 @@ use mathlib.Core.Path.{◌≡◌, sym, ap, ◌∙◌}
 use mathlib.Core.List.{List, []}
 use mathlib.Core.Logic.{◌↔◌}
 use Rattle.laws.specs.Bytes.{Bytes}
-use Rattle.refusal.specs.declared.answers.Verdict.{Verdict}
+use Rattle.std.specs.Prelude.{Ok}
 use Rattle.sheet.specs.Slot.{slots}
 use Rattle.tree.specs.Tree.{SlotBytes, Tree, listing}
 use Rattle.tree.specs.Reading.{tree_of}
@@ -23,7 +23,7 @@ same_listing t u first second e =
     ∙ ap (λ (es : List Entry). slots_from es t) (differences_self t ∙ sym e)
     ∙ slots_from_differences t u first second
 
-module _ (edition : ℕ) (first second : List ℕ) (one : judgement edition first ≡ Verdict.Lawful) (two : judgement edition second ≡ Verdict.Lawful) where
+module _ (edition : ℕ) (first second : List ℕ) (one : judgement edition first ≡ Ok tt) (two : judgement edition second ≡ Ok tt) where
   abbrev t : Tree
   t = tree_of (slots first)
 

@@ -16,7 +16,7 @@ use Rattle.sheet.specs.Slot.{physical_at, repetition_at, converted_at, logical_a
 use Rattle.sheet.specs.Name.{same_bytes}
 use Rattle.sheet.proofs.NameLaws.{same_bytes_equal}
 use Rattle.tree.specs.Tree.{SlotBytes}
-use Rattle.matching.specs.Matching.{Match}
+use Rattle.matching.specs.declared.fields.Match.{Match}
 use Rattle.differences.specs.Entry.{SlotField, slot_fields, Entry, entry, filled, PLACES}
 use Rattle.differences.specs.Differences.{content, field_entries, place_entries}
 use Rattle.differences.specs.Rebuilding.{width_in, slot_by}

@@ -2,19 +2,21 @@
 use mathlib.Core.Path.{◌≡◌, refl, sym, ap, ap₂, ◌∙◌}
 use mathlib.Core.Bool.{true, false, cond}
 use mathlib.Core.List.{List, [], ◌∷◌, ◌++◌}
-use Prim.Native.Nat.{ℕ, ◌+◌, ◌-◌, ◌/◌, ◌%◌, ◌≤◌, ◌<◌}
+use Prim.Native.Nat.{ℕ, ◌+◌, ◌-◌, ◌≤◌, ◌<◌}
 use native.Mathlib.Numerals.{add-one}
 use native.Mathlib.Omega.{arith}
 use lib.ListN.{length, get_or, take, drop, length-take, length-drop, drop_of_length-le}
 use lib.Seq.{drop-cons}
 use borrow.Author.Tests.{eq-eqb, ne_eqb}
+use Rattle.std.specs.Int.{to_le_bytes}
+use Rattle.std.proofs.Common.{w16}
 use Rattle.laws.specs.Bytes.{bytes_of}
 use Rattle.laws.proofs.BoolLaws.{by_test}
-use Rattle.sheet.specs.Block.{slot_size, most_nodes}
+use Rattle.sheet.specs.Block.{slot_size}
 use Rattle.sheet.specs.Name.{same_bytes}
 use Rattle.sheet.proofs.NameLaws.{same_bytes_equal, same_bytes_true}
 use Rattle.tree.specs.Tree.{SlotBytes}
-use Rattle.matching.specs.Matching.{Match}
+use Rattle.matching.specs.declared.fields.Match.{Match}
 use Rattle.differences.specs.Entry.{SlotField, slot_fields, Entry, entry, PLACES}
 use Rattle.differences.specs.Differences.{content, field_entries, place_entries}
 use Rattle.differences.specs.Steps.{Puts, field_of}
@@ -70,22 +72,14 @@ pub twelve_fields : length slot_fields ≡ 12
 unfolding slot_fields
 twelve_fields = refl
 
--- a place in two bytes
-pub place_bytes : (place : ℕ) → place < most_nodes → place % 256 ∷ place / 256 ∷ [] ≡ bytes_of 2 place
-unfolding bytes_of
-place_bytes place h = ap (λ (high : ℕ). place % 256 ∷ high ∷ []) (omega (arith, h))
-
 module _ (k : ℕ) (m : Match) where
   pub places_alike : m.place ≡ m.other → place_entries k m ≡ []
   unfolding place_entries
   places_alike e = rw (eq-eqb m.place m.other e)
 
-  pub places_unlike : m.place < most_nodes → m.other < most_nodes → (m.place ≡ m.other → ⊥)
-      → place_entries k m ≡ entry PLACES k (m.place % 256 ∷ m.place / 256 ∷ []) (m.other % 256 ∷ m.other / 256 ∷ []) ∷ []
-  unfolding place_entries
-  places_unlike p q n =
-      rw (ne_eqb m.place m.other n)
-      (ap₂ (λ (a b : List ℕ). entry PLACES k a b ∷ []) (sym (place_bytes m.place p)) (sym (place_bytes m.other q)))
+  pub places_unlike : (m.place ≡ m.other → ⊥) → (a b : List ℕ) → a ≡ to_le_bytes w16 m.place → b ≡ to_le_bytes w16 m.other → place_entries k m ≡ entry PLACES k a b ∷ []
+  unfolding place_entries bytes_of
+  places_unlike n a b e d = rw (ne_eqb m.place m.other n, e, d)
 
 -- an entry at most
 pub field_most : (k : ℕ) (s u : SlotBytes) (f : SlotField) → length (field_entry k s u f) ≤ 1

@@ -11,7 +11,8 @@ use lib.ListN.{get_or}
 use borrow.Author.Tests.{eq-eqb, eqb-true}
 use Rattle.laws.proofs.BoolLaws.{by_test, is_false, or_rest}
 use Rattle.tree.specs.Tree.{Tree}
-use Rattle.matching.specs.Matching.{Match, matching}
+use Rattle.matching.specs.Matching.{matching}
+use Rattle.matching.specs.declared.fields.Match.{Match}
 use Rattle.matching.proofs.MatchingLaws.{matching_sym}
 use Rattle.differences.specs.Differences.{is_matched}
 use Rattle.differences.proofs.OnlySecondLaws.{Flag, Flagged}

@@ -21,7 +21,7 @@ pub mod EmptyLaws
 pub mod CountLaws
 pub mod OutcomeLaws
 pub mod OutputLaws
-pub mod StepLaws
+pub mod SameLaws
 pub mod MarkLaws
 pub mod PutLaws
 pub mod TableLaws

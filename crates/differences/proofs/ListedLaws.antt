@@ -17,7 +17,8 @@ use Rattle.sheet.specs.Slot.{empty_slot}
 use Rattle.sheet.specs.Name.{same_bytes}
 use Rattle.sheet.proofs.NameLaws.{same_bytes_true, same_bytes_false}
 use Rattle.tree.specs.Tree.{SlotBytes, Tree, listing, size, slot_of}
-use Rattle.matching.specs.Matching.{Sibling, Match, matching}
+use Rattle.matching.specs.Matching.{Sibling, matching}
+use Rattle.matching.specs.declared.fields.Match.{Match}
 use Rattle.matching.specs.Nodes.{IsNode, Matched, Unmatched}
 use Rattle.matching.proofs.NthLaws.{element_at}
 use Rattle.matching.proofs.NodeLaws.{node_below, node_at, node_slot}

@@ -1,76 +1,78 @@
 -- The marks of matched nodes.
-use mathlib.Core.Path.{◌≡◌, refl, sym, ap, ◌∙◌}
-use mathlib.Core.Bool.{Bool, true, false, cond, ◌||◌}
-use mathlib.Core.List.{List, [], ◌∷◌, ◌++◌}
-use Prim.Native.Nat.{ℕ, zero, suc, ◌+◌, ◌-◌, ◌%◌, ◌<◌}
+use mathlib.Core.Path.{◌≡◌, refl, sym, ap, ◌∙◌, subst}
+use mathlib.Core.Bool.{Bool, true, false, ◌||◌}
+use mathlib.Core.List.{List, [], ◌∷◌, ◌++◌, map}
+use Prim.Native.Nat.{ℕ, ◌+◌, ◌≤◌, ◌<◌}
 use native.Mathlib.Decide.{ℕ_discrete}
 use native.Mathlib.Numerals.{add-one}
 use native.Mathlib.Omega.{arith}
 use lib.Dec.{eqb}
 use lib.ListN.{length, get_or, set, take, replicate, length-set, get_or-replicate}
-use lib.Seq.{take-suc, get_or-set_same, get_or-set_other}
+use lib.Seq.{take_all, take-suc, get_or-set_same, get_or-set_other}
 use borrow.Author.Tests.{eq-eqb, ne_eqb}
 use Rattle.sheet.specs.Block.{most_nodes}
-use Rattle.matching.specs.Outcome.{place_weight}
-use Rattle.differences.specs.Steps.{is_named, Marks, marked}
+use Rattle.matching.specs.declared.fields.Match.{Match}
+use Rattle.std.specs.Prelude.{Option as Found, Some, None}
+use Rattle.differences.specs.Differences.{is_matched}
+use Rattle.differences.specs.Steps.{match_in, Marks, marked}
 
--- one number more
-named_last : (j : ℕ) (vs : List ℕ) (v : ℕ) → is_named j (vs ++ (v ∷ [])) ≡ (is_named j vs || eqb (v % place_weight) (suc j))
-unfolding is_named
-named_last j [] v = or-false (eqb (v % place_weight) (suc j))
-  where
-    or-false : (b : Bool) → (b || false) ≡ b
-    or-false true = refl
-    or-false false = refl
-named_last j (w ∷ vs) v = rw (named_last j vs v) (sym (or_assoc (eqb (w % place_weight) (suc j)) (is_named j vs) (eqb (v % place_weight) (suc j))))
+-- one node more
+matched_last : (j : ℕ) (xs : List (Found Match)) (x : Found Match)
+    → is_matched j (map match_in (xs ++ (x ∷ []))) ≡ (is_matched j (map match_in xs) || is_matched j (map match_in (x ∷ [])))
+unfolding is_matched
+matched_last j [] x = refl
+matched_last j (None ∷ xs) x = matched_last j xs x
+matched_last j (Some m ∷ xs) x = rw (matched_last j xs x) (sym (or_assoc (eqb m.number j) (is_matched j (map match_in xs)) (is_matched j (map match_in (x ∷ [])))))
   where
     or_assoc : (a b c : Bool) → ((a || b) || c) ≡ (a || (b || c))
     or_assoc true b c = refl
     or_assoc false b c = refl
 
--- no number names a node, and nothing is marked
-pub marks_none : (numbers marks : List ℕ) → marks ≡ replicate most_nodes 0 → Marks (take 0 numbers) marks
-unfolding is_named
-marks_none numbers marks e = record { long = ap length e; mark_at = λ j h. rw e (get_or-replicate most_nodes j 0 0 h) }
+-- no node matches one, and nothing is marked
+pub marks_none : (found : List (Found Match)) (marks : List Bool) → marks ≡ replicate most_nodes false → Marks (take 0 found) marks
+unfolding is_matched
+marks_none found marks e = record { long = ap length e; mark_at = λ j h. rw e (get_or-replicate most_nodes j false false h) }
 
--- where a number names a node, that node is marked, and no other changes
-module _ (marks : List ℕ) (j : ℕ) (h : j < length marks) where
-  marked_none : (v : ℕ) → (v ≡ suc j → ⊥) → get_or (marked marks v) j 0 ≡ get_or marks j 0
-  marked_none zero n = refl
-  marked_none (suc i) n = get_or-set_other marks i j 1 0 (λ e. n (ap suc (sym e)))
+marked_long : (marks : List Bool) (x : Found Match) → length (marked marks x) ≡ length marks
+marked_long marks None = refl
+marked_long marks (Some m) = length-set marks m.number true
 
-  marked_own : (v : ℕ) → v ≡ suc j → get_or (marked marks v) j 0 ≡ 1
-  marked_own v e = rw e (get_or-set_same marks j 1 0 h)
+or_true : (a b : Bool) → b ≡ true → (a || b) ≡ true
+or_true true b e = refl
+or_true false b e = e
 
-marked_long : (marks : List ℕ) (v : ℕ) → length (marked marks v) ≡ length marks
-marked_long marks zero = refl
-marked_long marks (suc j) = length-set marks j 1
+or_left : (a : Bool) → (a || false) ≡ a
+or_left true = refl
+or_left false = refl
 
-cond_or : (a b : Bool) → b ≡ true → ◌≡◌ {A = ℕ} (cond (a || b) 1 0) 1
-cond_or true b e = refl
-cond_or false b e = rw e
+-- what a node matches is marked, and no other mark changes
+marked_at : (marks : List Bool) (j : ℕ) (b : Bool) (x : Found Match) → j < length marks → get_or marks j false ≡ b
+    → get_or (marked marks x) j false ≡ (b || is_matched j (map match_in (x ∷ [])))
+unfolding is_matched
+marked_at marks j b None h e = e ∙ sym (or_left b)
+marked_at marks j b (Some m) h e = cases (ℕ_discrete m.number j)
+  where
+    cases : Dec (m.number ≡ j) → get_or (set marks m.number true) j false ≡ (b || (eqb m.number j || false))
+    cases (yes q) =
+        ap (λ (i : ℕ). get_or (set marks i true) j false) q
+        ∙ get_or-set_same marks j true false h
+        ∙ sym (or_true b _ (ap (◌|| false) (eq-eqb m.number j q)))
+    cases (no f) =
+        get_or-set_other marks m.number j true false (λ q. f (sym q))
+        ∙ e
+        ∙ sym (ap (λ (c : Bool). b || (c || false)) (ne_eqb m.number j f) ∙ or_left b)
 
-cond_left : (a b : Bool) → b ≡ false → ◌≡◌ {A = ℕ} (cond (a || b) 1 0) (cond a 1 0)
-cond_left true b e = refl
-cond_left false b e = rw e
-
-pub marks_next : (numbers marks : List ℕ) (k : ℕ) → k < length numbers → Marks (take k numbers) marks → (marks' : List ℕ) → marks' ≡ marked marks (get_or numbers k 0 % place_weight) → Marks (take (k + 1) numbers) marks'
-marks_next numbers marks k l m marks' e = record {
-  long = ap length e ∙ marked_long marks (get_or numbers k 0 % place_weight) ∙ m.long;
-  mark_at = λ j h. ap (λ (l : List ℕ). get_or l j 0) e ∙ cases j h (ℕ_discrete (get_or numbers k 0 % place_weight) (suc j)) ∙ sym (ap (λ (t : Bool). cond t 1 0) (more j));
+pub marks_next : (found : List (Found Match)) (marks : List Bool) (k : ℕ) → k < length found → Marks (take k found) marks
+    → (marks' : List Bool) → marks' ≡ marked marks (get_or found k None) → Marks (take (k + 1) found) marks'
+marks_next found marks k l m marks' e = record {
+  long = ap length e ∙ marked_long marks (get_or found k None) ∙ m.long;
+  mark_at = λ j h. ap (λ (l : List Bool). get_or l j false) e ∙ marked_at marks j _ (get_or found k None) (omega (arith, h, m.long)) (m.mark_at j h) ∙ sym (more j);
 }
   where
-    more : (j : ℕ) → is_named j (take (k + 1) numbers) ≡ (is_named j (take k numbers) || eqb (get_or numbers k 0 % place_weight) (suc j))
-    more j = ap (is_named j) (ap (λ (n : ℕ). take n numbers) (add-one k) ∙ take-suc numbers k 0 l) ∙ named_last j (take k numbers) (get_or numbers k 0)
+    more : (j : ℕ) → is_matched j (map match_in (take (k + 1) found)) ≡ (is_matched j (map match_in (take k found)) || is_matched j (map match_in (get_or found k None ∷ [])))
+    more j =
+        ap (λ (xs : List (Found Match)). is_matched j (map match_in xs)) (ap (λ (n : ℕ). take n found) (add-one k) ∙ take-suc found k None l)
+        ∙ matched_last j (take k found) (get_or found k None)
 
-    cases : (j : ℕ) → j < most_nodes → Dec (get_or numbers k 0 % place_weight ≡ suc j) → get_or (marked marks (get_or numbers k 0 % place_weight)) j 0 ≡ cond (is_named j (take k numbers) || eqb (get_or numbers k 0 % place_weight) (suc j)) 1 0
-    cases j h (yes q) = marked_own marks j (omega (arith, h, m.long)) _ q ∙ sym (cond_or (is_named j (take k numbers)) _ (eq-eqb _ _ q))
-    cases j h (no q) = marked_none marks j (omega (arith, h, m.long)) _ q ∙ m.mark_at j h ∙ sym (cond_left (is_named j (take k numbers)) _ (ne_eqb _ _ q))
-
-pub marks_all : (numbers marks : List ℕ) (k n : ℕ) → Marks (take k numbers) marks → k ≡ n → Marks (take n numbers) marks
-marks_all numbers marks k n m e = rw (sym e) m
-
--- a number that is not 0 names a node
-pub marked_some : (marks : List ℕ) (v : ℕ) → (v ≡ 0 → ⊥) → set marks (v - 1) 1 ≡ marked marks v
-marked_some marks zero n = absurd (n refl)
-marked_some marks (suc v) n = ap (λ (j : ℕ). set marks j 1) (omega arith)
+pub marks_all : (found : List (Found Match)) (marks : List Bool) (k : ℕ) → Marks (take k found) marks → length found ≤ k → Marks found marks
+marks_all found marks k m h = subst (λ (xs : List (Found Match)). Marks xs marks) (take_all k found h) m

@@ -14,7 +14,8 @@ use Rattle.sheet.specs.Name.{same_bytes}
 use Rattle.sheet.proofs.NameLaws.{same_bytes_equal, same_bytes_true}
 use Rattle.sheet.specs.Slot.{child_count, empty_slot}
 use Rattle.tree.specs.Tree.{SlotBytes, Tree, Fields, node, empty, field, listing, listings, count, size, Claims, ClaimsAll}
-use Rattle.matching.specs.Matching.{name_of, Sibling, siblings, alike, nth, Match, match_of, matches, run_matches}
+use Rattle.matching.specs.Matching.{name_of, Sibling, siblings, alike, nth, match_of, matches, run_matches}
+use Rattle.matching.specs.declared.fields.Match.{Match}
 use Rattle.matching.proofs.MatchingLaws.{length_matches}
 use Rattle.differences.specs.Entry.{Entry}
 use Rattle.differences.specs.Rebuilding.{entries_of, is_gone, place_by, slot_by, Block, slots_at, in_order, matched_slots, blocks}

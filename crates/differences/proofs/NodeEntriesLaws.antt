@@ -14,7 +14,7 @@ use Rattle.sheet.specs.Block.{slot_size}
 use Rattle.sheet.specs.Slot.{empty_slot}
 use Rattle.sheet.specs.Name.{same_bytes}
 use Rattle.tree.specs.Tree.{SlotBytes}
-use Rattle.matching.specs.Matching.{Match}
+use Rattle.matching.specs.declared.fields.Match.{Match}
 use Rattle.differences.specs.Entry.{SlotField, slot_fields, Entry, PLACES, ONLY_FIRST, ONLY_SECOND}
 use Rattle.differences.specs.Differences.{content, field_entries, place_entries, node_entries, first_entries, is_matched, second_entries, list_of}
 use Rattle.differences.specs.Rebuilding.{entries_of, is_gone, place_by, with_only}

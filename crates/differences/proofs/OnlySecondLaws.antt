@@ -9,7 +9,7 @@ use lib.ListN.{length, length-append}
 use lib.Seq.{take_at, drop_at, append_snoc}
 use Rattle.sheet.specs.Block.{slot_size}
 use Rattle.tree.specs.Tree.{SlotBytes}
-use Rattle.matching.specs.Matching.{Match}
+use Rattle.matching.specs.declared.fields.Match.{Match}
 use Rattle.differences.specs.Entry.{Entry, entry, filled, ONLY_SECOND}
 use Rattle.differences.specs.Differences.{is_matched, second_entries}
 use Rattle.differences.specs.Rebuilding.{with_only}

@@ -14,7 +14,8 @@ use Rattle.laws.proofs.BoolLaws.{by_test, and_both, is_false}
 use Rattle.sheet.specs.Slot.{empty_slot}
 use Rattle.sheet.specs.Name.{same_bytes}
 use Rattle.tree.specs.Tree.{SlotBytes, Tree, listing}
-use Rattle.matching.specs.Matching.{Sibling, Match, matching}
+use Rattle.matching.specs.Matching.{Sibling, matching}
+use Rattle.matching.specs.declared.fields.Match.{Match}
 use Rattle.matching.specs.Nodes.{IsNode, Matched, Unmatched}
 use Rattle.matching.proofs.MatchingLaws.{matching_sym}
 use Rattle.differences.specs.Entry.{SlotField, slot_fields, Entry, PLACES, ONLY_FIRST, ONLY_SECOND}

@@ -6,9 +6,10 @@ use mathlib.Core.Option.{some}
 use native.Mathlib.Omega.{arith}
 use lib.ListN.{length, take, drop, get_elem?}
 use lib.Seq.{take_at, drop_at}
+use Rattle.std.specs.Prelude.{Err}
 use Rattle.laws.specs.Bytes.{Bytes}
 use Rattle.refusal.specs.declared.answers.Fault.{Fault}
-use Rattle.refusal.specs.declared.answers.Verdict.{Verdict}
+use Rattle.std.specs.Prelude.{Ok}
 use Rattle.sheet.specs.Block.{slot_size, total_of}
 use Rattle.sheet.specs.Slot.{slots}
 use Rattle.sheet.proofs.SlotLaws.{slots_length}
@@ -17,19 +18,18 @@ use Rattle.tree.specs.Judgement.{judgement}
 use Rattle.differences.specs.Entry.{Entry, entry_size, list_bytes}
 use Rattle.differences.specs.Outcome.{list_for, compare_outcome, compare_written}
 use Rattle.differences.specs.Rebuilding.{rebuilt}
-use Rattle.differences.specs.declared.comparison.Compared.{Compared}
 use Rattle.differences.proofs.CountLaws.{differences_most}
 use Rattle.differences.proofs.EntryLaws.{AllFit, fits_at, entry_spelled_at, length_list}
 use Rattle.differences.proofs.RebuildingLaws.{fit_differences, tree_lists, tree_listed, rebuilt_second}
 use Rattle.differences.proofs.OutcomeLaws.{enough_compared}
 
 -- a refusal leaves it
-pub refused_unchanged : (edition : ℕ) (first second lent : List ℕ) (f : Fault) → compare_outcome edition first second (length lent) ≡ Compared.Refused f
+pub refused_unchanged : (edition : ℕ) (first second lent : List ℕ) (f : Fault) → compare_outcome edition first second (length lent) ≡ Err f
     → compare_written (compare_outcome edition first second (length lent)) first second lent ≡ lent
 unfolding compare_written
 refused_unchanged edition first second lent f e = rw e
 
-module _ (edition : ℕ) (first second : List ℕ) (one : judgement edition first ≡ Verdict.Lawful) (two : judgement edition second ≡ Verdict.Lawful) where
+module _ (edition : ℕ) (first second : List ℕ) (one : judgement edition first ≡ Ok tt) (two : judgement edition second ≡ Ok tt) where
   abbrev list : List Entry
   list = list_for first second
 

@@ -6,7 +6,8 @@ use native.Mathlib.Omega.{arith}
 use lib.ListN.{get_or, get_elem?}
 use Rattle.tree.specs.Tree.{Tree, Fields, empty, field, size, run_of}
 use Rattle.tree.proofs.StandingLaws.{size_positive}
-use Rattle.matching.specs.Matching.{Sibling, siblings, Match, matching}
+use Rattle.matching.specs.Matching.{Sibling, siblings, matching}
+use Rattle.matching.specs.declared.fields.Match.{Match}
 use Rattle.matching.specs.Nodes.{Within, here, inside, IsNode}
 use Rattle.matching.proofs.NodeLaws.{node_at}
 use Rattle.matching.proofs.MatchingLaws.{matching_below, matching_within}

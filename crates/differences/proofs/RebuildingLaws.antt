@@ -5,8 +5,7 @@ use mathlib.Core.List.{List}
 use native.Mathlib.Omega.{arith}
 use lib.ListN.{length}
 use Rattle.laws.specs.Bytes.{Bytes, little}
-use Rattle.refusal.specs.declared.answers.Verdict.{Verdict}
-use Rattle.refusal.specs.declared.answers.Counted.{Counted}
+use Rattle.std.specs.Prelude.{Ok}
 use Rattle.sheet.specs.Block.{total_of}
 use Rattle.sheet.specs.Number.{number_at}
 use Rattle.sheet.specs.Slot.{child_count, empty_slot, slot_at, slots}
@@ -83,13 +82,13 @@ unfolding first_tree Claims child_count number_at little count
 claims_first empty claims = (refl, tt)
 claims_first (field t fs) claims = claims.0
 
-module _ (edition : ℕ) (sheet : List ℕ) (lawful : judgement edition sheet ≡ Verdict.Lawful) where
+module _ (edition : ℕ) (sheet : List ℕ) (lawful : judgement edition sheet ≡ Ok tt) where
   -- it opens
-  opened : (n : ℕ) × (open_of edition sheet ≡ Counted.Count n)
+  opened : (n : ℕ) × (open_of edition sheet ≡ Ok n)
   opened = lawful_opened edition sheet lawful
 
   -- it is judged lawful, and its slots claim rightly
-  judged : judgement_of edition sheet ≡ Counted.Count (total_of sheet)
+  judged : judgement_of edition sheet ≡ Ok (total_of sheet)
   unfolding judgement_of judged_nodes
   judged = rw lawful
 
@@ -119,7 +118,7 @@ module _ (edition : ℕ) (sheet : List ℕ) (lawful : judgement edition sheet �
 -- ---- two sheets
 
 module _ (edition : ℕ) (first second : List ℕ) (bytes : Bytes second)
-    (one : judgement edition first ≡ Verdict.Lawful) (two : judgement edition second ≡ Verdict.Lawful) where
+    (one : judgement edition first ≡ Ok tt) (two : judgement edition second ≡ Ok tt) where
   -- from the list and the first sheet, the second can be rebuilt
   pub rebuilt_second : rebuilt (list_bytes (differences (tree_of (slots first)) (tree_of (slots second)))) first ≡ second
   unfolding rebuilt

@@ -10,7 +10,8 @@ use borrow.Author.Tests.{eq-eqb}
 use Rattle.sheet.specs.Slot.{empty_slot}
 use Rattle.sheet.proofs.NameLaws.{same_bytes_true}
 use Rattle.tree.specs.Tree.{SlotBytes, Tree, listing, size}
-use Rattle.matching.specs.Matching.{Match, matching}
+use Rattle.matching.specs.Matching.{matching}
+use Rattle.matching.specs.declared.fields.Match.{Match}
 use Rattle.matching.proofs.MatchingLaws.{matching_self}
 use Rattle.differences.specs.Entry.{SlotField, slot_fields}
 use Rattle.differences.specs.Differences.{content, field_entries, place_entries, node_entries, first_entries, second_entries, list_of, differences}

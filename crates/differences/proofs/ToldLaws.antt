@@ -15,7 +15,7 @@ use Rattle.laws.proofs.ByteLaws.{length_bytes_of, little_bytes_of}
 use Rattle.sheet.specs.Block.{slot_size}
 use Rattle.sheet.specs.Slot.{empty_slot}
 use Rattle.tree.specs.Tree.{SlotBytes}
-use Rattle.matching.specs.Matching.{Match}
+use Rattle.matching.specs.declared.fields.Match.{Match}
 use Rattle.differences.specs.Entry.{slot_fields, Entry, filled, PLACES, ONLY_FIRST}
 use Rattle.differences.specs.Differences.{field_entries, place_entries, node_entries, list_of}
 use Rattle.differences.specs.Rebuilding.{entries_of, is_gone, place_by}

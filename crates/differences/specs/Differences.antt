@@ -5,7 +5,8 @@ use Rattle.laws.specs.Bytes.{bytes_of}
 use Rattle.sheet.specs.Name.{same_bytes}
 use Rattle.sheet.specs.Slot.{empty_slot}
 use Rattle.tree.specs.Tree.{SlotBytes, Tree, listing}
-use Rattle.matching.specs.Matching.{Match, matching}
+use Rattle.matching.specs.Matching.{matching}
+use Rattle.matching.specs.declared.fields.Match.{Match}
 use Rattle.differences.specs.Entry.{SlotField, slot_fields, Entry, entry, PLACES, ONLY_FIRST, ONLY_SECOND}
 
 -- a field's bytes in a slot

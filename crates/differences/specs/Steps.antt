@@ -1,5 +1,5 @@
 -- What the steps of comparing answer, which the contracts of private functions cite. Nothing here is a promise to a caller.
-use Rattle.std.specs.Prelude.{ℕ, zero, suc, ◌+◌, ◌*◌, ◌-◌, ◌/◌, ◌%◌, ◌≤◌, ◌<◌, ◌≡◌, Bool, true, false, cond, ◌||◌, List, [], ◌∷◌, ◌++◌, map, eqb, leb, length, get_or, set, take}
+use Rattle.std.specs.Prelude.{ℕ, suc, ◌+◌, ◌*◌, ◌≤◌, ◌<◌, ◌≡◌, Bool, true, false, cond, List, [], ◌∷◌, ◌++◌, map, leb, length, get_or, set, take, Result}
 use Rattle.std.proofs.Math.Option.{Option, none, some}
 use Rattle.laws.specs.Stretches.{stretched}
 use Rattle.sheet.specs.Block.{slot_size, most_nodes, total_of}
@@ -7,14 +7,15 @@ use Rattle.sheet.specs.Slot.{slots, reaches}
 use Rattle.tree.specs.Tree.{SlotBytes, listing}
 use Rattle.tree.specs.Reading.{tree_of}
 use Rattle.tree.specs.Judgement.{judgement_of}
-use Rattle.refusal.specs.declared.answers.Counted.{Counted}
-use Rattle.matching.specs.Matching.{Match, matching}
-use Rattle.matching.specs.Outcome.{place_weight, other_weight, matches_of}
-use Rattle.matching.specs.declared.sheets.Matched.{Matched}
+use Rattle.std.specs.Prelude.{Ok, Option as Found, Some, None}
+use Rattle.matching.specs.Matching.{matching}
+use Rattle.matching.specs.declared.fields.Match.{Match}
+use Rattle.matching.specs.Outcome.{matches_of}
+use Rattle.refusal.specs.declared.answers.Fault.{Fault}
 use Rattle.differences.specs.Entry.{Entry, SlotField, entry, entry_size, entry_bytes, ONLY_SECOND}
+use Rattle.differences.specs.Differences.{is_matched}
 use Rattle.differences.specs.Outcome.{compare_outcome, compare_written}
 use Rattle.differences.specs.declared.fields.Field.{Field}
-use Rattle.differences.specs.declared.comparison.Compared.{Compared}
 
 -- an output with an entry as its n-th, from 0, where there is room for it
 unfoldable pub put : List ℕ → ℕ → Entry → List ℕ
@@ -38,10 +39,10 @@ IsWhole s = length s ≡ slot_size
 abbrev pub field_of : Field → SlotField
 field_of f = record { code = f.code; width = f.width }
 
--- what a number says that a node matches
-unfoldable pub match_in : ℕ → Option Match
-match_in zero = none
-match_in (suc v) = some (record { number = suc v % place_weight - 1; place = suc v / place_weight % place_weight; other = suc v / other_weight })
+-- what a node matches, if it matches one, as the definitions have it: the code's Option is another type than theirs
+abbrev pub match_in : Found Match → Option Match
+match_in None = none
+match_in (Some m) = some m
 
 -- the bytes of a sheet reach all of its nodes' slots, of which there are so many
 pub record Reached (bytes : List ℕ) (nodes : ℕ) : Type 0 where
@@ -49,55 +50,47 @@ pub record Reached (bytes : List ℕ) (nodes : ℕ) : Type 0 where
   pub most : nodes ≤ most_nodes
   pub reached : (k : ℕ) → k < nodes → reaches bytes k ≡ true
 
--- a number names a node of a sheet, with places that nodes can have, or none
-pub record Names (bytes : List ℕ) (v : ℕ) : Type 0 where
-  pub named : (v ≡ 0 → ⊥) → 0 < v % place_weight
-  pub reached : (v ≡ 0 → ⊥) → reaches bytes (v % place_weight - 1) ≡ true
-  pub below : (v ≡ 0 → ⊥) → v % place_weight - 1 < total_of bytes
-  pub placed : v / place_weight % place_weight < most_nodes
-  pub moved : v / other_weight < most_nodes
+-- what is matched is a node of a sheet whose slot its bytes reach, or none
+abbrev pub Names : List ℕ → Found Match → Type 0
+Names bytes None = Unit {0}
+Names bytes (Some m) = (reaches bytes m.number ≡ true) × (m.number < total_of bytes)
 
--- two sheets, and numbers that say what each node of the first matches in the second
-pub record Numbered (first second : List ℕ) (nodes others : ℕ) (numbers : List ℕ) : Type 0 where
+-- two sheets, and what each node of the first matches in the second
+pub record Numbered (first second : List ℕ) (nodes others : ℕ) (found : List (Found Match)) : Type 0 where
   pub one : Reached first nodes
   pub other : Reached second others
-  pub long : length numbers ≡ most_nodes
-  pub names : (k : ℕ) → Names second (get_or numbers k 0)
+  pub long : length found ≡ most_nodes
+  pub names : (k : ℕ) → Names second (get_or found k None)
 
--- and what they say is what matches in the two
-pub record Lists (first second : List ℕ) (nodes : ℕ) (numbers : List ℕ) : Type 0 where
-  pub is : map match_in (take nodes numbers) ≡ matching (tree_of (slots first)) (tree_of (slots second))
+-- and this is what matches in the two
+pub record Lists (first second : List ℕ) (nodes : ℕ) (found : List (Found Match)) : Type 0 where
+  pub is : map match_in (take nodes found) ≡ matching (tree_of (slots first)) (tree_of (slots second))
   pub one : listing (tree_of (slots first)) ≡ slots first
   pub other : listing (tree_of (slots second)) ≡ slots second
 
--- two sheets that are accepted in one edition, and the numbers of what matches in them
-pub record Comparable (first second : List ℕ) (nodes others : ℕ) (numbers : List ℕ) : Type 0 where
+-- two sheets that are accepted in one edition, and what matches in them
+pub record Comparable (first second : List ℕ) (nodes others : ℕ) (found : List (Found Match)) : Type 0 where
   pub edition : ℕ
-  pub one : judgement_of edition first ≡ Counted.Count nodes
-  pub other : judgement_of edition second ≡ Counted.Count others
-  pub are : numbers ≡ matches_of (Matched.Nodes nodes others) first second
+  pub one : judgement_of edition first ≡ Ok nodes
+  pub other : judgement_of edition second ≡ Ok others
+  pub are : found ≡ matches_of first second
 
 -- what comparing a sheet with itself answers, whatever is lent, and that nothing is then written
-pub record Self (edition : ℕ) (sheet : List ℕ) (r : Compared) : Type 0 where
+pub record Self (edition : ℕ) (sheet : List ℕ) (r : Result ℕ Fault) : Type 0 where
   pub answers : (lent : ℕ) → r ≡ compare_outcome edition sheet sheet lent
   pub kept : (out : List ℕ) → out ≡ compare_written r sheet sheet out
 
 -- of the second's nodes from node j on, those that are not marked
-unfoldable pub unmarked_entries : List ℕ → ℕ → List SlotBytes → List Entry
+unfoldable pub unmarked_entries : List Bool → ℕ → List SlotBytes → List Entry
 unmarked_entries marks j [] = []
-unmarked_entries marks j (s ∷ ss) = cond (eqb (get_or marks j 0) 1) [] (entry ONLY_SECOND j [] s ∷ []) ++ unmarked_entries marks (suc j) ss
+unmarked_entries marks j (s ∷ ss) = cond (get_or marks j false) [] (entry ONLY_SECOND j [] s ∷ []) ++ unmarked_entries marks (suc j) ss
 
--- one of some numbers names node j
-unfoldable pub is_named : ℕ → List ℕ → Bool
-is_named j [] = false
-is_named j (v ∷ vs) = eqb (v % place_weight) (suc j) || is_named j vs
-
--- each node that one of some numbers names is marked
-pub record Marks (numbers marks : List ℕ) : Type 0 where
+-- each node that some nodes match is marked
+pub record Marks (found : List (Found Match)) (marks : List Bool) : Type 0 where
   pub long : length marks ≡ most_nodes
-  pub mark_at : (j : ℕ) → j < most_nodes → get_or marks j 0 ≡ cond (is_named j numbers) 1 0
+  pub mark_at : (j : ℕ) → j < most_nodes → get_or marks j false ≡ is_matched j (map match_in found)
 
--- and one node by a number, where it names one
-abbrev pub marked : List ℕ → ℕ → List ℕ
-marked marks zero = marks
-marked marks (suc j) = set marks j 1
+-- and the node that one matches, if it matches one
+abbrev pub marked : List Bool → Found Match → List Bool
+marked marks None = marks
+marked marks (Some m) = set marks m.number true

@@ -1,5 +1,5 @@
 // An entry put into the output, where there is room for it.
-ghost use Rattle.std.specs.Prelude.{◌≡◌, [], ◌∷◌, ◌++◌, ◌-◌, ◌^◌, ◌≤◌, ◌<◌, length, take, replicate};
+ghost use Rattle.std.specs.Prelude.{◌≡◌, [], ◌∷◌, ◌^◌, ◌≤◌, ◌<◌, length};
 ghost use Rattle.sheet.specs.Block.{slot_size};
 ghost use Rattle.differences.specs.Entry.{entry, entry_size, entry_bytes, filled};
 ghost use Rattle.differences.specs.Steps.{Puts};
@@ -19,46 +19,44 @@ const FIRST: usize = 4;
 
 const SECOND: usize = FIRST + SLOT_SIZE;
 
-const BYTE: usize = 256;
+// What an entry says: its code, a node's number, and each side's content.
+#[derive(Drop)]
+pub(crate) struct Entry<'a> {
+    pub(crate) code: u8,
+    pub(crate) node: u16,
+    pub(crate) first: &'a [u8],
+    pub(crate) second: &'a [u8],
+    ghost first_len_bound: { length first.now ≤ slot_size },
+    ghost second_len_bound: { length second.now ≤ slot_size },
+}
 
+// The output and the count stay two: the count is handed on by value, and a struct of both would state each clause through what it lends.
 // Puts an entry behind so many others, where there is room for it, and answers how many there are with it.
-pub(crate) fn put_entry(
-    code: u8,
-    node: usize,
-    first: &[u8],
-    second: &[u8],
-    out: &mut [u8],
-    entries: usize,
-) -> usize
-    requires node_bound { node < 2 ^ 16 }
-    requires first_len_bound { length first.now ≤ slot_size }
-    requires second_len_bound { length second.now ≤ slot_size }
-    requires entries_bound { entries < 2 ^ 32 }
-    ensures { Puts out.old entries (entry code node first.now second.now ∷ []) out.new result }
+pub(crate) fn put_entry(told: &Entry, out: &mut [u8], entries: usize) -> usize
+    requires { entries < 2 ^ 32 }
+    ensures { Puts out.old entries (entry told.now.code told.now.node told.now.first.now told.now.second.now ∷ []) out.new result }
 {
     let start = ENTRY_SIZE * entries;
     let end = start + ENTRY_SIZE;
     if out.len() < end {
         return entries + 1;
     }
-    write_entry(code, node, first, second, &mut out[start..end]);
+    write_entry(told, &mut out[start..end]);
     entries + 1
 }
 
 // Writes an entry's bytes.
-fn write_entry(code: u8, node: usize, first: &[u8], second: &[u8], out: &mut [u8])
-    requires node_bound { node < 2 ^ 16 }
-    requires first_len_bound { length first.now ≤ slot_size }
-    requires second_len_bound { length second.now ≤ slot_size }
-    requires out_len { length out.old ≡ entry_size }
-    ensures { out.new ≡ entry_bytes (entry code node first.now second.now) }
+fn write_entry(told: &Entry, out: &mut [u8])
+    requires { length out.old ≡ entry_size }
+    ensures { out.new ≡ entry_bytes (entry told.now.code told.now.node told.now.first.now told.now.second.now) }
 {
-    out[CODE] = code;
+    let number = told.node.to_le_bytes();
+    out[CODE] = told.code;
     out[ZERO] = 0;
-    out[NUMBER] = (node % BYTE) as u8;
-    out[NUMBER + 1] = (node / BYTE) as u8;
-    write_content(first, &mut out[FIRST..SECOND]);
-    write_content(second, &mut out[SECOND..ENTRY_SIZE]);
+    out[NUMBER] = number[0];
+    out[NUMBER + 1] = number[1];
+    write_content(told.first, &mut out[FIRST..SECOND]);
+    write_content(told.second, &mut out[SECOND..ENTRY_SIZE]);
 }
 
 // Writes a content, zero-filled.
@@ -68,18 +66,6 @@ fn write_content(content: &[u8], out: &mut [u8])
     ensures { out.new ≡ filled content.now }
 {
     let from = content.len();
-    out[0..from].copy_from_slice(content);
-    clear(out, from);
-}
-
-// Clears a part up to its end.
-fn clear(out: &mut [u8], from: usize)
-    requires { from ≤ length out.old }
-    ensures { out.new ≡ take from out.old ++ replicate (length out.old - from) 0 }
-{
-    let mut i = from;
-    while i < out.len() {
-        out[i] = 0;
-        i += 1;
-    }
+    out[..from].copy_from_slice(content);
+    out[from..].fill(0);
 }

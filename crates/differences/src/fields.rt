@@ -1,17 +1,16 @@
 // The fields of two matched nodes' slots, and their places among their siblings.
-ghost use Rattle.std.specs.Prelude.{◌≡◌, cond, [], ◌∷◌, ◌+◌, ◌^◌, ◌≤◌, ◌<◌, length, get_or};
+ghost use Rattle.std.specs.Prelude.{◌≡◌, cond, [], ◌∷◌, ◌+◌, ◌^◌, ◌≤◌, ◌<◌, length};
 ghost use Rattle.sheet.specs.Block.{slot_size, most_nodes};
 ghost use Rattle.sheet.specs.Name.{same_bytes};
 ghost use Rattle.differences.specs.Entry.{slot_fields, entry};
 ghost use Rattle.differences.specs.Differences.{content, field_entries, place_entries};
 ghost use Rattle.differences.specs.Steps.{Puts, IsWhole, field_of};
 
-use crate::entries::put_entry;
+use crate::entries::{Entry, put_entry};
+use matching::Match;
 
-// The code of places.
+// The code of places. Codes stay bytes, as they are written: a field's is its first byte in the slot.
 const PLACES: u8 = 72;
-
-const BYTE: u32 = 256;
 
 // A field of a slot: its code, which is its first byte, and how many bytes it has.
 #[derive(Clone, Copy)]
@@ -20,11 +19,24 @@ pub struct Field {
     pub width: usize,
 }
 
-const FIELDS: usize = 12;
-
-const CODES: [u8; FIELDS] = [0, 1, 2, 3, 4, 5, 6, 8, 12, 16, 20, 24];
-
-const WIDTHS: [u8; FIELDS] = [1, 1, 1, 1, 1, 1, 2, 4, 4, 4, 1, 48];
+// All of them, codes rising.
+const FIELDS: [Field; 12] = [
+    Field { code: 0, width: 1 },
+    Field { code: 1, width: 1 },
+    Field { code: 2, width: 1 },
+    Field { code: 3, width: 1 },
+    Field { code: 4, width: 1 },
+    Field { code: 5, width: 1 },
+    Field { code: 6, width: 2 },
+    Field { code: 8, width: 4 },
+    Field { code: 12, width: 4 },
+    Field { code: 16, width: 4 },
+    Field { code: 20, width: 1 },
+    Field {
+        code: 24,
+        width: 48,
+    },
+];
 
 // Puts an entry for each field in which the slots of two matched nodes differ, the first of this number.
 pub(crate) fn put_fields(
@@ -40,28 +52,14 @@ pub(crate) fn put_fields(
     requires entries_bound { entries + 12 < 2 ^ 32 }
     ensures { Puts out.old entries (field_entries node ours.now theirs.now slot_fields) out.new result }
 {
-    if same(ours, theirs) {
+    if ours == theirs {
         return entries;
     }
     let mut count = entries;
-    let mut i = 0;
-    while i < FIELDS {
-        count = put_field(field_at(i), node, ours, theirs, out, count);
-        i += 1;
+    for field in &FIELDS {
+        count = put_field(*field, node, ours, theirs, out, count);
     }
     count
-}
-
-// The i-th field of a slot.
-fn field_at(i: usize) -> Field
-    requires { i < 12 }
-    ensures result_value { field_of result ≡ get_or slot_fields i (record { code = 0; width = 0 }) }
-    ensures width_bound { result.code + result.width ≤ slot_size }
-{
-    Field {
-        code: CODES[i] as usize,
-        width: WIDTHS[i] as usize,
-    }
 }
 
 // Puts an entry for a field, where the slots differ in it.
@@ -84,44 +82,32 @@ fn put_field(
     let end = start + field.width;
     let our = &ours[start..end];
     let their = &theirs[start..end];
-    if same(our, their) {
+    if our == their {
         return entries;
     }
-    put_entry(start as u8, node, our, their, out, entries)
+    let told = Entry {
+        code: start as u8,
+        node: node as u16,
+        first: our,
+        second: their,
+    };
+    put_entry(&told, out, entries)
 }
 
 // Puts an entry for the places of two matched nodes among their siblings, where they differ.
-pub(crate) fn put_places(
-    node: usize,
-    place: u32,
-    other: u32,
-    out: &mut [u8],
-    entries: usize,
-) -> usize
+pub(crate) fn put_places(node: usize, matched: Match, out: &mut [u8], entries: usize) -> usize
     requires node_lt_most_nodes { node < most_nodes }
-    requires place_lt_most_nodes { place < most_nodes }
-    requires other_lt_most_nodes { other < most_nodes }
     requires entries_bound { entries < 2 ^ 32 }
-    ensures { Puts out.old entries (place_entries node (record { number = 0; place = place; other = other })) out.new result }
+    ensures { Puts out.old entries (place_entries node matched) out.new result }
 {
-    if place == other {
+    if matched.place == matched.other {
         return entries;
     }
-    let our = [(place % BYTE) as u8, (place / BYTE) as u8];
-    let their = [(other % BYTE) as u8, (other / BYTE) as u8];
-    put_entry(PLACES, node, &our, &their, out, entries)
-}
-
-// Whether two runs of bytes of one length are the same. All are compared, so that many are compared at once.
-pub(crate) fn same(a: &[u8], b: &[u8]) -> bool
-    requires { length a.now ≡ length b.now }
-    ensures { result ≡ same_bytes a.now b.now }
-{
-    let mut alike = true;
-    let mut i = 0;
-    while i < a.len() {
-        alike = alike & (a[i] == b[i]);
-        i += 1;
-    }
-    alike
+    let told = Entry {
+        code: PLACES,
+        node: node as u16,
+        first: &matched.place.to_le_bytes(),
+        second: &matched.other.to_le_bytes(),
+    };
+    put_entry(&told, out, entries)
 }

@@ -7,5 +7,5 @@ mod fields; // fields.rt: the fields of two matched nodes' slots, and their plac
 mod marks; // marks.rt: which nodes of the second sheet are matched
 mod nodes; // nodes.rt: the entries of the nodes of both sheets
 
-pub use comparison::{Compared, compare};
+pub use comparison::compare;
 pub use entries::ENTRY_SIZE;

@@ -1,35 +1,29 @@
 // Which nodes of the second sheet are matched.
-ghost use Rattle.std.specs.Prelude.{◌≡◌, ◌≤◌, length, take, replicate};
+ghost use Rattle.std.specs.Prelude.{◌≡◌, false, ◌≤◌, length, take, replicate};
 ghost use Rattle.sheet.specs.Block.{most_nodes};
-ghost use Rattle.matching.specs.Steps.{Named};
+ghost use Rattle.matching.specs.Steps.{NodeNamed, Named};
 ghost use Rattle.differences.specs.Steps.{Marks, marked};
 
-use matching::PLACE_WEIGHT;
-
-// The mark of a node that is matched.
-pub(crate) const MATCHED: u8 = 1;
+use matching::Match;
 
 // Marks each node of the second sheet that one of the first so many nodes of the first matches.
-pub(crate) fn mark(matches: &[u32], nodes: usize, marks: &mut [u8])
+pub(crate) fn mark(matches: &[Option<Match>], nodes: usize, marks: &mut [bool])
     requires named { Named most_nodes matches.now }
     requires nodes_le_most_nodes { nodes ≤ most_nodes }
-    requires marks_value { marks.old ≡ replicate most_nodes 0 }
+    requires marks_value { marks.old ≡ replicate most_nodes false }
     ensures { Marks (take nodes matches.now) marks.new }
 {
-    let mut node = 0;
-    while node < nodes {
-        mark_one((matches[node] % PLACE_WEIGHT) as usize, marks);
-        node += 1;
+    for matched in &matches[..nodes] {
+        mark_one(*matched, marks);
     }
 }
 
-// Marks the node that a number names, if it names one.
-fn mark_one(number: usize, marks: &mut [u8])
-    requires { number ≤ length marks.old }
-    ensures { marks.new ≡ marked marks.old number }
+// Marks the node that is matched, if one is.
+fn mark_one(matched: Option<Match>, marks: &mut [bool])
+    requires { NodeNamed (length marks.old) matched }
+    ensures { marks.new ≡ marked marks.old matched }
 {
-    if number == 0 {
-        return;
+    if let Some(found) = matched {
+        marks[found.number as usize] = true;
     }
-    marks[number - 1] = MATCHED;
 }

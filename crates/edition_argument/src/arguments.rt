@@ -1,5 +1,5 @@
 // A program's argument, and the edition that a text spells.
-ghost use Rattle.std.specs.Prelude.{ℕ, ◌≡◌, List};
+ghost use Rattle.std.specs.Prelude.{ℕ, List};
 ghost use Rattle.edition_argument.specs.Spelling.{Spelled, Given};
 
 use crate::words::{word, word_count};
@@ -14,7 +14,7 @@ const ONE_ARGUMENT: usize = 2;
 // Room for a known edition and one byte more; an argument that is longer spells none.
 const ROOM: usize = 2;
 
-// No edition: every entry refuses it with 21.
+// No edition: every entry refuses it with 21. It is a number, since `Given` and `Spelled` speak of the number that an entry is given.
 const NONE: u32 = 0;
 
 // The edition of the program that runs. What its words are, no contract tells.
@@ -32,13 +32,11 @@ pub fn given(rt: &impl Env) -> u32
 pub fn given_by(words: usize, text: &[u8]) -> u32
     ensures { Given words text.now result }
 {
-    if words <= ALONE {
-        return FIRST;
+    match words {
+        ..=ALONE => FIRST,
+        ONE_ARGUMENT => edition_of(text),
+        _ => NONE,
     }
-    if words > ONE_ARGUMENT {
-        return NONE;
-    }
-    edition_of(text)
 }
 
 // The edition that an argument spells.
@@ -61,15 +59,9 @@ pub fn edition_of(text: &[u8]) -> u32
     if byte < b'0' {
         return NONE;
     }
-    let edition = wide(byte - b'0');
+    let edition = u32::from(byte - b'0');
     if is_known(edition) {
         return edition;
     }
     NONE
-}
-
-fn wide(byte: u8) -> u32
-    ensures { result ≡ byte }
-{
-    byte as u32
 }

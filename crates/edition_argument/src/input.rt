@@ -11,6 +11,7 @@ pub fn read_full<R: Read>(from: &mut R, room: &mut [u8]) -> usize
     ensures bytes { Consumes (R.remaining from.old) (R.remaining from.new) (take result room.new) }
 {
     let mut done = 0;
+    // A cursor: each turn passes as many bytes as one read gives.
     while done < room.len() {
         match from.read(&mut room[done..]) {
             Ok(0) | Err(_) => break,

@@ -6,7 +6,6 @@
 use mathlib.Core.Path.{◌≡◌, refl, sym, ap, ap₂, subst, ◌∙◌}
 use mathlib.Core.Bool.{Bool, true, false, not, cond, ◌&&◌, ◌||◌, beq}
 use mathlib.Core.Logic.{◌⊎◌, inl, inr, ⊎_elim}
-use mathlib.Core.Option.{none, some}
 use Prim.Native.Nat.{ℕ, zero, suc, ◌+◌, ◌-◌, ◌*◌, ◌/◌, ◌%◌, ◌^◌, ◌≤◌, ◌<◌}
 use native.Mathlib.Nat.{le_refl, le_of_lt, lt_irrefl, lt_of_lt_of_le, lt_of_mul-lt-mul_right, mul-lt-mul_of_pos_right, mul-le-mul, mul-le-mul_right, mul-pos, mul-one, zero-mul, zero-add, add-zero, mod-lt, mul_comm, mul_assoc, add-mul, mul-add, mul_right_comm, suc-mul, two-pow-succ, eq-or-lt_of_le}
 use native.Mathlib.Omega.{arith}
@@ -22,7 +21,8 @@ use borrow.Author.Tests.{not-false, lt-ltb, le-ltb, ltb-true, ltb-false, eq-eqb,
 use Rattle.laws.proofs.DifferenceLaws.{below?, ltb_same}
 use Rattle.float_order.specs.Floats.{float_order}
 use Rattle.float_order.specs.Keys.{float_key, whole_order, key_order}
-use Rattle.float_order.specs.declared.relation.Relation.TheVariants.{Less, Equal, Greater, Unordered}
+use Rattle.std.specs.Prelude.{Some, None}
+use Rattle.std.specs.declared.cmp.Ordering.TheVariants.{Less, Equal, Greater}
 
 -- ---- the weight of bits
 
@@ -330,13 +330,13 @@ is_nan_lem (fin s m d) e = cc
 bits_nan : (f : Format) (b : ℕ) → nan_bits f b ≡ true → of_bits f b ≡ nan
 bits_nan f b e = is_nan_lem (of_bits f b) (sym (nan_bits_is f b) ∙ e)
 
-nan_left : (y : Float) → float_order nan y ≡ Unordered
+nan_left : (y : Float) → float_order nan y ≡ None
 unfolding float_order lt eq
 nan_left nan = refl
 nan_left (inf s) = refl
 nan_left (fin s m e) = refl
 
-nan_right : (x : Float) → float_order x nan ≡ Unordered
+nan_right : (x : Float) → float_order x nan ≡ None
 unfolding float_order lt eq
 nan_right nan = refl
 nan_right (inf s) = refl
@@ -344,15 +344,15 @@ nan_right (fin s m e) = refl
 
 -- the order by the three tests of floats is the order by the two of keys
 by_keys : (l m e k n : Bool) → l ≡ k → m ≡ n → (k ≡ false → n ≡ false → e ≡ true)
-    → cond l Less (cond m Greater (cond e Equal Unordered)) ≡ cond k Less (cond n Greater Equal)
-by_keys l m e true n p q h = ap (λ (t : Bool). cond t Less (cond m Greater (cond e Equal Unordered))) p
-by_keys l m e false true p q h = ap₂ (λ (t u : Bool). cond t Less (cond u Greater (cond e Equal Unordered))) p q
+    → cond l (Some Less) (cond m (Some Greater) (cond e (Some Equal) None)) ≡ Some (cond k Less (cond n Greater Equal))
+by_keys l m e true n p q h = ap (λ (t : Bool). cond t (Some Less) (cond m (Some Greater) (cond e (Some Equal) None))) p
+by_keys l m e false true p q h = ap₂ (λ (t u : Bool). cond t (Some Less) (cond u (Some Greater) (cond e (Some Equal) None))) p q
 by_keys l m e false false p q h =
-    ap₂ (λ (t u : Bool). cond t Less (cond u Greater (cond e Equal Unordered))) p q ∙ ap (λ (t : Bool). cond t Equal Unordered) (h refl refl)
+    ap₂ (λ (t u : Bool). cond t (Some Less) (cond u (Some Greater) (cond e (Some Equal) None))) p q ∙ ap (λ (t : Bool). cond t (Some Equal) None) (h refl refl)
 
 -- neither is a NaN
 numbers : (f : Format) (a b : ℕ) → nan_bits f a ≡ false → nan_bits f b ≡ false
-    → float_order (of_bits f a) (of_bits f b) ≡ whole_order (signed_key (leb (top f) a) (a % top f)) (signed_key (leb (top f) b) (b % top f))
+    → float_order (of_bits f a) (of_bits f b) ≡ Some (whole_order (signed_key (leb (top f) a) (a % top f)) (signed_key (leb (top f) b) (b % top f)))
 unfolding float_order whole_order
 numbers f a b p q =
     let s = leb (top f) a in
@@ -369,7 +369,7 @@ float_order_bits f a b = go (nan_bits f a) refl (nan_bits f b) refl
   where
     go : (t : Bool) → nan_bits f a ≡ t → (u : Bool) → nan_bits f b ≡ u
         → float_order (of_bits f a) (of_bits f b)
-        ≡ key_order (cond t none (some (signed_key (leb (top f) a) (a % top f)))) (cond u none (some (signed_key (leb (top f) b) (b % top f))))
+        ≡ key_order (cond t None (Some (signed_key (leb (top f) a) (a % top f)))) (cond u None (Some (signed_key (leb (top f) b) (b % top f))))
     go true p u q = ap (λ (x : Float). float_order x (of_bits f b)) (bits_nan f a p) ∙ nan_left (of_bits f b)
     go false p true q = ap (float_order (of_bits f a)) (bits_nan f b q) ∙ nan_right (of_bits f a)
     go false p false q = numbers f a b p q
@@ -378,12 +378,12 @@ float_order_bits f a b = go (nan_bits f a) refl (nan_bits f b) refl
 
 module _ (f : Format) (b : ℕ) where
   -- a NaN, whose bits below the sign lie above those of infinity, has none
-  pub nan_key : ones f * hid f < b % top f → float_key f b ≡ none
+  pub nan_key : ones f * hid f < b % top f → float_key f b ≡ None
   unfolding float_key
   nan_key h = rw (nan_bits_above f b, lt-ltb (ones f * hid f) (b % top f) h)
 
   -- all others have one
-  pub number_key_lem : b % top f ≤ ones f * hid f → float_key f b ≡ some (cond (leb (top f) b) (neg_ℤ (pos (b % top f))) (pos (b % top f)))
+  pub number_key_lem : b % top f ≤ ones f * hid f → float_key f b ≡ Some (cond (leb (top f) b) (neg_ℤ (pos (b % top f))) (pos (b % top f)))
   unfolding float_key
   number_key_lem h = rw (nan_bits_above f b, le-ltb (ones f * hid f) (b % top f) h)
 

@@ -17,8 +17,10 @@ use lib.Ieee.Fits.{down_pos}
 use Rattle.laws.proofs.BoolLaws.{and_both, both_and, same_test, by_test, is_false}
 use Rattle.laws.proofs.DifferenceLaws.{below?, ltb_same}
 use Rattle.float_order.specs.Floats.{float_order}
-use Rattle.float_order.specs.declared.relation.Relation.{Relation}
-use Rattle.float_order.specs.declared.relation.Relation.TheVariants.{Less, Equal, Greater, Unordered}
+use Rattle.std.specs.Prelude.{Option, Some, None}
+use Rattle.std.specs.Ordering.{float_partial_cmp}
+use Rattle.std.specs.declared.cmp.Ordering.{Ordering}
+use Rattle.std.specs.declared.cmp.Ordering.TheVariants.{Less, Equal, Greater}
 use Rattle.float_order.proofs.FloatLaws.{Compares, finite_finite, inf_finite, finite_inf, inf_inf}
 
 -- ---- signed magnitudes up to i compare as numbers from 0 on
@@ -344,22 +346,22 @@ le_trans x y z e f =
 -- ---- `float_order`, by the tests
 
 -- less
-pub order_less : (x y : Float) → lt x y ≡ true → float_order x y ≡ Less
+pub order_less : (x y : Float) → lt x y ≡ true → float_order x y ≡ Some Less
 unfolding float_order
 order_less x y e = rw e
 
 -- greater
-pub order_greater : (x y : Float) → lt y x ≡ true → float_order x y ≡ Greater
+pub order_greater : (x y : Float) → lt y x ≡ true → float_order x y ≡ Some Greater
 unfolding float_order
 order_greater x y e = rw (lt_asym y x e, e)
 
 -- equal
-pub order_equal : (x y : Float) → eq x y ≡ true → float_order x y ≡ Equal
+pub order_equal : (x y : Float) → eq x y ≡ true → float_order x y ≡ Some Equal
 unfolding float_order
 order_equal x y e = rw (eq_not_lt x y e, eq_not_lt y x (eq_sym x y e), e)
 
 -- unordered where one of them is a NaN
-pub order_unordered : (x y : Float) → (is_nan x || is_nan y) ≡ true → float_order x y ≡ Unordered
+pub order_unordered : (x y : Float) → (is_nan x || is_nan y) ≡ true → float_order x y ≡ None
 unfolding float_order
 order_unordered x y e =
     rw (is_false (lt x y) (λ l. no_numbers (lt_numbers x y l)), is_false (lt y x) (λ l. no_numbers ((lt_numbers y x l).1, (lt_numbers y x l).0)), is_false (eq x y) (λ l. no_numbers (eq_numbers x y l)))
@@ -368,44 +370,53 @@ order_unordered x y e =
     no_numbers n = not_both (sym (ap₂ (λ (t u : Bool). t || u) n.0 n.1) ∙ e)
 
 -- each relation tells its test
-abbrev by_tests : Bool → Bool → Bool → Relation
-by_tests less more same = cond less Less (cond more Greater (cond same Equal Unordered))
+abbrev by_tests : Bool → Bool → Bool → Option Ordering
+by_tests less more same = cond less (Some Less) (cond more (Some Greater) (cond same (Some Equal) None))
 
-pub less_order : (x y : Float) → float_order x y ≡ Less → lt x y ≡ true
+pub less_order : (x y : Float) → float_order x y ≡ Some Less → lt x y ≡ true
 unfolding float_order
 less_order x y = go (lt x y) (lt y x) (eq x y)
   where
-    go : (l m e : Bool) → by_tests l m e ≡ Less → l ≡ true
+    go : (l m e : Bool) → by_tests l m e ≡ Some Less → l ≡ true
     go true m e h = refl
     go false true e h = let z : ◌≡◌ {A = ℕ} 0 1 = cc in absurd (omega arith)
     go false false true h = let z : ◌≡◌ {A = ℕ} 0 1 = cc in absurd (omega arith)
     go false false false h = let z : ◌≡◌ {A = ℕ} 0 1 = cc in absurd (omega arith)
 
-pub greater_order : (x y : Float) → float_order x y ≡ Greater → lt y x ≡ true
+pub greater_order : (x y : Float) → float_order x y ≡ Some Greater → lt y x ≡ true
 unfolding float_order
 greater_order x y = go (lt x y) (lt y x) (eq x y)
   where
-    go : (l m e : Bool) → by_tests l m e ≡ Greater → m ≡ true
+    go : (l m e : Bool) → by_tests l m e ≡ Some Greater → m ≡ true
     go true m e h = let z : ◌≡◌ {A = ℕ} 0 1 = cc in absurd (omega arith)
     go false true e h = refl
     go false false true h = let z : ◌≡◌ {A = ℕ} 0 1 = cc in absurd (omega arith)
     go false false false h = let z : ◌≡◌ {A = ℕ} 0 1 = cc in absurd (omega arith)
 
-pub equal_order : (x y : Float) → float_order x y ≡ Equal → eq x y ≡ true
+pub equal_order : (x y : Float) → float_order x y ≡ Some Equal → eq x y ≡ true
 unfolding float_order
 equal_order x y = go (lt x y) (lt y x) (eq x y)
   where
-    go : (l m e : Bool) → by_tests l m e ≡ Equal → e ≡ true
+    go : (l m e : Bool) → by_tests l m e ≡ Some Equal → e ≡ true
     go true m e h = let z : ◌≡◌ {A = ℕ} 0 1 = cc in absurd (omega arith)
     go false true e h = let z : ◌≡◌ {A = ℕ} 0 1 = cc in absurd (omega arith)
     go false false true h = refl
     go false false false h = let z : ◌≡◌ {A = ℕ} 0 1 = cc in absurd (omega arith)
 
 -- two that are no NaN are ordered
-pub ordered : (x y : Float) → is_nan x ≡ false → is_nan y ≡ false → float_order x y ≡ Unordered → ⊥
+pub ordered : (x y : Float) → is_nan x ≡ false → is_nan y ≡ false → float_order x y ≡ None → ⊥
 ordered x y n m u = by_tests_lem (trichotomy x y n m)
   where
     by_tests_lem : Tests x y true false false ⊎ (Tests x y false true false ⊎ Tests x y false false true) → ⊥
     by_tests_lem (inl t) = let e = order_less x y t.less_is in let z : ◌≡◌ {A = ℕ} 0 1 = cc in omega arith
     by_tests_lem (inr (inl t)) = let e = order_equal x y t.same_is in let z : ◌≡◌ {A = ℕ} 0 1 = cc in omega arith
     by_tests_lem (inr (inr t)) = let e = order_greater x y t.more_is in let z : ◌≡◌ {A = ℕ} 0 1 = cc in omega arith
+
+-- what the library answers for two floats, which tries whether they are equal before whether the second is less
+pub partial_cmp_is : (x y : Float) → float_partial_cmp x y ≡ float_order x y
+unfolding float_order
+partial_cmp_is x y = go (eq x y) refl
+  where
+    go : (e : Bool) → eq x y ≡ e → float_partial_cmp x y ≡ float_order x y
+    go true p = rw (eq_not_lt x y p, eq_not_lt y x (eq_sym x y p), p) refl
+    go false p = rw p refl

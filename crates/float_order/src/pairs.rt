@@ -1,39 +1,35 @@
 // The order of two floats: numeric, zeros equal, and a NaN unordered.
-ghost use Rattle.std.specs.Prelude.{◌≡◌};
+ghost use Rattle.std.specs.Prelude.{◌≡◌, Float};
 ghost use Rattle.float_order.specs.Floats.{float_order};
 
-use crate::relation::Relation;
+use std::cmp::Ordering;
 
-// The order of two FLOATs.
-#[tactic(auto, unfolding(crate::specs::Floats::float_order))]
-pub fn order_floats(x: f32, y: f32) -> Relation
-    ensures { result ≡ float_order x y }
-{
-    if x < y {
-        return Relation::Less;
-    }
-    if x > y {
-        return Relation::Greater;
-    }
-    if x == y {
-        return Relation::Equal;
-    }
-    Relation::Unordered
+// A float of either width.
+pub trait Ordered {
+    // The float as a number, or the NaN.
+    ghost number: { Self → Float };
+
+    // The first value against the second: none where one of them is a NaN.
+    fn order(self, other: Self) -> Option<Ordering>
+        ensures { result ≡ float_order (number self) (number other) };
 }
 
-// The order of two DOUBLEs.
-#[tactic(auto, unfolding(crate::specs::Floats::float_order))]
-pub fn order_doubles(v: f64, w: f64) -> Relation
-    ensures { result ≡ float_order v w }
-{
-    if v < w {
-        return Relation::Less;
+// FLOAT.
+impl Ordered for f32 {
+    ghost number = { λ x. x };
+
+    #[tactic(auto, using(crate::proofs::OrderLaws::partial_cmp_is))]
+    fn order(self, other: f32) -> Option<Ordering> {
+        self.partial_cmp(&other)
     }
-    if v > w {
-        return Relation::Greater;
+}
+
+// DOUBLE.
+impl Ordered for f64 {
+    ghost number = { λ x. x };
+
+    #[tactic(auto, using(crate::proofs::OrderLaws::partial_cmp_is))]
+    fn order(self, other: f64) -> Option<Ordering> {
+        self.partial_cmp(&other)
     }
-    if v == w {
-        return Relation::Equal;
-    }
-    Relation::Unordered
 }

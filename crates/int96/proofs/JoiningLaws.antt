@@ -7,10 +7,11 @@ use mathlib.Core.List.{List}
 use borrow.Author.Tests.{lt-ltb, le-ltb}
 use lib.IntN.{ℤ, pos, ◌-ℤ◌}
 use lib.ListN.{length}
+use Rattle.std.specs.Prelude.{Result, Ok, Err}
 use Rattle.refusal.specs.Numbers.{BREAKS_ANNOTATION, NO_DATE_TIME, NOT_REPRESENTABLE, UNKNOWN_TYPE}
 use Rattle.refusal.specs.Outcome.{Outcome, given, refused, unplaced}
-use Rattle.timestamp.specs.Outcomes.{is_signed64, no_date_time, not_representable, counting, encoded, joining}
-use Rattle.timestamp.specs.declared.encoding.Encoded.{Encoded}
+use Rattle.timestamp.specs.Outcomes.{is_signed64, no_date_time, not_representable, unknown_unit, counting, encoded, joining}
+use Rattle.timestamp.specs.declared.encoding.EncodeError.{EncodeError}
 use Rattle.timestamp.proofs.RefusalLaws.{other}
 use Rattle.laws.proofs.BoolLaws.{by_test}
 use Rattle.laws.proofs.DifferenceLaws.{below?}
@@ -19,11 +20,11 @@ use Rattle.int96.specs.Outcomes.{decoding}
 use Rattle.int96.proofs.ValueLaws.{decoding_16, decoding_counted}
 
 -- what each answer of joining stands for here
-abbrev pub meant : Encoded → Outcome ℤ
-meant (Encoded.Count z) = given z
-meant Encoded.NoDateTime = refused (unplaced BREAKS_ANNOTATION)
-meant Encoded.NotRepresentable = not_representable
-meant Encoded.UnknownUnit = not_representable
+abbrev pub meant : Result ℤ EncodeError → Outcome ℤ
+meant (Ok z) = given z
+meant (Err EncodeError.NoDateTime) = refused (unplaced BREAKS_ANNOTATION)
+meant (Err EncodeError.NotRepresentable) = not_representable
+meant (Err EncodeError.UnknownUnit) = unknown_unit
 
 -- a count that does not fit is 19, and no count is refused otherwise
 counting_else : {X : Type 0} (z : ℤ) (n : ℕ) → (n ≡ 0 → ⊥) → (n ≡ NOT_REPRESENTABLE → ⊥) → refused (unplaced n) ≡ counting z → X
@@ -37,21 +38,21 @@ module _ (v : List ℕ) (long : length v ≡ VALUE_BYTES) where
   joins = joining NANOS_PER_DAY (pos (day_in v) -ℤ pos DAY_OF_1970) (nanos_in v)
 
   -- nanoseconds of a day: both answer by the count
-  within : (k : Encoded) → nanos_in v < NANOS_PER_DAY → encoded k ≡ counting (count_of v) → meant k ≡ decoding v
-  within (Encoded.Count z) h e = e ∙ sym (decoding_counted v long h)
-  within Encoded.NoDateTime h e = counting_else (count_of v) NO_DATE_TIME (λ n. omega arith) (λ n. omega arith) e
-  within Encoded.NotRepresentable h e = e ∙ sym (decoding_counted v long h)
-  within Encoded.UnknownUnit h e = counting_else (count_of v) UNKNOWN_TYPE (λ n. omega arith) (λ n. omega arith) e
+  within : (k : Result ℤ EncodeError) → nanos_in v < NANOS_PER_DAY → encoded k ≡ counting (count_of v) → meant k ≡ decoding v
+  within (Ok z) h e = e ∙ sym (decoding_counted v long h)
+  within (Err EncodeError.NoDateTime) h e = counting_else (count_of v) NO_DATE_TIME (λ n. omega arith) (λ n. omega arith) e
+  within (Err EncodeError.NotRepresentable) h e = e ∙ sym (decoding_counted v long h)
+  within (Err EncodeError.UnknownUnit) h e = counting_else (count_of v) UNKNOWN_TYPE (λ n. omega arith) (λ n. omega arith) e
 
   -- and more: 18 of joining is 16 here
-  beyond : (k : Encoded) → NANOS_PER_DAY ≤ nanos_in v → encoded k ≡ no_date_time → meant k ≡ decoding v
-  beyond (Encoded.Count z) h e = other (given z) no_date_time refl e (λ n. omega arith)
-  beyond Encoded.NoDateTime h e = sym (decoding_16 v long h)
-  beyond Encoded.NotRepresentable h e = other not_representable no_date_time refl e (λ n. omega arith)
-  beyond Encoded.UnknownUnit h e = other (refused (unplaced UNKNOWN_TYPE)) no_date_time refl e (λ n. omega arith)
+  beyond : (k : Result ℤ EncodeError) → NANOS_PER_DAY ≤ nanos_in v → encoded k ≡ no_date_time → meant k ≡ decoding v
+  beyond (Ok z) h e = other (given z) no_date_time refl e (λ n. omega arith)
+  beyond (Err EncodeError.NoDateTime) h e = sym (decoding_16 v long h)
+  beyond (Err EncodeError.NotRepresentable) h e = other not_representable no_date_time refl e (λ n. omega arith)
+  beyond (Err EncodeError.UnknownUnit) h e = other (refused (unplaced UNKNOWN_TYPE)) no_date_time refl e (λ n. omega arith)
 
   -- what joining answers is what decoding does
-  pub joined_told : (k : Encoded) → encoded k ≡ joins → meant k ≡ decoding v
+  pub joined_told : (k : Result ℤ EncodeError) → encoded k ≡ joins → meant k ≡ decoding v
   unfolding count_of
   joined_told k e =
       below? (nanos_in v) NANOS_PER_DAY

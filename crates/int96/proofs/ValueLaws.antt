@@ -19,7 +19,7 @@ use Rattle.laws.proofs.DifferenceLaws.{below?}
 use Rattle.laws.proofs.ByteLaws.{bytes_append, bytes_take, bytes_drop, length_bytes_of, bytes_bytes_of, little_bytes_of, little_lt, bytes_of_little}
 use Rattle.refusal.specs.Numbers.{WRONG_LENGTH, BREAKS_ANNOTATION, NOT_REPRESENTABLE}
 use Rattle.refusal.specs.Outcome.{Outcome, given, refused, unplaced, short_output}
-use Rattle.refusal.specs.declared.answers.Counted.{Counted}
+use Rattle.std.specs.Prelude.{Ok, Err}
 use Rattle.refusal.specs.declared.answers.Refusal.{Refusal}
 use Rattle.timestamp.specs.Outcomes.{is_signed64, counting}
 use Rattle.timestamp.specs.FloorDivision.{FloorDivision}
@@ -269,11 +269,11 @@ value_returns v z all e =
 -- ---- what encoding leaves
 
 -- a refusal leaves the output as it was
-pub refused_unchanged : (z : ℤ) (lent : List ℕ) (r : Refusal) → encoding (length lent) ≡ Counted.Refused r → encoded z lent ≡ lent
+pub refused_unchanged : (z : ℤ) (lent : List ℕ) (r : Refusal) → encoding (length lent) ≡ Err r → encoded z lent ≡ lent
 unfolding encoding encoded
 refused_unchanged z lent r = by_room (ltb (length lent) VALUE_BYTES) refl
   where
-    by_room : (b : Bool) → ltb (length lent) VALUE_BYTES ≡ b → cond b (Counted.Refused short_output) (Counted.Count VALUE_BYTES) ≡ Counted.Refused r
+    by_room : (b : Bool) → ltb (length lent) VALUE_BYTES ≡ b → cond b (Err short_output) (Ok VALUE_BYTES) ≡ Err r
         → cond b lent (value_of z ++ drop VALUE_BYTES lent) ≡ lent
     by_room true e p = refl
     by_room false e p = let n : ◌≡◌ {A = ℕ} 0 1 = cc in absurd (omega arith)

@@ -3,10 +3,10 @@ ghost use Rattle.std.specs.Prelude.{◌≡◌, ◌++◌, ◌≤◌, pos, ◌-ℤ
 ghost use Rattle.int96.specs.Value.{VALUE_BYTES, DAY_OF_1970 as FIRST_DAY_OF_1970, nanos_in, day_in, value_of};
 ghost use Rattle.int96.specs.Outcomes.{converted, decoding, encoding, encoded};
 
-use crate::refusals::{beyond_day, not_representable, wrong_length};
+use crate::refusals::{BEYOND_DAY, WRONG_LENGTH};
 use little_endian::{number, store};
-use refusal::{Counted, Refusal, short_output};
-use timestamp::{Encoded, Nanos};
+use refusal::{Refusal, short_output};
+use timestamp::{EncodeError, Nanos, Unit};
 
 // The bytes of a value, and of its nanoseconds, which stand before its day.
 const VALUE_SIZE: usize = 12;
@@ -16,39 +16,32 @@ const NANOS_SIZE: usize = 8;
 // The Julian day of 1 January 1970.
 const DAY_OF_1970: i64 = 2_440_588;
 
-// What decoding answers: the nanoseconds from the start of 1 January 1970, negative before it, or the refusal.
-#[derive(Clone, Copy)]
-pub enum Converted {
-    Count(i64),
-    Refused(Refusal),
-}
-
-// The count of a value.
-pub fn decode(value: &[u8]) -> Converted
+// The count of a value: the nanoseconds from the start of 1 January 1970, negative before it.
+pub fn decode(value: &[u8]) -> Result<i64, Refusal>
     ensures { converted result ≡ decoding value.now }
 {
     if value.len() != VALUE_SIZE {
-        return Converted::Refused(wrong_length());
+        return Err(WRONG_LENGTH);
     }
     match Nanos::join(day_in(value), nanos_in(value)) {
-        Encoded::Count(count) => Converted::Count(count),
-        Encoded::NoDateTime => Converted::Refused(beyond_day()),
-        Encoded::NotRepresentable => Converted::Refused(not_representable()),
-        // Not met: joining names its unit.
-        Encoded::UnknownUnit => Converted::Refused(not_representable()),
+        Ok(count) => Ok(count),
+        Err(error) => match error {
+            EncodeError::NoDateTime => Err(BEYOND_DAY),
+            _ => Err(error.into()),
+        },
     }
 }
 
 // Writes the value of a count, which every count has, at the start of the output, and answers how many bytes it has.
-pub fn encode(count: i64, out: &mut [u8]) -> Counted
+pub fn encode(count: i64, out: &mut [u8]) -> Result<usize, Refusal>
     ensures value { result ≡ encoding (length out.old) }
     ensures out_after { out.new ≡ encoded count out.old }
 {
     if out.len() < VALUE_SIZE {
-        return Counted::Refused(short_output());
+        return Err(short_output());
     }
     write_value(count, out);
-    Counted::Count(VALUE_SIZE)
+    Ok(VALUE_SIZE)
 }
 
 // The nanoseconds of a value in its day.

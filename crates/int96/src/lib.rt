@@ -2,6 +2,6 @@
 #![tactic(auto)]
 
 mod conversion; // conversion.rt: both ways
-mod refusals; // refusals.rt: the refusals that conversion has
+mod refusals; // refusals.rt: the refusals of conversion alone
 
-pub use conversion::{Converted, decode, encode};
+pub use conversion::{decode, encode};

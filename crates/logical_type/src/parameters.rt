@@ -1,4 +1,6 @@
 // Codes of the parameters of logical types.
+// Bytes and no enum: what a code means hangs on the logical type beside it, and a slot's byte may be none of them.
+
 // Parameter a of INTEGER.
 pub const BITS_8: u8 = 8;
 

@@ -114,7 +114,7 @@ module _ {A : Type 0} (f : List Sibling → A) (b : List ℕ) (from : Candidate)
     pub passed_end : n ≤ place → f (fields_from b from n) ≡ f []
     passed_end h = p.same ∙ ap f (fields_from_end b number place n h)
 
-pub untaken_none : (takers : List ℕ) (taker : ℕ) → untaken takers taker [] ≡ []
+untaken_none : (takers : List ℕ) (taker : ℕ) → untaken takers taker [] ≡ []
 unfolding untaken
 untaken_none takers taker = refl
 
@@ -147,6 +147,14 @@ pub untaken_stop : (takers : List ℕ) (taker : ℕ) (b : List ℕ) (from : Cand
 untaken_stop takers taker b from n number place p l ends known free =
     let next = fields_from_next b number place n p.stands l (get_or ends number 0) (end_is b number place n p.stands l ends known) in
     next ∙ sym (p.same ∙ ap (untaken takers taker) next ∙ untaken_free takers taker (sibling_at b number place) (fields_from b (at (get_or ends number 0) (place + 1)) n) free)
+
+-- passing over them all leaves none
+pub untaken_all : (takers : List ℕ) (taker : ℕ) (b : List ℕ) (from : Candidate) (n number place : ℕ) → Passed (untaken takers taker) b from n number place → n ≤ place
+    → Stands b (at number n) n × (fields_from b (at number n) n ≡ untaken takers taker (fields_from b from n))
+untaken_all takers taker b from n number place p h = (
+  record { claimed = p.stands.claimed; most = omega arith; fields = omega arith },
+  fields_from_end b number n n (omega arith) ∙ sym (passed_end (untaken takers taker) b from n number place p h ∙ untaken_none takers taker),
+)
 
 -- names of unlike prints are unlike
 pub prints_unlike : (a b : List ℕ) (p : ℕ) → p ≡ print_of a → (p ≡ print_of b → ⊥) → same_bytes a b ≡ false

@@ -42,12 +42,12 @@ module _ (b : List ℕ) (node first n : ℕ) where
         pub ended_next_most : get_or ends at 0 ≤ most_nodes
         ended_next_most = omega (arith, next_is, tree_within b at h ended_below, h.most)
 
-        pub ended_next : Ended b node first n (get_or ends at 0) (left - 1)
-        ended_next = record {
+        pub ended_next : (left' : ℕ) → left' ≡ left - 1 → Ended b node first n (get_or ends at 0) left'
+        ended_next left' less = rw less (record {
           behind = omega (arith, e.behind, next_after b at left h some e.fields (get_or ends at 0) next_is);
           fields = next_claimed b at left h some e.fields (get_or ends at 0) next_is;
           same = e.same ∙ run_end b at left h some e.fields (get_or ends at 0) next_is;
-        }
+        })
 
     -- none is left
     pub ended_last : left ≡ 0 → at ≡ first + sizes (run_at (slots b) first n)

@@ -7,7 +7,8 @@ use lib.ListN.{replicate}
 use Rattle.sheet.specs.Slot.{name, name_length_of}
 use Rattle.sheet.specs.Name.{same_bytes}
 use Rattle.tree.specs.Tree.{Tree, node, empty, field, size, listing, listings}
-use Rattle.matching.specs.Matching.{Match, matching, matches, run_matches, nth, alike, siblings}
+use Rattle.matching.specs.Matching.{matching, matches, run_matches, nth, alike, siblings}
+use Rattle.matching.specs.declared.fields.Match.{Match}
 
 slot : ℕ → List ℕ
 slot c = replicate 20 0 ++ (1 ∷ 0 ∷ 0 ∷ 0 ∷ c ∷ []) ++ replicate 47 0

@@ -2,7 +2,7 @@
 use mathlib.Core.Path.{◌≡◌, refl, sym, ap, ◌∙◌}
 use mathlib.Core.Bool.{Bool, true, false, true≢false, not, ◌&&◌}
 use mathlib.Core.List.{List, [], ◌∷◌, ◌++◌}
-use Prim.Native.Nat.{ℕ, ◌+◌, ◌*◌, ◌-◌, ◌/◌, ◌%◌, ◌≤◌, ◌<◌}
+use Prim.Native.Nat.{ℕ, ◌+◌, ◌-◌, ◌%◌, ◌≤◌, ◌<◌}
 use native.Mathlib.Decide.{ℕ_discrete}
 use native.Mathlib.Omega.{arith}
 use lib.Dec.{eqb}
@@ -16,9 +16,9 @@ use Rattle.tree.specs.Tree.{size}
 use Rattle.tree.specs.Steps.{tree_at, run_at}
 use Rattle.tree.proofs.StandingLaws.{count_run_at}
 use Rattle.matching.specs.Matching.{Sibling, name_of}
-use Rattle.matching.specs.Outcome.{place_weight, other_weight}
-use Rattle.matching.specs.Steps.{Ends, print_of, Stands, fields_from, is_taken, first_free, head_count, from_alike, head_of, stamp_of, HeadsBelow, with_head, IsHead, Heads, Indexed, Leads}
+use Rattle.matching.specs.Steps.{Ends, print_of, Stands, fields_from, is_taken, first_free, head_count, from_alike, head_of, no_head, HeadsBelow, with_head, IsHead, Heads, Indexed, Leads}
 use Rattle.matching.specs.declared.candidates.Candidate.{Candidate}
+use Rattle.matching.specs.declared.heads.Head.{Head}
 use Rattle.matching.proofs.NthLaws.{length_siblings}
 use Rattle.matching.proofs.CandidateLaws.{at, sibling_at, name_of_at, below, below_most, end_is, stands_next, fields_from_next, fields_from_end, prints_unlike}
 
@@ -75,24 +75,24 @@ length_from b c n s = length_siblings c.number c.place (run_at (slots b) c.numbe
 -- ---- writing them
 
 -- up to a field, each head that was written is one; of other rests the fields are those from this field on
-pub record HeadsTo (b : List ℕ) (start : Candidate) (n taker : ℕ) (heads : List ℕ) (number place : ℕ) : Type 0 where
+pub record HeadsTo (b : List ℕ) (start : Candidate) (n taker : ℕ) (heads : List Head) (number place : ℕ) : Type 0 where
   pub long : length heads ≡ head_count
-  pub most : (r : ℕ) → stamp_of (get_or heads r 0) ≤ taker
-  pub known : (r : ℕ) → r < head_count → stamp_of (get_or heads r 0) ≡ taker → IsHead b start n r (head_of (get_or heads r 0))
-  pub open_at : (r : ℕ) → r < head_count → (stamp_of (get_or heads r 0) ≡ taker → ⊥) → from_alike r (fields_from b start n) ≡ from_alike r (fields_from b (at number place) n)
+  pub most : (r : ℕ) → (get_or heads r no_head).taker ≤ taker
+  pub known : (r : ℕ) → r < head_count → (get_or heads r no_head).taker ≡ taker → IsHead b start n r (head_of (get_or heads r no_head))
+  pub open_at : (r : ℕ) → r < head_count → ((get_or heads r no_head).taker ≡ taker → ⊥) → from_alike r (fields_from b start n) ≡ from_alike r (fields_from b (at number place) n)
   pub stands : Stands b (at number place) n
 
 module _ (b : List ℕ) (start : Candidate) (n taker : ℕ) where
-  pub heads_to_start : (heads : List ℕ) → HeadsBelow taker heads → Stands b start n → HeadsTo b start n taker heads start.number start.place
+  pub heads_to_start : (heads : List Head) → HeadsBelow taker heads → Stands b start n → HeadsTo b start n taker heads start.number start.place
   heads_to_start heads h s = record {
     long = h.1.long;
-    most = λ r. omega (arith, h.1.stamp_at r);
-    known = λ r l e. absurd (omega (arith, h.0, h.1.stamp_at r, e));
+    most = λ r. omega (arith, h.1.taker_at r);
+    known = λ r l e. absurd (omega (arith, h.0, h.1.taker_at r, e));
     open_at = λ r l f. refl;
     stands = s;
   }
 
-  module _ (heads : List ℕ) (number place : ℕ) (p : HeadsTo b start n taker heads number place) where
+  module _ (heads : List Head) (number place : ℕ) (p : HeadsTo b start n taker heads number place) where
     pub heads_to_end : n ≤ place → Heads b start n taker heads
     heads_to_end h = record {
       long = p.long;
@@ -128,8 +128,8 @@ module _ (b : List ℕ) (start : Candidate) (n taker : ℕ) where
       stands' : Stands b (at next (place + 1)) n
       stands' = stands_next b number place n p.stands l next next_is
 
-      abbrev code : ℕ
-      code = taker * other_weight + place_weight * place + number
+      abbrev head : Head
+      head = record { taker = taker; place = place; number = number }
 
       number_few : number < most_nodes
       number_few = below_most b number place n p.stands l
@@ -138,72 +138,60 @@ module _ (b : List ℕ) (start : Candidate) (n taker : ℕ) where
       rest_few = omega (arith, is)
 
       -- a head for its rest is there already
-      stays : stamp_of (get_or heads rest 0) ≡ taker → HeadsTo b start n taker heads next (place + 1)
+      stays : (get_or heads rest no_head).taker ≡ taker → HeadsTo b start n taker heads next (place + 1)
       stays e = record {
         long = p.long;
         most = p.most;
         known = p.known;
-        open_at = λ r k f. p.open_at r k f ∙ other_rest r (λ q. f (ap (λ (i : ℕ). stamp_of (get_or heads i 0)) q ∙ e));
+        open_at = λ r k f. p.open_at r k f ∙ other_rest r (λ q. f (ap (λ (i : ℕ). (get_or heads i no_head).taker) q ∙ e));
         stands = stands';
       }
 
       -- or it is written
-      abbrev written : List ℕ
-      written = set heads rest code
+      abbrev written : List Head
+      written = set heads rest head
 
-      own : get_or written rest 0 ≡ code
-      own = get_or-set_same heads rest code 0 (omega (arith, rest_few, p.long))
+      own : get_or written rest no_head ≡ head
+      own = get_or-set_same heads rest head no_head (omega (arith, rest_few, p.long))
 
-      others : (r : ℕ) → (r ≡ rest → ⊥) → get_or written r 0 ≡ get_or heads r 0
-      others r f = get_or-set_other heads rest r code 0 f
+      others : (r : ℕ) → (r ≡ rest → ⊥) → get_or written r no_head ≡ get_or heads r no_head
+      others r f = get_or-set_other heads rest r head no_head f
 
-      code_stamp : stamp_of code ≡ taker
-      code_stamp = omega (arith, number_few, l, small)
-
-      code_number : code % place_weight ≡ number
-      code_number = omega (arith, number_few, l, small)
-
-      code_place : code / place_weight % place_weight ≡ place
-      code_place = omega (arith, number_few, l, small)
-
-      head_is : head_of code ≡ at number place
-      head_is = λ i. record { number = code_number i; place = code_place i }
-
-      writes : (stamp_of (get_or heads rest 0) ≡ taker → ⊥) → HeadsTo b start n taker written next (place + 1)
+      writes : ((get_or heads rest no_head).taker ≡ taker → ⊥) → HeadsTo b start n taker written next (place + 1)
       writes f = record {
-        long = length-set heads rest code ∙ p.long;
+        long = length-set heads rest head ∙ p.long;
         most = λ r. most_at r (ℕ_discrete r rest);
         known = λ r k e. known_at r k e (ℕ_discrete r rest);
         open_at = λ r k g. open_at r k g (ℕ_discrete r rest);
         stands = stands';
       }
         where
-          most_at : (r : ℕ) → Dec (r ≡ rest) → stamp_of (get_or written r 0) ≤ taker
-          most_at r (yes q) = omega (arith, ap (λ (i : ℕ). get_or written i 0) q ∙ own, code_stamp)
-          most_at r (no g) = omega (arith, others r g, p.most r)
+          most_at : (r : ℕ) → Dec (r ≡ rest) → (get_or written r no_head).taker ≤ taker
+          most_at r (yes q) = omega (arith, ap (λ (i : ℕ). (get_or written i no_head).taker) q ∙ ap (λ (x : Head). x.taker) own)
+          most_at r (no g) = omega (arith, ap (λ (x : Head). x.taker) (others r g), p.most r)
 
-          known_at : (r : ℕ) → r < head_count → stamp_of (get_or written r 0) ≡ taker → Dec (r ≡ rest) → IsHead b start n r (head_of (get_or written r 0))
+          known_at : (r : ℕ) → r < head_count → (get_or written r no_head).taker ≡ taker → Dec (r ≡ rest) → IsHead b start n r (head_of (get_or written r no_head))
           known_at r k e (yes q) =
-              rw (q, own, head_is) (record { stands = p.stands; is = sym (p.open_at rest rest_few f ∙ own_rest) })
-          known_at r k e (no g) = rw (others r g) (p.known r k (ap stamp_of (sym (others r g)) ∙ e))
+              rw (q, own) (record { stands = p.stands; is = sym (p.open_at rest rest_few f ∙ own_rest) })
+          known_at r k e (no g) = rw (others r g) (p.known r k (ap (λ (x : Head). x.taker) (sym (others r g)) ∙ e))
 
-          open_at : (r : ℕ) → r < head_count → (stamp_of (get_or written r 0) ≡ taker → ⊥) → Dec (r ≡ rest) → from_alike r (fields_from b start n) ≡ from_alike r (fields_from b (at next (place + 1)) n)
-          open_at r k g (yes q) = absurd (g (ap stamp_of (ap (λ (i : ℕ). get_or written i 0) q ∙ own) ∙ code_stamp))
-          open_at r k g (no h) = p.open_at r k (λ e. g (ap stamp_of (others r h) ∙ e)) ∙ other_rest r h
+          open_at : (r : ℕ) → r < head_count → ((get_or written r no_head).taker ≡ taker → ⊥) → Dec (r ≡ rest) → from_alike r (fields_from b start n) ≡ from_alike r (fields_from b (at next (place + 1)) n)
+          open_at r k g (yes q) = absurd (g (ap (λ (x : Head). x.taker) (ap (λ (i : ℕ). get_or written i no_head) q ∙ own)))
+          open_at r k g (no h) = p.open_at r k (λ e. g (ap (λ (x : Head). x.taker) (others r h) ∙ e)) ∙ other_rest r h
 
       heads_to_next : HeadsTo b start n taker (with_head heads rest number place taker) next (place + 1)
       unfolding with_head
       heads_to_next =
-          by_test (eqb (stamp_of (get_or heads rest 0)) taker)
+          by_test (eqb ((get_or heads rest no_head).taker) taker)
           (λ e. rw e (stays (eqb-true _ _ e)))
           (λ e. rw e (writes (λ q. true≢false (sym (eq-eqb _ _ q) ∙ e))))
 
-      pub heads_to_written : (after : List ℕ) → after ≡ with_head heads rest number place taker → HeadsTo b start n taker after next (place + 1)
+      pub heads_to_written : (after : List Head) → after ≡ with_head heads rest number place taker → HeadsTo b start n taker after next (place + 1)
       heads_to_written after e = rw e heads_to_next
 
 -- ---- looking them up
 
-module _ (b : List ℕ) (from : Candidate) (n taker : ℕ) (heads : List ℕ) (print : ℕ) (x : Indexed b from n taker heads) where
+module _ (b : List ℕ) (from : Candidate) (n taker : ℕ) (heads : List Head) (print : ℕ) (x : Indexed b from n taker heads) where
   abbrev rest : ℕ
   rest = print % head_count
 
@@ -222,7 +210,7 @@ module _ (b : List ℕ) (from : Candidate) (n taker : ℕ) (heads : List ℕ) (p
           ∙ alike_found takers t m (fields_from b from n)
 
   -- no field has the rest
-  pub leads_none : (stamp_of (get_or heads rest 0) ≡ taker → ⊥) → Leads b from n print (at from.number n)
+  pub leads_none : ((get_or heads rest no_head).taker ≡ taker → ⊥) → Leads b from n print (at from.number n)
   leads_none f =
       leads (at from.number n) (record { claimed = x.stands.claimed; most = omega arith; fields = omega arith })
       (fields_from_end b from.number n n (omega arith) ∙ sym (x.headed.none_at rest (omega arith) f))
@@ -233,16 +221,16 @@ module _ (b : List ℕ) (from : Candidate) (n taker : ℕ) (heads : List ℕ) (p
   leads_from = record { stands = x.stands; same = λ takers t m q. refl }
 
   -- or behind
-  pub leads_head : stamp_of (get_or heads rest 0) ≡ taker → from.place < get_or heads rest 0 / place_weight % place_weight → Leads b from n print (head_of (get_or heads rest 0))
-  leads_head e l = let head = x.headed.known rest (omega arith) e in leads (head_of (get_or heads rest 0)) head.stands head.is (omega (arith, l))
+  pub leads_head : (get_or heads rest no_head).taker ≡ taker → from.place < (get_or heads rest no_head).place → Leads b from n print (head_of (get_or heads rest no_head))
+  leads_head e l = let head = x.headed.known rest (omega arith) e in leads (head_of (get_or heads rest no_head)) head.stands head.is (omega (arith, l))
 
 -- ---- one head
 
-module _ (heads : List ℕ) (r number place taker : ℕ) where
-  pub head_kept : stamp_of (get_or heads r 0) ≡ taker → heads ≡ with_head heads r number place taker
+module _ (heads : List Head) (r number place taker : ℕ) where
+  pub head_kept : (get_or heads r no_head).taker ≡ taker → heads ≡ with_head heads r number place taker
   unfolding with_head
   head_kept e = rw (eq-eqb _ _ e)
 
-  pub head_written : (stamp_of (get_or heads r 0) ≡ taker → ⊥) → set heads r (taker * other_weight + place_weight * place + number) ≡ with_head heads r number place taker
+  pub head_written : ((get_or heads r no_head).taker ≡ taker → ⊥) → set heads r (record { taker = taker; place = place; number = number }) ≡ with_head heads r number place taker
   unfolding with_head
   head_written f = rw (ne_eqb _ _ f)

@@ -6,7 +6,8 @@ use mathlib.Core.Option.{Option, none, some, none-ne-some}
 use native.Mathlib.Omega.{arith}
 use lib.ListN.{get_or}
 use Rattle.tree.specs.Tree.{Tree}
-use Rattle.matching.specs.Matching.{Sibling, Match, name_of, matching}
+use Rattle.matching.specs.Matching.{Sibling, name_of, matching}
+use Rattle.matching.specs.declared.fields.Match.{Match}
 use Rattle.matching.specs.Nodes.{root_of, IsField, here, IsNode, ordinal, Matched, Unmatched}
 use Rattle.matching.proofs.NodeLaws.{within_field, field_within, node_once, parent_once}
 use Rattle.matching.proofs.MatchingLaws.{Pair, roots, fields, pair_sym, pair_matched, matched_pair, matched_once}

@@ -13,7 +13,8 @@ use Rattle.laws.proofs.BoolLaws.{by_test}
 use Rattle.sheet.specs.Name.{same_bytes}
 use Rattle.tree.specs.Tree.{Tree, Fields, node, empty, field, size, listing, listings, run_of}
 use Rattle.tree.proofs.StandingLaws.{size_positive}
-use Rattle.matching.specs.Matching.{Sibling, Match, name_of, siblings, candidates, alike, nth, match_of, matches, run_matches, matching}
+use Rattle.matching.specs.Matching.{Sibling, name_of, siblings, candidates, alike, nth, match_of, matches, run_matches, matching}
+use Rattle.matching.specs.declared.fields.Match.{Match}
 use Rattle.matching.specs.Nodes.{root_of, fields_of, IsField, Within, here, inside, IsNode, names, ordinal, Matched}
 use Rattle.matching.proofs.NthLaws.{nth_at, nth_found, siblings_within, length_listings}
 use Rattle.matching.proofs.NodeLaws.{field_place, field_at, field_within, node_at}

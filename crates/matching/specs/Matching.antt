@@ -5,6 +5,8 @@ use Rattle.std.proofs.Math.Option.{Option, none, some}
 use Rattle.sheet.specs.Slot.{name}
 use Rattle.sheet.specs.Name.{same_bytes}
 use Rattle.tree.specs.Tree.{Tree, Fields, node, empty, field, size, slot_of, run_of}
+-- a type of the code: what a node of the first tree matches, a node of the second, by its number, with the places of both among their siblings
+use Rattle.matching.specs.declared.fields.Match.{Match}
 
 -- the name of a tree's root
 abbrev pub name_of : Tree → List ℕ
@@ -31,12 +33,6 @@ unfoldable pub nth : List ℕ → ℕ → List Sibling → Option Sibling
 nth n i [] = none
 nth n zero (c ∷ cs) = cond (same_bytes (name_of c.tree) n) (some c) (nth n zero cs)
 nth n (suc i) (c ∷ cs) = cond (same_bytes (name_of c.tree) n) (nth n i cs) (nth n (suc i) cs)
-
--- what a node of the first tree matches: a node of the second, by its number, with the places of both among their siblings
-pub record Match : Type 0 where
-  pub number : ℕ
-  pub place : ℕ
-  pub other : ℕ
 
 -- of a node with this place that matches a node of the second tree, or none
 abbrev pub match_of : ℕ → Option Sibling → Option Match

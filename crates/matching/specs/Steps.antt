@@ -1,5 +1,5 @@
 -- What the steps of matching answer, which the contracts of private functions cite. Nothing here is a promise to a caller.
-use Rattle.std.specs.Prelude.{ℕ, zero, suc, ◌+◌, ◌*◌, ◌-◌, ◌/◌, ◌%◌, ◌^◌, ◌≤◌, ◌<◌, ◌≡◌, Bool, cond, not, ◌&&◌, List, [], ◌∷◌, ◌++◌, eqb, length, get_or, set, drop}
+use Rattle.std.specs.Prelude.{ℕ, zero, suc, ◌+◌, ◌*◌, ◌-◌, ◌%◌, ◌^◌, ◌≤◌, ◌<◌, ◌≡◌, Bool, cond, not, ◌&&◌, List, [], ◌∷◌, ◌++◌, eqb, length, get_or, set, drop, Option as Found, Some, None}
 use Rattle.std.proofs.Math.Option.{Option, none, some}
 use Rattle.sheet.specs.Block.{total_of, most_nodes}
 use Rattle.sheet.specs.Slot.{slots, slot_at, name}
@@ -8,9 +8,10 @@ use Rattle.tree.specs.Tree.{Fields, empty, field, listing, size, count}
 use Rattle.tree.specs.Reading.{trees, tree_of}
 use Rattle.tree.specs.Steps.{Claimed, tree_at, run_at, fields_at}
 use Rattle.matching.specs.Matching.{Sibling, siblings, name_of, alike, nth, match_of}
-use Rattle.matching.specs.Outcome.{place_weight, other_weight, code_of}
+use Rattle.matching.specs.Outcome.{held_of}
 use Rattle.matching.specs.declared.candidates.Candidate.{Candidate}
-use Rattle.matching.specs.declared.candidates.Found.{Found}
+use Rattle.matching.specs.declared.fields.Match.{Match}
+use Rattle.matching.specs.declared.heads.Head.{Head}
 
 -- a sheet whose slots claim rightly and are those of one tree
 pub record OneTree (bytes : List ℕ) : Type 0 where
@@ -72,46 +73,56 @@ first_free takers taker n (c ∷ cs) =
     cond (not (is_taken takers taker c) && same_bytes (name_of c.tree) n) (some c) (first_free takers taker n cs)
 
 -- what is found
-abbrev pub found_of : Option Sibling → Found
-found_of none = Found.Nothing
-found_of (some c) = Found.At (record { number = c.number; place = c.place })
+abbrev pub found_of : Option Sibling → Found Candidate
+found_of none = None
+found_of (some c) = Some (record { number = c.number; place = c.place })
 
-abbrev pub FoundWithin : ℕ → ℕ → Found → Type 0
-FoundWithin nodes places Found.Nothing = Unit {0}
-FoundWithin nodes places (Found.At c) = (c.number < nodes) × (c.place < places)
+abbrev pub FoundWithin : ℕ → ℕ → Found Candidate → Type 0
+FoundWithin nodes places None = Unit {0}
+FoundWithin nodes places (Some c) = (c.number < nodes) × (c.place < places)
 
 -- what is taken, and what is then known of the field with this place that takes it
-abbrev pub taken_by : ℕ → Found → List ℕ → List ℕ
-taken_by taker Found.Nothing takers = takers
-taken_by taker (Found.At c) takers = set takers c.number taker
+abbrev pub taken_by : ℕ → Found Candidate → List ℕ → List ℕ
+taken_by taker None takers = takers
+taken_by taker (Some c) takers = set takers c.number taker
 
-abbrev pub found_code : ℕ → Found → ℕ
-found_code place Found.Nothing = 0
-found_code place (Found.At c) = suc c.number + place_weight * place + other_weight * c.place
+abbrev pub found_match : ℕ → Found Candidate → Found Match
+found_match place None = None
+found_match place (Some c) = Some (record { number = c.number; place = place; other = c.place })
 
--- numbers with what each field of a run matches, the run's first at this number
-unfoldable pub with_fields : List ℕ → ℕ → ℕ → List Sibling → List (List ℕ) → Fields → List ℕ
-with_fields numbers at place cs before empty = numbers
-with_fields numbers at place cs before (field t fs) =
-    with_fields (set numbers at (code_of (match_of place (nth (name_of t) (alike (name_of t) before) cs)))) (at + size t) (suc place) cs (name_of t ∷ before) fs
+-- what nodes match, with what each field of a run matches, the run's first at this number
+unfoldable pub with_fields : List (Found Match) → ℕ → ℕ → List Sibling → List (List ℕ) → Fields → List (Found Match)
+with_fields ms at place cs before empty = ms
+with_fields ms at place cs before (field t fs) =
+    with_fields (set ms at (held_of (match_of place (nth (name_of t) (alike (name_of t) before) cs)))) (at + size t) (suc place) cs (name_of t ∷ before) fs
 
--- numbers with what the fields of node k match, where they have what node k does
-unfoldable pub fields_matched : List ℕ → List ℕ → ℕ → ℕ → List ℕ → List ℕ
-fields_matched first second k zero numbers = numbers
-fields_matched first second k (suc j) numbers = with_fields numbers (suc k) 0 (siblings (suc j) 0 (fields_at second j)) [] (fields_at first k)
+-- and with what the fields of node k match, where it matches the second sheet's node j
+unfoldable pub fields_matched : List ℕ → List ℕ → ℕ → ℕ → List (Found Match) → List (Found Match)
+fields_matched first second k j ms = with_fields ms (suc k) 0 (siblings (suc j) 0 (fields_at second j)) [] (fields_at first k)
 
-abbrev pub step_at : List ℕ → List ℕ → ℕ → List ℕ → List ℕ
-step_at first second k numbers = fields_matched first second k (get_or numbers k 0 % place_weight) numbers
+-- or where it matches this, if it matches a node
+abbrev pub fields_by : List ℕ → List ℕ → ℕ → Found Match → List (Found Match) → List (Found Match)
+fields_by first second k None ms = ms
+fields_by first second k (Some m) ms = fields_matched first second k m.number ms
+
+-- as they say that it does
+abbrev pub step_at : List ℕ → List ℕ → ℕ → List (Found Match) → List (Found Match)
+step_at first second k ms = fields_by first second k (get_or ms k None) ms
 
 -- the same for n nodes from node k on
-unfoldable pub steps_from : List ℕ → List ℕ → ℕ → ℕ → List ℕ → List ℕ
-steps_from first second k zero numbers = numbers
-steps_from first second k (suc n) numbers = steps_from first second (suc k) n (step_at first second k numbers)
+unfoldable pub steps_from : List ℕ → List ℕ → ℕ → ℕ → List (Found Match) → List (Found Match)
+steps_from first second k zero ms = ms
+steps_from first second k (suc n) ms = steps_from first second (suc k) n (step_at first second k ms)
 
--- every number names a node of the second sheet, or none
-pub record Named (nodes : ℕ) (numbers : List ℕ) : Type 0 where
-  pub long : length numbers ≡ most_nodes
-  pub number_at : (i : ℕ) → get_or numbers i 0 % place_weight ≤ nodes
+-- what is matched is a node of the second sheet, which has so many, or none
+abbrev pub NodeNamed : ℕ → Found Match → Type 0
+NodeNamed nodes None = Unit {0}
+NodeNamed nodes (Some m) = m.number < nodes
+
+-- and so it is for each node of the first
+pub record Named (nodes : ℕ) (ms : List (Found Match)) : Type 0 where
+  pub long : length ms ≡ most_nodes
+  pub named_at : (i : ℕ) → NodeNamed nodes (get_or ms i None)
 
 -- no taker is above this one
 pub record TakersMost (most : ℕ) (takers : List ℕ) : Type 0 where
@@ -128,25 +139,26 @@ from_alike r [] = []
 from_alike r (c ∷ cs) = cond (eqb (print_of (name_of c.tree) % head_count) r) (c ∷ cs) (from_alike r cs)
 
 -- a head has the number and the place of a field, and the number of the taker that it was written for
-abbrev pub head_of : ℕ → Candidate
-head_of h = record { number = h % place_weight; place = h / place_weight % place_weight }
+abbrev pub head_of : Head → Candidate
+head_of h = record { number = h.number; place = h.place }
 
-abbrev pub stamp_of : ℕ → ℕ
-stamp_of h = h / other_weight
+-- what stands where none was written: no node is taker 0
+abbrev pub no_head : Head
+no_head = record { taker = 0; place = 0; number = 0 }
 
 -- no head was written for a taker above this one
-pub record HeadsMost (most : ℕ) (heads : List ℕ) : Type 0 where
+pub record HeadsMost (most : ℕ) (heads : List Head) : Type 0 where
   pub long : length heads ≡ head_count
-  pub stamp_at : (r : ℕ) → stamp_of (get_or heads r 0) ≤ most
+  pub taker_at : (r : ℕ) → (get_or heads r no_head).taker ≤ most
 
 -- and none for this one yet
-abbrev pub HeadsBelow : ℕ → List ℕ → Type 0
+abbrev pub HeadsBelow : ℕ → List Head → Type 0
 HeadsBelow taker heads = (0 < taker) × HeadsMost (taker - 1) heads
 
 -- heads with that of a field, where there is none for its rest yet
-unfoldable pub with_head : List ℕ → ℕ → ℕ → ℕ → ℕ → List ℕ
+unfoldable pub with_head : List Head → ℕ → ℕ → ℕ → ℕ → List Head
 with_head heads r number place taker =
-    cond (eqb (stamp_of (get_or heads r 0)) taker) heads (set heads r (taker * other_weight + place_weight * place + number))
+    cond (eqb ((get_or heads r no_head).taker) taker) heads (set heads r (record { taker = taker; place = place; number = number }))
 
 -- a field from which on a node's fields are those from the first on whose print leaves a rest
 pub record IsHead (bytes : List ℕ) (start : Candidate) (number r : ℕ) (head : Candidate) : Type 0 where
@@ -154,13 +166,13 @@ pub record IsHead (bytes : List ℕ) (start : Candidate) (number r : ℕ) (head 
   pub is : fields_from bytes head number ≡ from_alike r (fields_from bytes start number)
 
 -- the heads of a node's fields, from the first of them on: each that was written for this taker is one, and of other rests there is no field
-pub record Heads (bytes : List ℕ) (start : Candidate) (number taker : ℕ) (heads : List ℕ) : Type 0 where
+pub record Heads (bytes : List ℕ) (start : Candidate) (number taker : ℕ) (heads : List Head) : Type 0 where
   pub long : length heads ≡ head_count
-  pub known : (r : ℕ) → r < head_count → stamp_of (get_or heads r 0) ≡ taker → IsHead bytes start number r (head_of (get_or heads r 0))
-  pub none_at : (r : ℕ) → r < head_count → (stamp_of (get_or heads r 0) ≡ taker → ⊥) → from_alike r (fields_from bytes start number) ≡ []
+  pub known : (r : ℕ) → r < head_count → (get_or heads r no_head).taker ≡ taker → IsHead bytes start number r (head_of (get_or heads r no_head))
+  pub none_at : (r : ℕ) → r < head_count → ((get_or heads r no_head).taker ≡ taker → ⊥) → from_alike r (fields_from bytes start number) ≡ []
 
 -- the fields of a node have heads, and from one of them on some are left
-pub record Indexed (bytes : List ℕ) (from : Candidate) (number taker : ℕ) (heads : List ℕ) : Type 0 where
+pub record Indexed (bytes : List ℕ) (from : Candidate) (number taker : ℕ) (heads : List Head) : Type 0 where
   pub start : Candidate
   pub headed : Heads bytes start number taker heads
   pub stands : Stands bytes from number

@@ -13,9 +13,7 @@ pub(crate) fn write_ends(sheet: &[u8], total: usize, ends: &mut [u16])
     requires ends_len { length ends.old ≡ most_nodes }
     ensures { Ends sheet.now ends.new }
 {
-    let mut node = total;
-    while node > 0 {
-        node = node - 1;
+    for node in (0..total).rev() {
         ends[node] = end_of(sheet, node, ends) as u16;
     }
 }
@@ -29,10 +27,8 @@ fn end_of(sheet: &[u8], node: usize, ends: &[u16]) -> usize
 {
     let s = sheet::slot_at(sheet, node);
     let mut at = node + 1;
-    let mut left = s.children as usize;
-    while left > 0 {
+    for _passed in 0..s.children {
         at = ends[at] as usize;
-        left = left - 1;
     }
     at
 }

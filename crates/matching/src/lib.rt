@@ -7,6 +7,7 @@ mod fields; // fields.rt: the fields of two matched nodes matched
 mod heads; // heads.rt: an index over the fields of a node
 mod prints; // prints.rt: a number of each node's name, by which unlike names are told apart
 mod sheets; // sheets.rt: two sheets judged, and their nodes matched
+mod sides; // sides.rt: a sheet with what is found of its nodes
 
-pub use fields::{OTHER_WEIGHT, PLACE_WEIGHT};
-pub use sheets::{Matched, Matching, match_sheets};
+pub use fields::Match;
+pub use sheets::{Matching, Totals, match_sheets};

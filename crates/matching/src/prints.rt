@@ -16,10 +16,8 @@ pub(crate) fn write_prints(sheet: &[u8], total: usize, prints: &mut [u32])
     requires prints_len { length prints.old ≡ most_nodes }
     ensures { Prints sheet.now total prints.new }
 {
-    let mut node = 0;
-    while node < total {
+    for node in 0..total {
         prints[node] = print_of(sheet::name_of(sheet, node));
-        node += 1;
     }
 }
 
@@ -27,17 +25,14 @@ pub(crate) fn write_prints(sheet: &[u8], total: usize, prints: &mut [u32])
 fn print_of(name: &[u8]) -> u32
     ensures { result ≡ print_of name.now }
 {
-    let even = name.len() - name.len() % 2;
+    let pairs = name.chunks_exact(2);
+    let last = pairs.remainder();
     let mut print: u64 = 0;
-    let mut i = 0;
-    while i < even {
-        let high = name[i] as u64;
-        let low = name[i + 1] as u64;
-        print = (print * PAIR_FACTOR + high * FACTOR + low) % NUMBERS;
-        i += 2;
+    for pair in pairs {
+        print = (print * PAIR_FACTOR + pair[0] as u64 * FACTOR + pair[1] as u64) % NUMBERS;
     }
-    if i < name.len() {
-        return ((print * FACTOR + name[i] as u64) % NUMBERS) as u32;
+    if last.is_empty() {
+        return print as u32;
     }
-    print as u32
+    ((print * FACTOR + last[0] as u64) % NUMBERS) as u32
 }

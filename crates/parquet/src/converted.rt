@@ -1,4 +1,5 @@
 // Codes of the converted types.
+// Bytes, no enum: a slot's fields are the sheet's bytes as they stand (`sheet::slot_at`), which may be no code, and rules name the codes.
 pub const UTF8: u8 = 0;
 
 pub const MAP: u8 = 1;

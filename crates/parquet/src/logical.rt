@@ -1,4 +1,5 @@
 // Codes of the logical types.
+// Bytes, no enum: a slot's fields are the sheet's bytes as they stand (`sheet::slot_at`), which may be no code, and rules name the codes.
 pub const STRING: u8 = 1;
 
 pub const MAP: u8 = 2;

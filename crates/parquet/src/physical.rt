@@ -1,4 +1,5 @@
 // Codes of the physical types.
+// Bytes, no enum: a slot's fields are the sheet's bytes as they stand (`sheet::slot_at`), which may be no code, and rules name the codes.
 pub const BOOLEAN: u8 = 0;
 
 pub const INT32: u8 = 1;

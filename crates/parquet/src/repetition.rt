@@ -1,4 +1,5 @@
 // Codes of the repetitions.
+// Bytes, no enum: a slot's fields are the sheet's bytes as they stand (`sheet::slot_at`), which may be no code, and rules name the codes.
 pub const REQUIRED: u8 = 0;
 
 pub const OPTIONAL: u8 = 1;

@@ -1,7 +1,8 @@
 -- How great a refusal's number and place are.
 use Rattle.std.specs.Prelude.{ℕ, ◌<◌, ◌≤◌}
 use Rattle.refusal.specs.declared.answers.Refusal.{Refusal}
-use Rattle.refusal.specs.declared.answers.Counted.{Counted}
+use Rattle.refusal.specs.Outcome.{Counted}
+use Rattle.std.specs.Prelude.{Ok, Err}
 use Rattle.refusal.specs.declared.answers.Fault.{Fault}
 use Rattle.refusal.specs.Faults.{SECOND}
 
@@ -18,5 +19,5 @@ pub record FaultBounded (number place : ℕ) (f : Fault) : Type 0 where
 
 -- how many there are is at most this, and a refusal is within the others
 abbrev pub CountedBounded : ℕ → ℕ → ℕ → Counted → Type 0
-CountedBounded most number place (Counted.Count n) = n ≤ most
-CountedBounded most number place (Counted.Refused r) = Bounded number place r
+CountedBounded most number place (Ok n) = n ≤ most
+CountedBounded most number place (Err r) = Bounded number place r

@@ -1,11 +1,7 @@
 -- The outcome of a call: "the result or one numbered refusal", which has a place.
-use Rattle.std.specs.Prelude.{ℕ}
+use Rattle.std.specs.Prelude.{ℕ, Result, Ok, Err}
 -- a type of the code: a number and a place
 use Rattle.refusal.specs.declared.answers.Refusal.{Refusal}
--- a type of the code: Count, with how many there are, or Refused, with a refusal
-use Rattle.refusal.specs.declared.answers.Counted.{Counted}
--- a type of the code: Lawful, or Refused, with a refusal
-use Rattle.refusal.specs.declared.answers.Verdict.{Verdict}
 use Rattle.refusal.specs.Numbers.{SHORT_OUTPUT, UNKNOWN_EDITION}
 
 -- a refusal of its number and place
@@ -29,12 +25,24 @@ short_output = unplaced SHORT_OUTPUT
 abbrev pub unknown_edition : Refusal
 unknown_edition = unplaced UNKNOWN_EDITION
 
+-- what a call answers that tells whether anything is refused
+abbrev pub Verdict : Type 0
+Verdict = Result (Unit {0}) Refusal
+
+-- nothing is refused
+abbrev pub no_refusal : Verdict
+no_refusal = Ok tt
+
+-- what a call answers that tells how many there are
+abbrev pub Counted : Type 0
+Counted = Result ℕ Refusal
+
 -- the outcome of a call that answers whether anything is refused
 abbrev pub judged : Verdict → Outcome (Unit {0})
-judged Verdict.Lawful = given tt
-judged (Verdict.Refused r) = refused r
+judged (Ok _) = given tt
+judged (Err r) = refused r
 
 -- the outcome of a call that answers how many there are
 abbrev pub counted : Counted → Outcome ℕ
-counted (Counted.Count n) = given n
-counted (Counted.Refused r) = refused r
+counted (Ok n) = given n
+counted (Err r) = refused r

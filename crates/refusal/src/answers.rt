@@ -11,7 +11,8 @@ pub struct Refusal {
     pub place: usize,
 }
 
-// The sides of a refusal of one of two things that were handed in together.
+// The sides of a refusal of one of two things that were handed in together. They stay numbers, which C reads from bit 40 of an answer on
+// and `FaultBounded` bounds.
 pub const NEITHER: u8 = 0;
 
 pub const FIRST: u8 = 1;
@@ -25,21 +26,7 @@ pub struct Fault {
     pub refusal: Refusal,
 }
 
-// Whether anything is refused.
-#[derive(Clone, Copy)]
-pub enum Verdict {
-    Lawful,
-    Refused(Refusal),
-}
-
-// How many there are of what was asked for, nodes or bytes, or the refusal.
-#[derive(Clone, Copy)]
-pub enum Counted {
-    Count(usize),
-    Refused(Refusal),
-}
-
-// The refusal of an output that is not enough.
+// The refusal of an output that is not enough. This and the next are functions and no constants, since a constant has no clause.
 pub fn short_output() -> Refusal
     ensures { result ≡ short_output }
 {

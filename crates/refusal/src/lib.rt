@@ -4,6 +4,4 @@
 pub mod numbers; // numbers.rt: the refusals' numbers
 mod answers; // answers.rt: a refusal, and the answers that several crates give
 
-pub use answers::{
-    Counted, FIRST, Fault, NEITHER, Refusal, SECOND, Verdict, short_output, unknown_edition,
-};
+pub use answers::{FIRST, Fault, NEITHER, Refusal, SECOND, short_output, unknown_edition};

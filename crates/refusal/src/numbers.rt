@@ -1,4 +1,5 @@
-// The refusals' numbers. Those of document 01 are judged in their order.
+// The refusals' numbers. Those of document 01 are judged in their order. They stay numbers: C and the programs' lines name a refusal by
+// its number, and `demands/specs/Refusals` says of any number and place whether it is answered.
 
 // A sheet's length is 0, not a multiple of 512, or over 65,536.
 pub const SHEET_LENGTH: u8 = 1;

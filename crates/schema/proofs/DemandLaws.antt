@@ -2,15 +2,14 @@
 use Prim.Native.Nat.{ℕ, ◌*◌, ◌≤◌}
 use mathlib.Core.Path.{◌≡◌, refl, sym, ap, ◌∙◌, subst}
 use mathlib.Core.Logic.{◌↔◌}
-use Rattle.refusal.specs.declared.answers.Verdict.{Verdict}
-use Rattle.refusal.specs.declared.answers.Verdict.TheVariants.{Lawful, Refused}
 use mathlib.Core.List.{List, [], ◌++◌}
 use borrow.Author.Tests.{le-ltb}
 use lib.ListN.{length, drop}
 use Rattle.sheet.specs.Block.{total_of}
 use Rattle.sheet.specs.Opening as sheet
 use Rattle.sheet.specs.Slot.{slots}
-use Rattle.refusal.specs.declared.answers.Counted.{Counted}
+use Rattle.refusal.specs.Outcome.{Verdict}
+use Rattle.std.specs.Prelude.{Ok, Err}
 use Rattle.sheet.proofs.OpeningLaws.{open_of_accepts, open_of_known, open_of_blocks, open_of_slots}
 use Rattle.sheet.proofs.SlotLaws.{slots_length}
 use Rattle.tree.specs.Tree.{Tree, size}
@@ -29,7 +28,7 @@ use Rattle.tree.proofs.PlacesLaws.{fills_left_over, fills_missing}
 use Rattle.tree.proofs.FaultLaws.{or_else_none, none_or_else, at_most_deep_none, none_at_most_deep, keeps_none, none_keeps}
 
 -- no refusal of 5 to 13 holds where the slots are listed by a tree that is not too deep, keeps every rule and claims rightly
-pub tree_accepted : (edition : ℕ) (bytes : List ℕ) (t : Tree) → IsTreeOf edition bytes t → tree_refusal edition (slots bytes) ≡ Lawful
+pub tree_accepted : (edition : ℕ) (bytes : List ℕ) (t : Tree) → IsTreeOf edition bytes t → tree_refusal edition (slots bytes) ≡ Ok tt
 unfolding tree_refusal
 tree_accepted edition bytes t h =
     let f : Fills 1 (slots bytes) = subst (Fills 1) h.lists (tree_fills t h.claims) in
@@ -38,7 +37,7 @@ tree_accepted edition bytes t h =
     (or_else_none _ _ (fills_missing (slots bytes) f)
     (or_else_none _ _ (rw e (at_most_deep_none t h.deep)) (rw e (keeps_none edition t h.keeps))))
 
-pub accepted_tree : (edition : ℕ) (bytes : List ℕ) → tree_refusal edition (slots bytes) ≡ Lawful → IsTreeOf edition bytes (tree_of (slots bytes))
+pub accepted_tree : (edition : ℕ) (bytes : List ℕ) → tree_refusal edition (slots bytes) ≡ Ok tt → IsTreeOf edition bytes (tree_of (slots bytes))
 unfolding tree_refusal
 accepted_tree edition bytes e =
     let a = none_or_else _ _ e in
@@ -56,17 +55,17 @@ pub sound_judgement : (edition : ℕ) (bytes : List ℕ) → Sound edition bytes
 unfolding judgement judged_as sheet.outcome sheet.outcome_of
 sound_judgement edition bytes s = rw (open_of_accepts edition bytes s.known s.blocks s.slots)
 
-pub accepted_no_refusal : (r : Verdict) (t lent : ℕ) → Accepted (answer r t lent) → r ≡ Lawful
+pub accepted_no_refusal : (r : Verdict) (t lent : ℕ) → Accepted (answer r t lent) → r ≡ Ok tt
 unfolding Accepted answer
-accepted_no_refusal Lawful t lent a = refl
-accepted_no_refusal (Refused r) t lent a = absurd a
+accepted_no_refusal (Ok _) t lent a = refl
+accepted_no_refusal (Err r) t lent a = absurd a
 
-pub no_refusal_rows : (r : Verdict) (t lent : ℕ) → r ≡ Lawful → row_width * t ≤ lent → answer r t lent ≡ Counted.Count t
+pub no_refusal_rows : (r : Verdict) (t lent : ℕ) → r ≡ Ok tt → row_width * t ≤ lent → answer r t lent ≡ Ok t
 unfolding answer
 no_refusal_rows r t lent e h = rw (e, le-ltb lent (row_width * t) h)
 
 -- where a sheet has a tree and output is enough, the answer is its T rows
-pub tree_rows : (edition : ℕ) (bytes : List ℕ) (lent : ℕ) (t : Tree) → Sound edition bytes → EnoughOutput bytes lent → IsTreeOf edition bytes t → outcome edition bytes lent ≡ Counted.Count (total_of bytes)
+pub tree_rows : (edition : ℕ) (bytes : List ℕ) (lent : ℕ) (t : Tree) → Sound edition bytes → EnoughOutput bytes lent → IsTreeOf edition bytes t → outcome edition bytes lent ≡ Ok (total_of bytes)
 unfolding outcome EnoughOutput
 tree_rows edition bytes lent t s n h =
     no_refusal_rows (judgement edition bytes) (total_of bytes) lent (sound_judgement edition bytes s ∙ tree_accepted edition bytes t h) n
@@ -90,12 +89,12 @@ rows_are edition bytes lent t s n h =
     rw (tree_rows edition bytes (length lent) t s n h, tree_of_listing t (slots bytes) h.claims h.lists)
 
 -- what judging refuses, resolving refuses so, whatever is lent
-pub refused_resolving : (edition : ℕ) (bytes : List ℕ) (lent : ℕ) (r : Refusal) → judgement edition bytes ≡ Refused r → outcome edition bytes lent ≡ Counted.Refused r
+pub refused_resolving : (edition : ℕ) (bytes : List ℕ) (lent : ℕ) (r : Refusal) → judgement edition bytes ≡ Err r → outcome edition bytes lent ≡ Err r
 unfolding outcome answer
 refused_resolving edition bytes lent r e = rw e
 
 -- a refusal changes nothing
-pub refused_unchanged : (edition : ℕ) (bytes lent : List ℕ) (r : Refusal) → outcome edition bytes (length lent) ≡ Counted.Refused r → written (outcome edition bytes (length lent)) bytes lent ≡ lent
+pub refused_unchanged : (edition : ℕ) (bytes lent : List ℕ) (r : Refusal) → outcome edition bytes (length lent) ≡ Err r → written (outcome edition bytes (length lent)) bytes lent ≡ lent
 unfolding written
 refused_unchanged edition bytes lent r e = rw e
 
@@ -110,7 +109,7 @@ unfolding rows
 rows_length edition bytes t h = length_rows_from t 0 0 Other [] [] ∙ ap (λ (n : ℕ). row_width * n) (size_is edition bytes t h)
 
 -- blocks and slots are sound exactly where opening gives no refusal
-pub sound_exactly : (edition : ℕ) (bytes : List ℕ) → Sound edition bytes ↔ (sheet.open_of edition bytes ≡ Counted.Count (total_of bytes))
+pub sound_exactly : (edition : ℕ) (bytes : List ℕ) → Sound edition bytes ↔ (sheet.open_of edition bytes ≡ Ok (total_of bytes))
 sound_exactly edition bytes = (
   (λ s. open_of_accepts edition bytes s.known s.blocks s.slots),
   (λ e. record { known = open_of_known edition bytes (total_of bytes) e; blocks = open_of_blocks edition bytes (total_of bytes) e; slots = open_of_slots edition bytes (total_of bytes) e }),

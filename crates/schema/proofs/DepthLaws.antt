@@ -10,7 +10,7 @@ use Rattle.tree.specs.Tree.{SlotBytes, Tree, Fields, node, count, size, depths, 
 use Rattle.tree.specs.Reading.{trees}
 use Rattle.tree.specs.Judgement.{judgement_of}
 use Rattle.tree.specs.Steps.{Claimed, Visited, tree_at, run_at, fields_at, depth_at}
-use Rattle.refusal.specs.declared.answers.Counted.{Counted}
+use Rattle.std.specs.Prelude.{Ok}
 use Rattle.tree.proofs.StandingLaws.{tree_at_zero}
 use Rattle.tree.proofs.VisitLaws.{tree_at_slot, run_at_lem, run_split, root_alone}
 use Rattle.tree.proofs.JudgementLaws.{judged_some, judged_claimed, judged_deep}
@@ -60,6 +60,6 @@ module _ (b : List ℕ) (at n l : ℕ) (h : Claimed b) (k : n ≡ 0 → ⊥) (c 
   rest_deep next e = none_behind (depths (depth_at l) (tree_at (slots b) at)) _ (run_deep next e)
 
 -- no node of a lawful sheet is too deep, where all levels are left at its root
-pub root_deep : (edition : ℕ) (b : List ℕ) (n : ℕ) → judgement_of edition b ≡ Counted.Count n → NoneTooDeep (run_depths (depth_at (suc most_depth)) (run_at (slots b) 0 1))
+pub root_deep : (edition : ℕ) (b : List ℕ) (n : ℕ) → judgement_of edition b ≡ Ok n → NoneTooDeep (run_depths (depth_at (suc most_depth)) (run_at (slots b) 0 1))
 unfolding NoneTooDeep AtMostDeep run_depths depth_at
 root_deep edition b n e = rw (root_alone b (judged_claimed edition b n e) (judged_some edition b n e), append-nil, tree_at_zero) (judged_deep edition b n e)

@@ -14,7 +14,8 @@ use Rattle.edition.proofs.EditionLaws.{first, second, known_of}
 use Rattle.refusal.specs.Numbers.{SLOT, MISPLACED, BAD_DECIMAL}
 use Rattle.refusal.specs.Outcome.{refusal}
 use Rattle.refusal.specs.declared.answers.Refusal.{Refusal}
-use Rattle.refusal.specs.declared.answers.Verdict.{Verdict}
+use Rattle.refusal.specs.Outcome.{Verdict}
+use Rattle.std.specs.Prelude.{Ok, Err}
 use Rattle.annotation.specs.declared.resolution.Kind.{Kind}
 use Rattle.annotation.proofs.EditionLaws.{is_equal}
 use Rattle.sheet.specs.Block.{total_of}
@@ -36,13 +37,13 @@ use Rattle.schema.proofs.DemandLaws.{tree_accepted, accepted_tree, sound_judgeme
 use Rattle.schema.proofs.RowKindLaws.{rows_kinds}
 
 -- a lawful sheet is sound
-lawful_sound : (edition : ℕ) (bytes : List ℕ) → judgement edition bytes ≡ Verdict.Lawful → Sound edition bytes
+lawful_sound : (edition : ℕ) (bytes : List ℕ) → judgement edition bytes ≡ Ok tt → Sound edition bytes
 lawful_sound edition bytes e =
     let o = lawful_opened edition bytes e in
     record { known = open_of_known edition bytes o.0 o.1; blocks = open_of_blocks edition bytes o.0 o.1; slots = open_of_slots edition bytes o.0 o.1 }
 
 -- what the first edition accepts, the second accepts
-pub second_lawful : (bytes : List ℕ) → judgement FIRST bytes ≡ Verdict.Lawful → judgement SECOND bytes ≡ Verdict.Lawful
+pub second_lawful : (bytes : List ℕ) → judgement FIRST bytes ≡ Ok tt → judgement SECOND bytes ≡ Ok tt
 second_lawful bytes e =
     let s = lawful_sound FIRST bytes e in
     let tree = accepted_tree FIRST bytes (sym (sound_judgement FIRST bytes s) ∙ e) in
@@ -86,7 +87,7 @@ module _ (bytes : List ℕ) (t : Tree) (sound : Sound SECOND bytes) (tree : IsTr
   at_row : (k : ℕ) → k < size t → get_or (kinds_in (rows t) (size t)) k none ≡ kind_in (rows t) k
   at_row k h = kinds_in_at (rows t) (size t) k none h
 
-  pub first_refused : (r : Refusal) → judgement FIRST bytes ≡ Verdict.Refused r → (k : ℕ) × (r ≡ refusal BAD_DECIMAL k) × FirstIn t k
+  pub first_refused : (r : Refusal) → judgement FIRST bytes ≡ Err r → (k : ℕ) × (r ≡ refusal BAD_DECIMAL k) × FirstIn t k
   first_refused r e =
       let found = marked_first is_equal 10 none (kinds_in (rows t) (size t)) 0 r (sym verdict_first ∙ e) in
       let k = found.0 in
@@ -94,7 +95,7 @@ module _ (bytes : List ℕ) (t : Tree) (sound : Sound SECOND bytes) (tree : IsTr
       let low : k < size t = omega (arith, m.below, kinds_in_length (rows t) (size t)) in
       (k, found.1 ∙ ap (refusal BAD_DECIMAL) (omega arith), record { below = low; here = sym (ap is_equal (at_row k low)) ∙ m.here; earlier = λ j h. sym (ap is_equal (at_row j (omega (arith, low, h)))) ∙ m.earlier j h })
 
-  pub first_lawful : judgement FIRST bytes ≡ Verdict.Lawful → (k : ℕ) → k < size t → is_equal (kind_in (rows t) k) ≡ false
+  pub first_lawful : judgement FIRST bytes ≡ Ok tt → (k : ℕ) → k < size t → is_equal (kind_in (rows t) k) ≡ false
   first_lawful e k h =
       sym (ap is_equal (at_row k h)) ∙ unmarked is_equal 10 none (kinds_in (rows t) (size t)) 0 (sym verdict_first ∙ e) k (omega (arith, h, kinds_in_length (rows t) (size t)))
 
@@ -125,8 +126,8 @@ module _ (bytes : List ℕ) where
   abbrev pub ThirdAnswers : Type 0
   ThirdAnswers =
       (judgement THIRD bytes ≡ judgement SECOND bytes)
-      ⊎ (((k : ℕ) × (judgement THIRD bytes ≡ Verdict.Refused (refusal MISPLACED k)) × FirstInt96 bytes k)
-      ⊎ ((k : ℕ) × (judgement SECOND bytes ≡ Verdict.Refused (refusal SLOT k)) × FirstGeospatial bytes k))
+      ⊎ (((k : ℕ) × (judgement THIRD bytes ≡ Err (refusal MISPLACED k)) × FirstInt96 bytes k)
+      ⊎ ((k : ℕ) × (judgement SECOND bytes ≡ Err (refusal SLOT k)) × FirstGeospatial bytes k))
 
   pub third_answers : ThirdAnswers
   third_answers = on (judgement_third bytes)
@@ -146,7 +147,7 @@ module _ (bytes : List ℕ) where
       on (inr (inr r)) = absurd (true≢false (sym r.2.here ∙ other r.0 r.2.below))
 
   -- what it accepts has no INT96
-  pub third_none : judgement THIRD bytes ≡ Verdict.Lawful → NoInt96 bytes
+  pub third_none : judgement THIRD bytes ≡ Ok tt → NoInt96 bytes
   third_none e k h =
       let kept = sym (sound_judgement THIRD bytes (lawful_sound THIRD bytes e)) ∙ e in
       let tree = accepted_tree THIRD bytes kept in
@@ -154,16 +155,16 @@ module _ (bytes : List ℕ) where
       sym (at_slot k h) ∙ sym (ap (λ (ss : List (List ℕ)). is_int96 (get_or ss k [])) tree.lists) ∙ listed
 
   -- and what the second accepts has no GEOMETRY and no GEOGRAPHY
-  pub second_none : judgement SECOND bytes ≡ Verdict.Lawful → NoGeospatial bytes
+  pub second_none : judgement SECOND bytes ≡ Ok tt → NoGeospatial bytes
   second_none e k h =
       let o = lawful_opened SECOND bytes e in
       sound_other (slot_at bytes k) (open_of_sound SECOND bytes o.0 o.1 k (omega (arith, h, open_of_total SECOND bytes o.0 o.1)))
 
   -- of what the second accepts the third refuses what has an INT96, at the first
-  pub third_refused : judgement SECOND bytes ≡ Verdict.Lawful → (r : Refusal) → judgement THIRD bytes ≡ Verdict.Refused r → (k : ℕ) × (r ≡ refusal MISPLACED k) × FirstInt96 bytes k
+  pub third_refused : judgement SECOND bytes ≡ Ok tt → (r : Refusal) → judgement THIRD bytes ≡ Err r → (k : ℕ) × (r ≡ refusal MISPLACED k) × FirstInt96 bytes k
   third_refused lawful r e = on third_answers
     where
-      refused_is : {q s : Refusal} → Verdict.Refused q ≡ Verdict.Refused s → q ≡ s
+      refused_is : {q s : Refusal} → ◌≡◌ {A = Verdict} (Err q) (Err s) → q ≡ s
       refused_is h = cc
 
       on : ThirdAnswers → (k : ℕ) × (r ≡ refusal MISPLACED k) × FirstInt96 bytes k

@@ -1,7 +1,7 @@
 -- The levels in the rows of a tree: a node's are its parent's and what its own repetition adds, and they are no greater than the node is deep.
 use Prim.Native.Nat.{ℕ, zero, suc, ◌+◌, ◌*◌, ◌≤◌, ◌<◌}
 use mathlib.Core.Path.{◌≡◌, sym, ap, ◌∙◌, subst}
-use mathlib.Core.Bool.{Bool, true, false, cond, ◌&&◌, ◌||◌, and-eq-true_iff}
+use mathlib.Core.Bool.{Bool, true, false, cond, ◌&&◌, ◌||◌}
 use mathlib.Core.List.{List, [], ◌∷◌, ◌++◌, append_assoc}
 use native.Mathlib.Omega.{arith}
 use native.Mathlib.Nat.{add-zero, add_assoc}
@@ -9,6 +9,7 @@ use borrow.Author.Tests.{eqb-true}
 use lib.Dec.{eqb}
 use lib.ListN.{length, get_or, drop, length-append, get_or-append}
 use lib.Seq.{drop_at, drop-drop, get_or-append-add}
+use Rattle.laws.proofs.BoolLaws.{and_both}
 use Rattle.sheet.specs.Slot.{repetition, numbers_of}
 use Rattle.parquet.specs.Repetition.{OPTIONAL, REPEATED}
 use Rattle.parquet.specs.Repetition as repetition
@@ -157,9 +158,9 @@ root_none s fs e =
     let bare = eqb n.repetition repetition.NONE in
     let old = eqb n.converted converted.NONE in
     let new = eqb n.logical logical.NONE in
-    let kept = ((and-eq-true_iff place long).0 ((and-eq-true_iff (place && long) (decimal_shape n.converted n.logical n.scale n.precision)).0 e).0).0 in
+    let kept = (and_both place long (and_both (place && long) (decimal_shape n.converted n.logical n.scale n.precision) e).0).0 in
     eqb-true n.repetition repetition.NONE
-    ((and-eq-true_iff group bare).0 ((and-eq-true_iff (group && bare) old).0 ((and-eq-true_iff (group && bare && old) new).0 kept).0).0).1
+    (and_both group bare (and_both (group && bare) old (and_both (group && bare && old) new kept).0).0).1
 
 -- and so counts in neither level
 root_definition : (s : SlotBytes) (fs : Fields) → repetition s ≡ repetition.NONE → how_many is_optional_or_repeated (node s fs ∷ []) ≡ 0

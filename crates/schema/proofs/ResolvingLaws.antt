@@ -18,7 +18,7 @@ use Rattle.tree.specs.Steps.{tree_at, run_at}
 use Rattle.laws.specs.Stretches.{stretched}
 use Rattle.schema.specs.declared.roles.Parent.{Parent}
 use Rattle.refusal.specs.declared.answers.Refusal.{Refusal}
-use Rattle.refusal.specs.declared.answers.Counted.{Counted}
+use Rattle.std.specs.Prelude.{Ok, Err}
 use Rattle.tree.proofs.JudgementLaws.{judged_refused, judged_lawful, judged_total, judged_some, judged_claimed, tree_size}
 use Rattle.tree.proofs.VisitLaws.{root_alone}
 use Rattle.tree.proofs.StandingLaws.{tree_at_zero}
@@ -30,22 +30,22 @@ unfolding rows_from row parent_of role
 other_above (node s fs) a b = refl
 
 module _ (edition : ℕ) (b : List ℕ) where
-  pub resolve_refused : (r : Refusal) (lent : List ℕ) → judgement_of edition b ≡ Counted.Refused r → outcome edition b (length lent) ≡ Counted.Refused r
+  pub resolve_refused : (r : Refusal) (lent : List ℕ) → judgement_of edition b ≡ Err r → outcome edition b (length lent) ≡ Err r
   unfolding outcome answer
   resolve_refused r lent e = rw (judged_refused edition b r e)
 
-  pub written_refused : (r : Refusal) (lent : List ℕ) → outcome edition b (length lent) ≡ Counted.Refused r → lent ≡ written (outcome edition b (length lent)) b lent
+  pub written_refused : (r : Refusal) (lent : List ℕ) → outcome edition b (length lent) ≡ Err r → lent ≡ written (outcome edition b (length lent)) b lent
   unfolding written
   written_refused r lent e = rw e
 
-  module _ (n : ℕ) (e : judgement_of edition b ≡ Counted.Count n) where
-    pub resolve_short : (lent : List ℕ) → length lent < row_width * n → outcome edition b (length lent) ≡ Counted.Refused short_output
+  module _ (n : ℕ) (e : judgement_of edition b ≡ Ok n) where
+    pub resolve_short : (lent : List ℕ) → length lent < row_width * n → outcome edition b (length lent) ≡ Err short_output
     unfolding outcome answer
     resolve_short lent h = rw ((judged_lawful edition b n e).0, lt-ltb (length lent) (row_width * total_of b) (omega (arith, judged_total edition b n e)))
 
-    pub resolve_rows : (lent : List ℕ) → row_width * n ≤ length lent → outcome edition b (length lent) ≡ Counted.Count n
+    pub resolve_rows : (lent : List ℕ) → row_width * n ≤ length lent → outcome edition b (length lent) ≡ Ok n
     unfolding outcome answer
-    resolve_rows lent h = rw ((judged_lawful edition b n e).0, le-ltb (length lent) (row_width * total_of b) (omega (arith, judged_total edition b n e))) (ap Counted.Count (sym (judged_total edition b n e)))
+    resolve_rows lent h = rw ((judged_lawful edition b n e).0, le-ltb (length lent) (row_width * total_of b) (omega (arith, judged_total edition b n e))) (ap Ok (sym (judged_total edition b n e)))
 
     -- the run of the one tree
     root_rows : run_rows_from 0 0 Parent.Other (slot_at b 0) [] (run_at (slots b) 0 1) ≡ rows_from 0 0 Parent.Other (slot_at b 0) [] (tree_at (slots b) 0)

@@ -15,7 +15,8 @@ use Rattle.sheet.specs.Check.{renewed}
 use Rattle.sheet.specs.Slot.{reaches, slot_at, slots_from, slots}
 use Rattle.sheet.specs.Sound.{slot_sound, slot_right, all_zero}
 use Rattle.sheet.specs.Opening as sheet
-use Rattle.refusal.specs.declared.answers.Counted.{Counted}
+use Rattle.refusal.specs.Outcome.{Counted, Verdict}
+use Rattle.std.specs.Prelude.{Ok, Err}
 use Rattle.sheet.proofs.BlockLaws.{block_count_same}
 use Rattle.sheet.proofs.CopyLaws.{total_of_same, header_right_same, slot_at_renewed}
 use Rattle.sheet.proofs.OpeningLaws.{open_of_known, open_of_blocks, open_of_slots, open_of_total, open_of_most, open_of_within, open_of_sound}
@@ -33,7 +34,6 @@ use Rattle.schema.specs.Rewriting.{rewritings, with_rewriting, with_rewritings, 
 use Rattle.schema.specs.Demand.{IsTreeOf, EnoughOutput, Accepted, EnoughRoom, AcceptedRewriting, Copied}
 use Rattle.tree.specs.declared.standing.Standing.TheVariants.{Root}
 use Rattle.refusal.specs.declared.answers.Refusal.{Refusal}
-use Rattle.refusal.specs.declared.answers.Verdict.{Verdict}
 use Rattle.tree.proofs.TreeOfLaws.{tree_of_listing}
 use Rattle.schema.proofs.DemandLaws.{tree_accepted, accepted_tree, sound_judgement, accepted_no_refusal, no_refusal_rows}
 use Rattle.tree.proofs.JudgementLaws.{judgement_nodes, lawful_opened}
@@ -43,14 +43,14 @@ use Rattle.schema.proofs.RewrittenTreeLaws.{rewritten_tree, Long, depths_rewritt
 use Rattle.schema.proofs.RewrittenRowsLaws.{rows_rewritten}
 use Rattle.schema.proofs.RewrittenLaws.{copied_rewriting, LongSlot, SoundSlot, pairwise, listing_rewritten, slots_from_rewritings, slots_from_same, slot_at_behind, Each, each_slots_from, slots_from_each, long_listing, sound_listing, HoldsEach, holds_listing, with_rewritings_same, headers_rewritings, rewritten_headers, length_rewritten}
 
-module _ (edition : ℕ) (b : List ℕ) (lawful : judgement edition b ≡ Verdict.Lawful) where
+module _ (edition : ℕ) (b : List ℕ) (lawful : judgement edition b ≡ Ok tt) where
   abbrev t : Tree
   t = tree_of (slots b)
 
   abbrev rs : List Written
   rs = rewritings Root (tree_of (slots b))
 
-  opened : (n : ℕ) × (sheet.open_of edition b ≡ Counted.Count n)
+  opened : (n : ℕ) × (sheet.open_of edition b ≡ Ok n)
   opened = lawful_opened edition b lawful
 
   -- the sheet's tree
@@ -136,7 +136,7 @@ module _ (edition : ℕ) (b : List ℕ) (lawful : judgement edition b ≡ Verdic
       }
 
   -- what rewriting writes is accepted
-  pub rewritten_lawful : judgement edition (rewritten b) ≡ Verdict.Lawful
+  pub rewritten_lawful : judgement edition (rewritten b) ≡ Ok tt
   rewritten_lawful =
       sound_judgement edition (rewritten b) (record { known = open_of_known edition b opened.0 opened.1; blocks = blocks_sound; slots = slots_sound })
       ∙ tree_accepted edition (rewritten b) (rewritten_tree Root t) rewritten_tree_lem
@@ -158,8 +158,8 @@ module _ (edition : ℕ) (b : List ℕ) (lawful : judgement edition b ≡ Verdic
   rewritten_rows lent = ap (λ (r : Counted). written r (rewritten b) lent) (rewritten_outcome (length lent)) ∙ same (outcome edition b (length lent))
     where
       same : (r : Counted) → written r (rewritten b) lent ≡ written r b lent
-      same (Counted.Refused r) = refl
-      same (Counted.Count n) = rw rows_are
+      same (Err r) = refl
+      same (Ok n) = rw rows_are
 
   -- rewriting it again changes no byte
   pub rewritten_rewritten : rewritten (rewritten b) ≡ rewritten b
@@ -188,17 +188,17 @@ rewritten_copied b k =
 
 -- what is answered and written ------------------------------------------------------------------------------------------
 
-accepted_lawful : (v : Verdict) (enough : Bool) (n : ℕ) → AcceptedRewriting (rewrite_answer v enough n) → v ≡ Verdict.Lawful
+accepted_lawful : (v : Verdict) (enough : Bool) (n : ℕ) → AcceptedRewriting (rewrite_answer v enough n) → v ≡ Ok tt
 unfolding AcceptedRewriting rewrite_answer
-accepted_lawful Verdict.Lawful enough n a = refl
-accepted_lawful (Verdict.Refused r) enough n a = absurd a
+accepted_lawful (Ok _) enough n a = refl
+accepted_lawful (Err r) enough n a = absurd a
 
-lawful_accepted : (v : Verdict) (enough : Bool) (n : ℕ) → v ≡ Verdict.Lawful → enough ≡ true → AcceptedRewriting (rewrite_answer v enough n)
+lawful_accepted : (v : Verdict) (enough : Bool) (n : ℕ) → v ≡ Ok tt → enough ≡ true → AcceptedRewriting (rewrite_answer v enough n)
 unfolding AcceptedRewriting rewrite_answer
 lawful_accepted v enough n e f = rw (e, f) tt
 
 -- what judging refuses, rewriting refuses so, whatever is lent
-pub refused_rewriting : (edition : ℕ) (b : List ℕ) (lent start : ℕ) (r : Refusal) → judgement edition b ≡ Verdict.Refused r → rewrite_outcome edition b lent start ≡ Counted.Refused r
+pub refused_rewriting : (edition : ℕ) (b : List ℕ) (lent start : ℕ) (r : Refusal) → judgement edition b ≡ Err r → rewrite_outcome edition b lent start ≡ Err r
 unfolding rewrite_outcome rewrite_answer
 refused_rewriting edition b lent start r e = rw e
 
@@ -210,7 +210,7 @@ rewriting_accepts edition b lent start places room enough = (
   (λ a. lawful_accepted (judgement edition b) (fits b lent start) (length b) (accepted_no_refusal (judgement edition b) (total_of b) places a) (le-leb (start + length b) lent room)),
 )
 
-module _ (edition : ℕ) (b lent : List ℕ) (start : ℕ) (lawful : judgement edition b ≡ Verdict.Lawful) (room : EnoughRoom b (length lent) start) where
+module _ (edition : ℕ) (b lent : List ℕ) (start : ℕ) (lawful : judgement edition b ≡ Ok tt) (room : EnoughRoom b (length lent) start) where
   abbrev after : List ℕ
   after = rewrite_written (rewrite_outcome edition b (length lent) start) b lent start
 

@@ -23,7 +23,7 @@ use Rattle.tree.specs.Steps.{sizes}
 use Rattle.tree.specs.declared.standing.Standing.{Standing}
 use Rattle.tree.specs.declared.standing.Standing.TheVariants.{Root}
 use Rattle.tree.specs.Judgement.{judgement_of}
-use Rattle.refusal.specs.declared.answers.Counted.{Counted}
+use Rattle.std.specs.Prelude.{Ok}
 use Rattle.tree.proofs.StandingLaws.{sizes_field, size_node}
 use Rattle.tree.proofs.NodeLaws.{under_below}
 use Rattle.tree.proofs.JudgementLaws.{judged_keeps, judged_listing}
@@ -99,7 +99,7 @@ mutual
   order_run edition (field t (field u fs)) p rest true e a k = absurd a
 
 -- of an accepted sheet it is what is rewritten of its tree
-pub order_accepted : (edition : ℕ) (b : List ℕ) (n : ℕ) → judgement_of edition b ≡ Counted.Count n → written_in_order false (slots b) ≡ rewritings Root (tree_of (slots b))
+pub order_accepted : (edition : ℕ) (b : List ℕ) (n : ℕ) → judgement_of edition b ≡ Ok n → written_in_order false (slots b) ≡ rewritings Root (tree_of (slots b))
 unfolding written_in_order
 order_accepted edition b n e =
     ap (written_in_order false) (sym (append-nil (listing (tree_of (slots b))) ∙ judged_listing edition b n e))

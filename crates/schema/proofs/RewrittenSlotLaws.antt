@@ -19,7 +19,7 @@ use Rattle.logical_type.specs.declared.types.Annotation.{Annotation}
 use Rattle.logical_type.specs.declared.types.LogicalType.{LogicalType}
 use Rattle.logical_type.specs.declared.types.TimeUnit.{TimeUnit}
 use Rattle.logical_type.specs.declared.types.BitWidth.{BitWidth}
-use Rattle.annotation.specs.declared.resolution.Resolution.{Resolution}
+use Rattle.std.specs.Prelude.{Ok}
 use Rattle.annotation.specs.declared.rewriting.Written.{Written}
 use Rattle.annotation.proofs.OutcomeLaws.{Keeps, resolved_of_keeps, keeps_of_resolved, kind_of_resolved}
 use Rattle.annotation.proofs.PlacementLaws.{ten_timely}
@@ -141,7 +141,7 @@ module _ (edition : ℕ) (under : Bool) (s : SlotBytes) (h : Resolves edition un
   unfolding rule9 rule10 rule11
   keeps = record { nine = h.nine; ten = h.ten; eleven = h.eleven }
 
-  resolved : resolution_of edition (annotated s) under ≡ Resolution.Resolved (kind_of (annotated s) under)
+  resolved : resolution_of edition (annotated s) under ≡ Ok (kind_of (annotated s) under)
   resolved = resolved_of_keeps edition (annotated s) under keeps
 
   w : Written
@@ -157,7 +157,7 @@ module _ (edition : ℕ) (under : Bool) (s : SlotBytes) (h : Resolves edition un
   annotated_rewritten =
       rw (slot_is, physical_annotated s w.converted w.logical w.a w.b, type_length_annotated s w.converted w.logical w.a w.b, converted_annotated s w.converted w.logical w.a w.b h.long, logical_annotated s w.converted w.logical w.a w.b h.long, parameter_a_annotated s w.converted w.logical w.a w.b h.long, parameter_b_annotated s w.converted w.logical w.a w.b h.long, scale_annotated s w.converted w.logical w.a w.b, precision_annotated s w.converted w.logical w.a w.b)
 
-  again : resolution_of edition (annotated (rewritten_slot under s)) under ≡ Resolution.Resolved (kind_of (annotated s) under)
+  again : resolution_of edition (annotated (rewritten_slot under s)) under ≡ Ok (kind_of (annotated s) under)
   again = rw annotated_rewritten (resolved_rewritten edition (annotated s) under (kind_of (annotated s) under) resolved)
 
   -- it resolves to the kind that it did

@@ -1,11 +1,12 @@
 -- The tree of a rewritten sheet: it has the nodes, depths, claims, rules and rows of the sheet's own tree, and is rewritten to itself.
 use Prim.Native.Nat.{ℕ, suc, ◌≤◌}
 use mathlib.Core.Path.{◌≡◌, refl, sym, ap, ap₂, ◌∙◌, subst}
-use mathlib.Core.Bool.{Bool, true, false, ◌&&◌, ◌||◌, or-true, and-eq-true_iff}
+use mathlib.Core.Bool.{Bool, true, false, ◌&&◌, ◌||◌, or-true}
 use mathlib.Core.List.{List, ◌∷◌, ◌++◌}
 use borrow.Author.Tests.{eqb-true}
 use lib.Dec.{eqb}
 use lib.ListN.{length}
+use Rattle.laws.proofs.BoolLaws.{and_both}
 use Rattle.sheet.specs.Slot.{child_count_at, physical as physicalOf, repetition, converted as convertedOf, logical as logicalOf, scale, precision, name, numbers_of}
 use Rattle.parquet.specs.Repetition as repetition
 use Rattle.parquet.specs.Converted as converted
@@ -144,8 +145,8 @@ module _ (edition : ℕ) (p : Standing) (s : SlotBytes) (fs : Fields) (long : ch
   shape_parts : (standing_shape p (numbers_of s) (count fs) ≡ true) × (length_shape (numbers_of s).physical (numbers_of s).type_length ≡ true) × (decimal_shape (numbers_of s).converted (numbers_of s).logical (numbers_of s).scale (numbers_of s).precision ≡ true)
   unfolding rule8 shape
   shape_parts =
-      let whole = (and-eq-true_iff _ _).0 h.shape in
-      let front = (and-eq-true_iff _ _).0 whole.0 in
+      let whole = and_both _ _ h.shape in
+      let front = and_both _ _ whole.0 in
       (front.0, front.1, whole.1)
 
   -- DECIMAL stays in the logical type, and elsewhere scale and precision stay 0
@@ -159,8 +160,8 @@ module _ (edition : ℕ) (p : Standing) (s : SlotBytes) (fs : Fields) (long : ch
 -- a root without annotation stays without one
 root_parts : (ph rep conv log : ℕ) → root_shape ph rep conv log ≡ true → ((is_group ph && eqb rep repetition.NONE) ≡ true) × (conv ≡ converted.NONE) × (log ≡ logical.NONE)
 root_parts ph rep conv log e =
-    let whole = (and-eq-true_iff _ _).0 e in
-    let front = (and-eq-true_iff _ _).0 whole.0 in
+    let whole = and_both _ _ e in
+    let front = and_both _ _ whole.0 in
     (front.0, eqb-true conv converted.NONE front.1, eqb-true log logical.NONE whole.1)
 
 root_written : (s : SlotBytes) → convertedOf s ≡ converted.NONE → logicalOf s ≡ logical.NONE → ((rewrittenNumbers (annotated s) false).converted ≡ converted.NONE) × ((rewrittenNumbers (annotated s) false).logical ≡ logical.NONE)

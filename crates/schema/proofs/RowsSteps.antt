@@ -67,9 +67,10 @@ pub record Behind (b lent : List ℕ) (start n l up : ℕ) (p : Parent) (above :
   pub ended : start + sizes (run_at (slots b) start n) ≡ at + sizes (run_at (slots b) at left)
   pub found : (path : List Tree) → HasLevels path d r → stretched lent (row_width * start) (run_rows_from start up p above path (run_at (slots b) start n)) ≡ stretched rows (row_width * at) (run_rows_from at up q above path (run_at (slots b) at left))
 
-pub behind_start : (b lent : List ℕ) (start n l up : ℕ) (p : Parent) (above : SlotBytes) (d r : ℕ) → n ≤ count (trees (drop start (slots b))) → NoneTooDeep (run_depths (depth_at l) (run_at (slots b) start n)) → Behind b lent start n l up p above d r lent start n p
+pub behind_start : (b lent : List ℕ) (start n l up : ℕ) (p : Parent) (above : SlotBytes) (d r : ℕ) → n ≤ count (trees (drop start (slots b))) → NoneTooDeep (run_depths (depth_at l) (run_at (slots b) start n)) → Behind b lent start n l up p above d r lent start (n - 0) p
 behind_start b lent start n l up p above d r c g =
-    record { reached = le_refl start; claimed = c; deep = g; long = refl; ended = refl; found = λ path g. refl }
+    let all : n - 0 ≡ n = omega arith in
+    rw all (record { reached = le_refl start; claimed = c; deep = g; long = refl; ended = refl; found = λ path g. refl })
 
 module _ (b lent : List ℕ) (start n l up : ℕ) (p : Parent) (above : SlotBytes) (d r : ℕ) (rows : List ℕ) (at left : ℕ) (q : Parent) (i : Behind b lent start n l up p above d r rows at left q) where
   pub behind_end : left ≡ 0 → (at ≡ start + sizes (run_at (slots b) start n)) × ((path : List Tree) → HasLevels path d r → rows ≡ stretched lent (row_width * start) (run_rows_from start up p above path (run_at (slots b) start n)))
@@ -78,18 +79,19 @@ module _ (b lent : List ℕ) (start n l up : ℕ) (p : Parent) (above : SlotByte
     (λ path h. run_rows_empty b rows at left up q above path e ∙ sym (i.found path h)),
   )
 
-  pub behind_next : Claimed b → row_width * total_of b ≤ length lent → (left ≡ 0 → ⊥) → (next : ℕ) (m : List ℕ) (o : Parent) → next ≡ at + size (tree_at (slots b) at) → ((path : List Tree) → HasLevels path d r → m ≡ stretched rows (row_width * at) (rows_from at up q above path (tree_at (slots b) at))) → length m ≡ length rows → o ≡ after_first q → Behind b lent start n l up p above d r m next (left - 1) o
-  behind_next h f k next m o e w long u =
+  pub behind_next : Claimed b → row_width * total_of b ≤ length lent → (left ≡ 0 → ⊥) → (passed : ℕ) → left ≡ n - passed → (next : ℕ) (m : List ℕ) (o : Parent) → next ≡ at + size (tree_at (slots b) at) → ((path : List Tree) → HasLevels path d r → m ≡ stretched rows (row_width * at) (rows_from at up q above path (tree_at (slots b) at))) → length m ≡ length rows → o ≡ after_first q → Behind b lent start n l up p above d r m next (n - (passed + 1)) o
+  behind_next h f k passed gone next m o e w long u =
+      let fewer : n - (passed + 1) ≡ left - 1 = omega arith in
       let below = run_below b at left h k i.claimed in
       let room : row_width * total_of b ≤ length rows = omega (arith, i.long) in
-      record {
+      rw fewer (record {
         reached = omega (arith, i.reached, next_after b at left h k i.claimed next e);
         claimed = next_claimed b at left h k i.claimed next e;
         deep = rest_deep b at left l h k i.claimed i.deep next e;
         long = long ∙ i.long;
         ended = i.ended ∙ run_end b at left h k i.claimed next e;
         found = λ path g. i.found path g ∙ sym (run_rows b rows at left up q above path h k i.claimed next e room below m (w path g) o (stretched m (row_width * next) (run_rows_from next up o above path (run_at (slots b) next (left - 1)))) u refl);
-      }
+      })
 
 module _ (b l : List ℕ) (at up : ℕ) (s : Numbers) (p : Parent) (above : SlotBytes) (v : Visited b at s) where
   -- what a node is to its fields

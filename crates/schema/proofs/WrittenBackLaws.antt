@@ -32,7 +32,7 @@ use Rattle.tree.specs.Rules.{under_map_of, is_list, is_map}
 use Rattle.tree.specs.Reading.{tree_of}
 use Rattle.tree.specs.Judgement.{judgement}
 use Rattle.tree.specs.declared.standing.Standing.TheVariants.{Root}
-use Rattle.refusal.specs.declared.answers.Verdict.{Verdict}
+use Rattle.std.specs.Prelude.{Ok}
 use Rattle.tree.proofs.TreeOfLaws.{tree_of_listing}
 use Rattle.schema.specs.Rows.{KEY_VALUE_LAYER, rows, row_width, number_in}
 use Rattle.schema.specs.Rewriting.{rewriting, rewritten}
@@ -157,7 +157,7 @@ annotation_back Annotation.Unreadable n s h = plain_back (eqb n.physical GROUP) 
 -- each node of a tree --------------------------------------------------------------------------------------------------------
 
 module _ (edition : ℕ) (b : List ℕ) (t : Tree) (sound : Sound edition b) (tree : IsTreeOf edition b t) (k : ℕ) (below : k < size t) where
-  lawful : judgement edition b ≡ Verdict.Lawful
+  lawful : judgement edition b ≡ Ok tt
   lawful = sound_judgement edition b sound ∙ tree_accepted edition b t tree
 
   read_tree : tree_of (slots b) ≡ t

@@ -19,7 +19,8 @@ use Rattle.tree.specs.Tree.{SlotBytes, Tree, AtMostDeep, Claims, listing, most_d
 use Rattle.tree.specs.Rules.{Keeps}
 use Rattle.schema.specs.Rows.{row_width, number_in}
 use Rattle.tree.specs.declared.standing.Standing.TheVariants.{Root}
-use Rattle.refusal.specs.declared.answers.Counted.{Counted}
+use Rattle.refusal.specs.Outcome.{Counted}
+use Rattle.std.specs.Prelude.{Ok, Err}
 
 -- a tree of a sheet in an edition: at most 32 deep, it keeps every rule, claims its children rightly and lists the sheet's nodes
 pub record IsTreeOf (edition : ℕ) (bytes : List ℕ) (t : Tree) : Type 0 where
@@ -40,16 +41,16 @@ EnoughOutput bytes lent = row_width * total_of bytes ≤ lent
 
 -- accepted: an answer with rows and no refusal
 unfoldable pub Accepted : Counted → Type 0
-Accepted (Counted.Count t) = Unit {0}
-Accepted (Counted.Refused r) = ⊥
+Accepted (Ok t) = Unit {0}
+Accepted (Err r) = ⊥
 
 -- "rewriting accepts the same sheets where its own output is enough"
 unfoldable pub EnoughRoom : List ℕ → ℕ → ℕ → Type 0
 EnoughRoom bytes lent start = start + length bytes ≤ lent
 
 unfoldable pub AcceptedRewriting : Counted → Type 0
-AcceptedRewriting (Counted.Count n) = Unit {0}
-AcceptedRewriting (Counted.Refused r) = ⊥
+AcceptedRewriting (Ok n) = Unit {0}
+AcceptedRewriting (Err r) = ⊥
 
 -- a slot has every field of another but its annotations: "All else .. is copied"
 pub record Copied (copy s : SlotBytes) : Type 0 where

@@ -13,8 +13,8 @@ use Rattle.tree.specs.Reading.{tree_of}
 use Rattle.tree.specs.Judgement.{judgement}
 use Rattle.tree.specs.declared.standing.Standing.{Standing}
 use Rattle.tree.specs.declared.standing.Standing.TheVariants.{Root}
-use Rattle.refusal.specs.declared.answers.Verdict.{Verdict}
-use Rattle.refusal.specs.declared.answers.Counted.{Counted}
+use Rattle.refusal.specs.Outcome.{Counted, Verdict}
+use Rattle.std.specs.Prelude.{Ok, Err}
 
 -- what is rewritten of a node, its parent a resolved MAP or not: "every resolved logical annotation with its parameters and its forward image;
 -- INTERVAL keeps converted alone; a key_value layer has none"
@@ -49,8 +49,8 @@ fits bytes lent start = leb (start + length bytes) lent
 
 -- "14 last": the number of bytes written, where the output is enough
 unfoldable pub rewrite_answer : Verdict → Bool → ℕ → Counted
-rewrite_answer (Verdict.Refused r) enough n = Counted.Refused r
-rewrite_answer Verdict.Lawful enough n = cond enough (Counted.Count n) (Counted.Refused short_output)
+rewrite_answer (Err r) enough n = Err r
+rewrite_answer (Ok _) enough n = cond enough (Ok n) (Err short_output)
 
 -- what rewriting answers for any bytes, any number of lent bytes and any start: refusals 21 and 1 to 13 as for resolving
 unfoldable pub rewrite_outcome : ℕ → List ℕ → ℕ → ℕ → Counted
@@ -58,5 +58,5 @@ rewrite_outcome edition bytes lent start = rewrite_answer (judgement edition byt
 
 -- what the lent bytes hold afterwards: "bytes before and after stay"
 unfoldable pub rewrite_written : Counted → List ℕ → List ℕ → ℕ → List ℕ
-rewrite_written (Counted.Refused r) bytes lent start = lent
-rewrite_written (Counted.Count n) bytes lent start = stretched lent start (rewritten bytes)
+rewrite_written (Err r) bytes lent start = lent
+rewrite_written (Ok n) bytes lent start = stretched lent start (rewritten bytes)

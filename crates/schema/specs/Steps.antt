@@ -6,9 +6,23 @@ use Rattle.annotation.specs.declared.rewriting.Written.{Written}
 use Rattle.tree.specs.Annotated.{annotated}
 use Rattle.tree.specs.Tree.{SlotBytes, Tree, most_depth}
 use Rattle.tree.specs.Judgement.{judgement_of}
-use Rattle.refusal.specs.declared.answers.Counted.{Counted}
+use Rattle.std.specs.Prelude.{Ok}
 use Rattle.schema.specs.Levels.{definition_level_of, repetition_level_of}
+use Rattle.schema.specs.Rows.{FIELD, LIST_LAYER, ELEMENT, ELEMENT_LAYER, KEY_VALUE_LAYER, KEY, VALUE, BARE_REPEATED}
+use Rattle.schema.specs.declared.roles.Role.{Role}
+use Rattle.schema.specs.declared.roles.Role.TheVariants as role
 use Rattle.schema.specs.declared.rows.Row.{Row}
+
+-- the number of a role in a row
+unfoldable pub role_number : Role → ℕ
+role_number role.Field = FIELD
+role_number role.ListLayer = LIST_LAYER
+role_number role.Element = ELEMENT
+role_number role.ElementLayer = ELEMENT_LAYER
+role_number role.KeyValueLayer = KEY_VALUE_LAYER
+role_number role.Key = KEY
+role_number role.Value = VALUE
+role_number role.BareRepeated = BARE_REPEATED
 
 -- a row's numbers in their order
 unfoldable pub row_numbers : Row → List ℕ
@@ -31,7 +45,7 @@ NoneTooDeep depths = (k : ℕ) → get_or depths k 0 ≤ most_depth
 
 -- a sheet that some edition accepts, and how many nodes it has
 abbrev pub AcceptedOf : List ℕ → ℕ → Type 0
-AcceptedOf bytes total = (edition : ℕ) × (judgement_of edition bytes ≡ Counted.Count total)
+AcceptedOf bytes total = (edition : ℕ) × (judgement_of edition bytes ≡ Ok total)
 
 -- whether a node, its parent a resolved MAP or not, is written as a MAP
 unfoldable pub is_written_map : Bool → SlotBytes → Bool

@@ -1,5 +1,5 @@
 // What a node adds to the levels.
-ghost use Rattle.std.specs.Prelude.{◌≡◌, cond};
+ghost use Rattle.std.specs.Prelude.{◌≡◌};
 ghost use Rattle.schema.specs.Levels.{is_optional_or_repeated, is_repeated_code, counted};
 
 use parquet::repetition;
@@ -8,18 +8,12 @@ use parquet::repetition;
 pub(crate) fn in_definition(code: u8) -> u32
     ensures { result ≡ counted is_optional_or_repeated code }
 {
-    one_if((code == repetition::OPTIONAL) | (code == repetition::REPEATED))
+    u32::from(code == repetition::OPTIONAL || code == repetition::REPEATED)
 }
 
 // What it adds to the repetition level.
 pub(crate) fn in_repetition(code: u8) -> u32
     ensures { result ≡ counted is_repeated_code code }
 {
-    one_if(code == repetition::REPEATED)
-}
-
-fn one_if(counts: bool) -> u32
-    ensures { result ≡ cond counts 1 0 }
-{
-    if counts { 1 } else { 0 }
+    u32::from(code == repetition::REPEATED)
 }

@@ -8,30 +8,25 @@ ghost use Rattle.schema.specs.Rewriting.{with_rewriting, with_rewritings, rewrit
 ghost use Rattle.schema.specs.Steps.{AcceptedOf, is_written_map, written_in_order};
 
 use parquet::logical;
-use refusal::{Counted, short_output};
+use refusal::{Refusal, short_output};
 use tree::{annotated, judge};
 
 // Judges a sheet in an edition and writes it, with both annotations at every node, into the output from start on, and answers how many bytes.
 // Where the sheet is refused, the start lies beyond the output's end or the sheet does not fit behind it, nothing is written.
-pub fn rewrite(edition: u32, sheet: &[u8], out: &mut [u8], start: usize) -> Counted
+pub fn rewrite(edition: u32, sheet: &[u8], out: &mut [u8], start: usize) -> Result<usize, Refusal>
     ensures value { result ≡ rewrite_outcome edition sheet.now (length out.old) start }
     ensures out_after { out.new ≡ rewrite_written (rewrite_outcome edition sheet.now (length out.old) start) sheet.now out.old start }
 {
-    let judgement = judge(edition, sheet);
-    match judgement {
-        Counted::Refused(r) => Counted::Refused(r),
-        Counted::Count(total) => {
-            if out.len() < start {
-                return Counted::Refused(short_output());
-            }
-            if out.len() - start < sheet.len() {
-                return Counted::Refused(short_output());
-            }
-            let end = start + sheet.len();
-            write_sheet(sheet, &mut out[start..end], total);
-            Counted::Count(sheet.len())
-        }
+    let total = judge(edition, sheet)?;
+    if out.len() < start {
+        return Err(short_output());
     }
+    if out.len() - start < sheet.len() {
+        return Err(short_output());
+    }
+    let end = start + sheet.len();
+    write_sheet(sheet, &mut out[start..end], total);
+    Ok(sheet.len())
 }
 
 // Writes the rewritten sheet of one that some edition accepts, which has so many nodes, into an output of its length.
@@ -52,10 +47,8 @@ fn write_nodes(sheet: &[u8], out: &mut [u8], total: usize)
     ensures { out.new ≡ with_rewritings out.old 0 (written_in_order false (slots sheet.now)) }
 {
     let mut under_map = false;
-    let mut node = 0;
-    while node < total {
+    for node in 0..total {
         under_map = write_node(sheet, out, node, under_map);
-        node += 1;
     }
 }
 

@@ -7,10 +7,10 @@ ghost use Rattle.schema.specs.Rows.{row_width, rows_from, run_rows_from, parent_
 ghost use Rattle.tree.specs.Reading.{trees};
 ghost use Rattle.tree.specs.Steps.{Claimed, tree_at, run_at, sizes, depth_at};
 ghost use Rattle.laws.specs.Stretches.{stretched};
-ghost use Rattle.schema.specs.Steps.{HasLevels, LevelsAtMost, NoneTooDeep, row_numbers};
+ghost use Rattle.schema.specs.Steps.{HasLevels, LevelsAtMost, NoneTooDeep, role_number, row_numbers};
 
 use crate::levels::{in_definition, in_repetition};
-use crate::roles::{Parent, after_first, is_map_parent, parent_by, role};
+use crate::roles::{Parent, Role, after_first, is_map_parent, parent_by, role_of};
 use tree::annotated;
 
 // How many numbers a row has.
@@ -36,7 +36,11 @@ struct Row {
 }
 
 // Writes the rows of the run of so many fields at a number, one field after the other, with so many depths allowed, under the
-// node at up, which has this definition and this repetition level, and answers where the next tree stands.
+// node at up, which has this definition and this repetition level, and answers where the next tree stands. Those are four parameters:
+// one struct of them was tried in their place, on this code as Rust: 5 to 15 instructions a node more, 1 to 4 in a hundred.
+// The sheet and the rows stay two: the rows are lent to be written, and a struct of both would state each clause through what it lends.
+// The clauses stand at each function of the cycle: the numbers that they bound change from call to call, and `tree`'s struct of a sheet
+// that claims rightly is its own, since to build one a caller must show that, which no public function asks.
 #[cycle(writing)]
 pub(crate) fn write_run(
     sheet: &[u8],
@@ -60,9 +64,8 @@ pub(crate) fn write_run(
     ensures rows_after { (path : List Tree) → HasLevels path definition_level repetition_level → rows.new ≡ stretched rows.old (row_width * start) (run_rows_from start parent_at parent (slot_at sheet.now parent_at) path (run_at (slots sheet.now) start count)) }
 {
     let mut at = start;
-    let mut left = count;
     let mut above = parent;
-    while left > 0 {
+    for _field in 0..count {
         at = write_tree(
             sheet,
             rows,
@@ -74,7 +77,6 @@ pub(crate) fn write_run(
             repetition_level,
         );
         above = after_first(above);
-        left = left - 1;
     }
     at
 }
@@ -105,7 +107,7 @@ fn write_tree(
     let s = sheet::slot_at(sheet, at);
     let n = annotated(s);
     let kind = annotation::resolved_kind(n, is_map_parent(parent));
-    let own = role(sheet, parent_at, at, s, parent);
+    let own = role_of(sheet, parent_at, at, s, parent);
     let own_definition = definition_level + in_definition(s.repetition);
     let own_repetition = repetition_level + in_repetition(s.repetition);
     let base = ROW_WIDTH * at;
@@ -122,7 +124,7 @@ fn write_tree(
             parent: parent_at as u32,
             // It is known once the fields are written.
             end: 0,
-            role: own,
+            role: own.number(),
             definition_level: own_definition,
             repetition_level: own_repetition,
         },
@@ -154,7 +156,7 @@ fn write_fields(
     allowed: usize,
     parent_at: usize,
     kind: u32,
-    own: u32,
+    own: Role,
     definition_level: u32,
     repetition_level: u32,
 ) -> usize
@@ -166,7 +168,7 @@ fn write_fields(
     requires allowed_bound { allowed ≤ suc most_depth }
     requires none_too_deep { NoneTooDeep (run_depths (depth_at allowed) (run_at (slots sheet.now) at count)) }
     ensures value { result ≡ at + sizes (run_at (slots sheet.now) at count) }
-    ensures rows_after { (path : List Tree) → HasLevels path definition_level repetition_level → rows.new ≡ stretched rows.old (row_width * at) (run_rows_from at parent_at (parent_by kind own) (slot_at sheet.now parent_at) path (run_at (slots sheet.now) at count)) }
+    ensures rows_after { (path : List Tree) → HasLevels path definition_level repetition_level → rows.new ≡ stretched rows.old (row_width * at) (run_rows_from at parent_at (parent_by kind (role_number own)) (slot_at sheet.now parent_at) path (run_at (slots sheet.now) at count)) }
 {
     if count == 0 {
         return at;
@@ -185,6 +187,7 @@ fn write_fields(
 }
 
 // Writes a row's numbers from base on.
+// Copied from an array of them by `copy_from_slice` they took some 30 instructions a node more, 7 to 9 in a hundred.
 fn write_row(rows: &mut [u32], base: usize, row: Row)
     requires { base + row_width ≤ length rows.old }
     ensures { rows.new ≡ stretched rows.old base (row_numbers row) }

@@ -2,7 +2,7 @@
 // is the edition, the first without one.
 #![tactic(auto)]
 
-use refusal::{Counted, Refusal};
+use refusal::Refusal;
 use sheet::MOST_BYTES;
 use text::REFUSAL_ROOM;
 
@@ -18,10 +18,10 @@ fn write_answer(rt: &impl Print, edition: u32, sheet: &[u8]) {
     let mut out = [0u8; MOST_BYTES];
     let rewritten = schema::rewrite(edition, sheet, &mut out, 0);
     match rewritten {
-        Counted::Count(n) => {
+        Ok(n) => {
             let _ = rt.write_all(&out[..n]);
         }
-        Counted::Refused(refusal) => print_refusal(rt, refusal),
+        Err(refusal) => print_refusal(rt, refusal),
     }
 }
 

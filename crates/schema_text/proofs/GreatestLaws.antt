@@ -10,7 +10,8 @@ use lib.Seq.{length-take-le, get_or-take, get_or-drop}
 use Rattle.text.specs.Lines.{numbers_line}
 use Rattle.schema.specs.Rows.{row_width}
 use Rattle.refusal.specs.declared.answers.Refusal.{Refusal}
-use Rattle.refusal.specs.declared.answers.Counted.{Counted}
+use Rattle.refusal.specs.Outcome.{Counted}
+use Rattle.std.specs.Prelude.{Ok, Err}
 use Rattle.laws.proofs.DifferenceLaws.{below?}
 use Rattle.text.proofs.NumberLaws.{digits_below}
 use Rattle.text.proofs.LineLaws.{line_most}
@@ -56,14 +57,14 @@ rows_most total ns text small e =
     fits enough q = let same : text ≡ rows_text total ns = cc in omega (arith, ap length same, rows_text_most total ns small enough)
 
 -- an answer by its case
-pub answer_rows_most : (o : Counted) (total : ℕ) (ns : List ℕ) → o ≡ Counted.Count total
+pub answer_rows_most : (o : Counted) (total : ℕ) (ns : List ℕ) → o ≡ Ok total
     → ((text : List ℕ) → rows_text_of total ns ≡ some text → length text ≤ most_rows_bytes total)
     → (text : List ℕ) → answer_text o ns ≡ some text → length text ≤ most_bytes o
 unfolding answer_text most_bytes
 answer_rows_most o total ns is most text e =
     rw is (most text (sym (ap (λ (p : Counted). answer_text p ns) is) ∙ e))
 
-pub answer_refusal_most : (o : Counted) (r : Refusal) (ns : List ℕ) → o ≡ Counted.Refused r → length (refusal_line r) ≤ most_refusal_bytes
+pub answer_refusal_most : (o : Counted) (r : Refusal) (ns : List ℕ) → o ≡ Err r → length (refusal_line r) ≤ most_refusal_bytes
     → (text : List ℕ) → answer_text o ns ≡ some text → length text ≤ most_bytes o
 unfolding answer_text most_bytes
 answer_refusal_most o r ns is most text e =
@@ -72,9 +73,9 @@ answer_refusal_most o r ns is most text e =
     rw is (omega (arith, ap length same))
 
 -- no answer takes more than there is room for where the rows of any sheet fit
-pub most_fits : (o : Counted) → ((total : ℕ) → o ≡ Counted.Count total → row_width * total ≤ most_numbers) → most_bytes o ≤ 11 * most_numbers + 16
+pub most_fits : (o : Counted) → ((total : ℕ) → o ≡ Ok total → row_width * total ≤ most_numbers) → most_bytes o ≤ 11 * most_numbers + 16
 unfolding most_bytes most_rows_bytes header_text
-most_fits (Counted.Count total) h =
+most_fits (Ok total) h =
     let most : row_width * total ≤ most_numbers = h total refl in
     simp length-append (omega (arith, digits_below total 3 (omega arith) (omega arith)))
-most_fits (Counted.Refused r) h = omega arith
+most_fits (Err r) h = omega arith

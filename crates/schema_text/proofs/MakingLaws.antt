@@ -8,7 +8,7 @@ use native.Mathlib.Omega.{arith}
 use lib.ListN.{length}
 use borrow.Author.Tests.{lt-ltb, le-ltb, le-leb, lt-leb}
 use Rattle.refusal.specs.Outcome.{short_output}
-use Rattle.refusal.specs.declared.answers.Counted.{Counted}
+use Rattle.std.specs.Prelude.{Ok, Err}
 use Rattle.text.specs.Placing.{position_after, placed_text}
 use Rattle.schema.specs.Rows.{row_width}
 use Rattle.text.proofs.PlacingLaws.{past_within, past_beyond}
@@ -16,16 +16,16 @@ use Rattle.schema_text.specs.Rows.{rows_text, rows_text_of}
 use Rattle.schema_text.specs.Making.{made, made_in}
 
 -- a text that fits
-pub made_fits : (text : List ℕ) (room : ℕ) → length text ≤ room → made (some text) room ≡ Counted.Count (length text)
+pub made_fits : (text : List ℕ) (room : ℕ) → length text ≤ room → made (some text) room ≡ Ok (length text)
 unfolding made
 made_fits text room h = rw (le-leb (0 + length text) room (omega arith))
 
-made_short : (text : List ℕ) (room : ℕ) → room < length text → made (some text) room ≡ Counted.Refused short_output
+made_short : (text : List ℕ) (room : ℕ) → room < length text → made (some text) room ≡ Err short_output
 unfolding made
 made_short text room h = rw (lt-leb (0 + length text) room (omega arith))
 
 -- no text
-pub made_none : (may : Option (List ℕ)) (lent : List ℕ) → may ≡ none → (Counted.Refused short_output ≡ made may (length lent)) × (lent ≡ made_in may lent)
+pub made_none : (may : Option (List ℕ)) (lent : List ℕ) → may ≡ none → (Err short_output ≡ made may (length lent)) × (lent ≡ made_in may lent)
 unfolding made made_in
 made_none may lent e = rw e (refl, refl)
 
@@ -35,13 +35,13 @@ module _ (may : Option (List ℕ)) (lent held : List ℕ) (next : ℕ) (text : L
   unfolding made_in
   held_in = put ∙ ap (λ (o : Option (List ℕ)). made_in o lent) (sym e)
 
-  pub made_within : next ≤ length lent → (Counted.Count next ≡ made may (length lent)) × (held ≡ made_in may lent)
+  pub made_within : next ≤ length lent → (Ok next ≡ made may (length lent)) × (held ≡ made_in may lent)
   made_within h =
       let exact : next ≡ 0 + length text = past_within (length lent) 0 (length text) next after h in
       let whole : next ≡ length text = omega arith in
-      (ap Counted.Count whole ∙ sym (made_fits text (length lent) (omega arith)) ∙ ap (λ (o : Option (List ℕ)). made o (length lent)) (sym e), held_in)
+      (ap Ok whole ∙ sym (made_fits text (length lent) (omega arith)) ∙ ap (λ (o : Option (List ℕ)). made o (length lent)) (sym e), held_in)
 
-  pub made_beyond : length lent < next → (Counted.Refused short_output ≡ made may (length lent)) × (held ≡ made_in may lent)
+  pub made_beyond : length lent < next → (Err short_output ≡ made may (length lent)) × (held ≡ made_in may lent)
   made_beyond h =
       let short : length lent < 0 + length text = past_beyond (length lent) 0 (length text) next after h in
       (sym (made_short text (length lent) (omega arith)) ∙ ap (λ (o : Option (List ℕ)). made o (length lent)) (sym e), held_in)

@@ -13,7 +13,8 @@ use Rattle.schema.specs.Rows.{rows, row_width}
 use Rattle.tree.specs.Reading.{tree_of}
 use Rattle.schema.specs.Outcome.{outcome, written}
 use Rattle.schema.specs.Demand.{IsTreeOf, Sound, EnoughOutput}
-use Rattle.refusal.specs.declared.answers.Counted.{Counted}
+use Rattle.refusal.specs.Outcome.{Counted}
+use Rattle.std.specs.Prelude.{Ok, Err}
 use Rattle.sheet.proofs.OpeningLaws.{open_of_accepts, open_of_most}
 use Rattle.text.proofs.PlacingLaws.{placed_fits, Holds}
 use Rattle.schema.proofs.AcceptedLaws.{rows_fit}
@@ -35,8 +36,8 @@ rows_text_front total ns ms h = ap (λ (rows : List (List ℕ)). header_text tot
 module _ (edition : ℕ) (bytes lent numbers : List ℕ) (most : length lent ≡ most_numbers) (after : numbers ≡ written (outcome edition bytes most_numbers) bytes lent) (kept : length numbers ≡ length lent) where
   by_case : (o : Counted) → outcome edition bytes most_numbers ≡ o → answer_text o numbers ≡ some (printed_as o bytes)
   unfolding answer_text printed_as written
-  by_case (Counted.Refused r) e = refl
-  by_case (Counted.Count total) e =
+  by_case (Err r) e = refl
+  by_case (Ok total) e =
       let fit : row_width * total ≤ most_numbers = rows_fit edition bytes most_numbers total e in
       let row : List ℕ = rows (tree_of (slots bytes)) in
       let is : numbers ≡ row ++ drop (row_width * total) lent = after ∙ ap (λ (o : Counted). written o bytes lent) e in
@@ -83,7 +84,7 @@ module _ (edition : ℕ) {bytes lent numbers out held : List ℕ} {answer result
       omega (arith, h, steps.room, steps.most (printed edition bytes) text_is)
 
   -- the text is made
-  pub steps_made : result ≡ Counted.Count (length (printed edition bytes))
+  pub steps_made : result ≡ Ok (length (printed edition bytes))
   steps_made = steps.told ∙ ap (λ (may : Option (List ℕ)). made may (length out)) text_is ∙ made_fits (printed edition bytes) (length out) fits
 
   steps_hold_all : Holds out held 0 (length (printed edition bytes)) (printed edition bytes)
@@ -95,7 +96,7 @@ module _ (edition : ℕ) {bytes lent numbers out held : List ℕ} {answer result
         bytes = steps.filled ∙ ap (λ (may : Option (List ℕ)). made_in may out) text_is ∙ placed_fits out 0 (printed edition bytes) (omega (arith, fits));
       }
 
-  pub steps_hold : (count : ℕ) → result ≡ Counted.Count count → Holds out held 0 count (printed edition bytes)
+  pub steps_hold : (count : ℕ) → result ≡ Ok count → Holds out held 0 count (printed edition bytes)
   steps_hold count e =
       let q = steps_made in
       let same : length (printed edition bytes) ≡ count = cc in

@@ -5,14 +5,15 @@ use Rattle.refusal.specs.Outcome.{short_output}
 use Rattle.text.specs.Placing.{fits, placed_text}
 use Rattle.text.specs.Refusals.{most_refusal}
 use Rattle.schema.specs.Rows.{row_width}
-use Rattle.refusal.specs.declared.answers.Counted.{Counted}
+use Rattle.refusal.specs.Outcome.{Counted}
+use Rattle.std.specs.Prelude.{Ok, Err}
 use Rattle.schema_text.specs.Rows.{header_text}
 
 -- its length, where a buffer of so many bytes has room for it from the first on; "output too short" is said of that buffer, and, as by
 -- resolving, of numbers too few for the rows
 unfoldable pub made : Option (List ℕ) → ℕ → Counted
-made none room = Counted.Refused short_output
-made (some text) room = cond (fits room 0 (length text)) (Counted.Count (length text)) (Counted.Refused short_output)
+made none room = Err short_output
+made (some text) room = cond (fits room 0 (length text)) (Ok (length text)) (Err short_output)
 
 -- what the buffer holds: the text and what stood past it, and where it was not made what it held
 unfoldable pub made_in : Option (List ℕ) → List ℕ → List ℕ
@@ -29,5 +30,5 @@ most_refusal_bytes = suc most_refusal
 
 -- the most bytes that an answer takes
 unfoldable pub most_bytes : Counted → ℕ
-most_bytes (Counted.Count total) = most_rows_bytes total
-most_bytes (Counted.Refused r) = most_refusal_bytes
+most_bytes (Ok total) = most_rows_bytes total
+most_bytes (Err r) = most_refusal_bytes

@@ -5,7 +5,8 @@ use Rattle.sheet.specs.Slot.{slots}
 use Rattle.schema.specs.Rows.{rows, row_width}
 use Rattle.tree.specs.Reading.{tree_of}
 use Rattle.schema.specs.Outcome.{outcome}
-use Rattle.refusal.specs.declared.answers.Counted.{Counted}
+use Rattle.refusal.specs.Outcome.{Counted}
+use Rattle.std.specs.Prelude.{Ok, Err}
 use Rattle.schema_text.specs.Rows.{rows_text, refusal_line}
 
 -- as many numbers as the rows of any sheet have
@@ -14,8 +15,8 @@ most_numbers = row_width * most_nodes
 
 -- the text of an answer: the rows of the sheet's tree, or the refusal
 unfoldable pub printed_as : Counted → List ℕ → List ℕ
-printed_as (Counted.Count total) bytes = rows_text total (rows (tree_of (slots bytes)))
-printed_as (Counted.Refused r) bytes = refusal_line r
+printed_as (Ok total) bytes = rows_text total (rows (tree_of (slots bytes)))
+printed_as (Err r) bytes = refusal_line r
 
 -- what is printed of any bytes in any edition; there is output enough for any sheet
 unfoldable pub printed : ℕ → List ℕ → List ℕ

@@ -7,7 +7,8 @@ use Rattle.text.specs.Lines.{line_of, numbers_line}
 use Rattle.text.specs.Refusals.{refusal_text}
 use Rattle.schema.specs.Rows.{row_width}
 use Rattle.refusal.specs.declared.answers.Refusal.{Refusal}
-use Rattle.refusal.specs.declared.answers.Counted.{Counted}
+use Rattle.refusal.specs.Outcome.{Counted}
+use Rattle.std.specs.Prelude.{Ok, Err}
 
 -- numbers cut into so many rows
 unfoldable pub cut : ℕ → List ℕ → List (List ℕ)
@@ -37,5 +38,5 @@ refusal_line r = line_of (refusal_text r)
 
 -- what resolving answered: the rows, in the numbers that it wrote, or the refusal
 unfoldable pub answer_text : Counted → List ℕ → Option (List ℕ)
-answer_text (Counted.Count total) ns = rows_text_of total ns
-answer_text (Counted.Refused r) ns = some (refusal_line r)
+answer_text (Ok total) ns = rows_text_of total ns
+answer_text (Err r) ns = some (refusal_line r)

@@ -5,7 +5,6 @@ ghost use Rattle.schema.specs.Outcome.{outcome, written};
 ghost use Rattle.schema_text.specs.Printed.{most_numbers, printed};
 
 use crate::answers::answer_text;
-use refusal::Counted;
 use schema::ROW_WIDTH;
 
 // The most nodes that a sheet has.
@@ -38,8 +37,8 @@ pub fn sheet_text(
     let resolved = schema::resolve(edition, sheet, rows);
     let made = answer_text(resolved, rows, out);
     match made {
-        Counted::Count(count) => count,
+        Ok(count) => count,
         // There is room for the rows of any sheet and for their text.
-        Counted::Refused(_) => 0,
+        Err(_) => 0,
     }
 }

@@ -15,7 +15,8 @@ use Rattle.laws.proofs.BoolLaws.{and_both, is_false, by_test}
 use Rattle.edition.specs.Editions.{FIRST, SECOND, THIRD, is_known, has_geospatial}
 use Rattle.refusal.specs.Numbers.{SLOT}
 use Rattle.refusal.specs.Outcome.{refusal}
-use Rattle.refusal.specs.declared.answers.Counted.{Counted}
+use Rattle.refusal.specs.Outcome.{Counted}
+use Rattle.std.specs.Prelude.{Ok, Err}
 use Rattle.parquet.specs.Logical.{GEOMETRY, GEOGRAPHY, is_geospatial}
 use Rattle.sheet.specs.Block.{slots_in_block, block_count, total_of}
 use Rattle.sheet.specs.Check.{check_right}
@@ -114,7 +115,7 @@ pub record FirstGeospatial (sheet : List ℕ) (k : ℕ) : Type 0 where
 
 -- what the third edition answers, and the second
 abbrev pub Opened : List ℕ → Counted → Counted → Type 0
-Opened sheet c d = (c ≡ d) ⊎ ((k : ℕ) × (d ≡ Counted.Refused (refusal SLOT k)) × FirstGeospatial sheet k)
+Opened sheet c d = (c ≡ d) ⊎ ((k : ℕ) × (d ≡ Err (refusal SLOT k)) × FirstGeospatial sheet k)
 
 through : (sheet : List ℕ) (b : Bool) (x c d : Counted) → Opened sheet c d → Opened sheet (cond b x c) (cond b x d)
 through sheet true x c d o = inl refl
@@ -135,7 +136,7 @@ slots_third sheet next = on (wrong_third sheet n 0)
     w = first_wrong_from (slot_right SECOND sheet) 0 n
 
     answer : ℕ → Counted
-    answer i = cond (ltb i n) (Counted.Refused (refusal SLOT i)) next
+    answer i = cond (ltb i n) (Err (refusal SLOT i)) next
 
     on : (first_wrong_from (slot_right THIRD sheet) 0 n ≡ w) ⊎ Sooner sheet 0 n w → Opened sheet (answer (first_wrong_from (slot_right THIRD sheet) 0 n)) (answer w)
     on (inl e) = inl (ap answer e)
@@ -150,4 +151,4 @@ open_of_third sheet =
     through_else sheet (length_right (length sheet)) _ _ _
     (through sheet (ltb (first_wrong (check_right sheet) (block_count sheet)) (block_count sheet)) _ _ _
     (through sheet (ltb (first_wrong (header_right sheet) (block_count sheet)) (block_count sheet)) _ _ _
-    (slots_third sheet (Counted.Count (total_of sheet)))))
+    (slots_third sheet (Ok (total_of sheet)))))

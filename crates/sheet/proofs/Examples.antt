@@ -17,7 +17,7 @@ use Rattle.sheet.specs.Header.{length_right, blocks_for, nodes_in, total_right, 
 use Rattle.sheet.specs.First.{first_wrong_from, first_wrong}
 use Rattle.sheet.specs.Opening.{at_first, open_of, outcome_of, outcome}
 use Rattle.refusal.specs.Outcome.{refused, refusal}
-use Rattle.refusal.specs.declared.answers.Counted.{Counted}
+use Rattle.std.specs.Prelude.{Ok}
 
 -- the root alone, named `r`
 root_slot : List ℕ
@@ -32,7 +32,7 @@ unfolding root_sheet root_slot sheet_of block_of unchecked_block join_below byte
 sheet_of_root = refl
 
 -- "One root alone" is a sound sheet
-open_root : open_of FIRST root_sheet ≡ Counted.Count 1
+open_root : open_of FIRST root_sheet ≡ Ok 1
 unfolding root_sheet root_slot open_of is_known length_right at_first first_wrong first_wrong_from block_count block_at check_right check stored_check sum_below weighted number_at little header_right numbers_right block_number version total total_of nodes_here nodes_in total_right blocks_for slot_right slot_at reaches slot_start slot_sound codes_listed name_right physical_listed repetition_listed converted_listed logical_listed listed physical repetition converted logical name_length_of name_length_right reserved_zero tail_zero all_zero
 open_root = refl
 

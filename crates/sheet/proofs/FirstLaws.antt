@@ -4,6 +4,7 @@ use mathlib.Core.Bool.{Bool, true, false}
 use Prim.Native.Nat.{ℕ, zero, suc, ◌+◌, ◌≤◌, ◌<◌}
 use mathlib.Core.Logic.{⊎_elim}
 use native.Mathlib.Nat.{add-zero, zero-add, eq-or-lt_of_le}
+use native.Mathlib.Decide.{dec_lt}
 use native.Mathlib.Omega.{arith}
 use Rattle.sheet.specs.First.{first_wrong_from, first_wrong}
 
@@ -40,6 +41,14 @@ module _ (right : ℕ → Bool) where
   pub first_wrong_none : (n : ℕ) → ((j : ℕ) → j < n → right j ≡ true) → first_wrong right n ≡ n
   unfolding first_wrong
   first_wrong_none n all = from_none n 0 (λ j _ h. all j (omega arith)) ∙ zero-add n
+
+  -- so a number up to which the test fails at none, and at which it fails or which is the bound, is the first
+  pub first_wrong_is : (n r : ℕ) → r ≤ n → ((j : ℕ) → j < r → right j ≡ true) → (r < n → right r ≡ false) → r ≡ first_wrong right n
+  first_wrong_is n r within all at = cases (dec_lt r n)
+    where
+      cases : Dec (r < n) → r ≡ first_wrong right n
+      cases (yes h) = sym (first_wrong_at n r h all (at h))
+      cases (no h) = let e : r ≡ n = omega arith in e ∙ sym (first_wrong_none n (λ j k. all j (omega arith)))
 
   from_all : (n k : ℕ) → k + n ≤ first_wrong_from right k n → (j : ℕ) → k ≤ j → j < k + n → right j ≡ true
   from_all zero k h j l u = absurd (omega arith)

@@ -1,5 +1,4 @@
 -- Laws of the sheet's definitions.
-pub mod TestLaws
 pub mod PartLaws
 pub mod NumberLaws
 pub mod ZeroLaws
@@ -19,4 +18,5 @@ pub mod NameLaws
 pub mod Examples
 pub mod BytesLaws
 pub mod JoinLaws
+pub mod LengthLaws
 pub mod SheetLaws

@@ -1,19 +1,21 @@
 -- Laws of names: where they stand, and when they are the same.
 use mathlib.Core.Path.{◌≡◌, refl, sym, ap, ap₂, ◌∙◌}
-use mathlib.Core.Bool.{Bool, true, false, false≢true, cond, ◌&&◌, and_assoc, and-eq-true_iff}
+use mathlib.Core.Bool.{Bool, true, false, false≢true, cond, ◌&&◌, and-eq-true_iff}
 use mathlib.Core.List.{List, [], ◌∷◌, ◌++◌}
-use Prim.Native.Nat.{ℕ, ◌+◌, ◌≤◌, min}
+use Prim.Native.Nat.{ℕ, ◌+◌, ◌-◌, ◌≤◌, ◌<◌, min}
 use native.Mathlib.Omega.{arith}
 use lib.Dec.{eqb}
-use lib.ListN.{length, take, drop, length-take, length-drop}
-use lib.Seq.{drop-drop}
+use lib.ListN.{length, length-append, take, drop, length-take, length-drop}
+use lib.Seq.{drop-drop, take-append_seam, drop-append_seam}
 use borrow.Author.Tests.{eqb-true, eq-eqb}
-use Rattle.laws.proofs.BoolLaws.{is_false}
+use Rattle.std.proofs.lemmas.List.{take-append-drop}
+use Rattle.laws.proofs.BoolLaws.{is_false, same_test}
 use Rattle.sheet.specs.Slot.{name_at, name_length_of, name, slot_start, reaches, empty_slot, slot_at}
 use Rattle.sheet.specs.Sound.{most_name_length, slot_sound}
+use lib.Pointwise.{pointwise}
 use Rattle.sheet.specs.Name.{stretch_of, same_bytes}
 use Rattle.sheet.specs.declared.names.Stretch.{Stretch}
-use Rattle.sheet.proofs.PartLaws.{drop_take, take_min}
+use Rattle.sheet.proofs.PartLaws.{drop_take, take_min, take_rest}
 use Rattle.sheet.proofs.SoundLaws.{sound_name_length_most}
 use Rattle.sheet.proofs.SlotLaws.{reaches_within, slot_at_there, slot_at_empty, slot_at_length}
 
@@ -89,6 +91,14 @@ same_bytes_equal (x ∷ xs) [] e = absurd (false≢true e)
 same_bytes_equal (x ∷ xs) (y ∷ ys) e =
     ap₂ ◌∷◌ (eqb-true x y ((and-eq-true_iff (eqb x y) (same_bytes xs ys)).0 e).0) (same_bytes_equal xs ys ((and-eq-true_iff (eqb x y) (same_bytes xs ys)).0 e).1)
 
+-- the bytes are compared as `==` of slices does it
+pub same_bytes_pointwise : (xs ys : List ℕ) → pointwise eqb xs ys ≡ same_bytes xs ys
+unfolding same_bytes
+same_bytes_pointwise [] [] = refl
+same_bytes_pointwise [] (y ∷ ys) = refl
+same_bytes_pointwise (x ∷ xs) [] = refl
+same_bytes_pointwise (x ∷ xs) (y ∷ ys) = ap (λ (t : Bool). eqb x y && t) (same_bytes_pointwise xs ys)
+
 same_bytes_refl : (xs : List ℕ) → same_bytes xs xs ≡ true
 unfolding same_bytes
 same_bytes_refl [] = refl
@@ -102,12 +112,42 @@ same_bytes_true xs ys e = rw (← e) (same_bytes_refl xs)
 pub same_bytes_false : (xs ys : List ℕ) → (xs ≡ ys → ⊥) → same_bytes xs ys ≡ false
 same_bytes_false xs ys n = is_false (same_bytes xs ys) (λ e. n (same_bytes_equal xs ys e))
 
--- a whole is a front and a suffix where its beginning is the front and its rest the suffix
-pub same_bytes_append : (whole front suffix : List ℕ)
-    → same_bytes whole (front ++ suffix) ≡ same_bytes (take (length front) whole) front && same_bytes (drop (length front) whole) suffix
-unfolding same_bytes
-same_bytes_append whole [] suffix = refl
-same_bytes_append [] (y ∷ ys) suffix = refl
-same_bytes_append (x ∷ xs) (y ∷ ys) suffix =
-    ap (λ (t : Bool). eqb x y && t) (same_bytes_append xs ys suffix)
-    ∙ sym (and_assoc (eqb x y) (same_bytes (take (length ys) xs) ys) (same_bytes (drop (length ys) xs) suffix))
+-- a whole that is shorter than a suffix does not end in it
+pub joined_short : (whole front suffix : List ℕ) → length whole < length suffix → same_bytes whole (front ++ suffix) ≡ false
+joined_short whole front suffix h =
+    same_bytes_false whole (front ++ suffix) (λ e. omega (arith, ap length e, length-append front suffix))
+
+-- any other is a front and a suffix where its end is the suffix and what stands before that is the front
+module _ (whole front suffix : List ℕ) (n : ℕ) (size : n + length suffix ≡ length whole) where
+  abbrev ends : Bool
+  ends = pointwise eqb (take (length whole - n) (drop n whole)) suffix
+
+  abbrev begins : Bool
+  begins = pointwise eqb (take n whole) front
+
+  joined_parts : same_bytes whole (front ++ suffix) ≡ (same_bytes (drop n whole) suffix && same_bytes (take n whole) front)
+  joined_parts = same_test _ _
+      (λ e.
+      let joined = same_bytes_equal whole (front ++ suffix) e in
+      let before : n ≡ length front = omega (arith, ap length joined, length-append front suffix, size) in
+      (and-eq-true_iff _ _).1 (
+        same_bytes_true _ _ (ap₂ drop before joined ∙ drop-append_seam front suffix),
+        same_bytes_true _ _ (ap₂ take before joined ∙ take-append_seam front suffix),
+      ))
+      (λ e.
+      let parts = (and-eq-true_iff _ _).0 e in
+      same_bytes_true whole (front ++ suffix)
+      (sym (take-append-drop n whole) ∙ ap₂ ◌++◌ (same_bytes_equal _ _ parts.1) (same_bytes_equal _ _ parts.0)))
+
+  joined_tests : same_bytes whole (front ++ suffix) ≡ (ends && begins)
+  joined_tests =
+      joined_parts
+      ∙ ap₂ ◌&&◌
+      (sym (same_bytes_pointwise (take (length whole - n) (drop n whole)) suffix ∙ ap (λ (rest : List ℕ). same_bytes rest suffix) (take_rest whole n)))
+      (sym (same_bytes_pointwise (take n whole) front))
+
+  pub joined_ending : ends ≡ true → begins ≡ same_bytes whole (front ++ suffix)
+  joined_ending e = sym (joined_tests ∙ ap (λ (t : Bool). t && begins) e)
+
+  pub joined_otherwise : ends ≡ false → false ≡ same_bytes whole (front ++ suffix)
+  joined_otherwise e = sym (joined_tests ∙ ap (λ (t : Bool). t && begins) e)

@@ -37,18 +37,19 @@ pub number_at_four : (bytes : List ℕ) (at : ℕ)
 number_at_four bytes at =
     simp towards_suc (omega (arith, number_at_more bytes at 3, number_at_more bytes (suc at) 2, number_at_more bytes (suc (suc at)) 1, number_at_one bytes (suc (suc (suc at)))))
 
--- a number of eight bytes, by its halves
-pub number_at_eight : (bytes : List ℕ) (at : ℕ) → number_at bytes at 8 ≡ number_at bytes at 4 + 2 ^ 32 * number_at bytes (at + 4) 4
+-- a number of eight bytes, written out
+pub number_at_eight : (bytes : List ℕ) (at : ℕ)
+    → number_at bytes at 8 ≡ get_or bytes at 0 + 256 * (get_or bytes (at + 1) 0 + 256 * (get_or bytes (at + 2) 0 + 256 * (get_or bytes (at + 3) 0 + 256 * (get_or bytes (at + 4) 0 + 256 * (get_or bytes (at + 5) 0 + 256 * (get_or bytes (at + 6) 0 + 256 * get_or bytes (at + 7) 0))))))
 number_at_eight bytes at = simp towards_suc (omega (
   arith,
   number_at_more bytes at 7,
   number_at_more bytes (suc at) 6,
   number_at_more bytes (suc (suc at)) 5,
   number_at_more bytes (suc (suc (suc at))) 4,
-  number_at_more bytes at 3,
-  number_at_more bytes (suc at) 2,
-  number_at_more bytes (suc (suc at)) 1,
-  number_at_one bytes (suc (suc (suc at))),
+  number_at_more bytes (suc (suc (suc (suc at)))) 3,
+  number_at_more bytes (suc (suc (suc (suc (suc at))))) 2,
+  number_at_more bytes (suc (suc (suc (suc (suc (suc at)))))) 1,
+  number_at_one bytes (suc (suc (suc (suc (suc (suc (suc at))))))),
 ))
 
 -- the bytes from a on are zero up to b

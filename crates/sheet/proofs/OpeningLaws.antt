@@ -15,7 +15,7 @@ use Rattle.sheet.specs.Header.{length_right, blocks_for, total_right, numbers_ri
 use Rattle.sheet.specs.Slot.{slot_at, slots}
 use Rattle.sheet.specs.Sound.{slot_sound, slot_right}
 use Rattle.sheet.specs.First.{first_wrong}
-use Rattle.sheet.specs.Opening.{at_first, open_of, BlocksSound, SlotsSound, outcome, outcome_of}
+use Rattle.sheet.specs.Opening.{at_first, open_of, BlocksSound, SlotsSound}
 use Rattle.sheet.proofs.FirstLaws.{first_wrong_none, first_wrong_all}
 use Rattle.sheet.proofs.SlotLaws.{slots_length}
 use Rattle.sheet.proofs.SoundLaws.{slot_right_used}
@@ -23,11 +23,12 @@ use Rattle.sheet.proofs.HeaderLaws.{length_right_least, block_count_least, total
 use Rattle.refusal.specs.Numbers.{SHEET_LENGTH, BLOCK_CHECK, BLOCK_HEADER, SLOT}
 use Rattle.refusal.specs.Outcome.{refusal, unplaced, unknown_edition}
 use Rattle.refusal.specs.declared.answers.Refusal.{Refusal}
-use Rattle.refusal.specs.declared.answers.Counted.{Counted}
+use Rattle.refusal.specs.Outcome.{Counted}
+use Rattle.std.specs.Prelude.{Ok, Err}
 
 module _ (right : ℕ → Bool) (n number : ℕ) (next : Counted) where
   -- a first place that is wrong is refused
-  pub at_first_at : {i : ℕ} → i ≡ first_wrong right n → i < n → at_first right n number next ≡ Counted.Refused (refusal number i)
+  pub at_first_at : {i : ℕ} → i ≡ first_wrong right n → i < n → at_first right n number next ≡ Err (refusal number i)
   unfolding at_first
   at_first_at {i} e h = rw (← e, lt-ltb i n h)
 
@@ -37,55 +38,55 @@ module _ (right : ℕ → Bool) (n number : ℕ) (next : Counted) where
   at_first_none {i} e h = rw (← e, le-ltb i n h)
 
 -- an unknown edition is refused first
-pub open_of_unknown : (edition : ℕ) (sheet : List ℕ) → is_known edition ≡ false → open_of edition sheet ≡ Counted.Refused unknown_edition
+pub open_of_unknown : (edition : ℕ) (sheet : List ℕ) → is_known edition ≡ false → open_of edition sheet ≡ Err unknown_edition
 unfolding open_of
 open_of_unknown edition sheet e = rw e
 
 -- then a wrong length
-pub open_of_length : (edition : ℕ) (sheet : List ℕ) → is_known edition ≡ true → length_right (length sheet) ≡ false → open_of edition sheet ≡ Counted.Refused (unplaced SHEET_LENGTH)
+pub open_of_length : (edition : ℕ) (sheet : List ℕ) → is_known edition ≡ true → length_right (length sheet) ≡ false → open_of edition sheet ≡ Err (unplaced SHEET_LENGTH)
 unfolding open_of
 open_of_length edition sheet known e = rw (known, e)
 
 module _ (edition : ℕ) (sheet : List ℕ) (known : is_known edition ≡ true) (right : length_right (length sheet) ≡ true) {check : ℕ} (check_is : check ≡ first_wrong (check_right sheet) (block_count sheet)) where
   -- then a wrong check
-  pub open_of_check : check < block_count sheet → open_of edition sheet ≡ Counted.Refused (refusal BLOCK_CHECK check)
+  pub open_of_check : check < block_count sheet → open_of edition sheet ≡ Err (refusal BLOCK_CHECK check)
   unfolding open_of
   open_of_check h = rw (known, right) (at_first_at _ _ _ _ check_is h)
 
   module _ (checks : block_count sheet ≤ check) {header : ℕ} (header_is : header ≡ first_wrong (header_right sheet) (block_count sheet)) where
     -- then a wrong header
-    pub open_of_header : header < block_count sheet → open_of edition sheet ≡ Counted.Refused (refusal BLOCK_HEADER header)
+    pub open_of_header : header < block_count sheet → open_of edition sheet ≡ Err (refusal BLOCK_HEADER header)
     unfolding open_of
     open_of_header h = rw (known, right) (at_first_none _ _ _ _ check_is checks ∙ at_first_at _ _ _ _ header_is h)
 
     module _ (headers : block_count sheet ≤ header) {slot : ℕ} (slot_is : slot ≡ first_wrong (slot_right edition sheet) (slots_in_block * block_count sheet)) where
       -- then a wrong slot
-      pub open_of_slot : slot < slots_in_block * block_count sheet → open_of edition sheet ≡ Counted.Refused (refusal SLOT slot)
+      pub open_of_slot : slot < slots_in_block * block_count sheet → open_of edition sheet ≡ Err (refusal SLOT slot)
       unfolding open_of
       open_of_slot h =
           rw (known, right) (at_first_none _ _ _ _ check_is checks ∙ at_first_none _ _ _ _ header_is headers ∙ at_first_at _ _ _ _ slot_is h)
 
       -- and a sheet with nothing wrong has its nodes
-      pub open_of_nodes : slots_in_block * block_count sheet ≤ slot → open_of edition sheet ≡ Counted.Count (total_of sheet)
+      pub open_of_nodes : slots_in_block * block_count sheet ≤ slot → open_of edition sheet ≡ Ok (total_of sheet)
       unfolding open_of
       open_of_nodes h =
           rw (known, right) (at_first_none _ _ _ _ check_is checks ∙ at_first_none _ _ _ _ header_is headers ∙ at_first_none _ _ _ _ slot_is h)
 
 -- a refusal is no number of nodes
-pub refused_other : (r : Refusal) (t : ℕ) → Counted.Refused r ≡ Counted.Count t → ⊥
+pub refused_other : (r : Refusal) (t : ℕ) → ◌≡◌ {A = Counted} (Err r) (Ok t) → ⊥
 refused_other r t e = let z : ◌≡◌ {A = ℕ} 0 1 = cc in omega arith
 
 -- an answer of nodes comes past every test
 at_first_nodes : (right : ℕ → Bool) (n number : ℕ) (next : Counted) (t : ℕ)
-    → at_first right n number next ≡ Counted.Count t
-    → ((k : ℕ) → k < n → right k ≡ true) × (next ≡ Counted.Count t)
+    → at_first right n number next ≡ Ok t
+    → ((k : ℕ) → k < n → right k ≡ true) × (next ≡ Ok t)
 at_first_nodes right n number next t e = cases (dec_le n (first_wrong right n))
   where
-    cases : Dec (n ≤ first_wrong right n) → ((k : ℕ) → k < n → right k ≡ true) × (next ≡ Counted.Count t)
+    cases : Dec (n ≤ first_wrong right n) → ((k : ℕ) → k < n → right k ≡ true) × (next ≡ Ok t)
     cases (yes h) = (first_wrong_all right n h, sym (at_first_none right n number next refl h) ∙ e)
     cases (no h) = absurd (refused_other (refusal number (first_wrong right n)) t (sym (at_first_at right n number next refl (omega arith)) ∙ e))
 
-module _ (edition : ℕ) (sheet : List ℕ) (t : ℕ) (opened : open_of edition sheet ≡ Counted.Count t) where
+module _ (edition : ℕ) (sheet : List ℕ) (t : ℕ) (opened : open_of edition sheet ≡ Ok t) where
   -- a sheet opens in a known edition
   pub open_of_known : is_known edition ≡ true
   open_of_known = cases (is_known edition) refl
@@ -105,23 +106,23 @@ module _ (edition : ℕ) (sheet : List ℕ) (t : ℕ) (opened : open_of edition 
   past_length : at_first (check_right sheet) (block_count sheet) BLOCK_CHECK
       (at_first (header_right sheet) (block_count sheet) BLOCK_HEADER
       (at_first (slot_right edition sheet) (slots_in_block * block_count sheet) SLOT
-      (Counted.Count (total_of sheet))))
-      ≡ Counted.Count t
+      (Ok (total_of sheet))))
+      ≡ Ok t
   unfolding open_of
   past_length = rw (open_of_known, open_of_length_right) at opened
 
   past_checks : ((i : ℕ) → i < block_count sheet → check_right sheet i ≡ true)
       × (at_first (header_right sheet) (block_count sheet) BLOCK_HEADER
       (at_first (slot_right edition sheet) (slots_in_block * block_count sheet) SLOT
-      (Counted.Count (total_of sheet)))
-      ≡ Counted.Count t)
+      (Ok (total_of sheet)))
+      ≡ Ok t)
   past_checks = at_first_nodes _ _ _ _ t past_length
 
   past_headers : ((i : ℕ) → i < block_count sheet → header_right sheet i ≡ true)
-      × (at_first (slot_right edition sheet) (slots_in_block * block_count sheet) SLOT (Counted.Count (total_of sheet)) ≡ Counted.Count t)
+      × (at_first (slot_right edition sheet) (slots_in_block * block_count sheet) SLOT (Ok (total_of sheet)) ≡ Ok t)
   past_headers = at_first_nodes _ _ _ _ t past_checks.1
 
-  past_slots : ((k : ℕ) → k < slots_in_block * block_count sheet → slot_right edition sheet k ≡ true) × (Counted.Count (total_of sheet) ≡ Counted.Count t)
+  past_slots : ((k : ℕ) → k < slots_in_block * block_count sheet → slot_right edition sheet k ≡ true) × (◌≡◌ {A = Counted} (Ok (total_of sheet)) (Ok t))
   past_slots = at_first_nodes _ _ _ _ t past_headers.1
 
   -- a sheet that opens has sound blocks
@@ -169,13 +170,8 @@ module _ (edition : ℕ) (sheet : List ℕ) (t : ℕ) (opened : open_of edition 
       sym (slot_right_used edition sheet k (omega (arith, open_of_total))) ∙ past_slots.0 k (omega (arith, open_of_within))
 
 -- a sheet of sound blocks and slots opens in a known edition
-pub open_of_accepts : (edition : ℕ) (sheet : List ℕ) → is_known edition ≡ true → BlocksSound sheet → SlotsSound edition sheet → open_of edition sheet ≡ Counted.Count (total_of sheet)
+pub open_of_accepts : (edition : ℕ) (sheet : List ℕ) → is_known edition ≡ true → BlocksSound sheet → SlotsSound edition sheet → open_of edition sheet ≡ Ok (total_of sheet)
 open_of_accepts edition sheet known blocks slots_sound =
     open_of_nodes edition sheet known blocks.length_right_lem refl (le_of_eq (sym (first_wrong_none _ _ blocks.checks_right)))
     refl (le_of_eq (sym (first_wrong_none _ _ blocks.headers_right)))
     refl (le_of_eq (sym (first_wrong_none _ _ slots_sound.slots_right)))
-
--- an answer that opening gives has the sheet's outcome
-pub with_outcome : (edition : ℕ) (sheet : List ℕ) (r : Counted) → r ≡ open_of edition sheet → (r ≡ open_of edition sheet) × (outcome_of sheet r ≡ outcome edition sheet)
-unfolding outcome
-with_outcome edition sheet r e = (e, ap (outcome_of sheet) e)

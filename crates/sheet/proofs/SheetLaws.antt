@@ -21,7 +21,7 @@ use Rattle.sheet.specs.Sound.{all_zero, slot_sound, slot_right}
 use Rattle.sheet.specs.Sheet.{join_below, unchecked_block, block_of, sheet_of, slot_of}
 use Rattle.edition.specs.Editions.{is_known}
 use Rattle.sheet.specs.Opening.{open_of, BlocksSound, SlotsSound}
-use Rattle.refusal.specs.declared.answers.Counted.{Counted}
+use Rattle.std.specs.Prelude.{Ok}
 use Rattle.sheet.proofs.NumberLaws.{number_at_one, number_at_two}
 use Rattle.sheet.proofs.PartLaws.{length_part, part_part}
 use Rattle.sheet.proofs.ZeroLaws.{all_zero_each}
@@ -72,7 +72,7 @@ empty_slot_zero = refl
 
 -- ---- a sheet that opens is the sheet of its slots
 
-module _ (edition : ℕ) (sheet : List ℕ) (t : ℕ) (bytes : Bytes sheet) (opened : open_of edition sheet ≡ Counted.Count t) where
+module _ (edition : ℕ) (sheet : List ℕ) (t : ℕ) (bytes : Bytes sheet) (opened : open_of edition sheet ≡ Ok t) where
   blocks : BlocksSound sheet
   blocks = open_of_blocks edition sheet t opened
 
@@ -327,8 +327,8 @@ module _ (edition : ℕ) (used : List (List ℕ)) (given : SheetSlots edition us
           slot_right_unused edition (sheet_of used) k (omega (arith, sheet_of_total)) ∙ ap all_zero (sheet_of_slot k h ∙ empty_behind k (omega arith)) ∙ empty_slot_zero
 
   -- the sheet of slots that are sound in a known edition opens in it
-  pub open_of_sheet_of : is_known edition ≡ true → open_of edition (sheet_of used) ≡ Counted.Count (length used)
-  open_of_sheet_of known = open_of_accepts edition (sheet_of used) known sheet_of_blocks_sound sheet_of_slots_sound ∙ ap Counted.Count sheet_of_total
+  pub open_of_sheet_of : is_known edition ≡ true → open_of edition (sheet_of used) ≡ Ok (length used)
+  open_of_sheet_of known = open_of_accepts edition (sheet_of used) known sheet_of_blocks_sound sheet_of_slots_sound ∙ ap Ok sheet_of_total
 
   -- it has these slots
   pub slots_sheet_of : slots (sheet_of used) ≡ used

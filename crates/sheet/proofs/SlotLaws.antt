@@ -1,7 +1,7 @@
 -- Laws of a sheet's slots.
 use mathlib.Core.Path.{◌≡◌, refl, sym, ap, ◌∙◌}
 use mathlib.Core.Bool.{Bool, true, false, and-eq-true_iff}
-use mathlib.Core.List.{List, [], ◌∷◌}
+use mathlib.Core.List.{List, ◌∷◌}
 use Prim.Native.Nat.{ℕ, zero, suc, ◌+◌, ◌-◌, ◌*◌, ◌/◌, ◌%◌, ◌≤◌, ◌<◌}
 use native.Mathlib.Nat.{add-zero, zero-add, add-suc, suc-add, mod-eq_of_lt, mul-add-mod_self_left}
 use native.Mathlib.Decide.{dec_lt}
@@ -9,7 +9,7 @@ use native.Mathlib.Omega.{arith}
 use lib.Dec.{leb, ltb}
 use lib.ListN.{length, get_or, take, drop, get_or-replicate, get_or-eq_default}
 use lib.Seq.{get_or-take, get_or-drop, drop-cons}
-use borrow.Author.Tests.{lt-ltb, le-ltb, le-leb, lt-leb, leb-true}
+use borrow.Author.Tests.{lt-ltb, le-leb, leb-true}
 use Rattle.sheet.specs.Block.{block_size, first_slot_at, check_at, most_bytes, most_nodes, slots_in_block, slot_size, block_count, total_of}
 use Rattle.sheet.specs.Slot.{slot_start, reaches, empty_slot, slot_at, slot_bytes_at, slots_from, slots}
 use Rattle.laws.specs.Bytes.{Bytes}
@@ -53,14 +53,6 @@ pub reaches_true : (sheet : List ℕ) (k : ℕ) → k < most_nodes → slot_star
 unfolding reaches
 reaches_true sheet k l h = rw (lt-ltb k most_nodes l, le-leb (slot_start k + slot_size) (length sheet) h)
 
-pub reaches_past : (sheet : List ℕ) (k : ℕ) → most_nodes ≤ k → reaches sheet k ≡ false
-unfolding reaches
-reaches_past sheet k l = rw (le-ltb k most_nodes l)
-
-pub reaches_short : (sheet : List ℕ) (k : ℕ) → k < most_nodes → length sheet < slot_start k + slot_size → reaches sheet k ≡ false
-unfolding reaches
-reaches_short sheet k l h = rw (lt-ltb k most_nodes l, lt-leb (slot_start k + slot_size) (length sheet) h)
-
 -- where the bytes reach, a slot is what stands there
 pub slot_at_there : (sheet : List ℕ) (k : ℕ) → reaches sheet k ≡ true → slot_at sheet k ≡ take slot_size (drop (slot_start k) sheet)
 unfolding slot_at
@@ -77,14 +69,10 @@ pub slot_at_slice : (sheet : List ℕ) (k start : ℕ) → start ≡ slot_start 
 slot_at_slice sheet k start e r =
     take_to sheet start slot_size ∙ ap (λ (at : ℕ). take slot_size (drop at sheet)) e ∙ sym (slot_at_there sheet k r)
 
--- a slot's bytes, where they are reached and where not
+-- a slot's bytes, where they are reached
 pub slot_bytes_at_there : (sheet : List ℕ) (k : ℕ) → reaches sheet k ≡ true → slot_bytes_at sheet k ≡ slot_at sheet k
 unfolding slot_bytes_at
 slot_bytes_at_there sheet k e = rw e
-
-pub slot_bytes_at_none : (sheet : List ℕ) (k : ℕ) → reaches sheet k ≡ false → slot_bytes_at sheet k ≡ []
-unfolding slot_bytes_at
-slot_bytes_at_none sheet k e = rw e
 
 -- a byte of a slot is a byte of the sheet
 pub slot_at_byte : (sheet : List ℕ) (k i : ℕ) → reaches sheet k ≡ true → i < slot_size → get_or (slot_at sheet k) i 0 ≡ get_or sheet (slot_start k + i) 0

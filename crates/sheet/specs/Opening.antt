@@ -3,7 +3,8 @@ use Rattle.std.specs.Prelude.{◌≡◌, ℕ, ◌*◌, ◌<◌, Bool, true, cond
 use Rattle.refusal.specs.Numbers.{SHEET_LENGTH, BLOCK_CHECK, BLOCK_HEADER, SLOT}
 use Rattle.refusal.specs.Outcome.{Outcome, given, refused, refusal, unplaced, unknown_edition}
 use Rattle.edition.specs.Editions.{is_known}
-use Rattle.refusal.specs.declared.answers.Counted.{Counted}
+use Rattle.refusal.specs.Outcome.{Counted}
+use Rattle.std.specs.Prelude.{Ok, Err}
 use Rattle.sheet.specs.Block.{slots_in_block, block_count, total_of}
 use Rattle.sheet.specs.Check.{check_right}
 use Rattle.sheet.specs.Slot.{slots}
@@ -13,7 +14,7 @@ use Rattle.sheet.specs.First.{first_wrong}
 
 -- the refusal of that number at the first of n places where the test fails, or what follows where it fails at none
 unfoldable pub at_first : (ℕ → Bool) → ℕ → ℕ → Counted → Counted
-at_first right n number next = cond (ltb (first_wrong right n) n) (Counted.Refused (refusal number (first_wrong right n))) next
+at_first right n number next = cond (ltb (first_wrong right n) n) (Err (refusal number (first_wrong right n))) next
 
 -- the answer for any bytes: the edition is judged "before all others", then each refusal over the whole sheet before the next
 unfoldable pub open_of : ℕ → List ℕ → Counted
@@ -23,9 +24,9 @@ open_of edition sheet =
     (at_first (check_right sheet) (block_count sheet) BLOCK_CHECK
     (at_first (header_right sheet) (block_count sheet) BLOCK_HEADER
     (at_first (slot_right edition sheet) (slots_in_block * block_count sheet) SLOT
-    (Counted.Count (total_of sheet)))))
-    (Counted.Refused (unplaced SHEET_LENGTH)))
-    (Counted.Refused unknown_edition)
+    (Ok (total_of sheet)))))
+    (Err (unplaced SHEET_LENGTH)))
+    (Err unknown_edition)
 
 -- "blocks are sound where refusals 1 to 3 don't hold"
 pub record BlocksSound (sheet : List ℕ) : Type 0 where
@@ -44,8 +45,8 @@ pub record Nodes : Type 0 where
 
 -- what each answer stands for
 unfoldable pub outcome_of : List ℕ → Counted → Outcome Nodes
-outcome_of sheet (Counted.Count t) = given (record { total = t; used = slots sheet })
-outcome_of sheet (Counted.Refused r) = refused r
+outcome_of sheet (Ok t) = given (record { total = t; used = slots sheet })
+outcome_of sheet (Err r) = refused r
 
 -- the outcome of any list of bytes in any edition
 unfoldable pub outcome : ℕ → List ℕ → Outcome Nodes

@@ -1,10 +1,11 @@
 // A node's slot: where it lies, and its numbers.
-ghost use Rattle.std.specs.Prelude.{◌≡◌, ◌<◌, length};
+ghost use Rattle.std.specs.Prelude.{◌≡◌, ◌<◌, false, length, MatchOption};
 ghost use Rattle.sheet.specs.Block.{slot_size, most_nodes};
-ghost use Rattle.sheet.specs.Slot.{numbers_of, slot_at, slot_bytes_at, slot_start, empty_slot};
+ghost use Rattle.sheet.specs.Slot.{numbers_of, slot_at, slot_bytes_at, slot_start, reaches};
+ghost use Rattle.sheet.specs.Steps.{StartsAt};
 
 use crate::layout;
-use crate::number::{number16, number32, signed32};
+use crate::number::{number16, signed32};
 
 // The bytes of a block that are in no slot.
 const BESIDE_SLOTS: usize = layout::BLOCK_SIZE - layout::SLOTS_IN_BLOCK * layout::SLOT_SIZE;
@@ -31,34 +32,44 @@ pub struct Slot {
 }
 
 // The numbers of a node's slot: what stands there, and zeros where the bytes do not reach it.
+#[tactic(auto, using(crate::proofs::SlotLaws::slot_at_slice, crate::proofs::SlotLaws::slot_at_empty), unfolding(crate::specs::Slot::empty_slot))]
 pub fn slot_at(sheet: &[u8], node: usize) -> Slot
     ensures { result ≡ numbers_of (slot_at sheet.now node) }
 {
-    if node >= layout::MOST_NODES {
-        return empty_slot();
+    match start_in(sheet, node) {
+        Some(start) => numbers_of(&sheet[start..start + layout::SLOT_SIZE]),
+        None => numbers_of(&[0; layout::SLOT_SIZE]),
     }
-    let start = slot_start(node);
-    if sheet.len() < start + layout::SLOT_SIZE {
-        return empty_slot();
-    }
-    numbers_of(&sheet[start..start + layout::SLOT_SIZE])
 }
 
 // The bytes of a node's slot, and no byte where the bytes do not reach it.
+#[tactic(auto, using(crate::proofs::SlotLaws::slot_at_slice), unfolding(crate::specs::Slot::slot_bytes_at))]
 pub fn slot_bytes(sheet: &[u8], node: usize) -> &[u8]
     ensures { result.now ≡ slot_bytes_at sheet.now node }
 {
+    match start_in(sheet, node) {
+        Some(start) => &sheet[start..start + layout::SLOT_SIZE],
+        None => &[],
+    }
+}
+
+// Where the slot of a node starts, if the bytes reach over it.
+#[tactic(auto, using(crate::proofs::SlotLaws::slot_start_most), unfolding(crate::specs::Slot::reaches))]
+pub(crate) fn start_in(sheet: &[u8], node: usize) -> Option<usize>
+    ensures { MatchOption result (reaches sheet.now node ≡ false) (StartsAt sheet.now node) }
+{
     if node >= layout::MOST_NODES {
-        return &sheet[0..0];
+        return None;
     }
     let start = slot_start(node);
     if sheet.len() < start + layout::SLOT_SIZE {
-        return &sheet[0..0];
+        return None;
     }
-    &sheet[start..start + layout::SLOT_SIZE]
+    Some(start)
 }
 
 // Where the slot of a node starts: behind the slots before it, and what else each whole block before it has.
+#[tactic(auto, unfolding(crate::specs::Slot::slot_start))]
 pub(crate) fn slot_start(node: usize) -> usize
     requires { node < most_nodes }
     ensures { result ≡ slot_start node }
@@ -71,9 +82,6 @@ fn numbers_of(slot: &[u8]) -> Slot
     requires { length slot.now ≡ slot_size }
     ensures { result ≡ numbers_of slot.now }
 {
-    let type_length = signed32(number32(slot, layout::TYPE_LENGTH));
-    let scale = signed32(number32(slot, layout::SCALE));
-    let precision = signed32(number32(slot, layout::PRECISION));
     Slot {
         physical: slot[layout::PHYSICAL],
         repetition: slot[layout::REPETITION],
@@ -81,28 +89,10 @@ fn numbers_of(slot: &[u8]) -> Slot
         logical: slot[layout::LOGICAL],
         a: slot[layout::PARAMETER_A],
         b: slot[layout::PARAMETER_B],
-        children: number16(slot, layout::CHILD_COUNT) as u16,
-        type_length,
-        scale,
-        precision,
+        children: number16(slot, layout::CHILD_COUNT),
+        type_length: signed32(slot, layout::TYPE_LENGTH),
+        scale: signed32(slot, layout::SCALE),
+        precision: signed32(slot, layout::PRECISION),
         name_length: slot[layout::NAME_LENGTH],
-    }
-}
-
-fn empty_slot() -> Slot
-    ensures { result ≡ numbers_of empty_slot }
-{
-    Slot {
-        physical: 0,
-        repetition: 0,
-        converted: 0,
-        logical: 0,
-        a: 0,
-        b: 0,
-        children: 0,
-        type_length: 0,
-        scale: 0,
-        precision: 0,
-        name_length: 0,
     }
 }

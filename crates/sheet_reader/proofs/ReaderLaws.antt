@@ -1,7 +1,7 @@
 -- The promise of the reader: on an accepted sheet it hands out each used slot once, in order, and then ends; on a refused one it ends at once.
-use mathlib.Core.Path.{◌≡◌, refl, sym, ap, ◌∙◌}
+use mathlib.Core.Path.{◌≡◌, refl, sym, ap, ◌∙◌, subst}
 use mathlib.Core.List.{List, ◌++◌, map}
-use Prim.Native.Nat.{ℕ, zero, suc, ◌+◌, ◌-◌, ◌≤◌, ◌<◌}
+use Prim.Native.Nat.{ℕ, zero, suc, ◌+◌, ◌≤◌, ◌<◌}
 use native.Mathlib.Nat.{zero-add, add-zero, le_of_eq}
 use native.Mathlib.Decide.{dec_le}
 use native.Mathlib.Omega.{arith}
@@ -11,12 +11,16 @@ use denote.Ref.{Bor}
 use Rattle.sheet.specs.Block.{total_of}
 use Rattle.sheet.specs.Slot.{slots_from, slots}
 use Rattle.sheet.specs.Opening.{open_of, outcome, outcome_of}
-use Rattle.refusal.specs.declared.answers.Counted.{Counted}
+use Rattle.refusal.specs.Outcome.{Counted}
+use Rattle.std.specs.Prelude.{Ok, Err}
 use Rattle.sheet.proofs.OpeningLaws.{open_of_total, open_of_slots_length}
-use Rattle.sheet_reader.specs.Step.{total, step_at, node_after, ended, handout_of, slot_handed}
-use Rattle.sheet_reader.specs.Reading.{opened_on, step_of, moved_on, moved_by, step_after, steps, handouts}
+use Rattle.sheet_reader.specs.Step.{Step, total, step_at, node_after, ended, handout_of, slot_handed}
+use Rattle.sheet_reader.specs.Reading.{opened_on, step_of, moved_on, left, moved_by, step_after, steps, handouts}
 use Rattle.sheet_reader.specs.declared.reading.Reader.{Reader}
-use Rattle.sheet_reader.specs.declared.stepping.Step.TheVariants.{End}
+use Rattle.std.specs.Prelude.{Some, None, ⊤}
+use Rattle.std.specs.Iterator.{MakesProgress, at_most}
+use Rattle.sheet.specs.declared.slots.Slot.{Slot}
+use Rattle.sheet.specs.declared.names.Stretch.{Stretch}
 use Rattle.sheet_reader.proofs.StepLaws.{step_at_end, node_after_next, node_after_end, handout_of_slot, handout_of_end}
 
 -- ---- one step after others
@@ -43,17 +47,23 @@ step_after_at edition sheet n =
 
 -- ---- how many are left
 
--- how many slots a reader has yet to hand out
-abbrev pub left : Reader → ℕ
-left reader = total reader.opened - reader.next
-
 -- a step that hands out a slot leaves one fewer
-pub moved_on_left : (reader : Reader) → (step_of reader ≡ End → ⊥) → left (moved_on reader) < left reader
+pub moved_on_left : (reader : Reader) → (step_of reader ≡ None → ⊥) → left (moved_on reader) < left reader
 moved_on_left reader other = cases (dec_le (total reader.opened) reader.next)
   where
     cases : Dec (total reader.opened ≤ reader.next) → left (moved_on reader) < left reader
     cases (yes h) = absurd (other (step_at_end reader.sheet.now reader.next reader.opened h))
     cases (no h) = omega (arith, node_after_next reader.next reader.opened (omega arith))
+
+-- so a reader as an iterator comes to its end
+pub makes_progress : (s t : Reader) (r : Step) → r ≡ step_of s → t ≡ moved_on s → MakesProgress {S = Reader} {A = Slot × Stretch} (λ _. ⊤) (λ reader. at_most (left reader)) s r t
+makes_progress s t None e m = record { on = λ _. tt; keeps = tt; rests = λ _. tt }
+makes_progress s t (Some slot) e m =
+    let fewer : left t < left s = subst (λ (reader : Reader). left reader < left s) (sym m) (moved_on_left s (λ none. absurd (differ (e ∙ none)))) in
+    record { on = λ _. (tt, tt, fewer); keeps = tt; rests = λ _. tt }
+  where
+    differ : {slot : Slot × Stretch} → Some slot ≡ None → ⊥
+    differ h = cc
 
 -- ---- all of them
 
@@ -93,8 +103,8 @@ module _ (edition : ℕ) (sheet : Bor (List ℕ)) (n : ℕ) where
 
   kept : (opened : Counted) → open_of edition sheet.now ≡ opened → map (handout_of sheet.now) (steps n (opened_on edition sheet)) ≡ handouts (outcome_of sheet.now opened) n
   unfolding outcome_of handouts total slots
-  kept (Counted.Count t) e = steps_from_lem n (total_of sheet.now) n (opened_on edition sheet) (zero-add _ ∙ sym (ap total e ∙ open_of_total edition sheet.now t e)) (omega arith)
-  kept (Counted.Refused r) e = none_handed (ap total e)
+  kept (Ok t) e = steps_from_lem n (total_of sheet.now) n (opened_on edition sheet) (zero-add _ ∙ sym (ap total e ∙ open_of_total edition sheet.now t e)) (omega arith)
+  kept (Err r) e = none_handed (ap total e)
 
   -- "hands out each slot once, in order, ending after T steps": n steps over an accepted sheet hand out its used slots and then nothing, and over a refused one nothing
   pub steps_handouts : map (handout_of sheet.now) (steps n (opened_on edition sheet)) ≡ handouts (outcome edition sheet.now) n
@@ -102,10 +112,10 @@ module _ (edition : ℕ) (sheet : Bor (List ℕ)) (n : ℕ) where
   steps_handouts = kept (open_of edition sheet.now) refl
 
 -- so the first T steps hand out all of them
-pub steps_all : (edition : ℕ) (sheet : Bor (List ℕ)) (t : ℕ) → open_of edition sheet.now ≡ Counted.Count t → map (handout_of sheet.now) (steps t (opened_on edition sheet)) ≡ map slot_handed (slots sheet.now)
+pub steps_all : (edition : ℕ) (sheet : Bor (List ℕ)) (t : ℕ) → open_of edition sheet.now ≡ Ok t → map (handout_of sheet.now) (steps t (opened_on edition sheet)) ≡ map slot_handed (slots sheet.now)
 unfolding outcome_of handouts
 steps_all edition sheet t e =
-    kept edition sheet t (Counted.Count t) e
+    kept edition sheet t (Ok t) e
     ∙ take_at (map slot_handed (slots sheet.now)) (replicate t ended) t (length-map (slots sheet.now) slot_handed ∙ open_of_slots_length edition sheet.now t e)
 
 -- a reader keeps the sheet that it was opened on, and what opening found

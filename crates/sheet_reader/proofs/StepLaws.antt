@@ -6,20 +6,20 @@ use Prim.Native.Nat.{ℕ, suc, ◌≤◌, ◌<◌}
 use borrow.Author.Tests.{lt-ltb, le-ltb}
 use Rattle.sheet.specs.Slot.{numbers_of, slot_at}
 use Rattle.sheet.specs.Name.{stretch_of}
-use Rattle.refusal.specs.declared.answers.Counted.{Counted}
+use Rattle.refusal.specs.Outcome.{Counted}
 use Rattle.sheet.proofs.NameLaws.{stretch_of_name}
 use Rattle.sheet_reader.specs.Step.{total, step_at, node_after, handed, ended, handout_of, slot_handed}
-use Rattle.sheet_reader.specs.declared.stepping.Step.TheVariants.{Slot, End}
+use Rattle.std.specs.Prelude.{Some, None}
 
 -- below the total a step hands out the node's slot
-pub step_at_slot : (sheet : List ℕ) (node : ℕ) (opened : Counted) → node < total opened → step_at sheet node opened ≡ Slot (numbers_of (slot_at sheet node)) (stretch_of sheet node)
+pub step_at_slot : (sheet : List ℕ) (node : ℕ) (opened : Counted) → node < total opened → step_at sheet node opened ≡ Some (numbers_of (slot_at sheet node), stretch_of sheet node)
 unfolding step_at
-step_at_slot sheet node opened h = ap (λ (b : Bool). cond b (Slot (numbers_of (slot_at sheet node)) (stretch_of sheet node)) End) (lt-ltb node (total opened) h)
+step_at_slot sheet node opened h = ap (λ (b : Bool). cond b (Some (numbers_of (slot_at sheet node), stretch_of sheet node)) None) (lt-ltb node (total opened) h)
 
 -- from the total on, the end
-pub step_at_end : (sheet : List ℕ) (node : ℕ) (opened : Counted) → total opened ≤ node → step_at sheet node opened ≡ End
+pub step_at_end : (sheet : List ℕ) (node : ℕ) (opened : Counted) → total opened ≤ node → step_at sheet node opened ≡ None
 unfolding step_at
-step_at_end sheet node opened h = ap (λ (b : Bool). cond b (Slot (numbers_of (slot_at sheet node)) (stretch_of sheet node)) End) (le-ltb node (total opened) h)
+step_at_end sheet node opened h = ap (λ (b : Bool). cond b (Some (numbers_of (slot_at sheet node), stretch_of sheet node)) None) (le-ltb node (total opened) h)
 
 -- below the total a step leads to the next node
 pub node_after_next : (node : ℕ) (opened : Counted) → node < total opened → node_after node opened ≡ suc node

@@ -1,11 +1,10 @@
 -- A reader ("keeps hold of the lent sheet and its next node"): how it opens, steps and moves on, and what its steps hand out.
-use Rattle.std.specs.Prelude.{ℕ, zero, suc, List, [], ◌∷◌, ◌++◌, map, take, replicate}
+use Rattle.std.specs.Prelude.{ℕ, zero, suc, ◌-◌, List, [], ◌∷◌, ◌++◌, map, take, replicate}
 use Rattle.std.specs.Borrow.{Bor}
 use Rattle.refusal.specs.Outcome.{Outcome, given, refused}
 use Rattle.sheet.specs.Opening.{Nodes, open_of}
-use Rattle.sheet_reader.specs.Step.{step_at, node_after, Handout, ended, slot_handed}
+use Rattle.sheet_reader.specs.Step.{Step, total, step_at, node_after, Handout, ended, slot_handed}
 use Rattle.sheet_reader.specs.declared.reading.Reader.{Reader}
-use Rattle.sheet_reader.specs.declared.stepping.Step.{Step}
 
 -- "It opens under refusals 1 to 4", and under 21 before them: at node 0, with what opening answers in the edition
 abbrev pub opened_on : ℕ → Bor (List ℕ) → Reader
@@ -18,6 +17,10 @@ step_of reader = step_at reader.sheet.now reader.next reader.opened
 -- the reader after a step: it holds the same sheet
 abbrev pub moved_on : Reader → Reader
 moved_on reader = record { sheet = reader.sheet; next = node_after reader.next reader.opened; opened = reader.opened }
+
+-- how many slots a reader has yet to hand out
+abbrev pub left : Reader → ℕ
+left reader = total reader.opened - reader.next
 
 -- the reader after n steps
 unfoldable pub moved_by : ℕ → Reader → Reader

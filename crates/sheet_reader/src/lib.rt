@@ -5,4 +5,4 @@ mod stepping; // stepping.rt: what stands at a node, and the node after it, on p
 mod reading; // reading.rt: the reader, which holds the sheet and its next node
 
 pub use reading::{Reader, next, open, slot_after};
-pub use stepping::{Step, node_after, step_at};
+pub use stepping::{node_after, step_at};

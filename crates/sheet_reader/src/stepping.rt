@@ -2,33 +2,27 @@
 ghost use Rattle.std.specs.Prelude.{◌≡◌};
 ghost use Rattle.sheet_reader.specs.Step.{total, step_at, node_after};
 
-use refusal::Counted;
+use refusal::Refusal;
 use sheet::{Slot, Stretch};
 
-// What a step hands out.
-#[derive(Clone, Copy)]
-pub enum Step {
-    // A slot's numbers, and where its name stands in the sheet.
-    Slot(Slot, Stretch),
-    // No slot is left.
-    End,
-}
-
-// The slot of a node, or the end where the node is not one of those that opening found.
-pub fn step_at(sheet: &[u8], node: usize, opened: Counted) -> Step
+// What a step hands out: the numbers of a node's slot and where its name stands in the sheet, or the end where the node is not one
+// of those that opening found.
+#[tactic(auto, unfolding(crate::specs::Step::step_at))]
+pub fn step_at(sheet: &[u8], node: usize, opened: Result<usize, Refusal>) -> Option<(Slot, Stretch)>
     ensures { result ≡ step_at sheet.now node opened }
 {
     if node >= total_of(opened) {
-        return Step::End;
+        return None;
     }
-    Step::Slot(
+    Some((
         sheet::slot_at(sheet, node),
         sheet::name_stretch(sheet, node),
-    )
+    ))
 }
 
 // The node after one that opening found, and the same node where it found none such.
-pub fn node_after(node: usize, opened: Counted) -> usize
+#[tactic(auto, unfolding(crate::specs::Step::node_after))]
+pub fn node_after(node: usize, opened: Result<usize, Refusal>) -> usize
     ensures { result ≡ node_after node opened }
 {
     if node >= total_of(opened) {
@@ -38,11 +32,9 @@ pub fn node_after(node: usize, opened: Counted) -> usize
 }
 
 // How many nodes opening found: none in a sheet that it refused.
-fn total_of(opened: Counted) -> usize
+#[tactic(auto, unfolding(crate::specs::Step::total))]
+fn total_of(opened: Result<usize, Refusal>) -> usize
     ensures { result ≡ total opened }
 {
-    match opened {
-        Counted::Count(t) => t,
-        Counted::Refused(_) => 0,
-    }
+    opened.unwrap_or(0)
 }

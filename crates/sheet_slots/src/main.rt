@@ -2,13 +2,11 @@
 // without one.
 #![tactic(auto)]
 
-ghost use Rattle.std.specs.Prelude.{◌≡◌, false};
+ghost use Rattle.std.specs.Prelude.{◌≡◌};
 ghost use Rattle.sheet.specs.Opening.{open_of};
-ghost use Rattle.sheet_reader.specs.declared.stepping.Step.TheVariants.{End};
 
-use refusal::Counted;
+use refusal::Refusal;
 use sheet::MOST_BYTES;
-use sheet_reader::Step;
 use slot_text::LINE_ROOM;
 use text::REFUSAL_ROOM;
 
@@ -25,24 +23,17 @@ fn main(rt: HostRuntime) {
 
 // Prints what a reader opened on a sheet in an edition hands out, to its end or to the first line that cannot be written, and answers what
 // opening found.
-fn print_slots(rt: &impl Print, edition: u32, sheet: &[u8]) -> Counted
+fn print_slots(rt: &impl Print, edition: u32, sheet: &[u8]) -> Result<usize, Refusal>
     ensures { result ≡ open_of edition sheet.now }
 {
-    let mut reader = sheet_reader::open(edition, sheet);
-    while print_step(rt, sheet_reader::next(&mut reader)) {}
-    reader.opened
-}
-
-// Prints the line of a slot, and answers whether all of it was written; at the end nothing is left to print.
-fn print_step(rt: &impl Print, step: Step) -> bool
-    ensures { step ≡ End → result ≡ false }
-{
-    match step {
-        Step::Slot(slot, name) => {
-            let mut line = [0u8; LINE_ROOM];
-            let count = slot_text::slot_line(slot, name, &mut line);
-            rt.write_all(&line[..count]).is_ok()
+    let reader = sheet_reader::open(edition, sheet);
+    let opened = reader.opened;
+    for (slot, name) in reader {
+        let mut line = [0u8; LINE_ROOM];
+        let count = slot_text::slot_line(slot, name, &mut line);
+        if rt.write_all(&line[..count]).is_err() {
+            break;
         }
-        Step::End => false,
     }
+    opened
 }

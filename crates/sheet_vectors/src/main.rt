@@ -6,7 +6,7 @@
 #![tactic(auto)]
 
 use edition::is_known;
-use refusal::{Counted, unknown_edition};
+use refusal::{Refusal, unknown_edition};
 use std::io::Read;
 use text::REFUSAL_ROOM;
 
@@ -32,7 +32,7 @@ fn main(rt: HostRuntime) {
 // An edition that is none is refused once, for all sheets.
 fn print_refusal(rt: &impl Print) {
     let mut line = [0u8; REFUSAL_ROOM];
-    let count = slot_text::refusal_line(Counted::Refused(unknown_edition()), &mut line);
+    let count = slot_text::refusal_line(Err(unknown_edition()), &mut line);
     let _ = rt.write_all(&line[..count]);
 }
 
@@ -45,11 +45,18 @@ fn run(
     text: &mut [u8],
     count: u32,
 ) {
-    let mut done = 0;
-    while done < count {
+    for _ in 0..count {
         run_next(rt, input, edition, sheet, text);
-        done += 1;
     }
+}
+
+// A sheet that was read, and what is asked of it: a node, another, and a text.
+#[derive(Clone, Copy)]
+struct Question<'a> {
+    sheet: &'a [u8],
+    node: usize,
+    other: usize,
+    text: &'a [u8],
 }
 
 // Runs the next sheet; one for which there is no room is left out.
@@ -64,51 +71,34 @@ fn run_next(
     let node = read_number(input) as usize;
     let other = read_number(input) as usize;
     let text_length = read_number(input) as usize;
-    if length > sheet.len() {
+    if length > sheet.len() || text_length > text.len() {
         return;
     }
-    if text_length > text.len() {
-        return;
-    }
-    read_and_answer(
-        rt,
-        input,
-        edition,
-        &mut sheet[..length],
+    edition_argument::read_full(input, &mut text[..text_length]);
+    edition_argument::read_full(input, &mut sheet[..length]);
+    let question = Question {
+        sheet: &sheet[..length],
         node,
         other,
-        &mut text[..text_length],
-    );
+        text: &text[..text_length],
+    };
+    answer(rt, edition, question);
 }
 
-fn read_and_answer(
-    rt: &impl Print,
-    input: &mut impl Read,
-    edition: u32,
-    sheet: &mut [u8],
-    node: usize,
-    other: usize,
-    text: &mut [u8],
-) {
-    edition_argument::read_full(input, text);
-    edition_argument::read_full(input, sheet);
-    answer(rt, edition, sheet, node, other, text);
-}
-
-// Prints the line of a sheet that was read. There is room for each.
-fn answer(rt: &impl Print, edition: u32, bytes: &[u8], node: usize, other: usize, text: &[u8]) {
+// Prints the line of a question. There is room for each.
+fn answer(rt: &impl Print, edition: u32, question: Question) {
     let mut line = [0u8; LINE_ROOM];
-    let opened = put_opened(&mut line, sheet::open(edition, bytes));
-    let slot = put_slot(&mut line, opened, bytes, node);
-    let end = put_names(&mut line, slot, bytes, node, other, text);
+    let opened = put_opened(&mut line, sheet::open(edition, question.sheet));
+    let slot = put_slot(&mut line, opened, question);
+    let end = put_names(&mut line, slot, question);
     if end <= line.len() {
         let _ = rt.write_all(&line[..end]);
     }
 }
 
-fn put_opened(line: &mut [u8], opened: Counted) -> usize {
+fn put_opened(line: &mut [u8], opened: Result<usize, Refusal>) -> usize {
     match opened {
-        Counted::Count(total) => {
+        Ok(total) => {
             let word = text::put(line, 0, b"nodes ");
             text::put_decimal(line, word, total as u64)
         }
@@ -116,25 +106,28 @@ fn put_opened(line: &mut [u8], opened: Counted) -> usize {
     }
 }
 
-fn put_slot(line: &mut [u8], at: usize, bytes: &[u8], node: usize) -> usize {
+fn put_slot(line: &mut [u8], at: usize, question: Question) -> usize {
     let slot = text::put(line, at, b" slot ");
-    let numbers = slot_text::put_slot(line, slot, sheet::slot_at(bytes, node));
+    let numbers = slot_text::put_slot(line, slot, sheet::slot_at(question.sheet, question.node));
     let name = text::put(line, numbers, b" name ");
-    slot_text::put_stretch(line, name, sheet::name_stretch(bytes, node))
+    slot_text::put_stretch(
+        line,
+        name,
+        sheet::name_stretch(question.sheet, question.node),
+    )
 }
 
-fn put_names(
-    line: &mut [u8],
-    at: usize,
-    bytes: &[u8],
-    node: usize,
-    other: usize,
-    text: &[u8],
-) -> usize {
+fn put_names(line: &mut [u8], at: usize, question: Question) -> usize {
+    let Question {
+        sheet,
+        node,
+        other,
+        text,
+    } = question;
     let is = text::put(line, at, b" is ");
-    let one = text::put_decimal(line, is, sheet::name_is(bytes, node, text) as u64);
+    let one = text::put_decimal(line, is, sheet::name_is(sheet, node, text) as u64);
     let with = text::put(line, one, b" with ");
-    let both = sheet::name_is_with(bytes, node, other, text) as u64;
+    let both = sheet::name_is_with(sheet, node, other, text) as u64;
     let end = text::put_decimal(line, with, both);
     text::put(line, end, b"\n")
 }
@@ -143,13 +136,5 @@ fn put_names(
 fn read_number(input: &mut impl Read) -> u32 {
     let mut bytes = [0u8; 4];
     edition_argument::read_full(input, &mut bytes);
-    number(&bytes)
-}
-
-fn number(bytes: &[u8; 4]) -> u32 {
-    wide(bytes[0]) | wide(bytes[1]) << 8 | wide(bytes[2]) << 16 | wide(bytes[3]) << 24
-}
-
-fn wide(byte: u8) -> u32 {
-    byte as u32
+    u32::from_le_bytes(bytes)
 }

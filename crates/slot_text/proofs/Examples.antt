@@ -7,7 +7,7 @@ use Rattle.text.specs.Numbers.{enough_digits, digit_count, decimal_text, signed_
 use Rattle.text.specs.Lines.{spaced}
 use Rattle.text.specs.Refusals.{refusal_text}
 use Rattle.refusal.specs.Outcome.{refusal}
-use Rattle.refusal.specs.declared.answers.Counted.{Counted}
+use Rattle.std.specs.Prelude.{Err}
 use Rattle.slot_text.specs.Slots.{integers_text, slot_text, stretch_text, slot_line}
 use Rattle.slot_text.specs.Opened.{opened_text}
 
@@ -18,6 +18,6 @@ unfolding slot_line slot_text stretch_text integers_text spaced signed_text deci
 line_example = refl
 
 -- a byte of the third block changed
-refused_example : opened_text (Counted.Refused (refusal 2 2)) ≡ ascii "refused 2 at 2"
+refused_example : opened_text (Err (refusal 2 2)) ≡ ascii "refused 2 at 2"
 unfolding opened_text refusal_text decimal_text digit_count enough_digits
 refused_example = refl

@@ -9,7 +9,8 @@ use Rattle.text.specs.Characters.{LF}
 use Rattle.text.specs.Placing.{position_after, placed_text}
 use Rattle.text.proofs.PlacingLaws.{put_as}
 use Rattle.sheet.specs.Opening.{open_of, outcome, outcome_of}
-use Rattle.refusal.specs.declared.answers.Counted.{Counted}
+use Rattle.refusal.specs.Outcome.{Counted}
+use Rattle.std.specs.Prelude.{Ok, Err}
 use Rattle.text.specs.Refusals.{most_refusal}
 use Rattle.slot_text.specs.Opened.{line_of_some, outcome_text, opened_text}
 
@@ -38,5 +39,5 @@ unfolding outcome outcome_of opened_text outcome_text
 opened_outcome edition sheet = by_answer (open_of edition sheet)
   where
     by_answer : (o : Counted) → opened_text o ≡ outcome_text (outcome_of sheet o)
-    by_answer (Counted.Count total) = refl
-    by_answer (Counted.Refused r) = refl
+    by_answer (Ok total) = refl
+    by_answer (Err r) = refl

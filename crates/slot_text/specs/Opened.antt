@@ -4,7 +4,8 @@ use Rattle.text.specs.Lines.{line_of}
 use Rattle.text.specs.Refusals.{refusal_text}
 use Rattle.refusal.specs.Outcome.{Outcome, given, refused}
 use Rattle.sheet.specs.Opening.{Nodes}
-use Rattle.refusal.specs.declared.answers.Counted.{Counted}
+use Rattle.refusal.specs.Outcome.{Counted}
+use Rattle.std.specs.Prelude.{Ok, Err}
 
 -- a text as a line, and of no text nothing
 unfoldable pub line_of_some : List ℕ → List ℕ
@@ -18,8 +19,8 @@ outcome_text (refused r) = refusal_text r
 
 -- each answer of opening
 unfoldable pub opened_text : Counted → List ℕ
-opened_text (Counted.Count total) = []
-opened_text (Counted.Refused r) = refusal_text r
+opened_text (Ok total) = []
+opened_text (Err r) = refusal_text r
 
 -- a refusal as a line
 unfoldable pub refusal_line : Counted → List ℕ

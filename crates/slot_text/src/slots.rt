@@ -63,11 +63,9 @@ fn make_integers(numbers: &[i64; NUMBERS], room: &mut [u8; NUMBERS_ROOM]) -> usi
     ensures numbers_len_bound { length (integers_text numbers.now) ≤ most_slot_bytes }
 {
     let mut next = text::put_signed(room, 0, numbers[0]);
-    let mut i = 1;
-    while i < NUMBERS {
+    for i in 1..NUMBERS {
         next = text::put(room, next, b" ");
         next = text::put_signed(room, next, numbers[i]);
-        i += 1;
     }
     next
 }

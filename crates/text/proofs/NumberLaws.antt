@@ -1,19 +1,22 @@
 -- How many digits numbers have: the kit's `IsDigitCount` holds of one count alone, which is `digit_count` for decimal digits.
 -- Assumes nothing.
-use Prim.Native.Nat.{ℕ, zero, suc, ◌+◌, ◌-◌, ◌^◌, ◌≤◌, ◌<◌}
+use Prim.Native.Nat.{ℕ, zero, suc, ◌+◌, ◌-◌, ◌/◌, ◌%◌, ◌^◌, ◌≤◌, ◌<◌}
 use mathlib.Core.Bool.{Bool, true, false}
-use mathlib.Core.List.{List}
-use mathlib.Core.Path.{◌≡◌, refl, ap, subst, ◌∙◌}
-use native.Mathlib.Nat.{lt_of_lt_of_le, pow-le-pow_right, pow-suc}
+use mathlib.Core.List.{List, [], ◌∷◌, ◌++◌}
+use mathlib.Core.Path.{◌≡◌, refl, sym, ap, subst, ◌∙◌}
+use native.Mathlib.Nat.{add-zero, add-suc, lt_of_lt_of_le, pow-le-pow_right, pow-suc}
 use native.Mathlib.Omega.{arith}
 use lib.Dec.{ltb}
-use lib.IntN.{ℤ, pos, negsuc}
-use lib.ListN.{length, length-append}
+use lib.IntN.{ℤ, pos, negsuc, nat_abs}
+use lib.ListN.{length, take, drop, length-append, length-drop}
+use lib.Seq.{drop-length, drop-append-le, take-length}
+use lib.Signed.{lt_z}
 use mir.Syntax.{w64}
 use mir.Val.{Fits, SFits}
 use borrow.Author.Tests.{ltb-true, ltb-false}
-use Rattle.io.specs.Digits.{last_digits, IsDigitCount}
+use Rattle.io.specs.Digits.{last_digits, hex_digit_ascii, IsDigitCount}
 use Rattle.laws.proofs.DifferenceLaws.{below?}
+use Rattle.text.specs.Characters.{MINUS}
 use Rattle.text.specs.Numbers.{enough_digits, digit_count, decimal_text, signed_text, hex_text}
 
 pub length_digits : (b k n : ℕ) → length (last_digits b k n) ≡ k
@@ -92,3 +95,37 @@ pub fewest_hex : (k n j : ℕ) {text : List ℕ} → n < 16 ^ k → IsDigitCount
 unfolding hex_text
 fewest_hex k n j below f e =
     e ∙ ap (λ (m : ℕ). last_digits 16 m n) (fewest_unique 16 k n j k (omega arith) f (omega arith, below, λ h. absurd (omega arith)))
+
+-- of all the digits of a number the last so many
+last_behind : (b j k n : ℕ) → drop j (last_digits b (j + k) n) ≡ last_digits b k n
+last_behind b j zero n = rw add-zero (drop-all-of (last_digits b j n) j (length_digits b j n))
+  where
+    drop-all-of : (l : List ℕ) (j : ℕ) → length l ≡ j → drop j l ≡ []
+    drop-all-of l j e = rw (← e) (drop-length l)
+last_behind b j (suc k) n =
+    rw add-suc
+    (drop-append-le j (last_digits b (j + k) (n / b)) (hex_digit_ascii (n % b) ∷ []) (omega (arith, length_digits b (j + k) (n / b)))
+    ∙ ap (λ (l : List ℕ). l ++ hex_digit_ascii (n % b) ∷ []) (last_behind b j k (n / b)))
+
+-- as they stand in the part of a room that all of them take
+pub last_hex : (k n j : ℕ) (room : List ℕ) → k ≤ 16 → n < 16 ^ 16 → IsDigitCount 16 16 n j → take j room ≡ last_digits 16 j n
+    → take (length (take j room) - (j - k)) (drop (j - k) (take j room)) ≡ hex_text k n
+unfolding hex_text
+last_hex k n j room few below f e =
+    let digits = take j room in
+    let all : j ≡ (j - k) + k = omega (arith, f.0) in
+    ap (λ (m : ℕ). take m (drop (j - k) digits)) (sym (length-drop (j - k) digits))
+    ∙ take-length (drop (j - k) digits)
+    ∙ ap (drop (j - k)) (e ∙ ap (λ (m : ℕ). last_digits 16 m n) all)
+    ∙ last_behind 16 (j - k) k n
+
+-- an integer by its magnitude, behind its sign where it is below 0
+pub signed_below : (z : ℤ) → lt_z z (pos 0) ≡ true → MINUS ∷ decimal_text (nat_abs z) ≡ signed_text z
+unfolding signed_text
+signed_below (pos n) h = absurd (omega (arith, ltb-true n 0 h))
+signed_below (negsuc n) h = refl
+
+pub signed_from_zero : (z : ℤ) → lt_z z (pos 0) ≡ false → decimal_text (nat_abs z) ≡ signed_text z
+unfolding signed_text
+signed_from_zero (pos n) h = refl
+signed_from_zero (negsuc n) h = cc

@@ -2,6 +2,8 @@
 //
 // A function answers the position after its text. Where the text does not fit from its position on, nothing is written and
 // the answer is one past the buffer's end, where nothing fits: so a caller may store text after text and test the last answer.
+// An `Option` of the position would be no plainer: each text would be tested before the next, also where it is known to fit.
+// Nor would a struct of the buffer and the position: each method would promise besides that the buffer is the one that was lent.
 #![tactic(auto)]
 
 mod lines; // lines.rt: numbers on a line

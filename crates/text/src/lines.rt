@@ -24,10 +24,8 @@ pub fn after_line(out: &[u8], at: usize, numbers: &[u32]) -> usize
     ensures { result ≡ position_after (length out.now) at (numbers_line numbers.now) }
 {
     let mut next = after(out, at, 0);
-    let mut i = 0;
-    while i < numbers.len() {
-        next = after(out, next, item_length(i, wide(numbers[i])));
-        i += 1;
+    for (i, number) in numbers.iter().enumerate() {
+        next = after(out, next, item_length(i, u64::from(*number)));
     }
     after(out, next, 1)
 }
@@ -38,10 +36,8 @@ fn write_line(out: &mut [u8], at: usize, numbers: &[u32])
     ensures { out.new ≡ placed_text out.old at (numbers_line numbers.now) }
 {
     let mut next = at;
-    let mut i = 0;
-    while i < numbers.len() {
-        next = put_item(out, next, i, wide(numbers[i]));
-        i += 1;
+    for (i, number) in numbers.iter().enumerate() {
+        next = put_item(out, next, i, u64::from(*number));
     }
     put(out, next, b"\n");
 }
@@ -65,10 +61,4 @@ fn item_length(i: usize, n: u64) -> usize
         return decimal_length(n);
     }
     decimal_length(n) + 1
-}
-
-fn wide(n: u32) -> u64
-    ensures { result ≡ n }
-{
-    n as u64
 }

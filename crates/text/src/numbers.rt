@@ -8,10 +8,8 @@ use crate::placing::put;
 // The most decimal digits of a number of 64 bits.
 const MOST_DIGITS: usize = 20;
 
-// The hexadecimal digits of 32 bits and of 64.
-const HEX32_DIGITS: usize = 8;
-
-const HEX64_DIGITS: usize = 16;
+// The hexadecimal digits of 64 bits.
+const MOST_HEX_DIGITS: usize = 16;
 
 // Stores a number in decimal digits.
 pub fn put_decimal(out: &mut [u8], at: usize, n: u64) -> usize
@@ -29,9 +27,9 @@ pub fn put_signed(out: &mut [u8], at: usize, z: i64) -> usize
     ensures out_after { out.new ≡ placed_text out.old at (signed_text z) }
 {
     if z < 0 {
-        return put_behind(out, at, b'-', (-1 - z) as u64 + 1);
+        return put_behind(out, at, b'-', z.unsigned_abs());
     }
-    put_decimal(out, at, z as u64)
+    put_decimal(out, at, z.unsigned_abs())
 }
 
 // Stores a byte and behind it a number in decimal digits.
@@ -54,22 +52,31 @@ pub(crate) fn decimal_length(n: u64) -> usize
     io::decimal(n, &mut text)
 }
 
-// Stores 32 bits in hexadecimal digits, zeros in front too.
+// Stores the hexadecimal digits of 32 bits, zeros in front too.
+// Apart from that of 64 bits, since one over the count of digits would ask its callers for a bound.
 pub fn put_hex32(out: &mut [u8], at: usize, bits: u32) -> usize
     ensures value { result ≡ position_after (length out.old) at (hex_text 8 bits) }
     ensures out_after { out.new ≡ placed_text out.old at (hex_text 8 bits) }
 {
-    let mut text = [0u8; HEX64_DIGITS];
-    let count = io::hex(bits as u64, HEX32_DIGITS, &mut text);
-    put(out, at, &text[..count])
+    put_hex::<8>(out, at, u64::from(bits))
 }
 
-// Stores 64 bits in hexadecimal digits, zeros in front too.
+// Stores the hexadecimal digits of 64 bits, zeros in front too.
 pub fn put_hex64(out: &mut [u8], at: usize, bits: u64) -> usize
     ensures value { result ≡ position_after (length out.old) at (hex_text 16 bits) }
     ensures out_after { out.new ≡ placed_text out.old at (hex_text 16 bits) }
 {
-    let mut text = [0u8; HEX64_DIGITS];
-    let count = io::hex(bits, HEX64_DIGITS, &mut text);
-    put(out, at, &text[..count])
+    put_hex::<16>(out, at, bits)
+}
+
+// Stores the last so many hexadecimal digits of a number, zeros in front too.
+fn put_hex<const DIGITS: usize>(out: &mut [u8], at: usize, bits: u64) -> usize
+    requires { DIGITS ≤ 16 }
+    ensures value { result ≡ position_after (length out.old) at (hex_text DIGITS bits) }
+    ensures out_after { out.new ≡ placed_text out.old at (hex_text DIGITS bits) }
+{
+    let mut text = [0u8; MOST_HEX_DIGITS];
+    let count = io::hex(bits, MOST_HEX_DIGITS, &mut text);
+    let digits = &text[..count];
+    put(out, at, &digits[count - DIGITS..])
 }

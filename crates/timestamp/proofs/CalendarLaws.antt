@@ -28,10 +28,6 @@ leap_tests y n e = ap (λ (x : ℕ). divides 4 x && (not (divides 100 x) || divi
 abbrev pub common_days : ℕ → ℕ
 common_days m = get_or (0 ∷ months false) m 0
 
-pub no_days : (m : ℕ) → (1 ≤ m → m ≤ 12 → ⊥) → 0 ≡ common_days m
-no_days zero f = refl
-no_days (suc m) f = let past : 12 ≤ m = below? m 12 (λ h. absurd (f (omega arith) (omega arith))) (λ h. h) in sym (get_or-eq_default (months false) 0 past)
-
 -- each month has them in every year, and February has a day more in a leap year
 month_least : (b : Bool) (i : ℕ) → get_or (months false) i 0 ≤ get_or (months b) i 0
 month_least b zero = omega arith

@@ -2,11 +2,11 @@
 -- day.
 use Prim.Native.Nat.{ℕ, suc, ◌+◌, ◌*◌, ◌-◌, ◌/◌, ◌%◌, ◌<◌, ◌≤◌, ◌^◌}
 use native.Mathlib.Omega.{arith}
-use native.Mathlib.Nat.{add-mul, mul_assoc, mul_comm, div-add-mod', mod-lt, mul-le-mul_left, mul-le-mul_right}
+use native.Mathlib.Nat.{add-mul, mul_assoc, mul_comm, div-add-mod', mod-lt, mul-le-mul_right}
 use mathlib.Core.Path.{◌≡◌, refl, sym, ap, subst, ◌∙◌}
 use mathlib.Core.Bool.{Bool, true, false, cond, ◌&&◌}
 use borrow.Author.Tests.{le-leb, lt-leb}
-use lib.IntN.{ℤ, pos, negsuc, sub_ℕ, ◌+ℤ◌, ◌*ℤ◌, +ℤ_idr}
+use lib.IntN.{ℤ, pos, negsuc, sub_ℕ, ◌+ℤ◌, ◌*ℤ◌}
 use lib.Signed.{mag}
 use mir.Syntax.{w64}
 use mir.Val.{SFits, to_z, of_z}
@@ -58,13 +58,6 @@ joined_below (pos q) t r n h k = let most : suc q * t ≤ n * t = mul-le-mul_rig
 joined_below (negsuc q) t r n h k =
     let most : suc q * t ≤ n * t = mul-le-mul_right t k in
     subst (λ (z : ℤ). mag z < n * t) (sym (joined_negative q t r h)) (omega (arith, suc_times q t))
-
--- so on fewer days than fill 63 bits the count has 64
-pub joined_fits : (day : ℤ) (t r n : ℕ) → r < t → mag day < n → n * t < 2 ^ 63 → mag (joined day t r) < 2 ^ 63
-joined_fits day t r n h k l = omega (arith, joined_below day t r n h k)
-
-pub ticks_fit : (day : ℤ) (t n : ℕ) → 0 < t → mag day < n → n * t < 2 ^ 63 → mag (day *ℤ pos t) < 2 ^ 63
-ticks_fit day t n h k l = subst (λ (z : ℤ). mag z < 2 ^ 63) (+ℤ_idr (day *ℤ pos t)) (joined_fits day t 0 n h k l)
 
 -- days of t parts of u ticks each
 pub joined_twice : (day : ℤ) (t r u f : ℕ) → joined (joined day t r) u f ≡ joined day (u * t) (r * u + f)
@@ -128,22 +121,8 @@ divided_signed b n t h =
     twice true r k = omega arith
     twice false r k = refl
 
--- what is asked and told of the number that the machine reads back is asked and told of the number
-pub joined_asked : {day : ℤ} (t : ℕ) → SFits w64 day → suc (mag day) * t < 2 ^ 63 → suc (mag (to_z w64 (of_z w64 day))) * t < 2 ^ 63
-joined_asked {day} t h p = subst (λ (z : ℤ). suc (mag z) * t < 2 ^ 63) (sym (to_z-of_z w64 day h)) p
-
 pub joined_told : {day z : ℤ} (t r : ℕ) → SFits w64 day → z ≡ joined (to_z w64 (of_z w64 day)) t r → z ≡ joined day t r
 joined_told {day} t r h p = p ∙ ap (λ (d : ℤ). joined d t r) (to_z-of_z w64 day h)
 
 pub division_told : {count : ℤ} {t : ℕ} {d : Division} → SFits w64 count → FloorDivision (to_z w64 (of_z w64 count)) t d → FloorDivision count t d
 division_told {count} {t} {d} h p = subst (λ (z : ℤ). FloorDivision z t d) (to_z-of_z w64 count h) p
-
--- and whatever divides the number is that division
-pub division_only : {count : ℤ} {t : ℕ} {d e : Division} → SFits w64 count → FloorDivision (to_z w64 (of_z w64 count)) t d → FloorDivision count t e → e ≡ d
-division_only h p q = division_one q (division_told h p)
-
--- at a thousand ticks a second or more the days of a count of 64 bits are few
-pub division_days : {count : ℤ} {t : ℕ} {d : Division} → 86400000 ≤ t → SFits w64 count → FloorDivision count t d → mag d.day < 2 ^ 37
-division_days {count} {t} {d} h k p =
-    let least : mag d.day * 86400000 ≤ mag d.day * t = mul-le-mul_left (mag d.day) h in
-    omega (arith, least, division_reach p, k.sfits)

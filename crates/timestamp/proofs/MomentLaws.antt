@@ -2,13 +2,12 @@
 -- tick of it answers, t
 -- being those in a day.
 use Prim.Native.Nat.{ℕ, ◌+◌, ◌*◌, ◌<◌, ◌≤◌}
-use mathlib.Core.Path.{◌≡◌, refl, sym, ap, ap₂, subst, ◌∙◌}
+use mathlib.Core.Path.{◌≡◌, sym, ap, ap₂, ◌∙◌}
 use mathlib.Core.Bool.{Bool, true, false, cond, ◌&&◌, false≢true}
 use mathlib.Core.Option.{Option, none, some}
-use borrow.Author.Tests.{lt-ltb, le-ltb}
+use borrow.Author.Tests.{lt-ltb}
 use lib.Dec.{ltb}
 use lib.IntN.{ℤ, pos, ◌+ℤ◌, ◌*ℤ◌}
-use lib.Signed.{mag}
 use mir.Syntax.{w64}
 use mir.Val.{SFits, to_z, of_z}
 use mir.ValLaws.{to_z-of_z}
@@ -67,40 +66,17 @@ pub moment_for : (u : Option TimeUnit) (f : Fields) (m : Moment) (o : Outcome �
 moment_for none f m o p e = e
 moment_for (some unit) f m o p e = e ∙ sym (moment_encoded (ticks_per_second_of unit) f m (ticks_least unit) p)
 
--- where the fraction is a full second there is no such time, and else the moment decides
-pub fraction_beyond : (t : ℕ) (m : Moment) (fraction : ℕ) → t ≤ fraction → no_date_time ≡ encoding_at t m fraction
-fraction_beyond t (Moment.Second s) fraction h = sym (ap (λ (b : Bool). cond b (counting (joined s t fraction)) no_date_time) (le-ltb fraction t h))
-fraction_beyond t Moment.Far fraction h = sym (ap (λ (b : Bool). cond b not_representable no_date_time) (le-ltb fraction t h))
-fraction_beyond t Moment.NoDateTime fraction h = refl
-
+-- where the fraction is below a second, the count of the second and the fraction decides
 pub fraction_within : (t : ℕ) (m : Moment) (s : ℤ) (fraction : ℕ) (o : Outcome ℤ) → fraction < t → m ≡ Moment.Second s → o ≡ counting (joined s t fraction) → o ≡ encoding_at t m fraction
 fraction_within t m s fraction o h e p =
     p ∙ sym (ap (λ (k : Moment). encoding_at t k fraction) e ∙ ap (λ (b : Bool). cond b (counting (joined s t fraction)) no_date_time) (lt-ltb fraction t h))
 
-pub fraction_far : (t : ℕ) (m : Moment) (fraction : ℕ) → fraction < t → m ≡ Moment.Far → not_representable ≡ encoding_at t m fraction
-fraction_far t m fraction h e = sym (ap (λ (k : Moment). encoding_at t k fraction) e ∙ ap (λ (b : Bool). cond b not_representable no_date_time) (lt-ltb fraction t h))
-
-pub fraction_none : (t : ℕ) (m : Moment) (fraction : ℕ) → m ≡ Moment.NoDateTime → no_date_time ≡ encoding_at t m fraction
-fraction_none t m fraction e = sym (ap (λ (k : Moment). encoding_at t k fraction) e)
-
--- what is asked and answered of the second that the machine reads back is asked and answered of the second
-pub second_asked : {s : ℤ} {n : ℕ} → SFits w64 s → mag s < n → mag (to_z w64 (of_z w64 s)) < n
-second_asked {s} {n} h p = subst (λ (z : ℤ). mag z < n) (sym (to_z-of_z w64 s h)) p
-
+-- what is answered of the second that the machine reads back is answered of the second
 pub second_answered : (s : ℤ) (t fraction : ℕ) (o : Outcome ℤ) → SFits w64 s → o ≡ encoding_at t (Moment.Second (to_z w64 (of_z w64 s))) fraction → o ≡ encoding_at t (Moment.Second s) fraction
 second_answered s t fraction o h p = p ∙ ap (λ (z : ℤ). encoding_at t (Moment.Second z) fraction) (to_z-of_z w64 s h)
 
 -- ---- a day and a tick of it
 
--- they are joined as a second and a fraction of it are: a tick that the day has not is 18
-pub tick_beyond : (t : ℕ) (day : ℤ) (tick : ℕ) → t ≤ tick → no_date_time ≡ joining t day tick
-tick_beyond t day tick h = fraction_beyond t (Moment.Second day) tick h
-
--- and else the count decides
-pub tick_within : (t : ℕ) (day : ℤ) (tick : ℕ) (o : Outcome ℤ) → SFits w64 day → tick < t → o ≡ counting (joined (to_z w64 (of_z w64 day)) t tick) → o ≡ joining t day tick
-tick_within t day tick o h k p =
-    second_answered day t tick o h (fraction_within t (Moment.Second (to_z w64 (of_z w64 day))) (to_z w64 (of_z w64 day)) tick o k refl p)
-
--- and answered of the day that the machine reads back as of the day
+-- they are joined as a second and a fraction of it are: of the day that the machine reads back as of the day
 pub day_answered : (t : ℕ) (day : ℤ) (tick : ℕ) (o : Outcome ℤ) → SFits w64 day → o ≡ joining t (to_z w64 (of_z w64 day)) tick → o ≡ joining t day tick
 day_answered t day tick o h p = second_answered day t tick o h p

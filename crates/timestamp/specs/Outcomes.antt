@@ -1,17 +1,14 @@
 -- What decoding, encoding and the test of a day's tick answer: document 01's refusals by number and place, or the value.
-use Rattle.std.specs.Prelude.{ℕ, ◌-◌, ◌^◌, ◌≡◌, Bool, true, false, cond, ◌&&◌, ltb, ℤ, pos, negsuc, ◌+ℤ◌, ◌*ℤ◌}
+use Rattle.std.specs.Prelude.{Result, Ok, Err, ℕ, ◌-◌, ◌^◌, ◌≡◌, Bool, cond, ◌&&◌, ltb, ℤ, pos, negsuc, ◌+ℤ◌, ◌*ℤ◌}
 use Rattle.std.proofs.Math.Option.{Option, none, some}
 use Rattle.std.specs.Int.Signed.{le_z}
+use Rattle.refusal.specs.declared.answers.Refusal.{Refusal}
 use Rattle.refusal.specs.Numbers.{NO_DATE_TIME, NOT_REPRESENTABLE, UNKNOWN_TYPE}
 use Rattle.refusal.specs.Outcome.{Outcome, given, refused, unplaced}
 -- a type of the code: the seven fields, as `Count` has them
 use Rattle.timestamp.specs.declared.fields.Fields.{Fields}
--- what decode answers: `Fields`, which holds them, or `Refused`, which holds a refusal
-use Rattle.timestamp.specs.declared.decoding.Decoded.{Decoded}
--- what encode answers: `Count`, which holds a signed 64-bit number, `NoDateTime`, `NotRepresentable` or `UnknownUnit`
-use Rattle.timestamp.specs.declared.encoding.Encoded.{Encoded}
--- what in_day answers: `Within`, `Beyond` or `Refused`
-use Rattle.timestamp.specs.declared.units.InDay.{InDay}
+-- why encode gives no count: `NoDateTime`, `NotRepresentable` or `UnknownUnit`
+use Rattle.timestamp.specs.declared.encoding.EncodeError.{EncodeError}
 use Rattle.logical_type.specs.declared.types.TimeUnit.{TimeUnit}
 use Rattle.timestamp.specs.Units.{ticks_per_second_of, ticks_per_day_of}
 use Rattle.timestamp.specs.Count.{is_date_time, count_of, FieldsOf}
@@ -29,22 +26,25 @@ abbrev pub unknown_unit : {A : Type 0} → Outcome A
 unknown_unit = refused (unplaced UNKNOWN_TYPE)
 
 -- what each answer of decode stands for
-abbrev pub decoded : Decoded → Outcome Fields
-decoded (Decoded.Fields f) = given f
-decoded (Decoded.Refused r) = refused r
+abbrev pub decoded : Result Fields Refusal → Outcome Fields
+decoded (Ok f) = given f
+decoded (Err r) = refused r
+
+-- the refusal of each error of encode
+abbrev pub refusal_of : EncodeError → Refusal
+refusal_of EncodeError.NoDateTime = unplaced NO_DATE_TIME
+refusal_of EncodeError.NotRepresentable = unplaced NOT_REPRESENTABLE
+refusal_of EncodeError.UnknownUnit = unplaced UNKNOWN_TYPE
 
 -- what each answer of encode stands for
-abbrev pub encoded : Encoded → Outcome ℤ
-encoded (Encoded.Count z) = given z
-encoded Encoded.NoDateTime = no_date_time
-encoded Encoded.NotRepresentable = not_representable
-encoded Encoded.UnknownUnit = unknown_unit
+abbrev pub encoded : Result ℤ EncodeError → Outcome ℤ
+encoded (Ok z) = given z
+encoded (Err e) = refused (refusal_of e)
 
 -- what each answer of in_day stands for
-abbrev pub day_answer : InDay → Outcome Bool
-day_answer InDay.Within = given true
-day_answer InDay.Beyond = given false
-day_answer (InDay.Refused r) = refused r
+abbrev pub day_answer : Result Bool Refusal → Outcome Bool
+day_answer (Ok has) = given has
+day_answer (Err r) = refused r
 
 -- whether a day has a tick, the first being 0: 20 where no unit is named, else whether it lies below those of that unit
 abbrev pub day_has : Option TimeUnit → ℕ → Outcome Bool

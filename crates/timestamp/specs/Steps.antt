@@ -1,4 +1,5 @@
 -- What private functions promise each other; no public contract cites it.
+use Rattle.std.specs.Prelude as code
 use Rattle.std.specs.Prelude.{ℕ, ◌+◌, ◌*◌, ◌-◌, ◌/◌, ◌%◌, ◌<◌, ◌≤◌, ◌≡◌, Bool, true, false, cond, ◌&&◌, ◌∷◌, ltb, ℤ, pos, ◌+ℤ◌, ◌*ℤ◌, get_or}
 use Rattle.std.proofs.Math.Option.{Option, none, some}
 use Rattle.std.proofs.Math.IntN.{sub_ℕ}
@@ -6,11 +7,8 @@ use Rattle.std.specs.Int.Signed.{mag}
 use Rattle.refusal.specs.Outcome.{Outcome}
 -- types of the code: a month's `days`, an unsigned 32-bit number, and its `offset`, a signed 64-bit one
 use Rattle.timestamp.specs.declared.calendar.Month.{Month}
--- near fields' `Second`, which holds a signed 64-bit number, or `Other`; a moment's `Second`, which holds one, `Far` or `NoDateTime`
-use Rattle.timestamp.specs.declared.near.Near.{Near}
+-- a moment's `Second`, which holds a signed 64-bit number, `Far` or `NoDateTime`
 use Rattle.timestamp.specs.declared.moment.Moment.{Moment}
--- the unit that was found: `Millis`, `Micros`, `Nanos` or `Unknown`
-use Rattle.timestamp.specs.declared.units.FoundUnit.{FoundUnit}
 use Rattle.timestamp.specs.declared.fields.Fields.{Fields}
 use Rattle.timestamp.specs.Calendar.{months, is_date, day_number}
 use Rattle.timestamp.specs.Clock.{hours_per_day, minutes_per_hour, seconds_per_minute, seconds_per_day}
@@ -59,9 +57,9 @@ IsMoment f Moment.Far = (is_formed f ≡ true) × (years_reached ≤ mag f.year)
 IsMoment f Moment.NoDateTime = is_formed f ≡ false
 
 -- the second of near fields is theirs, and near; of others nothing is said
-abbrev pub IsNear : Fields → Near → Type 0
-IsNear f (Near.Second s) = IsMoment f (Moment.Second s) × (mag s < seconds_reached)
-IsNear f Near.Other = Unit {0}
+abbrev pub IsNear : Fields → code.Option ℤ → Type 0
+IsNear f (code.Some s) = IsMoment f (Moment.Second s) × (mag s < seconds_reached)
+IsNear f code.None = Unit {0}
 
 -- what it answers of a moment and a fraction, in a unit with so many ticks in a second
 abbrev pub encoding_at : ℕ → Moment → ℕ → Outcome ℤ
@@ -74,9 +72,7 @@ abbrev pub encoding_for : Option TimeUnit → Moment → ℕ → Outcome ℤ
 encoding_for none moment fraction = unknown_unit
 encoding_for (some unit) moment fraction = encoding_at (ticks_per_second_of unit) moment fraction
 
--- the unit that was found: one of the three, or none
-abbrev pub unit_found : FoundUnit → Option TimeUnit
-unit_found FoundUnit.Millis = some TimeUnit.Millis
-unit_found FoundUnit.Micros = some TimeUnit.Micros
-unit_found FoundUnit.Nanos = some TimeUnit.Nanos
-unit_found FoundUnit.Unknown = none
+-- the unit that was found, if any, as definitions have it
+abbrev pub unit_found : code.Option TimeUnit → Option TimeUnit
+unit_found (code.Some unit) = some unit
+unit_found code.None = none

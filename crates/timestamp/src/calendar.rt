@@ -6,8 +6,8 @@ ghost use Rattle.timestamp.specs.Calendar.{is_leap, day_number, is_date};
 ghost use Rattle.timestamp.specs.Steps.{IsMonth, years_reached};
 
 use crate::eras;
-use crate::eras::{DAYS_PER_ERA, EraDate, YEARS_PER_CENTURY, YEARS_PER_ERA, YEARS_PER_FOUR};
-use crate::signed::{absolute, lowered, raised};
+use crate::eras::{DAYS_PER_ERA, YEARS_PER_CENTURY, YEARS_PER_ERA, YEARS_PER_FOUR};
+use crate::signed::{lowered, raised};
 
 // The eras before year 0 from which dates are counted, so that no number on the way is negative.
 const ERAS: u64 = 1_000_000;
@@ -29,15 +29,16 @@ const FEBRUARY: u32 = 2;
 // The day of February that only a leap year has.
 const LEAP_DAY: u32 = 29;
 
+// A date, whose years are signed, or are those of year 0 and later.
 #[derive(Clone, Copy)]
-pub(crate) struct Date {
-    pub(crate) year: i64,
+pub(crate) struct Date<Year> {
+    pub(crate) year: Year,
     pub(crate) month: u32,
     pub(crate) day: u32,
 }
 
 // Whether there is such a month, and such a day in it.
-pub(crate) fn is_date(date: Date) -> bool
+pub(crate) fn is_date(date: Date<i64>) -> bool
     ensures { result ≡ is_date date.year date.month date.day }
 {
     let month = month_at(date.month);
@@ -48,7 +49,7 @@ pub(crate) fn is_date(date: Date) -> bool
 }
 
 // The date of a day number.
-pub(crate) fn date_of(day: i64) -> Date
+pub(crate) fn date_of(day: i64) -> Date<i64>
     requires { mag day < 2 ^ 37 }
     ensures { (is_date result.year result.month result.day ≡ true) × (day_number result.year result.month result.day ≡ day) }
 {
@@ -61,11 +62,11 @@ pub(crate) fn date_of(day: i64) -> Date
 }
 
 // The day number of a date.
-pub(crate) fn day_number(date: Date) -> i64
+pub(crate) fn day_number(date: Date<i64>) -> i64
     requires { (mag date.year < years_reached) × (is_date date.year date.month date.day ≡ true) }
     ensures { (result ≡ day_number date.year date.month date.day) × (mag result < 2 ^ 43) }
 {
-    let era_date = EraDate {
+    let era_date = Date {
         year: raised(date.year, YEARS_BEFORE),
         month: date.month,
         day: date.day,
@@ -80,68 +81,33 @@ pub(crate) struct Month {
     pub(crate) offset: i64,
 }
 
-// The month of that number. There is none of 0 days.
+// The month of that number. There is none of 0 days. It is a match, which needs no index: a table would need the test and the cast too.
 pub(crate) fn month_at(month: u32) -> Month
     ensures { IsMonth month result }
 {
-    match month {
-        1 => Month {
-            days: 31,
-            offset: -719_163,
-        },
-        2 => Month {
-            days: 28,
-            offset: -719_132,
-        },
-        3 => Month {
-            days: 31,
-            offset: -719_469,
-        },
-        4 => Month {
-            days: 30,
-            offset: -719_438,
-        },
-        5 => Month {
-            days: 31,
-            offset: -719_408,
-        },
-        6 => Month {
-            days: 30,
-            offset: -719_377,
-        },
-        7 => Month {
-            days: 31,
-            offset: -719_347,
-        },
-        8 => Month {
-            days: 31,
-            offset: -719_316,
-        },
-        9 => Month {
-            days: 30,
-            offset: -719_285,
-        },
-        10 => Month {
-            days: 31,
-            offset: -719_255,
-        },
-        11 => Month {
-            days: 30,
-            offset: -719_224,
-        },
-        12 => Month {
-            days: 31,
-            offset: -719_194,
-        },
-        _ => Month { days: 0, offset: 0 },
-    }
+    let (days, offset) = match month {
+        1 => (31, -719_163),
+        2 => (28, -719_132),
+        3 => (31, -719_469),
+        4 => (30, -719_438),
+        5 => (31, -719_408),
+        6 => (30, -719_377),
+        7 => (31, -719_347),
+        8 => (31, -719_316),
+        9 => (30, -719_285),
+        10 => (31, -719_255),
+        11 => (30, -719_224),
+        12 => (31, -719_194),
+        _ => (0, 0),
+    };
+    Month { days, offset }
 }
 
 // Whether a year is a leap year. A year before 0 is one where its distance from 0 would be.
 fn is_leap(year: i64) -> bool
     ensures { result ≡ is_leap year }
 {
-    let years = absolute(year);
+    let years = year.unsigned_abs();
     (years % YEARS_PER_FOUR == 0)
         & ((years % YEARS_PER_CENTURY != 0) | (years % YEARS_PER_ERA == 0))
 }

@@ -7,7 +7,7 @@ ghost use Rattle.std.specs.Prelude.{◌≡◌, cond, suc, ◌*◌, ◌-◌, ◌<
 ghost use Rattle.std.specs.Int.Signed.{mag};
 ghost use Rattle.timestamp.specs.FloorDivision.{FloorDivision};
 
-use crate::signed::{folded, is_negative, signed};
+use crate::signed::{folded, signed};
 
 // Whole days since 1 January 1970, negative before it, and the ticks of the day that have passed.
 #[derive(Clone, Copy)]
@@ -16,12 +16,13 @@ pub struct Division {
     pub rest: u64,
 }
 
-// The days of a count, rounded down, and the ticks left, at so many ticks in a day.
+// The days of a count, rounded down, and the ticks left, at so many ticks in a day. By `div_euclid` and `rem_euclid` it would be two
+// divisions, one of them of signed numbers; both halves of a number that is folded come from one.
 pub(crate) fn floor_divide(count: i64, ticks_per_day: u64) -> Division
     requires { 0 < ticks_per_day }
     ensures { FloorDivision count ticks_per_day result }
 {
-    let negative = is_negative(count);
+    let negative = count.is_negative();
     let size = folded(count);
     Division {
         day: signed(negative, size / ticks_per_day),

@@ -11,6 +11,8 @@
 ghost use Rattle.std.specs.Prelude.{◌≡◌, true, ◌+◌, ◌*◌, ◌-◌, ◌/◌, ◌%◌, ◌<◌, ◌≤◌, ◌^◌, pos};
 ghost use Rattle.timestamp.specs.Calendar.{day_of, days_of_year, is_date};
 
+use crate::calendar::Date;
+
 pub(crate) const YEARS_PER_ERA: u64 = 400;
 
 pub(crate) const DAYS_PER_ERA: u64 = 146_097;
@@ -40,14 +42,6 @@ const MARCH: u32 = 3;
 // The months from March to December.
 const MONTHS_TO_JANUARY: u64 = 10;
 
-// A date of year 0 or later.
-#[derive(Clone, Copy)]
-pub(crate) struct EraDate {
-    pub(crate) year: u64,
-    pub(crate) month: u32,
-    pub(crate) day: u32,
-}
-
 // A year that begins in March, and a day of it, from 0.
 #[derive(Clone, Copy)]
 struct YearDay {
@@ -56,13 +50,13 @@ struct YearDay {
 }
 
 // The date of a day. 1 March of year 0 is day 0 here, and day 61 of its year.
-pub(crate) fn date_of(day: u64) -> EraDate
+pub(crate) fn date_of(day: u64) -> Date<u64>
     requires { day < 2 ^ 62 }
     ensures { (is_date (pos result.year) result.month result.day ≡ true) × (day_of (pos result.year) result.month result.day ≡ pos (day + 61)) × (result.year ≤ day + 1) }
 {
     let at = year_of(day);
     let from_march = month_of(at.day);
-    EraDate {
+    Date {
         year: at.year + years_begun(from_march),
         month: month_named(from_march),
         day: (at.day - days_before_month(from_march) + 1) as u32,
@@ -70,7 +64,7 @@ pub(crate) fn date_of(day: u64) -> EraDate
 }
 
 // The day of a date, which is of year 1 or later.
-pub(crate) fn day_of(date: EraDate) -> u64
+pub(crate) fn day_of(date: Date<u64>) -> u64
     requires { (1 ≤ date.year) × (date.year < 2 ^ 32) × (is_date (pos date.year) date.month date.day ≡ true) }
     ensures { (day_of (pos date.year) date.month date.day ≡ pos (result + 61)) × (result < 2 ^ 42) }
 {

@@ -10,13 +10,13 @@ mod eras; // eras.rt: dates as arithmetic on days, by eras of 400 years
 pub mod fields; // fields.rt: the fields of a date and time
 mod moment; // moment.rt: the second of a date and time
 mod near; // near.rt: the same for years that counts of every unit reach
-mod refusals; // refusals.rt: the refusals that timestamps have
+mod refusals; // refusals.rt: the refusal of a unit that there is not
 mod signed; // signed.rt: signed numbers as natural ones
 pub mod units; // units.rt: the three time units
 
-pub use decoding::{Decoded, decode};
+pub use decoding::decode;
 pub use division::Division;
-pub use encoding::{Encoded, encode};
+pub use encoding::{EncodeError, encode};
 pub use fields::Fields;
 pub use refusal::Refusal;
-pub use units::{InDay, Micros, Millis, Nanos, in_day};
+pub use units::{Micros, Millis, Nanos, Unit, in_day};

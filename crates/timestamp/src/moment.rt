@@ -2,8 +2,8 @@
 
 ghost use Rattle.timestamp.specs.Steps.{IsMoment};
 
-use crate::calendar::{Date, YEARS_REACHED, day_number, is_date};
-use crate::clock::{Time, is_clock, second_of_day};
+use crate::calendar::{YEARS_REACHED, day_number, is_date};
+use crate::clock::{is_clock, second_of_day};
 use crate::division::joined;
 use crate::fields::Fields;
 use crate::signed::folded;
@@ -23,17 +23,8 @@ pub(crate) enum Moment {
 pub(crate) fn moment_of(fields: Fields) -> Moment
     ensures { IsMoment fields result }
 {
-    let date = Date {
-        year: fields.year,
-        month: fields.month,
-        day: fields.day,
-    };
-    let time = Time {
-        hour: fields.hour,
-        minute: fields.minute,
-        second: fields.second,
-        fraction: fields.fraction,
-    };
+    let date = fields.date();
+    let time = fields.time();
     if !(is_date(date) & is_clock(time)) {
         return Moment::NoDateTime;
     }

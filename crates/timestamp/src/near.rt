@@ -6,58 +6,41 @@ ghost use Rattle.timestamp.specs.Calendar.{day_number, is_date};
 ghost use Rattle.timestamp.specs.Steps.{IsNear, days_reached, offset_of};
 
 use crate::calendar::month_at;
-use crate::clock::{Time, is_clock, second_of_day};
+use crate::clock::{is_clock, second_of_day};
 use crate::division::joined;
 use crate::eras::{days_before_year, years_before_march};
 use crate::fields::Fields;
-use crate::signed::{folded, is_negative};
 use crate::units::SECONDS_PER_DAY;
 
 // Counts of nanoseconds, which reach least far, go from September 1677 to April 2262.
-const FIRST_YEAR: u64 = 1_680;
+const FIRST_YEAR: i64 = 1_680;
 
-const LAST_YEAR: u64 = 2_260;
+const LAST_YEAR: i64 = 2_260;
 
-#[derive(Clone, Copy)]
-pub(crate) enum Near {
-    // So many seconds since 1 January 1970.
-    Second(i64),
-    // The fields may have a second or none.
-    Other,
-}
-
-// The second of such fields.
-pub(crate) fn second_of(fields: Fields) -> Near
+// The second of such fields, in seconds since 1 January 1970. Others may have a second or none.
+pub(crate) fn second_of(fields: Fields) -> Option<i64>
     ensures { IsNear fields result }
 {
-    if is_negative(fields.year) {
-        return Near::Other;
+    if fields.year < FIRST_YEAR {
+        return None;
     }
-    let year = folded(fields.year);
-    if year < FIRST_YEAR {
-        return Near::Other;
+    if LAST_YEAR < fields.year {
+        return None;
     }
-    if LAST_YEAR < year {
-        return Near::Other;
-    }
+    let year = fields.year as u64;
     let month = month_at(fields.month);
     if fields.day < 1 {
-        return Near::Other;
+        return None;
     }
     if month.days < fields.day {
-        return Near::Other;
+        return None;
     }
-    let time = Time {
-        hour: fields.hour,
-        minute: fields.minute,
-        second: fields.second,
-        fraction: fields.fraction,
-    };
+    let time = fields.time();
     if !is_clock(time) {
-        return Near::Other;
+        return None;
     }
     let day = day_number(year, fields.month, month.offset, fields.day);
-    Near::Second(joined(day, SECONDS_PER_DAY, second_of_day(time) as u64))
+    Some(joined(day, SECONDS_PER_DAY, second_of_day(time) as u64))
 }
 
 // The day number of a date of such a year.

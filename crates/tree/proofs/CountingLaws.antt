@@ -14,7 +14,7 @@ use Rattle.sheet.specs.Slot.{slots, slot_at, child_count, numbers_of}
 use Rattle.sheet.specs.declared.slots.Slot.{Slot as Numbers}
 use Rattle.tree.specs.OpenPlaces.{open_places}
 use Rattle.tree.specs.Judgement.{or_else, left_over, missing}
-use Rattle.refusal.specs.declared.answers.Verdict.TheVariants.{Lawful, Refused}
+use Rattle.std.specs.Prelude.{Ok, Err}
 use Rattle.tree.proofs.OpenPlacesLaws.{Open}
 use Rattle.tree.proofs.PlacesLaws.{open_places_zero, open_places_suc, left_over_none, left_over_at, missing_none, missing_some}
 use Rattle.sheet.proofs.SlotLaws.{slots_at_lem, slots_length}
@@ -51,25 +51,25 @@ module _ (b : List ℕ) (places node : ℕ) (c : Counted b places node) where
         before = λ j q. ⊎_elim (λ (w : j ≡ node). subst (λ (i : ℕ). Open (open_places (slots b) i)) (sym w) (some k)) (λ (w : j < node). c.before j w) (eq-or-lt_of_le (omega arith));
       }
 
-  pub counted_left : node < total_of b → places ≡ 0 → Refused (refusal 6 node) ≡ or_else (left_over (slots b)) (missing (slots b))
+  pub counted_left : node < total_of b → places ≡ 0 → Err (refusal 6 node) ≡ or_else (left_over (slots b)) (missing (slots b))
   unfolding or_else
   counted_left h z =
       sym (rw (left_over_at (slots b) node (omega (arith, slots_length b)) c.before (c.counted ∙ ap pos z)))
 
-  all : total_of b ≤ node → left_over (slots b) ≡ Lawful
+  all : total_of b ≤ node → left_over (slots b) ≡ Ok tt
   all h = left_over_none (slots b) (λ j q. c.before j (omega (arith, slots_length b, c.within)))
 
   at_end : total_of b ≤ node → length (slots b) ≡ node
   at_end h = omega (arith, slots_length b, c.within)
 
-  pub counted_filled : total_of b ≤ node → places ≡ 0 → Lawful ≡ or_else (left_over (slots b)) (missing (slots b))
+  pub counted_filled : total_of b ≤ node → places ≡ 0 → (Ok tt) ≡ or_else (left_over (slots b)) (missing (slots b))
   unfolding or_else
   counted_filled h z =
       sym (rw (all h) (missing_none (slots b) (ap (open_places (slots b)) (at_end h) ∙ c.counted ∙ ap pos z)))
 
-  pub counted_missing : total_of b ≤ node → (places ≡ 0 → ⊥) → Refused (refusal 5 (total_of b)) ≡ or_else (left_over (slots b)) (missing (slots b))
+  pub counted_missing : total_of b ≤ node → (places ≡ 0 → ⊥) → Err (refusal 5 (total_of b)) ≡ or_else (left_over (slots b)) (missing (slots b))
   unfolding or_else
   counted_missing h k =
       sym (rw (all h)
       (missing_some (slots b) (subst (λ (i : ℕ). Open (open_places (slots b) i)) (sym (at_end h)) (some k))
-      ∙ ap (λ (i : ℕ). Refused (refusal 5 i)) (slots_length b)))
+      ∙ ap (λ (i : ℕ). Err (refusal 5 i)) (slots_length b)))

@@ -12,9 +12,9 @@ use Rattle.laws.proofs.BoolLaws.{by_test}
 use Rattle.edition.specs.Editions.{FIRST, SECOND, THIRD}
 use Rattle.refusal.specs.Numbers.{SLOT, SHAPE, DISAGREEMENT, MISPLACED}
 use Rattle.refusal.specs.Outcome.{refusal}
-use Rattle.refusal.specs.declared.answers.Counted.{Counted}
+use Rattle.refusal.specs.Outcome.{Counted, Verdict}
+use Rattle.std.specs.Prelude.{Ok, Err}
 use Rattle.refusal.specs.declared.answers.Refusal.{Refusal}
-use Rattle.refusal.specs.declared.answers.Verdict.{Verdict}
 use Rattle.parquet.specs.Physical.{INT96}
 use Rattle.parquet.specs.Logical.{is_geospatial}
 use Rattle.sheet.specs.Slot.{physical, logical, numbers_of, slot_at, slots}
@@ -75,7 +75,7 @@ module _ {A : Type 0} (test : A → Bool) (number : ℕ) where
     pub earlier : (i : ℕ) → i < j → test (get_or xs i other) ≡ false
 
   -- is where the first fault is
-  pub marked_first : (other : A) (xs : List A) (k : ℕ) (r : Refusal) → first_fault k (map mark xs) ≡ Verdict.Refused r → (j : ℕ) × (r ≡ refusal (suc number) (k + j)) × FirstMarked other xs j
+  pub marked_first : (other : A) (xs : List A) (k : ℕ) (r : Refusal) → first_fault k (map mark xs) ≡ Err r → (j : ℕ) × (r ≡ refusal (suc number) (k + j)) × FirstMarked other xs j
   unfolding first_fault
   marked_first other [] k r e = absurd (let z : ◌≡◌ {A = ℕ} 0 1 = cc in omega arith)
   marked_first other (x ∷ xs) k r e =
@@ -86,7 +86,7 @@ module _ {A : Type 0} (test : A → Bool) (number : ℕ) where
       let m = rest.2 in
       (suc rest.0, rest.1 ∙ ap (refusal (suc number)) (omega arith), record { below = omega (arith, m.below); here = m.here; earlier = earlier f rest.0 m.earlier }))
     where
-      refused_is : {q s : Refusal} → Verdict.Refused q ≡ Verdict.Refused s → q ≡ s
+      refused_is : {q s : Refusal} → ◌≡◌ {A = Verdict} (Err q) (Err s) → q ≡ s
       refused_is h = cc
 
       earlier : test x ≡ false → (j : ℕ) → ((i : ℕ) → i < j → test (get_or xs i other) ≡ false) → (i : ℕ) → i < suc j → test (get_or (x ∷ xs) i other) ≡ false
@@ -94,13 +94,13 @@ module _ {A : Type 0} (test : A → Bool) (number : ℕ) where
       earlier f j before (suc i) h = before i (omega arith)
 
   -- where none is refused, none is marked
-  pub unmarked : (other : A) (xs : List A) (k : ℕ) → first_fault k (map mark xs) ≡ Verdict.Lawful → (j : ℕ) → j < length xs → test (get_or xs j other) ≡ false
+  pub unmarked : (other : A) (xs : List A) (k : ℕ) → first_fault k (map mark xs) ≡ Ok tt → (j : ℕ) → j < length xs → test (get_or xs j other) ≡ false
   unfolding first_fault
   unmarked other [] k e j h = absurd (omega arith)
   unmarked other (x ∷ xs) k e j h =
       by_test (test x) (λ t. absurd (other_verdict (rw t at e))) (λ f. at j h f (λ i l. unmarked other xs (suc k) (rw f at e) i l))
     where
-      other_verdict : {q : Refusal} → Verdict.Refused q ≡ Verdict.Lawful → ⊥
+      other_verdict : {q : Refusal} → ◌≡◌ {A = Verdict} (Err q) (Ok tt) → ⊥
       other_verdict d = let z : ◌≡◌ {A = ℕ} 0 1 = cc in omega arith
 
       at : (i : ℕ) → i < suc (length xs) → test x ≡ false → ((m : ℕ) → m < length xs → test (get_or xs m other) ≡ false) → test (get_or (x ∷ xs) i other) ≡ false
@@ -220,7 +220,7 @@ SomePlaceType ss = (j : ℕ) × (j < length ss) × (is_place_type (get_or ss j [
 
 -- what the third edition answers of nodes from the k-th on, where none is: what the second does, or 10 at the first INT96
 abbrev SameOr : List SlotBytes → ℕ → Verdict → Verdict → Type 0
-SameOr ss k v w = (v ≡ w) ⊎ (((j : ℕ) × (v ≡ Verdict.Refused (refusal MISPLACED (k + j))) × FirstInt96 ss j) ⊎ SomePlaceType ss)
+SameOr ss k v w = (v ≡ w) ⊎ (((j : ℕ) × (v ≡ Err (refusal MISPLACED (k + j))) × FirstInt96 ss j) ⊎ SomePlaceType ss)
 
 first_thirds : (ss : List SlotBytes) (ms ns : List ℕ) (k : ℕ) → Thirds ss ms ns → SameOr ss k (first_fault k ns) (first_fault k ms)
 unfolding first_fault
@@ -235,7 +235,7 @@ first_thirds (s ∷ ss) (m ∷ ms) (n ∷ ns) k h = at h.0 (first_thirds ss ms n
     later f (inl e) = inl e
     later f (inr (inr g)) = inr (inr (suc g.0, omega (arith, g.1), g.2))
     later f (inr (inl r)) =
-        inr (inl (suc r.0, r.1 ∙ ap (λ (i : ℕ). Verdict.Refused (refusal MISPLACED i)) (omega arith), record { below = omega (arith, r.2.below); here = r.2.here; earlier = earlier r.0 r.2.earlier }))
+        inr (inl (suc r.0, r.1 ∙ ap (λ (i : ℕ). Err (refusal MISPLACED i)) (omega arith), record { below = omega (arith, r.2.below); here = r.2.here; earlier = earlier r.0 r.2.earlier }))
       where
         earlier : (j : ℕ) → ((i : ℕ) → i < j → is_int96 (get_or ss i []) ≡ false) → (i : ℕ) → i < suc j → is_int96 (get_or (s ∷ ss) i []) ≡ false
         earlier j before zero l = f
@@ -253,11 +253,11 @@ first_thirds (s ∷ ss) (m ∷ ms) (n ∷ ns) k h = at h.0 (first_thirds ss ms n
     at (inl h) rest = rw h.1 (same m h.0 rest)
     at (inr (inl h)) rest = inl (told n h.0 ∙ ap (λ (x : ℕ). first_fault k (x ∷ ms)) h.1)
     at (inr (inr (inl h))) rest =
-        inr (inl (0, ap (λ (x : ℕ). first_fault k (x ∷ ns)) h.1 ∙ ap (λ (i : ℕ). Verdict.Refused (refusal MISPLACED i)) (omega arith), record { below = omega arith; here = h.0; earlier = λ i l. absurd (omega arith) }))
+        inr (inl (0, ap (λ (x : ℕ). first_fault k (x ∷ ns)) h.1 ∙ ap (λ (i : ℕ). Err (refusal MISPLACED i)) (omega arith), record { below = omega arith; here = h.0; earlier = λ i l. absurd (omega arith) }))
     at (inr (inr (inr h))) rest = inr (inr (0, omega arith, h.0))
 
 -- and where it refuses none, none is one
-none_thirds : (ss : List SlotBytes) (ms ns : List ℕ) (k : ℕ) → Thirds ss ms ns → first_fault k ns ≡ Verdict.Lawful → (j : ℕ) → j < length ss → is_int96 (get_or ss j []) ≡ false
+none_thirds : (ss : List SlotBytes) (ms ns : List ℕ) (k : ℕ) → Thirds ss ms ns → first_fault k ns ≡ Ok tt → (j : ℕ) → j < length ss → is_int96 (get_or ss j []) ≡ false
 unfolding first_fault
 none_thirds [] ms ns k h e j l = absurd (omega arith)
 none_thirds (s ∷ ss) [] ns k h e j l = absurd h
@@ -272,7 +272,7 @@ none_thirds (s ∷ ss) (m ∷ ms) (zero ∷ ns) k h e zero l = other h.0
     other (inr (inr (inr q))) = by_test (is_int96 s) (λ t. absurd (omega (arith, q.1 t))) (λ f. f)
 none_thirds (s ∷ ss) (m ∷ ms) (zero ∷ ns) k h e (suc j) l = none_thirds ss ms ns (suc k) h.1 e j (omega arith)
 
-pub keeps_none : (t : Tree) → unlawful THIRD t ≡ Verdict.Lawful → (j : ℕ) → j < length (listing t) → is_int96 (get_or (listing t) j []) ≡ false
+pub keeps_none : (t : Tree) → unlawful THIRD t ≡ Ok tt → (j : ℕ) → j < length (listing t) → is_int96 (get_or (listing t) j []) ≡ false
 unfolding unlawful
 keeps_none t e = none_thirds (listing t) (faults SECOND Root t) (faults THIRD Root t) 0 (tree_thirds t Root) e
 
@@ -282,41 +282,41 @@ unfolding or_else unlawful
 slots_third ss = rw (tree_refusal_places THIRD ss, tree_refusal_places SECOND ss) (places (or_else (left_over ss) (missing ss)) refl)
   where
     deeper : (v : Verdict) → listing (tree_of ss) ≡ ss → SameOr ss 0 (or_else v (unlawful THIRD (tree_of ss))) (or_else v (unlawful SECOND (tree_of ss)))
-    deeper (Verdict.Refused r) e = inl refl
-    deeper Verdict.Lawful e =
+    deeper (Err r) e = inl refl
+    deeper (Ok _) e =
         subst (λ (l : List SlotBytes). SameOr l 0 (unlawful THIRD (tree_of ss)) (unlawful SECOND (tree_of ss))) e
         (first_thirds (listing (tree_of ss)) (faults SECOND Root (tree_of ss)) (faults THIRD Root (tree_of ss)) 0 (tree_thirds (tree_of ss) Root))
 
     -- where 5 and 6 refuse nothing, the slots are the tree's
-    fills : or_else (left_over ss) (missing ss) ≡ Verdict.Lawful → listing (tree_of ss) ≡ ss
+    fills : or_else (left_over ss) (missing ss) ≡ Ok tt → listing (tree_of ss) ≡ ss
     fills e = let none = none_or_else _ _ e in fills_listing ss (accepted_fills ss none.0 none.1)
 
     places : (v : Verdict) → or_else (left_over ss) (missing ss) ≡ v → SameOr ss 0 (or_else v (or_else (too_deep (tree_of ss)) (unlawful THIRD (tree_of ss)))) (or_else v (or_else (too_deep (tree_of ss)) (unlawful SECOND (tree_of ss))))
-    places (Verdict.Refused r) e = inl refl
-    places Verdict.Lawful e = deeper (too_deep (tree_of ss)) (fills e)
+    places (Err r) e = inl refl
+    places (Ok _) e = deeper (too_deep (tree_of ss)) (fills e)
 
 -- and of any sheet, which the second edition may refuse with 4 at the first of the two
 abbrev pub Answered : List ℕ → Verdict → Verdict → Type 0
 Answered bytes v w =
     (v ≡ w)
-    ⊎ (((j : ℕ) × (v ≡ Verdict.Refused (refusal MISPLACED j)) × FirstInt96 (slots bytes) j)
-    ⊎ ((j : ℕ) × (w ≡ Verdict.Refused (refusal SLOT j)) × FirstGeospatial bytes j))
+    ⊎ (((j : ℕ) × (v ≡ Err (refusal MISPLACED j)) × FirstInt96 (slots bytes) j)
+    ⊎ ((j : ℕ) × (w ≡ Err (refusal SLOT j)) × FirstGeospatial bytes j))
 
 pub judgement_third : (bytes : List ℕ) → Answered bytes (judgement THIRD bytes) (judgement SECOND bytes)
 unfolding judgement judged_as outcome outcome_of
 judgement_third bytes = opened (open_of_third bytes)
   where
     -- a sheet that the second opens has none of the two
-    from_first : (t : ℕ) → open_of SECOND bytes ≡ Counted.Count t → {v w : Verdict} → SameOr (slots bytes) 0 v w → Answered bytes v w
+    from_first : (t : ℕ) → open_of SECOND bytes ≡ Ok t → {v w : Verdict} → SameOr (slots bytes) 0 v w → Answered bytes v w
     from_first t e (inl q) = inl q
-    from_first t e (inr (inl r)) = inr (inl (r.0, r.1 ∙ ap (λ (i : ℕ). Verdict.Refused (refusal MISPLACED i)) (omega arith), r.2))
+    from_first t e (inr (inl r)) = inr (inl (r.0, r.1 ∙ ap (λ (i : ℕ). Err (refusal MISPLACED i)) (omega arith), r.2))
     from_first t e (inr (inr g)) =
         let low : g.0 < t = omega (arith, g.1, open_of_slots_length SECOND bytes t e) in
         absurd (true≢false (sym g.2 ∙ ap is_place_type (slots_at_lem bytes g.0 [] (omega (arith, low, open_of_total SECOND bytes t e))) ∙ sound_other (slot_at bytes g.0) (open_of_sound SECOND bytes t e g.0 low)))
 
     on : (c : Counted) → open_of SECOND bytes ≡ c → Answered bytes (judged_as THIRD (outcome_of bytes c)) (judged_as SECOND (outcome_of bytes c))
-    on (Counted.Count t) e = from_first t e (slots_third (slots bytes))
-    on (Counted.Refused r) e = inl refl
+    on (Ok t) e = from_first t e (slots_third (slots bytes))
+    on (Err r) e = inl refl
 
     opened : Opened bytes (open_of THIRD bytes) (open_of SECOND bytes) → Answered bytes (judged_as THIRD (outcome_of bytes (open_of THIRD bytes))) (judged_as SECOND (outcome_of bytes (open_of SECOND bytes)))
     opened (inl e) = rw e (on (open_of SECOND bytes) refl)

@@ -3,8 +3,8 @@ use Prim.Native.Nat.{ℕ, zero, suc, ◌+◌, ◌≤◌}
 use mathlib.Core.Path.{◌≡◌, refl, sym, ◌∙◌}
 use mathlib.Core.Bool.{Bool, true, false, cond}
 use Rattle.refusal.specs.Outcome.{refusal}
-use Rattle.refusal.specs.declared.answers.Verdict.{Verdict}
-use Rattle.refusal.specs.declared.answers.Verdict.TheVariants.{Lawful, Refused}
+use Rattle.refusal.specs.Outcome.{Verdict}
+use Rattle.std.specs.Prelude.{Ok, Err}
 use mathlib.Core.List.{List, [], ◌∷◌, ◌++◌, map}
 use native.Mathlib.Omega.{arith}
 use native.Mathlib.Nat.{add-zero, add-suc, suc-add}
@@ -28,24 +28,24 @@ first_fault_append k (suc m ∷ ms) ns = refl
 
 pub or_else_assoc : (a b c : Verdict) → or_else (or_else a b) c ≡ or_else a (or_else b c)
 unfolding or_else
-or_else_assoc Lawful b c = refl
-or_else_assoc (Refused r) b c = refl
+or_else_assoc (Ok _) b c = refl
+or_else_assoc (Err r) b c = refl
 
-pub refused_not_lawful : (r : Refusal) → Refused r ≡ Lawful → ⊥
+pub refused_not_lawful : (r : Refusal) → ◌≡◌ {A = Verdict} (Err r) (Ok tt) → ⊥
 refused_not_lawful r e = let z : ◌≡◌ {A = ℕ} 0 1 = cc in omega arith
 
 -- of two refusals in order there is none exactly where neither is
-pub or_else_none : (a b : Verdict) → a ≡ Lawful → b ≡ Lawful → or_else a b ≡ Lawful
+pub or_else_none : (a b : Verdict) → a ≡ Ok tt → b ≡ Ok tt → or_else a b ≡ Ok tt
 unfolding or_else
-or_else_none Lawful b p q = q
-or_else_none (Refused r) b p q = p
+or_else_none (Ok _) b p q = q
+or_else_none (Err r) b p q = p
 
-pub none_or_else : (a b : Verdict) → or_else a b ≡ Lawful → (a ≡ Lawful) × (b ≡ Lawful)
+pub none_or_else : (a b : Verdict) → or_else a b ≡ Ok tt → (a ≡ Ok tt) × (b ≡ Ok tt)
 unfolding or_else
-none_or_else Lawful b p = (refl, p)
-none_or_else (Refused r) b p = absurd (refused_not_lawful r p)
+none_or_else (Ok _) b p = (refl, p)
+none_or_else (Err r) b p = absurd (refused_not_lawful r p)
 
-zero_or_not : (n : ℕ) (k : ℕ) (ns : List ℕ) → first_fault k (n ∷ ns) ≡ Lawful → (n ≡ 0) × (first_fault (suc k) ns ≡ Lawful)
+zero_or_not : (n : ℕ) (k : ℕ) (ns : List ℕ) → first_fault k (n ∷ ns) ≡ Ok tt → (n ≡ 0) × (first_fault (suc k) ns ≡ Ok tt)
 unfolding first_fault
 zero_or_not zero k ns e = (refl, e)
 zero_or_not (suc n) k ns e = absurd (refused_not_lawful (refusal (suc n) k) e)
@@ -74,10 +74,10 @@ mutual
   unfolding Keeps faults first_fault
 
   -- a tree that keeps every rule has no fault
-  pub keeps_no_fault : (edition : ℕ) (t : Tree) (p : Standing) (k : ℕ) → Keeps edition p t → first_fault k (faults edition p t) ≡ Lawful
+  pub keeps_no_fault : (edition : ℕ) (t : Tree) (p : Standing) (k : ℕ) → Keeps edition p t → first_fault k (faults edition p t) ≡ Ok tt
   keeps_no_fault edition (node s fs) p k h = rw (keeps_at_broken edition p s fs h.0) (keeps_all_no_fault edition fs (standing_below p s) (suc k) h.1)
 
-  keeps_all_no_fault : (edition : ℕ) (fs : Fields) (p : Standing) (k : ℕ) → KeepsAll edition p fs → first_fault k (run_faults edition p fs) ≡ Lawful
+  keeps_all_no_fault : (edition : ℕ) (fs : Fields) (p : Standing) (k : ℕ) → KeepsAll edition p fs → first_fault k (run_faults edition p fs) ≡ Ok tt
   keeps_all_no_fault edition empty p k h = refl
   keeps_all_no_fault edition (field t fs) p k h =
       first_fault_append k (faults edition p t) (run_faults edition p fs)
@@ -87,19 +87,19 @@ mutual
   unfolding Keeps faults
 
   -- a tree with no fault keeps every rule
-  pub no_fault_keeps : (edition : ℕ) (t : Tree) (p : Standing) (k : ℕ) → first_fault k (faults edition p t) ≡ Lawful → Keeps edition p t
+  pub no_fault_keeps : (edition : ℕ) (t : Tree) (p : Standing) (k : ℕ) → first_fault k (faults edition p t) ≡ Ok tt → Keeps edition p t
   no_fault_keeps edition (node s fs) p k e =
       let z = zero_or_not (broken edition p s fs) k (run_faults edition (standing_below p s) fs) e in
       (broken_keeps_at edition p s fs z.0, no_fault_keeps_all edition fs (standing_below p s) (suc k) z.1)
 
-  no_fault_keeps_all : (edition : ℕ) (fs : Fields) (p : Standing) (k : ℕ) → first_fault k (run_faults edition p fs) ≡ Lawful → KeepsAll edition p fs
+  no_fault_keeps_all : (edition : ℕ) (fs : Fields) (p : Standing) (k : ℕ) → first_fault k (run_faults edition p fs) ≡ Ok tt → KeepsAll edition p fs
   no_fault_keeps_all edition empty p k e = tt
   no_fault_keeps_all edition (field t fs) p k e =
       let z = none_or_else _ _ (sym (first_fault_append k (faults edition p t) (run_faults edition p fs)) ∙ e) in
       (no_fault_keeps edition t p k z.0, no_fault_keeps_all edition fs p (k + length (faults edition p t)) z.1)
 
 -- depths of which none is beyond the most
-shallow_none : (ds : List ℕ) (k : ℕ) → ((i : ℕ) → get_or ds i 0 ≤ most_depth) → first_fault k (map deepness ds) ≡ Lawful
+shallow_none : (ds : List ℕ) (k : ℕ) → ((i : ℕ) → get_or ds i 0 ≤ most_depth) → first_fault k (map deepness ds) ≡ Ok tt
 unfolding first_fault deepness
 shallow_none [] k h = refl
 shallow_none (d ∷ ds) k h = rw (le-leb d most_depth (h 0)) (shallow_none ds (suc k) (λ i. h (suc i)))
@@ -108,23 +108,23 @@ not_deep : (d : ℕ) → deepness d ≡ 0 → d ≤ most_depth
 unfolding deepness
 not_deep d e = leb-true d most_depth (cond_zero (leb d most_depth) 0 6 e).0
 
-none_shallow : (ds : List ℕ) (k : ℕ) → first_fault k (map deepness ds) ≡ Lawful → (i : ℕ) → get_or ds i 0 ≤ most_depth
+none_shallow : (ds : List ℕ) (k : ℕ) → first_fault k (map deepness ds) ≡ Ok tt → (i : ℕ) → get_or ds i 0 ≤ most_depth
 none_shallow [] k e i = omega arith
 none_shallow (d ∷ ds) k e zero = not_deep d (zero_or_not (deepness d) k (map deepness ds) e).0
 none_shallow (d ∷ ds) k e (suc i) = none_shallow ds (suc k) (zero_or_not (deepness d) k (map deepness ds) e).1 i
 
-pub at_most_deep_none : (t : Tree) → AtMostDeep most_depth t → too_deep t ≡ Lawful
+pub at_most_deep_none : (t : Tree) → AtMostDeep most_depth t → too_deep t ≡ Ok tt
 unfolding AtMostDeep too_deep
 at_most_deep_none t h = shallow_none (depths 0 t) 0 h
 
-pub none_at_most_deep : (t : Tree) → too_deep t ≡ Lawful → AtMostDeep most_depth t
+pub none_at_most_deep : (t : Tree) → too_deep t ≡ Ok tt → AtMostDeep most_depth t
 unfolding AtMostDeep too_deep
 none_at_most_deep t e = none_shallow (depths 0 t) 0 e
 
-pub keeps_none : (edition : ℕ) (t : Tree) → Keeps edition Root t → unlawful edition t ≡ Lawful
+pub keeps_none : (edition : ℕ) (t : Tree) → Keeps edition Root t → unlawful edition t ≡ Ok tt
 unfolding unlawful
 keeps_none edition t h = keeps_no_fault edition t Root 0 h
 
-pub none_keeps : (edition : ℕ) (t : Tree) → unlawful edition t ≡ Lawful → Keeps edition Root t
+pub none_keeps : (edition : ℕ) (t : Tree) → unlawful edition t ≡ Ok tt → Keeps edition Root t
 unfolding unlawful
 none_keeps edition t e = no_fault_keeps edition t Root 0 e

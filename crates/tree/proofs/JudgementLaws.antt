@@ -11,19 +11,21 @@ use Rattle.refusal.specs.Outcome.{refusal}
 use Rattle.sheet.specs.Block.{total_of, most_nodes}
 use Rattle.sheet.specs.Opening as sheet
 use Rattle.sheet.specs.Slot.{slots}
-use Rattle.refusal.specs.declared.answers.Counted.{Counted}
+use Rattle.refusal.specs.Outcome.{Counted, Verdict}
+use Rattle.std.specs.Prelude.{Ok, Err}
 use Rattle.sheet.proofs.OpeningLaws.{open_of_total, open_of_least, open_of_most}
 use Rattle.tree.specs.Tree.{SlotBytes, Tree, empty, listing, size, depths, AtMostDeep, most_depth}
 use Rattle.tree.specs.Rules.{Keeps}
 use Rattle.tree.specs.Faults.{faults}
 use Rattle.tree.specs.Reading.{tree_of}
 use Rattle.tree.specs.Judgement.{or_else, left_over, missing, first_fault, deepness, too_deep, unlawful, tree_refusal, judged_as, judgement, judged_nodes, judgement_of}
-use Rattle.tree.specs.Steps.{Claimed, tree_at, run_at, last_of, rule_weight, fault_from, first_of, verdict_of, tree_or_deep, judged_tree, judged_on, judged_run, depth_at}
+use Rattle.tree.specs.Steps.{Claimed, tree_at, run_at, last_of, rule_weight, fault_from, first_of, verdict_of, tree_found, run_found, deep_at, or_deep, judged_tree, judged_on, judged_run, depth_at}
+use Rattle.std.proofs.Common.{Result}
 use Rattle.tree.specs.declared.standing.Standing.{Standing}
 use Rattle.refusal.specs.declared.answers.Refusal.{Refusal}
-use Rattle.refusal.specs.declared.answers.Verdict.{Verdict}
-use Rattle.tree.specs.declared.judging.TreeJudged.{TreeJudged}
-use Rattle.tree.specs.declared.judging.RunJudged.{RunJudged}
+use Rattle.tree.specs.declared.judging.TooDeep.{TooDeep}
+use Rattle.tree.specs.declared.judging.TreeFound.{TreeFound}
+use Rattle.tree.specs.declared.judging.RunFound.{RunFound}
 use Rattle.tree.proofs.FaultLaws.{none_or_else, or_else_assoc, none_at_most_deep, none_keeps}
 use Rattle.tree.proofs.OpenPlacesLaws.{fills_trees}
 use Rattle.tree.proofs.TreeOfLaws.{accepted_fills, fills_listing}
@@ -33,7 +35,7 @@ use Rattle.tree.proofs.JudgingLaws.{run_by, length_faults, judged_on_empty, judg
 use Rattle.sheet.proofs.SlotLaws.{slots_length}
 
 -- the first depth that is too great is refused by 7
-deep_refusal : (ds : List ℕ) (k : ℕ) (r : Refusal) → first_fault k (map deepness ds) ≡ Verdict.Refused r → Verdict.Refused (refusal 7 r.place) ≡ Verdict.Refused r
+deep_refusal : (ds : List ℕ) (k : ℕ) (r : Refusal) → first_fault k (map deepness ds) ≡ Err r → ◌≡◌ {A = Verdict} (Err (refusal 7 r.place)) (Err r)
 unfolding first_fault
 deep_refusal [] k r e = absurd (let z : ◌≡◌ {A = ℕ} 0 1 = cc in omega arith)
 deep_refusal (d ∷ ds) k r e = on (leb d most_depth) refl (deep_refusal ds (suc k) r)
@@ -44,10 +46,10 @@ deep_refusal (d ∷ ds) k r e = on (leb d most_depth) refl (deep_refusal ds (suc
     deep : leb d most_depth ≡ false → deepness d ≡ 7
     deep q = unfold deepness in rw q
 
-    on : (t : Bool) → leb d most_depth ≡ t → (first_fault (suc k) (map deepness ds) ≡ Verdict.Refused r → Verdict.Refused (refusal 7 r.place) ≡ Verdict.Refused r) → Verdict.Refused (refusal 7 r.place) ≡ Verdict.Refused r
-    on true q ih = ih (subst (λ (n : ℕ). first_fault k (n ∷ map deepness ds) ≡ Verdict.Refused r) (shallow q) e)
+    on : (t : Bool) → leb d most_depth ≡ t → (first_fault (suc k) (map deepness ds) ≡ Err r → ◌≡◌ {A = Verdict} (Err (refusal 7 r.place)) (Err r)) → ◌≡◌ {A = Verdict} (Err (refusal 7 r.place)) (Err r)
+    on true q ih = ih (subst (λ (n : ℕ). first_fault k (n ∷ map deepness ds) ≡ Err r) (shallow q) e)
     on false q ih =
-        let f : Verdict.Refused (refusal 7 k) ≡ Verdict.Refused r = subst (λ (n : ℕ). first_fault k (n ∷ map deepness ds) ≡ Verdict.Refused r) (deep q) e in
+        let f : ◌≡◌ {A = Verdict} (Err (refusal 7 k)) (Err r) = subst (λ (n : ℕ). first_fault k (n ∷ map deepness ds) ≡ Err r) (deep q) e in
         cc
 
 -- a fault says the first rule that is broken, and its node, where the nodes' numbers stand below a rule's
@@ -63,24 +65,24 @@ fault_verdict k (suc n ∷ ns) h =
 
 -- the whole tree judged
 module _ (edition : ℕ) (t : Tree) where
-  root_deep : (k : ℕ) → judged_tree edition 0 (suc most_depth) Standing.Root t ≡ TreeJudged.Deep k → Verdict.Refused (refusal 7 k) ≡ or_else (too_deep t) (unlawful edition t)
+  root_deep : (k : ℕ) → judged_tree edition 0 (suc most_depth) Standing.Root t ≡ deep_at k → Err (refusal 7 k) ≡ or_else (too_deep t) (unlawful edition t)
   unfolding judged_tree depth_at too_deep
   root_deep k e = on (first_fault 0 (map deepness (depths 0 t))) refl e
     where
-      on : (v : Verdict) → first_fault 0 (map deepness (depths 0 t)) ≡ v → tree_or_deep v (TreeJudged.Judged (0 + size t) (last_of 0 t) (fault_from 0 (faults edition Standing.Root t))) ≡ TreeJudged.Deep k → Verdict.Refused (refusal 7 k) ≡ or_else (first_fault 0 (map deepness (depths 0 t))) (unlawful edition t)
-      on Verdict.Lawful q w = absurd (unfold tree_or_deep in let z : ◌≡◌ {A = ℕ} 0 1 = cc in omega arith)
-      on (Verdict.Refused r) q w = unfold tree_or_deep or_else in rw q (let p : r.place ≡ k = cc in rw (← p) (deep_refusal (depths 0 t) 0 r q))
+      on : (v : Verdict) → first_fault 0 (map deepness (depths 0 t)) ≡ v → or_deep v (tree_found (0 + size t) (last_of 0 t) (fault_from 0 (faults edition Standing.Root t))) ≡ deep_at k → Err (refusal 7 k) ≡ or_else (first_fault 0 (map deepness (depths 0 t))) (unlawful edition t)
+      on (Ok _) q w = absurd (unfold or_deep in let z : ◌≡◌ {A = ℕ} 0 1 = cc in omega arith)
+      on (Err r) q w = unfold or_deep or_else in rw q (let d : ◌≡◌ {A = TooDeep} (record { node = r.place }) (record { node = k }) = cc in let p : r.place ≡ k = ap (λ (t : TooDeep). t.node) d in rw (← p) (deep_refusal (depths 0 t) 0 r q))
 
-  root_judged : size t ≤ rule_weight → (next last f : ℕ) → judged_tree edition 0 (suc most_depth) Standing.Root t ≡ TreeJudged.Judged next last f → verdict_of f ≡ or_else (too_deep t) (unlawful edition t)
+  root_judged : size t ≤ rule_weight → (tree : TreeFound) → judged_tree edition 0 (suc most_depth) Standing.Root t ≡ Ok tree → verdict_of tree.fault ≡ or_else (too_deep t) (unlawful edition t)
   unfolding judged_tree depth_at too_deep
-  root_judged h next last f e = on (first_fault 0 (map deepness (depths 0 t))) refl e
+  root_judged h tree e = on (first_fault 0 (map deepness (depths 0 t))) refl e
     where
       verdict : verdict_of (fault_from 0 (faults edition Standing.Root t)) ≡ first_fault 0 (faults edition Standing.Root t)
       verdict = fault_verdict 0 (faults edition Standing.Root t) (omega (arith, length_faults edition t Standing.Root))
 
-      on : (u : Verdict) → first_fault 0 (map deepness (depths 0 t)) ≡ u → tree_or_deep u (TreeJudged.Judged (0 + size t) (last_of 0 t) (fault_from 0 (faults edition Standing.Root t))) ≡ TreeJudged.Judged next last f → verdict_of f ≡ or_else (first_fault 0 (map deepness (depths 0 t))) (unlawful edition t)
-      on Verdict.Lawful q w = unfold tree_or_deep or_else unlawful in rw q (let p : fault_from 0 (faults edition Standing.Root t) ≡ f = cc in rw (← p) verdict)
-      on (Verdict.Refused r) q w = absurd (unfold tree_or_deep in let z : ◌≡◌ {A = ℕ} 0 1 = cc in omega arith)
+      on : (u : Verdict) → first_fault 0 (map deepness (depths 0 t)) ≡ u → or_deep u (tree_found (0 + size t) (last_of 0 t) (fault_from 0 (faults edition Standing.Root t))) ≡ Ok tree → verdict_of tree.fault ≡ or_else (first_fault 0 (map deepness (depths 0 t))) (unlawful edition t)
+      on (Ok _) q w = unfold or_deep or_else unlawful in rw q (let p : fault_from 0 (faults edition Standing.Root t) ≡ tree.fault = cc in rw (← p) verdict)
+      on (Err r) q w = absurd (unfold or_deep in let z : ◌≡◌ {A = ℕ} 0 1 = cc in omega arith)
 
 root_at : (edition : ℕ) (ss : List SlotBytes) {v : Verdict} → v ≡ or_else (too_deep (tree_at ss 0)) (unlawful edition (tree_at ss 0)) → v ≡ or_else (too_deep (tree_of ss)) (unlawful edition (tree_of ss))
 root_at edition ss e = rw tree_at_zero at e
@@ -90,32 +92,34 @@ module _ (edition : ℕ) (b : List ℕ) (h : Claimed b) (l : 0 < total_of b) whe
   root : Tree
   root = tree_at (slots b) 0
 
-  root_run : judged_run edition 0 (suc most_depth) Standing.Root (run_at (slots b) 0 1) ≡ run_by (judged_tree edition 0 (suc most_depth) Standing.Root root) (λ next within later. RunJudged.Judged next 0 within later)
+  root_run : judged_run edition 0 (suc most_depth) Standing.Root (run_at (slots b) 0 1) ≡ run_by (judged_tree edition 0 (suc most_depth) Standing.Root root) (λ next within later. run_found next 0 within later)
   unfolding judged_run root first_of
   root_run =
       ap (judged_on edition 0 (suc most_depth) Standing.Root 0 0 0) (root_alone b h l)
       ∙ judged_on_field edition 0 (suc most_depth) Standing.Root 0 0 0 root empty
       ∙ simp judged_on_empty
 
-  pub run_deep : (k : ℕ) → judged_run edition 0 (suc most_depth) Standing.Root (run_at (slots b) 0 1) ≡ RunJudged.Deep k → Verdict.Refused (refusal 7 k) ≡ or_else (too_deep (tree_of (slots b))) (unlawful edition (tree_of (slots b)))
+  pub run_deep : (k : ℕ) → judged_run edition 0 (suc most_depth) Standing.Root (run_at (slots b) 0 1) ≡ deep_at k → Err (refusal 7 k) ≡ or_else (too_deep (tree_of (slots b))) (unlawful edition (tree_of (slots b)))
   unfolding run_by root
   run_deep k e = root_at edition (slots b) (root_deep edition root k (on (judged_tree edition 0 (suc most_depth) Standing.Root root) (sym root_run ∙ e)))
     where
-      on : (x : TreeJudged) → run_by x (λ next within later. RunJudged.Judged next 0 within later) ≡ RunJudged.Deep k → x ≡ TreeJudged.Deep k
-      on (TreeJudged.Deep i) q = cc
-      on (TreeJudged.Judged n w f) q = absurd (let z : ◌≡◌ {A = ℕ} 0 1 = cc in omega arith)
+      on : (x : Result TreeFound TooDeep) → run_by x (λ next within later. run_found next 0 within later) ≡ deep_at k → x ≡ deep_at k
+      on (Err deep) q = cc
+      on (Ok tree) q = absurd (let z : ◌≡◌ {A = ℕ} 0 1 = cc in omega arith)
 
-  pub run_judged : (next last inner f : ℕ) → judged_run edition 0 (suc most_depth) Standing.Root (run_at (slots b) 0 1) ≡ RunJudged.Judged next last inner f → verdict_of f ≡ or_else (too_deep (tree_of (slots b))) (unlawful edition (tree_of (slots b)))
+  pub run_judged : (run : RunFound) → judged_run edition 0 (suc most_depth) Standing.Root (run_at (slots b) 0 1) ≡ Ok run → verdict_of run.fault ≡ or_else (too_deep (tree_of (slots b))) (unlawful edition (tree_of (slots b)))
   unfolding run_by root
-  run_judged next last inner f e =
-      root_at edition (slots b) (root_judged edition root small next inner f (on (judged_tree edition 0 (suc most_depth) Standing.Root root) (sym root_run ∙ e)))
+  run_judged run e =
+      root_at edition (slots b) (root_judged edition root small (record { next = run.next; last = run.inner; fault = run.fault }) (on (judged_tree edition 0 (suc most_depth) Standing.Root root) (sym root_run ∙ e)))
     where
       small : size root ≤ rule_weight
       small = omega (arith, tree_within b 0 h l, h.most)
 
-      on : (x : TreeJudged) → run_by x (λ next within later. RunJudged.Judged next 0 within later) ≡ RunJudged.Judged next last inner f → x ≡ TreeJudged.Judged next inner f
-      on (TreeJudged.Deep i) q = absurd (let z : ◌≡◌ {A = ℕ} 0 1 = cc in omega arith)
-      on (TreeJudged.Judged n w g) q = cc
+      on : (x : Result TreeFound TooDeep) → run_by x (λ next within later. run_found next 0 within later) ≡ Ok run → x ≡ tree_found run.next run.inner run.fault
+      on (Err deep) q = absurd (let z : ◌≡◌ {A = ℕ} 0 1 = cc in omega arith)
+      on (Ok tree) q =
+          let d : ◌≡◌ {A = RunFound} (record { next = tree.next; last = 0; inner = tree.last; fault = tree.fault }) run = cc in
+          ap (λ (r : RunFound). tree_found r.next r.inner r.fault) d
 
 -- refusals 5 and 6, then 7 to 13
 pub tree_refusal_places : (edition : ℕ) (ss : List SlotBytes) → tree_refusal edition ss ≡ or_else (or_else (left_over ss) (missing ss)) (or_else (too_deep (tree_of ss)) (unlawful edition (tree_of ss)))
@@ -123,7 +127,7 @@ unfolding tree_refusal
 tree_refusal_places edition ss = sym (or_else_assoc (left_over ss) (missing ss) (or_else (too_deep (tree_of ss)) (unlawful edition (tree_of ss))))
 
 -- a sheet that neither 5 nor 6 refuses claims rightly
-module _ (edition : ℕ) (b : List ℕ) (t : ℕ) (o : sheet.open_of edition b ≡ Counted.Count t) where
+module _ (edition : ℕ) (b : List ℕ) (t : ℕ) (o : sheet.open_of edition b ≡ Ok t) where
   pub nodes_total : t ≡ total_of b
   nodes_total = open_of_total edition b t o
 
@@ -133,7 +137,7 @@ module _ (edition : ℕ) (b : List ℕ) (t : ℕ) (o : sheet.open_of edition b �
   pub nodes_some : 0 < total_of b
   nodes_some = omega (arith, nodes_total, open_of_least edition b t o)
 
-  pub places_claimed : or_else (left_over (slots b)) (missing (slots b)) ≡ Verdict.Lawful → Claimed b
+  pub places_claimed : or_else (left_over (slots b)) (missing (slots b)) ≡ Ok tt → Claimed b
   places_claimed e =
       let q = none_or_else _ _ e in
       record {
@@ -148,42 +152,42 @@ module _ (edition : ℕ) (b : List ℕ) (t : ℕ) (o : sheet.open_of edition b �
 
 -- a sheet that does not open is refused so
 module _ (edition : ℕ) (b : List ℕ) where
-  pub judgement_refused : (r : Refusal) → sheet.open_of edition b ≡ Counted.Refused r → judgement edition b ≡ Verdict.Refused r
+  pub judgement_refused : (r : Refusal) → sheet.open_of edition b ≡ Err r → judgement edition b ≡ Err r
   unfolding judgement judged_as sheet.outcome sheet.outcome_of
   judgement_refused r o = rw o
 
   -- an opened sheet that is lawful
-  pub lawful_opened : judgement edition b ≡ Verdict.Lawful → (t : ℕ) × (sheet.open_of edition b ≡ Counted.Count t)
+  pub lawful_opened : judgement edition b ≡ Ok tt → (t : ℕ) × (sheet.open_of edition b ≡ Ok t)
   lawful_opened e = on (sheet.open_of edition b) refl
     where
-      no : (r : Refusal) → judgement edition b ≡ Verdict.Refused r → ⊥
+      no : (r : Refusal) → judgement edition b ≡ Err r → ⊥
       no r q = let z : ◌≡◌ {A = ℕ} 0 1 = cc in omega arith
 
-      on : (o : Counted) → sheet.open_of edition b ≡ o → (t : ℕ) × (sheet.open_of edition b ≡ Counted.Count t)
-      on (Counted.Count t) q = (t, q)
-      on (Counted.Refused r) q = absurd (no r (judgement_refused r q))
+      on : (o : Counted) → sheet.open_of edition b ≡ o → (t : ℕ) × (sheet.open_of edition b ≡ Ok t)
+      on (Ok t) q = (t, q)
+      on (Err r) q = absurd (no r (judgement_refused r q))
 
-  judged_nodes_lawful : (v : Verdict) (t n : ℕ) → judged_nodes v t ≡ Counted.Count n → (v ≡ Verdict.Lawful) × (n ≡ t)
+  judged_nodes_lawful : (v : Verdict) (t n : ℕ) → judged_nodes v t ≡ Ok n → (v ≡ Ok tt) × (n ≡ t)
   unfolding judged_nodes
-  judged_nodes_lawful Verdict.Lawful t n e = (refl, cc)
-  judged_nodes_lawful (Verdict.Refused r) t n e = absurd (let z : ◌≡◌ {A = ℕ} 0 1 = cc in omega arith)
+  judged_nodes_lawful (Ok _) t n e = (refl, cc)
+  judged_nodes_lawful (Err r) t n e = absurd (let z : ◌≡◌ {A = ℕ} 0 1 = cc in omega arith)
 
-  judged_nodes_refused : (v : Verdict) (t : ℕ) (r : Refusal) → judged_nodes v t ≡ Counted.Refused r → v ≡ Verdict.Refused r
+  judged_nodes_refused : (v : Verdict) (t : ℕ) (r : Refusal) → judged_nodes v t ≡ Err r → v ≡ Err r
   unfolding judged_nodes
-  judged_nodes_refused Verdict.Lawful t r e = absurd (let z : ◌≡◌ {A = ℕ} 0 1 = cc in omega arith)
-  judged_nodes_refused (Verdict.Refused s) t r e = cc
+  judged_nodes_refused (Ok _) t r e = absurd (let z : ◌≡◌ {A = ℕ} 0 1 = cc in omega arith)
+  judged_nodes_refused (Err s) t r e = cc
 
   -- a refused sheet
-  pub judged_refused : (r : Refusal) → judgement_of edition b ≡ Counted.Refused r → judgement edition b ≡ Verdict.Refused r
+  pub judged_refused : (r : Refusal) → judgement_of edition b ≡ Err r → judgement edition b ≡ Err r
   unfolding judgement_of
   judged_refused r e = judged_nodes_refused (judgement edition b) (total_of b) r e
 
-  module _ (n : ℕ) (e : judgement_of edition b ≡ Counted.Count n) where
-    pub judged_lawful : (judgement edition b ≡ Verdict.Lawful) × (n ≡ total_of b)
+  module _ (n : ℕ) (e : judgement_of edition b ≡ Ok n) where
+    pub judged_lawful : (judgement edition b ≡ Ok tt) × (n ≡ total_of b)
     unfolding judgement_of
     judged_lawful = judged_nodes_lawful (judgement edition b) (total_of b) n e
 
-    opened : (t : ℕ) × (sheet.open_of edition b ≡ Counted.Count t)
+    opened : (t : ℕ) × (sheet.open_of edition b ≡ Ok t)
     opened = lawful_opened judged_lawful.0
 
     pub judged_total : n ≡ total_of b
@@ -192,14 +196,14 @@ module _ (edition : ℕ) (b : List ℕ) where
     pub judged_some : 0 < total_of b
     judged_some = nodes_some edition b opened.0 opened.1
 
-    no_places : or_else (left_over (slots b)) (missing (slots b)) ≡ Verdict.Lawful
+    no_places : or_else (left_over (slots b)) (missing (slots b)) ≡ Ok tt
     no_places =
         (none_or_else _ _ (sym (tree_refusal_places edition (slots b)) ∙ sym (judgement_nodes edition b opened.0 opened.1) ∙ judged_lawful.0)).0
 
     pub judged_claimed : Claimed b
     judged_claimed = places_claimed edition b opened.0 opened.1 no_places
 
-    no_faults : or_else (too_deep (tree_of (slots b))) (unlawful edition (tree_of (slots b))) ≡ Verdict.Lawful
+    no_faults : or_else (too_deep (tree_of (slots b))) (unlawful edition (tree_of (slots b))) ≡ Ok tt
     no_faults =
         (none_or_else _ _ (sym (tree_refusal_places edition (slots b)) ∙ sym (judgement_nodes edition b opened.0 opened.1) ∙ judged_lawful.0)).1
 

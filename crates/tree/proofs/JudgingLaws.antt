@@ -10,11 +10,13 @@ use Rattle.tree.specs.Tree.{SlotBytes, Tree, Fields, node, empty, field, listing
 use Rattle.tree.specs.Rules.{standing_below}
 use Rattle.tree.specs.Faults.{broken, faults, run_faults}
 use Rattle.tree.specs.Judgement.{or_else, first_fault, deepness}
-use Rattle.tree.specs.Steps.{sizes, last_from, last_of, inner_from, rule_weight, fault_from, first_of, depth_at, tree_or_deep, run_or_deep, judged_tree, judged_on, judged_run}
+use Rattle.tree.specs.Steps.{sizes, last_from, last_of, inner_from, rule_weight, fault_from, first_of, depth_at, tree_found, run_found, deep_at, or_deep, judged_tree, judged_on, judged_run}
+use Rattle.std.proofs.Common.{Result, Ok, Err}
 use Rattle.tree.specs.declared.standing.Standing.{Standing}
-use Rattle.refusal.specs.declared.answers.Verdict.{Verdict}
-use Rattle.tree.specs.declared.judging.TreeJudged.{TreeJudged}
-use Rattle.tree.specs.declared.judging.RunJudged.{RunJudged}
+use Rattle.refusal.specs.Outcome.{Verdict}
+use Rattle.tree.specs.declared.judging.TooDeep.{TooDeep}
+use Rattle.tree.specs.declared.judging.TreeFound.{TreeFound}
+use Rattle.tree.specs.declared.judging.RunFound.{RunFound}
 use Rattle.tree.proofs.FaultLaws.{first_fault_append}
 use Rattle.tree.proofs.StandingLaws.{sizes_field, size_node}
 
@@ -64,14 +66,14 @@ fault_from_append k (suc m ∷ ms) ns = sym (first_of_some (rule_weight * suc m 
 -- a tree and its run -------------------------------------------------------------------------------------------------------
 
 -- a tree that has no level left is too deep
-pub judged_tree_deep : (edition : ℕ) (at : ℕ) (p : Standing) (t : Tree) → judged_tree edition at 0 p t ≡ TreeJudged.Deep at
-unfolding judged_tree tree_or_deep depth_at depths first_fault deepness
+pub judged_tree_deep : (edition : ℕ) (at : ℕ) (p : Standing) (t : Tree) → judged_tree edition at 0 p t ≡ deep_at at
+unfolding judged_tree or_deep depth_at depths first_fault deepness
 judged_tree_deep edition at p (node s fs) = refl
 
 -- what a tree's run finds is what the tree finds, with the root's own fault first
-unfoldable pub tree_by : ℕ → ℕ → RunJudged → TreeJudged
-tree_by own at (RunJudged.Deep k) = TreeJudged.Deep k
-tree_by own at (RunJudged.Judged next last inner f) = TreeJudged.Judged next last (first_of (fault_from at (own ∷ [])) f)
+unfoldable pub tree_by : ℕ → ℕ → Result RunFound TooDeep → Result TreeFound TooDeep
+tree_by own at (Ok run) = tree_found run.next run.last (first_of (fault_from at (own ∷ [])) run.fault)
+tree_by own at (Err deep) = Err deep
 
 not_deep : (l : ℕ) → deepness (depth_at (suc l)) ≡ 0
 unfolding deepness depth_at
@@ -86,10 +88,10 @@ unfolding fault_from first_of
 own_first zero at ns = refl
 own_first (suc n) at ns = sym (first_of_some (rule_weight * suc n + at) _ (λ e. omega arith))
 
-tree_by_lem : (v : Verdict) (own at next last inner f : ℕ) → tree_or_deep v (TreeJudged.Judged next last (first_of (fault_from at (own ∷ [])) f)) ≡ tree_by own at (run_or_deep v (RunJudged.Judged next last inner f))
-unfolding tree_or_deep run_or_deep tree_by
-tree_by_lem Verdict.Lawful own at next last inner f = refl
-tree_by_lem (Verdict.Refused r) own at next last inner f = refl
+tree_by_lem : (v : Verdict) (own at next last inner f : ℕ) → or_deep v (tree_found next last (first_of (fault_from at (own ∷ [])) f)) ≡ tree_by own at (or_deep v (run_found next last inner f))
+unfolding or_deep tree_by
+tree_by_lem (Ok _) own at next last inner f = refl
+tree_by_lem (Err r) own at next last inner f = refl
 
 deep_behind : (at l : ℕ) (fs : Fields) → suc l ≤ suc most_depth → first_fault at (deepness (depth_at (suc l)) ∷ map deepness (run_depths (suc (depth_at (suc l))) fs)) ≡ first_fault (suc at) (map deepness (run_depths (depth_at l) fs))
 unfolding first_fault
@@ -104,19 +106,19 @@ judged_tree_node edition at l p s fs h = rw (deep_behind at l fs h, own_first, n
 
 -- a run and its first tree -------------------------------------------------------------------------------------------------
 
-pub judged_on_empty : (edition : ℕ) (at l : ℕ) (p : Standing) (last inner f : ℕ) → judged_on edition at l p last inner f empty ≡ RunJudged.Judged at last inner f
-unfolding judged_on run_or_deep run_depths first_fault sizes listings last_from inner_from run_faults fault_from
+pub judged_on_empty : (edition : ℕ) (at l : ℕ) (p : Standing) (last inner f : ℕ) → judged_on edition at l p last inner f empty ≡ run_found at last inner f
+unfolding judged_on or_deep run_depths first_fault sizes listings last_from inner_from run_faults fault_from
 judged_on_empty edition at l p last inner f = rw (add-zero, first_of_none)
 
 -- what a run's first tree and the shorter run find is what the run finds
-unfoldable pub run_by : TreeJudged → (ℕ → ℕ → ℕ → RunJudged) → RunJudged
-run_by (TreeJudged.Deep k) rest = RunJudged.Deep k
-run_by (TreeJudged.Judged next within later) rest = rest next within later
+unfoldable pub run_by : Result TreeFound TooDeep → (ℕ → ℕ → ℕ → Result RunFound TooDeep) → Result RunFound TooDeep
+run_by (Ok tree) rest = rest tree.next tree.last tree.fault
+run_by (Err deep) rest = Err deep
 
-run_by_lem : (a b : Verdict) (next within later : ℕ) (found : RunJudged) (rest : ℕ → ℕ → ℕ → RunJudged) → rest next within later ≡ run_or_deep b found → run_or_deep (or_else a b) found ≡ run_by (tree_or_deep a (TreeJudged.Judged next within later)) rest
-unfolding run_or_deep tree_or_deep run_by or_else
-run_by_lem Verdict.Lawful b next within later found rest e = sym e
-run_by_lem (Verdict.Refused r) b next within later found rest e = refl
+run_by_lem : (a b : Verdict) (next within later : ℕ) (found : Result RunFound TooDeep) (rest : ℕ → ℕ → ℕ → Result RunFound TooDeep) → rest next within later ≡ or_deep b found → or_deep (or_else a b) found ≡ run_by (or_deep a (tree_found next within later)) rest
+unfolding or_deep run_by or_else
+run_by_lem (Ok _) b next within later found rest e = sym e
+run_by_lem (Err r) b next within later found rest e = refl
 
 deep_split : (at d : ℕ) (t : Tree) (fs : Fields) → first_fault at (map deepness (depths d t ++ run_depths d fs)) ≡ or_else (first_fault at (map deepness (depths d t))) (first_fault (at + size t) (map deepness (run_depths d fs)))
 deep_split at d t fs =
@@ -132,7 +134,7 @@ fault_split edition at f p t fs =
 field_end : (at : ℕ) (t : Tree) (fs : Fields) → at + sizes (field t fs) ≡ at + size t + sizes fs
 field_end at t fs = omega (arith, sizes_field t fs)
 
-run_parts : (a b : Verdict) (e f last inner v w : ℕ) → a ≡ b → e ≡ f → v ≡ w → run_or_deep a (RunJudged.Judged e last inner v) ≡ run_or_deep b (RunJudged.Judged f last inner w)
+run_parts : (a b : Verdict) (e f last inner v w : ℕ) → a ≡ b → e ≡ f → v ≡ w → or_deep a (run_found e last inner v) ≡ or_deep b (run_found f last inner w)
 run_parts a b e f last inner v w p q r = cc
 
 pub judged_on_field : (edition : ℕ) (at l : ℕ) (p : Standing) (last inner f : ℕ) (t : Tree) (fs : Fields) → judged_on edition at l p last inner f (field t fs) ≡ run_by (judged_tree edition at l p t) (λ next within later. judged_on edition next l p at within (first_of f later) fs)
@@ -142,18 +144,18 @@ judged_on_field edition at l p last inner f t fs =
     ∙ run_by_lem _ _ _ _ _ _ _ refl
 
 -- where a run is judged, the last field of its last field stands where it says
-pub judged_run_inner : (edition : ℕ) (at l : ℕ) (p : Standing) (fs : Fields) (next last inner f : ℕ) → judged_run edition at l p fs ≡ RunJudged.Judged next last inner f → inner ≡ inner_from at at fs
-unfolding judged_run judged_on run_or_deep
-judged_run_inner edition at l p fs next last inner f e = on (first_fault at (map deepness (run_depths (depth_at l) fs))) e
+pub judged_run_inner : (edition : ℕ) (at l : ℕ) (p : Standing) (fs : Fields) (run : RunFound) → judged_run edition at l p fs ≡ Ok run → run.inner ≡ inner_from at at fs
+unfolding judged_run judged_on or_deep
+judged_run_inner edition at l p fs run e = on (first_fault at (map deepness (run_depths (depth_at l) fs))) e
   where
-    on : (w : Verdict) → run_or_deep w (RunJudged.Judged (at + sizes fs) (last_from at at fs) (inner_from at at fs) (first_of 0 (fault_from at (run_faults edition p fs)))) ≡ RunJudged.Judged next last inner f → inner ≡ inner_from at at fs
-    on Verdict.Lawful q = cc
-    on (Verdict.Refused r) q = absurd (let z : ◌≡◌ {A = ℕ} 0 1 = cc in omega arith)
+    on : (w : Verdict) → or_deep w (run_found (at + sizes fs) (last_from at at fs) (inner_from at at fs) (first_of 0 (fault_from at (run_faults edition p fs)))) ≡ Ok run → run.inner ≡ inner_from at at fs
+    on (Ok _) q = cc
+    on (Err r) q = absurd (let z : ◌≡◌ {A = ℕ} 0 1 = cc in omega arith)
 
-pub judged_tree_next : (edition : ℕ) (at l : ℕ) (p : Standing) (t : Tree) (next last f : ℕ) → judged_tree edition at l p t ≡ TreeJudged.Judged next last f → next ≡ at + size t
-unfolding judged_tree tree_or_deep
-judged_tree_next edition at l p t next last f e = on (first_fault at (map deepness (depths (depth_at l) t))) e
+pub judged_tree_next : (edition : ℕ) (at l : ℕ) (p : Standing) (t : Tree) (tree : TreeFound) → judged_tree edition at l p t ≡ Ok tree → tree.next ≡ at + size t
+unfolding judged_tree or_deep
+judged_tree_next edition at l p t tree e = on (first_fault at (map deepness (depths (depth_at l) t))) e
   where
-    on : (w : Verdict) → tree_or_deep w (TreeJudged.Judged (at + size t) (last_of at t) (fault_from at (faults edition p t))) ≡ TreeJudged.Judged next last f → next ≡ at + size t
-    on Verdict.Lawful q = cc
-    on (Verdict.Refused r) q = absurd (let z : ◌≡◌ {A = ℕ} 0 1 = cc in omega arith)
+    on : (w : Verdict) → or_deep w (tree_found (at + size t) (last_of at t) (fault_from at (faults edition p t))) ≡ Ok tree → tree.next ≡ at + size t
+    on (Ok _) q = cc
+    on (Err r) q = absurd (let z : ◌≡◌ {A = ℕ} 0 1 = cc in omega arith)

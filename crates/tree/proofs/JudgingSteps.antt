@@ -12,80 +12,85 @@ use Rattle.tree.specs.Tree.{Tree, node, count, size, most_depth}
 use Rattle.tree.specs.Rules.{standing_below}
 use Rattle.tree.specs.Faults.{broken}
 use Rattle.tree.specs.Reading.{trees}
-use Rattle.tree.specs.Steps.{Claimed, Visited, tree_at, run_at, fields_at, inner_from, fault_from, first_of, judged_tree, judged_on, judged_run}
+use Rattle.tree.specs.Steps.{Claimed, Visited, tree_at, run_at, fields_at, inner_from, fault_from, first_of, tree_found, deep_at, nothing_found, judged_tree, judged_on, judged_run}
+use Rattle.std.proofs.Common.{Result, Ok, Err}
 use Rattle.tree.specs.declared.standing.Standing.{Standing}
-use Rattle.tree.specs.declared.judging.TreeJudged.{TreeJudged}
-use Rattle.tree.specs.declared.judging.RunJudged.{RunJudged}
+use Rattle.tree.specs.declared.judging.TooDeep.{TooDeep}
+use Rattle.tree.specs.declared.judging.TreeFound.{TreeFound}
+use Rattle.tree.specs.declared.judging.RunFound.{RunFound}
 use Rattle.tree.proofs.StandingLaws.{run_at_zero}
 use Rattle.tree.proofs.VisitLaws.{tree_at_slot, run_at_lem, from_one, run_at_first, next_after, next_claimed}
 use Rattle.tree.proofs.JudgingLaws.{tree_by, run_by, judged_tree_deep, judged_tree_node, judged_on_empty, judged_on_field, judged_run_inner, judged_tree_next}
 
-on_empty : (edition : ℕ) (b : List ℕ) (at n l : ℕ) (p : Standing) (last inner f : ℕ) → n ≡ 0 → RunJudged.Judged at last inner f ≡ judged_on edition at l p last inner f (run_at (slots b) at n)
-on_empty edition b at n l p last inner f e = sym (rw (e, run_at_zero) (judged_on_empty edition at l p last inner f))
+on_empty : (edition : ℕ) (b : List ℕ) (n l : ℕ) (p : Standing) (run : RunFound) → n ≡ 0 → Ok run ≡ judged_on edition run.next l p run.last run.inner run.fault (run_at (slots b) run.next n)
+on_empty edition b n l p run e = sym (rw (e, run_at_zero) (judged_on_empty edition run.next l p run.last run.inner run.fault))
 
-pub run_empty : (edition : ℕ) (b : List ℕ) (at n l : ℕ) (p : Standing) → n ≡ 0 → RunJudged.Judged at at at 0 ≡ judged_run edition at l p (run_at (slots b) at n)
+pub run_empty : (edition : ℕ) (b : List ℕ) (at n l : ℕ) (p : Standing) (run : RunFound) → run ≡ nothing_found at → n ≡ 0 → Ok run ≡ judged_run edition at l p (run_at (slots b) at n)
 unfolding judged_run
-run_empty edition b at n l p e = on_empty edition b at n l p at at 0 e
+run_empty edition b at n l p run d e = rw d (on_empty edition b n l p (nothing_found at) e)
 
 -- the fields of a run, judged up to one of them: what is found of them all is what was found so far and what the others find
-pub record Judging (edition : ℕ) (b : List ℕ) (start n l : ℕ) (p : Standing) (at left last inner f : ℕ) : Type 0 where
-  pub reached : start ≤ at
-  pub claimed : left ≤ count (trees (drop at (slots b)))
-  pub found : judged_run edition start l p (run_at (slots b) start n) ≡ judged_on edition at l p last inner f (run_at (slots b) at left)
+pub record Judging (edition : ℕ) (b : List ℕ) (start n l : ℕ) (p : Standing) (left : ℕ) (run : RunFound) : Type 0 where
+  pub reached : start ≤ run.next
+  pub claimed : left ≤ count (trees (drop run.next (slots b)))
+  pub found : judged_run edition start l p (run_at (slots b) start n) ≡ judged_on edition run.next l p run.last run.inner run.fault (run_at (slots b) run.next left)
 
-pub judging_start : (edition : ℕ) (b : List ℕ) (start n l : ℕ) (p : Standing) → n ≤ count (trees (drop start (slots b))) → Judging edition b start n l p start n start start 0
+pub judging_start : (edition : ℕ) (b : List ℕ) (start n l : ℕ) (p : Standing) (run : RunFound) → run ≡ nothing_found start → n ≤ count (trees (drop start (slots b))) → Judging edition b start n l p (n - 0) run
 unfolding judged_run
-judging_start edition b start n l p c = record { reached = le_refl start; claimed = c; found = refl }
+judging_start edition b start n l p run d c =
+    let all : n - 0 ≡ n = omega arith in
+    rw (d, all) (record { reached = le_refl start; claimed = c; found = refl })
 
-module _ (edition : ℕ) (b : List ℕ) (start n l : ℕ) (p : Standing) (at left last inner f : ℕ) (r : Judging edition b start n l p at left last inner f) where
-  pub judging_end_lem : left ≡ 0 → RunJudged.Judged at last inner f ≡ judged_run edition start l p (run_at (slots b) start n)
-  judging_end_lem e = on_empty edition b at left l p last inner f e ∙ sym r.found
+module _ (edition : ℕ) (b : List ℕ) (start n l : ℕ) (p : Standing) (left : ℕ) (run : RunFound) (r : Judging edition b start n l p left run) where
+  pub judging_end_lem : left ≡ 0 → Ok run ≡ judged_run edition start l p (run_at (slots b) start n)
+  judging_end_lem e = on_empty edition b left l p run e ∙ sym r.found
 
   module _ (h : Claimed b) (m : left ≡ 0 → ⊥) where
-    step : judged_run edition start l p (run_at (slots b) start n) ≡ run_by (judged_tree edition at l p (tree_at (slots b) at)) (λ next within later. judged_on edition next l p at within (first_of f later) (run_at (slots b) (at + size (tree_at (slots b) at)) (left - 1)))
+    step : judged_run edition start l p (run_at (slots b) start n) ≡ run_by (judged_tree edition run.next l p (tree_at (slots b) run.next)) (λ next within later. judged_on edition next l p run.next within (first_of run.fault later) (run_at (slots b) (run.next + size (tree_at (slots b) run.next)) (left - 1)))
     step =
         r.found
-        ∙ ap (judged_on edition at l p last inner f) (run_at_first b at left h m r.claimed)
-        ∙ judged_on_field edition at l p last inner f (tree_at (slots b) at) (run_at (slots b) (at + size (tree_at (slots b) at)) (left - 1))
+        ∙ ap (judged_on edition run.next l p run.last run.inner run.fault) (run_at_first b run.next left h m r.claimed)
+        ∙ judged_on_field edition run.next l p run.last run.inner run.fault (tree_at (slots b) run.next) (run_at (slots b) (run.next + size (tree_at (slots b) run.next)) (left - 1))
 
-    pub judging_deep : (k : ℕ) → judged_tree edition at l p (tree_at (slots b) at) ≡ TreeJudged.Deep k → RunJudged.Deep k ≡ judged_run edition start l p (run_at (slots b) start n)
+    pub judging_deep : (deep : TooDeep) → judged_tree edition run.next l p (tree_at (slots b) run.next) ≡ Err deep → Err deep ≡ judged_run edition start l p (run_at (slots b) start n)
     unfolding run_by
-    judging_deep k e = sym (step ∙ rw e)
+    judging_deep deep e = sym (step ∙ rw e)
 
-    pub judging_next : (next within later g : ℕ) → judged_tree edition at l p (tree_at (slots b) at) ≡ TreeJudged.Judged next within later → g ≡ first_of f later → Judging edition b start n l p next (left - 1) at within g
+    pub judging_next : (i : ℕ) → left ≡ n - i → (tree : TreeFound) (fault : ℕ) → judged_tree edition run.next l p (tree_at (slots b) run.next) ≡ Ok tree → fault ≡ first_of run.fault tree.fault → Judging edition b start n l p (n - (i + 1)) (record { next = tree.next; last = run.next; inner = tree.last; fault = fault })
     unfolding run_by
-    judging_next next within later g e o =
-        let is = judged_tree_next edition at l p (tree_at (slots b) at) next within later e in
-        record {
-          reached = omega (arith, r.reached, next_after b at left h m r.claimed next is);
-          claimed = next_claimed b at left h m r.claimed next is;
+    judging_next i reached tree fault e o =
+        let fewer : n - (i + 1) ≡ left - 1 = omega arith in
+        let is = judged_tree_next edition run.next l p (tree_at (slots b) run.next) tree e in
+        rw fewer (record {
+          reached = omega (arith, r.reached, next_after b run.next left h m r.claimed tree.next is);
+          claimed = next_claimed b run.next left h m r.claimed tree.next is;
           found = step ∙ rw (e, o, ← is);
-        }
+        })
 
-pub tree_deep : (edition : ℕ) (at l : ℕ) (p : Standing) (t : Tree) → l ≡ 0 → TreeJudged.Deep at ≡ judged_tree edition at l p t
+pub tree_deep : (edition : ℕ) (at l : ℕ) (p : Standing) (t : Tree) → l ≡ 0 → deep_at {F = TreeFound} at ≡ judged_tree edition at l p t
 tree_deep edition at l p t e = sym (rw e (judged_tree_deep edition at p t))
 
 module _ (edition : ℕ) (b : List ℕ) (at : ℕ) (s : Numbers) (v : Visited b at s) where
-  module _ (l : ℕ) (p q : Standing) (w : q ≡ standing_below p (slot_at b at)) (k : l ≡ 0 → ⊥) (m : l ≤ suc most_depth) (r : RunJudged) (e : r ≡ judged_run edition (at + 1) (l - 1) q (run_at (slots b) (at + 1) s.children)) where
-    run_found : judged_run edition (suc at) (l - 1) (standing_below p (slot_at b at)) (fields_at b at) ≡ r
-    run_found = sym (e ∙ rw (run_at_lem b at s v.numbers, w, add-one))
+  module _ (l : ℕ) (p q : Standing) (w : q ≡ standing_below p (slot_at b at)) (k : l ≡ 0 → ⊥) (m : l ≤ suc most_depth) (r : Result RunFound TooDeep) (e : r ≡ judged_run edition (at + 1) (l - 1) q (run_at (slots b) (at + 1) s.children)) where
+    run_is : judged_run edition (suc at) (l - 1) (standing_below p (slot_at b at)) (fields_at b at) ≡ r
+    run_is = sym (e ∙ rw (run_at_lem b at s v.numbers, w, add-one))
 
     tree_step : judged_tree edition at l p (tree_at (slots b) at) ≡ tree_by (broken edition p (slot_at b at) (fields_at b at)) at r
     tree_step =
         ap (judged_tree edition at l p) (tree_at_slot b at v.claimed v.below)
         ∙ ap (λ (i : ℕ). judged_tree edition at i p (node (slot_at b at) (fields_at b at))) (from_one l k)
         ∙ judged_tree_node edition at (l - 1) p (slot_at b at) (fields_at b at) (omega (arith, from_one l k))
-        ∙ ap (tree_by (broken edition p (slot_at b at) (fields_at b at)) at) run_found
+        ∙ ap (tree_by (broken edition p (slot_at b at) (fields_at b at)) at) run_is
 
-    pub tree_run_deep : (i : ℕ) → r ≡ RunJudged.Deep i → TreeJudged.Deep i ≡ judged_tree edition at l p (tree_at (slots b) at)
+    pub tree_run_deep : (deep : TooDeep) → r ≡ Err deep → Err deep ≡ judged_tree edition at l p (tree_at (slots b) at)
     unfolding tree_by
-    tree_run_deep i d = sym (tree_step ∙ rw d)
+    tree_run_deep deep d = sym (tree_step ∙ rw d)
 
-    module _ (next last inner f : ℕ) (d : r ≡ RunJudged.Judged next last inner f) where
-      pub tree_inner : inner ≡ inner_from (suc at) (suc at) (fields_at b at)
-      tree_inner = judged_run_inner edition (suc at) (l - 1) (standing_below p (slot_at b at)) (fields_at b at) next last inner f (run_found ∙ d)
+    module _ (run : RunFound) (d : r ≡ Ok run) where
+      pub tree_inner : run.inner ≡ inner_from (suc at) (suc at) (fields_at b at)
+      tree_inner = judged_run_inner edition (suc at) (l - 1) (standing_below p (slot_at b at)) (fields_at b at) run (run_is ∙ d)
 
-      pub tree_judged : judged_tree edition at l p (tree_at (slots b) at) ≡ TreeJudged.Judged next last (first_of (fault_from at (broken edition p (slot_at b at) (fields_at b at) ∷ [])) f)
+      pub tree_judged : judged_tree edition at l p (tree_at (slots b) at) ≡ tree_found run.next run.last (first_of (fault_from at (broken edition p (slot_at b at) (fields_at b at) ∷ [])) run.fault)
       unfolding tree_by
       tree_judged = tree_step ∙ rw d
 

@@ -15,7 +15,7 @@ use Rattle.sheet.proofs.FirstLaws.{first_wrong_at, first_wrong_none}
 use Rattle.tree.specs.Tree.{SlotBytes}
 use Rattle.tree.specs.OpenPlaces.{sum, open_places, is_no_place}
 use Rattle.tree.specs.Judgement.{left_over, missing}
-use Rattle.refusal.specs.declared.answers.Verdict.TheVariants.{Lawful, Refused}
+use Rattle.std.specs.Prelude.{Ok, Err}
 use Rattle.tree.proofs.OpenPlacesLaws.{Fills, Lacks, Full, open_from, open_from_one, place_filled, Open, fills_open, fills_end, lacks_open, full_below, full_none, full_open}
 
 open_test : (z : ℤ) → Open z → is_no_place z ≡ false
@@ -31,13 +31,13 @@ open_at ss j o = rw (open_test _ o)
 
 module _ (ss : List SlotBytes) where
   -- where a place is open before every slot, none is left over
-  pub left_over_none : ((j : ℕ) → j < length ss → Open (open_places ss j)) → left_over ss ≡ Lawful
+  pub left_over_none : ((j : ℕ) → j < length ss → Open (open_places ss j)) → left_over ss ≡ Ok tt
   unfolding left_over
   left_over_none all =
       rw (first_wrong_none (λ j. not (is_no_place (open_places ss j))) (length ss) (λ j h. open_at ss j (all j h)), le-ltb (length ss) (length ss) (le_refl _))
 
   -- the first slot before which no place is open is the first left over
-  pub left_over_at : (k : ℕ) → k < length ss → ((j : ℕ) → j < k → Open (open_places ss j)) → open_places ss k ≡ pos 0 → left_over ss ≡ Refused (refusal 6 k)
+  pub left_over_at : (k : ℕ) → k < length ss → ((j : ℕ) → j < k → Open (open_places ss j)) → open_places ss k ≡ pos 0 → left_over ss ≡ Err (refusal 6 k)
   unfolding left_over
   left_over_at k h all e =
       rw (
@@ -45,30 +45,30 @@ module _ (ss : List SlotBytes) where
         lt-ltb k (length ss) h,
       )
 
-  pub missing_none : open_places ss (length ss) ≡ pos 0 → missing ss ≡ Lawful
+  pub missing_none : open_places ss (length ss) ≡ pos 0 → missing ss ≡ Ok tt
   unfolding missing
   missing_none e = rw (none_test _ e)
 
-  pub missing_some : Open (open_places ss (length ss)) → missing ss ≡ Refused (refusal 5 (length ss))
+  pub missing_some : Open (open_places ss (length ss)) → missing ss ≡ Err (refusal 5 (length ss))
   unfolding missing
   missing_some o = rw (open_test _ o)
 
   from_one : (j : ℕ) → Open (open_from 1 ss j) → Open (open_places ss j)
   from_one j o = rw open_from_one at o
 
-  pub fills_left_over : Fills 1 ss → left_over ss ≡ Lawful
+  pub fills_left_over : Fills 1 ss → left_over ss ≡ Ok tt
   fills_left_over f = left_over_none (λ j h. from_one j (fills_open f j h))
 
-  pub fills_missing : Fills 1 ss → missing ss ≡ Lawful
+  pub fills_missing : Fills 1 ss → missing ss ≡ Ok tt
   fills_missing f = missing_none (sym (open_from_one ss (length ss)) ∙ fills_end f)
 
-  pub lacks_left_over : Lacks 1 ss → left_over ss ≡ Lawful
+  pub lacks_left_over : Lacks 1 ss → left_over ss ≡ Ok tt
   lacks_left_over l = left_over_none (λ j h. from_one j (lacks_open l j (omega arith)))
 
-  pub lacks_missing : Lacks 1 ss → missing ss ≡ Refused (refusal 5 (length ss))
+  pub lacks_missing : Lacks 1 ss → missing ss ≡ Err (refusal 5 (length ss))
   lacks_missing l = missing_some (from_one (length ss) (lacks_open l (length ss) (le_refl _)))
 
-  pub full_left_over : (k : ℕ) → Full 1 ss k → left_over ss ≡ Refused (refusal 6 k)
+  pub full_left_over : (k : ℕ) → Full 1 ss k → left_over ss ≡ Err (refusal 6 k)
   full_left_over k f =
       left_over_at k (full_below f) (λ j h. from_one j (full_open f j h)) (sym (open_from_one ss k) ∙ full_none f)
 

@@ -220,11 +220,9 @@ module _ (b : List ℕ) (layer : ℕ) (s : Numbers) (w : RepeatedGroup b layer s
   layer_group : map_run (field (tree_at (slots b) layer) empty) ≡ key_value fields
   layer_group = rw tree_here (map_run_group (slot_at b layer) fields is_repeated_lem is_group_lem)
 
-  pub layer_none : s.children ≡ 0 → false ≡ map_run (field (tree_at (slots b) layer) empty)
-  layer_none q = sym (layer_group ∙ key_value_none fields (count_is ∙ q))
-
-  pub layer_many : 2 < s.children → false ≡ map_run (field (tree_at (slots b) layer) empty)
-  layer_many q = sym (layer_group ∙ key_value_many fields (omega (arith, count_is)))
+  -- of no field, or of more than two
+  pub layer_other : (s.children ≡ 1 → ⊥) → (s.children ≡ 2 → ⊥) → false ≡ map_run (field (tree_at (slots b) layer) empty)
+  layer_other one two = by_test (eqb s.children 0) (λ z. sym (layer_group ∙ key_value_none fields (count_is ∙ eqb-true s.children 0 z))) (λ z. let some = eqb-false s.children 0 z in sym (layer_group ∙ key_value_many fields (omega (arith, count_is))))
 
   -- a key alone
   pub layer_key : s.children ≡ 1 → map_run (field (tree_at (slots b) layer) empty) ≡ eqb (repetition (slot_at b (suc layer))) REQUIRED
@@ -267,14 +265,6 @@ module _ (b : List ℕ) (layer : ℕ) (s : Numbers) (w : RepeatedGroup b layer s
         layer_group
         ∙ rw two_fields (key_value_both (slot_at b (suc layer)) (slot_at b value) (fields_at b (suc layer)) (fields_at b value) k)
         ∙ ap (λ (i : ℕ). is_required_or_optional (repetition (slot_at b i))) (sym value_last)
-
-  -- a key that is not required, alone or beside a value
-  pub layer_key_optional : (s.children ≡ 0 → ⊥) → s.children ≤ 2 → (repetition (slot_at b (suc layer)) ≡ REQUIRED → ⊥) → false ≡ map_run (field (tree_at (slots b) layer) empty)
-  layer_key_optional p q k = on (eq-or-lt_of_le q)
-    where
-      on : (s.children ≡ 2) ⊎ (s.children < 2) → false ≡ map_run (field (tree_at (slots b) layer) empty)
-      on (inl two) = layer_optional two (ne_eqb _ _ k)
-      on (inr less) = sym (layer_key (omega arith) ∙ ne_eqb _ _ k)
 
 -- rules 12 and 13 at the LIST or the MAP itself, which has one child
 module _ (b : List ℕ) (at : ℕ) (s : Numbers) (v : Visited b at s) where

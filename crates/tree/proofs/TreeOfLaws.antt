@@ -3,7 +3,7 @@ use Prim.Native.Nat.{ℕ, ◌<◌}
 use mathlib.Core.Path.{◌≡◌, refl, sym, ap, ◌∙◌, subst}
 use mathlib.Core.Logic.{◌⊎◌, inl, inr}
 use Rattle.refusal.specs.Outcome.{refusal}
-use Rattle.refusal.specs.declared.answers.Verdict.TheVariants.{Lawful, Refused}
+use Rattle.std.specs.Prelude.{Ok, Err}
 use mathlib.Core.List.{List, append-nil}
 use native.Mathlib.Omega.{arith}
 use lib.ListN.{length}
@@ -37,7 +37,7 @@ unfolding tree_of Claims
 fills_claims ss f = (subst ClaimsAll (one_of (trees ss) (fills_trees f).0) (fills_trees f).1).0
 
 -- slots that no refusal of 5 or 6 meets fill the one open place
-pub accepted_fills : (ss : List SlotBytes) → left_over ss ≡ Lawful → missing ss ≡ Lawful → Fills 1 ss
+pub accepted_fills : (ss : List SlotBytes) → left_over ss ≡ Ok tt → missing ss ≡ Ok tt → Fills 1 ss
 accepted_fills ss p q = on (one_of_three 1 ss)
   where
     on : Fills 1 ss ⊎ (Lacks 1 ss ⊎ ((k : ℕ) × Full 1 ss k)) → Fills 1 ss
@@ -46,16 +46,16 @@ accepted_fills ss p q = on (one_of_three 1 ss)
     on (inr (inr o)) = absurd (refused_not_lawful _ (sym (full_left_over ss o.0 o.1) ∙ p))
 
 -- of refusal 6, refusal 5 and a tree that claims rightly and lists the slots, one holds
-pub six_five_or_tree : (ss : List SlotBytes) → ((k : ℕ) × (k < length ss) × (left_over ss ≡ Refused (refusal 6 k))) ⊎ (((left_over ss ≡ Lawful) × (missing ss ≡ Refused (refusal 5 (length ss)))) ⊎ ((t : Tree) × Claims t × (listing t ≡ ss)))
+pub six_five_or_tree : (ss : List SlotBytes) → ((k : ℕ) × (k < length ss) × (left_over ss ≡ Err (refusal 6 k))) ⊎ (((left_over ss ≡ Ok tt) × (missing ss ≡ Err (refusal 5 (length ss)))) ⊎ ((t : Tree) × Claims t × (listing t ≡ ss)))
 six_five_or_tree ss = on (one_of_three 1 ss)
   where
-    on : Fills 1 ss ⊎ (Lacks 1 ss ⊎ ((k : ℕ) × Full 1 ss k)) → ((k : ℕ) × (k < length ss) × (left_over ss ≡ Refused (refusal 6 k))) ⊎ (((left_over ss ≡ Lawful) × (missing ss ≡ Refused (refusal 5 (length ss)))) ⊎ ((t : Tree) × Claims t × (listing t ≡ ss)))
+    on : Fills 1 ss ⊎ (Lacks 1 ss ⊎ ((k : ℕ) × Full 1 ss k)) → ((k : ℕ) × (k < length ss) × (left_over ss ≡ Err (refusal 6 k))) ⊎ (((left_over ss ≡ Ok tt) × (missing ss ≡ Err (refusal 5 (length ss)))) ⊎ ((t : Tree) × Claims t × (listing t ≡ ss)))
     on (inl f) = inr (inr (tree_of ss, fills_claims ss f, fills_listing ss f))
     on (inr (inl l)) = inr (inl (lacks_left_over ss l, lacks_missing ss l))
     on (inr (inr o)) = inl (o.0, full_below o.1, full_left_over ss o.0 o.1)
 
 -- and where the tree does, neither refusal does
-pub tree_neither : (ss : List SlotBytes) (t : Tree) → Claims t → listing t ≡ ss → (left_over ss ≡ Lawful) × (missing ss ≡ Lawful)
+pub tree_neither : (ss : List SlotBytes) (t : Tree) → Claims t → listing t ≡ ss → (left_over ss ≡ Ok tt) × (missing ss ≡ Ok tt)
 tree_neither ss t c e =
     let f : Fills 1 ss = subst (Fills 1) e (tree_fills t c) in
     (fills_left_over ss f, fills_missing ss f)

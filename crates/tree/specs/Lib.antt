@@ -8,3 +8,4 @@ pub mod OpenPlaces
 pub mod Faults
 pub mod Judgement
 pub mod Steps
+pub mod Facts

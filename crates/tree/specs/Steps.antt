@@ -1,6 +1,7 @@
 -- What the steps of judging answer, which the contracts of private functions cite. Nothing here is a promise to a caller.
-use Rattle.std.specs.Prelude.{ℕ, zero, suc, ◌+◌, ◌*◌, ◌-◌, ◌/◌, ◌%◌, ◌^◌, ◌≤◌, ◌<◌, ◌≡◌, cond, not, ◌||◌, List, [], ◌∷◌, map, eqb, length, drop}
-use Rattle.refusal.specs.Outcome.{refusal}
+use Rattle.std.specs.Prelude.{ℕ, zero, suc, ◌+◌, ◌*◌, ◌-◌, ◌/◌, ◌%◌, ◌^◌, ◌≤◌, ◌<◌, ◌≡◌, cond, not, ◌||◌, List, [], ◌∷◌, map, eqb, length, drop, Option, Some, None, Result, Ok, Err}
+use Rattle.refusal.specs.Numbers.{SHAPE, DISAGREEMENT, MISPLACED, BAD_DECIMAL, BAD_LIST, BAD_MAP}
+use Rattle.refusal.specs.Outcome.{refusal, no_refusal}
 use Rattle.sheet.specs.Block.{total_of, most_nodes}
 use Rattle.sheet.specs.Slot.{slots, slot_at, child_count, numbers_of}
 use Rattle.sheet.specs.declared.slots.Slot.{Slot as Numbers}
@@ -10,10 +11,13 @@ use Rattle.tree.specs.Faults.{faults, run_faults}
 use Rattle.tree.specs.Reading.{trees, take_fields, first_tree}
 use Rattle.parquet.specs.Logical as logical
 use Rattle.tree.specs.Judgement.{deepness, first_fault}
+use Rattle.annotation.specs.declared.rules.Broken.{Broken}
 use Rattle.tree.specs.declared.standing.Standing.{Standing}
-use Rattle.refusal.specs.declared.answers.Verdict.{Verdict}
-use Rattle.tree.specs.declared.judging.TreeJudged.{TreeJudged}
-use Rattle.tree.specs.declared.judging.RunJudged.{RunJudged}
+use Rattle.tree.specs.declared.faults.Rule.{Rule}
+use Rattle.refusal.specs.Outcome.{Verdict}
+use Rattle.tree.specs.declared.judging.TooDeep.{TooDeep}
+use Rattle.tree.specs.declared.judging.TreeFound.{TreeFound}
+use Rattle.tree.specs.declared.judging.RunFound.{RunFound}
 
 -- the tree that stands at number k of some slots
 unfoldable pub tree_at : List SlotBytes → ℕ → Tree
@@ -74,44 +78,82 @@ first_of (suc f) g = suc f
 
 -- the refusal of a fault
 unfoldable pub verdict_of : ℕ → Verdict
-verdict_of f = cond (eqb f 0) Verdict.Lawful (Verdict.Refused (refusal (f / rule_weight) (f % rule_weight)))
+verdict_of f = cond (eqb f 0) no_refusal (Err (refusal (f / rule_weight) (f % rule_weight)))
 
 -- the depth at which so many are allowed from there on
 unfoldable pub depth_at : ℕ → ℕ
 depth_at allowed = suc most_depth - allowed
 
-unfoldable pub tree_or_deep : Verdict → TreeJudged → TreeJudged
-tree_or_deep Verdict.Lawful found = found
-tree_or_deep (Verdict.Refused r) found = TreeJudged.Deep r.place
+-- what is found of a tree that is not too deep: where the next tree and the root's last field stand, and the first fault
+abbrev pub tree_found : ℕ → ℕ → ℕ → Result TreeFound TooDeep
+tree_found next last fault = Ok (record { next = next; last = last; fault = fault })
 
-unfoldable pub run_or_deep : Verdict → RunJudged → RunJudged
-run_or_deep Verdict.Lawful found = found
-run_or_deep (Verdict.Refused r) found = RunJudged.Deep r.place
+-- of a run, likewise, with where the last field of the last field stands
+abbrev pub run_found : ℕ → ℕ → ℕ → ℕ → Result RunFound TooDeep
+run_found next last inner fault = Ok (record { next = next; last = last; inner = inner; fault = fault })
+
+-- of a run before its first field
+abbrev pub nothing_found : ℕ → RunFound
+nothing_found at = record { next = at; last = at; inner = at; fault = 0 }
+
+-- of what is too deep first at a node
+abbrev pub deep_at : {F : Type 0} → ℕ → Result F TooDeep
+deep_at at = Err (record { node = at })
+
+-- what is found, where no node is too deep
+unfoldable pub or_deep : {F : Type 0} → Verdict → Result F TooDeep → Result F TooDeep
+or_deep (Ok _) found = found
+or_deep (Err r) found = deep_at r.place
 
 -- what judging finds of a tree whose root has the number `at`
-unfoldable pub judged_tree : ℕ → ℕ → ℕ → Standing → Tree → TreeJudged
+unfoldable pub judged_tree : ℕ → ℕ → ℕ → Standing → Tree → Result TreeFound TooDeep
 judged_tree edition at allowed p t =
-    tree_or_deep (first_fault at (map deepness (depths (depth_at allowed) t))) (TreeJudged.Judged (at + size t) (last_of at t) (fault_from at (faults edition p t)))
+    or_deep (first_fault at (map deepness (depths (depth_at allowed) t))) (tree_found (at + size t) (last_of at t) (fault_from at (faults edition p t)))
 
 -- and of a run whose next field has it, where a last field, that field's last field and a first fault were found before
-unfoldable pub judged_on : ℕ → ℕ → ℕ → Standing → ℕ → ℕ → ℕ → Fields → RunJudged
+unfoldable pub judged_on : ℕ → ℕ → ℕ → Standing → ℕ → ℕ → ℕ → Fields → Result RunFound TooDeep
 judged_on edition at allowed p last inner fault fs =
-    run_or_deep (first_fault at (map deepness (run_depths (depth_at allowed) fs)))
-    (RunJudged.Judged (at + sizes fs) (last_from last at fs) (inner_from inner at fs) (first_of fault (fault_from at (run_faults edition p fs))))
+    or_deep (first_fault at (map deepness (run_depths (depth_at allowed) fs)))
+    (run_found (at + sizes fs) (last_from last at fs) (inner_from inner at fs) (first_of fault (fault_from at (run_faults edition p fs))))
 
 -- and of a whole run
-unfoldable pub judged_run : ℕ → ℕ → ℕ → Standing → Fields → RunJudged
+unfoldable pub judged_run : ℕ → ℕ → ℕ → Standing → Fields → Result RunFound TooDeep
 judged_run edition at allowed p fs = judged_on edition at allowed p at at 0 fs
 
--- the least of all rules, where that is the least of rules 8 to 12 and the node's fields have such a place
-unfoldable pub broken_with13 : ℕ → Standing → SlotBytes → Fields → ℕ
-broken_with13 least below s fs = cond (eqb least 0) (cond (not (under_map_of below) || map_kept s fs) 0 13) least
+-- the number of a rule that is broken
+abbrev pub rule_number : Rule → ℕ
+rule_number Rule.Shape = SHAPE
+rule_number Rule.Disagreement = DISAGREEMENT
+rule_number Rule.Misplaced = MISPLACED
+rule_number Rule.BadDecimal = BAD_DECIMAL
+rule_number Rule.BadList = BAD_LIST
+rule_number Rule.BadMap = BAD_MAP
 
--- which rule, 12 or none, a node of some logical type breaks there
-unfoldable pub list_broken : ℕ → SlotBytes → Fields → ℕ
-list_broken code s fs = cond (not (eqb code logical.LIST) || list_kept s fs) 0 12
+-- the number of the rule that may be broken, and 0 of none
+abbrev pub broken_number : Result (Unit {0}) Rule → ℕ
+broken_number (Ok kept) = 0
+broken_number (Err rule) = rule_number rule
 
--- the least of rules 8 to 12 that a node breaks, and 0 where it keeps them all, by what judging its annotations found: the number of their refusal,
--- or 0, and their logical type
-unfoldable pub broken_as : ℕ → ℕ → Standing → SlotBytes → Fields → ℕ
-broken_as refusal code p s fs = cond (rule8 p s fs) (cond (eqb refusal 0) (list_broken code s fs) refusal) 8
+-- whether a node of some logical type keeps rule 12 there
+unfoldable pub list_broken : ℕ → SlotBytes → Fields → Result (Unit {0}) Rule
+list_broken code s fs = cond (not (eqb code logical.LIST) || list_kept s fs) (Ok tt) (Err Rule.BadList)
+
+-- the rule that a node's annotations break
+abbrev pub annotation_rule : Broken → Rule
+annotation_rule Broken.Disagreement = Rule.Disagreement
+annotation_rule Broken.Misplaced = Rule.Misplaced
+annotation_rule Broken.BadDecimal = Rule.BadDecimal
+
+-- that rule, and where they break none, what is said of the rules behind
+abbrev pub unless_annotated : Option Broken → Result (Unit {0}) Rule → Result (Unit {0}) Rule
+unless_annotated None next = next
+unless_annotated (Some broken) next = Err (annotation_rule broken)
+
+-- whether a node keeps rules 8 to 12, or the first that it breaks, by what judging its annotations found: the rule that they break, and their logical type
+unfoldable pub broken_as : Option Broken → ℕ → Standing → SlotBytes → Fields → Result (Unit {0}) Rule
+broken_as refusal code p s fs = cond (rule8 p s fs) (unless_annotated refusal (list_broken code s fs)) (Err Rule.Shape)
+
+-- whether it keeps all rules, or the first that it breaks, where that is known of rules 8 to 12 and the node's fields have such a place
+abbrev pub broken_with13 : Result (Unit {0}) Rule → Standing → SlotBytes → Fields → Result (Unit {0}) Rule
+broken_with13 (Ok kept) below s fs = cond (not (under_map_of below) || map_kept s fs) (Ok tt) (Err Rule.BadMap)
+broken_with13 (Err rule) below s fs = Err rule

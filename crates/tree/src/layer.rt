@@ -4,7 +4,7 @@ ghost use Rattle.tree.specs.Layer.{layer_of};
 
 use parquet::repetition;
 
-#[derive(Clone, Copy)]
+#[derive(Clone, Copy, Debug, PartialEq, Eq)]
 pub enum Layer {
     // Of several fields, or of one that is repeated: it is the element.
     Element,
@@ -15,17 +15,13 @@ pub enum Layer {
 }
 
 // What a group of so many fields, the first of this repetition, is.
+#[tactic(auto, unfolding(crate::specs::Layer::layer_of))]
 pub fn layer_of(children: u16, first: u8) -> Layer
     ensures { result ≡ layer_of children first }
 {
-    if children == 0 {
-        return Layer::Empty;
+    match children {
+        0 => Layer::Empty,
+        1 if first != repetition::REPEATED => Layer::ByName,
+        _ => Layer::Element,
     }
-    if children != 1 {
-        return Layer::Element;
-    }
-    if first == repetition::REPEATED {
-        return Layer::Element;
-    }
-    Layer::ByName
 }

@@ -5,6 +5,7 @@ mod faults; // faults.rt: the least rule that a node breaks
 mod judgement; // judgement.rt: a sheet judged by refusals 21 and 1 to 13
 mod judging; // judging.rt: a tree and its run judged, too deep or at fault
 mod layer; // layer.rt: what a LIST's repeated group is
+mod node; // node.rt: a node of a sheet whose slots claim rightly
 mod places; // places.rt: refusals 5 and 6
 mod repetitions; // repetitions.rt: repetitions that rules 12 and 13 ask for
 mod shape; // shape.rt: rule 8

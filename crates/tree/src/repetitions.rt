@@ -7,5 +7,5 @@ use parquet::repetition;
 pub(crate) fn required_or_optional(code: u8) -> bool
     ensures { result ≡ is_required_or_optional code }
 {
-    (code == repetition::REQUIRED) | (code == repetition::OPTIONAL)
+    code == repetition::REQUIRED || code == repetition::OPTIONAL
 }

@@ -7,16 +7,13 @@ use parquet::{converted, logical, physical, repetition};
 use sheet::Slot;
 
 // Whether a node keeps rule 8.
+#[tactic(auto, unfolding(crate::specs::Rules::shape))]
 pub(crate) fn shape_kept(standing: Standing, s: Slot) -> bool
     ensures { result ≡ shape standing s s.children }
 {
-    if !standing_shape(standing, s) {
-        return false;
-    }
-    if !length_shape(s.physical, s.type_length) {
-        return false;
-    }
-    decimal_shape(s.converted, s.logical, s.scale, s.precision)
+    standing_shape(standing, s)
+        && length_shape(s.physical, s.type_length)
+        && decimal_shape(s.converted, s.logical, s.scale, s.precision)
 }
 
 fn standing_shape(standing: Standing, s: Slot) -> bool
@@ -24,8 +21,9 @@ fn standing_shape(standing: Standing, s: Slot) -> bool
 {
     match standing {
         Standing::Root => root_shape(s.physical, s.repetition, s.converted, s.logical),
-        Standing::Field => field_shape(s.physical, s.repetition, s.children),
-        Standing::MapField => field_shape(s.physical, s.repetition, s.children),
+        Standing::Field | Standing::MapField => {
+            field_shape(s.physical, s.repetition, s.children)
+        }
     }
 }
 
@@ -33,23 +31,22 @@ fn standing_shape(standing: Standing, s: Slot) -> bool
 fn root_shape(physical: u8, repetition: u8, converted: u8, logical: u8) -> bool
     ensures { result ≡ root_shape physical repetition converted logical }
 {
-    (physical == physical::GROUP)
-        & (repetition == repetition::NONE)
-        & (converted == converted::NONE)
-        & (logical == logical::NONE)
+    physical == physical::GROUP
+        && repetition == repetition::NONE
+        && converted == converted::NONE
+        && logical == logical::NONE
 }
 
 // Every other node has a repetition, a leaf no children and a group at least one.
 fn field_shape(physical: u8, repetition: u8, children: u16) -> bool
     ensures { result ≡ field_shape physical repetition children }
 {
-    if repetition == repetition::NONE {
-        return false;
-    }
-    if physical == physical::GROUP {
-        return 1 <= children;
-    }
-    children == 0
+    repetition != repetition::NONE
+        && if physical == physical::GROUP {
+            1 <= children
+        } else {
+            children == 0
+        }
 }
 
 // The type length is at least 1 for FIXED, 0 otherwise.
@@ -57,16 +54,18 @@ fn length_shape(physical: u8, type_length: i32) -> bool
     ensures { result ≡ length_shape physical type_length }
 {
     if physical == physical::FIXED_LEN_BYTE_ARRAY {
-        return 1 <= type_length;
+        1 <= type_length
+    } else {
+        is_nought(type_length)
     }
-    is_nought(type_length)
 }
 
-// Scale and precision are 0 unless either annotation is DECIMAL.
+// Scale and precision are 0 unless either annotation is DECIMAL. Joined with `||` alone, it was 3 to 8 instructions a node more, 4 to 10
+// in a thousand.
 fn decimal_shape(converted: u8, logical: u8, scale: i32, precision: i32) -> bool
     ensures { result ≡ decimal_shape converted logical scale precision }
 {
-    if is_nought(scale) & is_nought(precision) {
+    if is_nought(scale) && is_nought(precision) {
         return true;
     }
     (converted == converted::DECIMAL) | (logical == logical::DECIMAL)

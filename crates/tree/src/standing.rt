@@ -4,7 +4,7 @@ ghost use Rattle.tree.specs.Rules.{under_map_of, standing_under};
 
 use parquet::logical;
 
-#[derive(Clone, Copy)]
+#[derive(Clone, Copy, Debug, PartialEq, Eq)]
 pub enum Standing {
     Root,
     // A field of a node that is no resolved MAP.
@@ -17,11 +17,7 @@ pub enum Standing {
 pub(crate) fn under_map(standing: Standing) -> bool
     ensures { result ≡ under_map_of standing }
 {
-    match standing {
-        Standing::Root => false,
-        Standing::Field => false,
-        Standing::MapField => true,
-    }
+    standing == Standing::MapField
 }
 
 // The standing of the fields of a node of some logical type.

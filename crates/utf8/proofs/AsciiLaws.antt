@@ -63,7 +63,7 @@ unfolding high_bits
 high_bits_written s at = simp towards_suc (omega arith)
 
 -- and in a number
-pub high_bits_four : (s : List ℕ) (at : ℕ) → ((i : ℕ) → get_or s i 0 < 256)
+high_bits_four : (s : List ℕ) (at : ℕ) → ((i : ℕ) → get_or s i 0 < 256)
     → bit_and (get_or s at 0 + 256 * (get_or s (at + 1) 0 + 256 * (get_or s (at + 2) 0 + 256 * get_or s (at + 3) 0))) 0x8080_8080 ≡ high_bits s at 4
 high_bits_four s at each =
     let b = get_or s (at + 1) 0 in
@@ -88,14 +88,26 @@ high_bits_parts (suc j) n s at =
     let more = high_bits_parts j n s (suc at) in
     rw (add-suc n j, eight, pow-add, more, place, mul_assoc) (omega arith)
 
+-- eight octets as a number, of which the first is the lowest
+abbrev pub word_at : List ℕ → ℕ → ℕ
+word_at s at =
+    get_or s at 0
+    + 256 * (get_or s (at + 1) 0 + 256 * (get_or s (at + 2) 0 + 256 * get_or s (at + 3) 0))
+    + 2 ^ 32 * (get_or s (at + 4) 0 + 256 * (get_or s (at + 5) 0 + 256 * (get_or s (at + 6) 0 + 256 * get_or s (at + 7) 0)))
+
 -- those of eight octets in a number, by halves
-pub high_bits_eight : (s : List ℕ) (at low high : ℕ) → low < 2 ^ 32 → bit_and low 0x8080_8080 ≡ high_bits s at 4 → bit_and high 0x8080_8080 ≡ high_bits s (at + 4) 4
-    → bit_and (low + 2 ^ 32 * high) 0x8080_8080_8080_8080 ≡ high_bits s at 8
-high_bits_eight s at low high h el eh =
-    let number : low + 2 ^ 32 * high ≡ high * 2 ^ 32 + low = omega arith in
+pub high_bits_eight : (s : List ℕ) (at : ℕ) → ((i : ℕ) → get_or s i 0 < 256) → bit_and (word_at s at) 0x8080_8080_8080_8080 ≡ high_bits s at 8
+high_bits_eight s at each =
+    let low = get_or s at 0 + 256 * (get_or s (at + 1) 0 + 256 * (get_or s (at + 2) 0 + 256 * get_or s (at + 3) 0)) in
+    let high = get_or s (at + 4) 0 + 256 * (get_or s (at + 5) 0 + 256 * (get_or s (at + 6) 0 + 256 * get_or s (at + 7) 0)) in
+    let small : low < 2 ^ 32 = omega (arith, each at, each (at + 1), each (at + 2), each (at + 3)) in
+    let number : word_at s at ≡ high * 2 ^ 32 + low = omega arith in
+    let five : at + 4 + 1 ≡ at + 5 = omega arith in
+    let six : at + 4 + 2 ≡ at + 6 = omega arith in
+    let seven : at + 4 + 3 ≡ at + 7 = omega arith in
     ap (λ (n : ℕ). bit_and n 0x8080_8080_8080_8080) number
-    ∙ and_block 32 high 0x8080_8080 low 0x8080_8080 h (omega arith)
-    ∙ ap₂ (λ (x y : ℕ). x * 2 ^ 32 + y) eh el
+    ∙ and_block 32 high 0x8080_8080 low 0x8080_8080 small (omega arith)
+    ∙ ap₂ (λ (x y : ℕ). x * 2 ^ 32 + y) (rw (five, six, seven) at (high_bits_four s (at + 4) each)) (high_bits_four s at each)
     ∙ omega (arith, high_bits_parts 4 4 s at)
 
 -- those of the octets behind the first

@@ -1,6 +1,6 @@
 -- Laws of RFC 3629's grammar: which octets are inside a range, how many an alternative spells, and what a first octet says of a rule.
 -- Assumes nothing.
-use Prim.Native.Nat.{ℕ, suc, ◌≤◌, ◌<◌}
+use Prim.Native.Nat.{ℕ, zero, suc, ◌≤◌, ◌<◌}
 use mathlib.Core.Bool.{Bool, true, false, ◌&&◌, and-false}
 use mathlib.Core.Path.{◌≡◌, refl, ap}
 use mathlib.Core.List.{List, [], ◌∷◌}
@@ -10,6 +10,7 @@ use lib.Dec.{T, leb, leb→le}
 use lib.Ieee.Fits.{and_l, and_r}
 use lib.ListN.{length, get_or, take, drop, replicate, length-take, length-replicate}
 use lib.Seq.{drop-cons}
+use Rattle.std.specs.List.{list_all}
 use Rattle.laws.proofs.BoolLaws.{T_false, T_or_cases}
 use Rattle.utf8.specs.Sequence.{Range, Rule, tail, inside, spells, derives, utf8_char, utf8_1, utf8_2, utf8_3, utf8_4}
 
@@ -50,6 +51,13 @@ pub spells_at : (range : Range) (ranges : List Range) (n i j : ℕ) (s : List �
 unfolding spells
 spells_at range ranges n i j s t h e f = rw (drop-cons s i 0 h, e, f)
 
+-- octets are all of UTF8-tail where each is
+pub all_tails : (n : ℕ) (s : List ℕ) → length s ≡ n → list_all (inside tail) s ≡ spells (replicate n tail) s
+unfolding spells
+all_tails n [] e = rw (← e)
+all_tails zero (b ∷ s) e = absurd (omega arith)
+all_tails (suc n) (b ∷ s) e = ap (λ (t : Bool). inside tail b && t) (all_tails n s (omega arith))
+
 pub spells_tails : (n m i j : ℕ) (s : List ℕ) (t : Bool) → n ≡ suc m → i < length s → j ≡ suc i → t ≡ inside tail (get_or s i 0)
     → spells (replicate n tail) (take n (drop i s)) ≡ (t && spells (replicate m tail) (take m (drop j s)))
 spells_tails n m i j s t e h f g = rw e (spells_at tail (replicate m tail) m i j s t h f g)
@@ -57,13 +65,6 @@ spells_tails n m i j s t e h f g = rw e (spells_at tail (replicate m tail) m i j
 -- too few octets are none of an alternative's
 pub spells_cut : (range : Range) (n : ℕ) (s : List ℕ) → length s ≤ n → spells (range ∷ replicate n tail) (take (suc n) s) ≡ false
 spells_cut range n s h = spells_short _ (take (suc n) s) (simp (length-take, length-replicate) (omega arith))
-
--- an alternative with an empty range spells nothing
-pub spells_empty : (range : Range) (ranges : List Range) (s : List ℕ) → range.hi < range.lo → spells (range ∷ ranges) s ≡ false
-unfolding spells
-spells_empty range ranges [] h = refl
-spells_empty range ranges (b ∷ s) h =
-    rw (T_false (inside range b) (λ t. omega (arith, inside_low range b t, inside_high range b t)))
 
 -- every first octet of a rule lies above n, and every one below n
 abbrev pub Above : ℕ → Rule → Type 0

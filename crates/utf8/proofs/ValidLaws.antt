@@ -14,7 +14,8 @@ use lib.Seq.{take_at, take-add, take-length, drop-cons, drop-drop, drop-append_s
 use Rattle.utf8.specs.Sequence.{Range, Rule, inside, spells, derives, sequence, utf8_char, utf8_1, utf8_2, utf8_3, utf8_4}
 use Rattle.utf8.specs.Text.{Text, none, next}
 use Rattle.utf8.specs.Valid.{matched, leading, reading, valid_up_to, Stops}
-use Rattle.utf8.specs.Steps.{Passes}
+use Rattle.std.specs.Prelude.{Some}
+use Rattle.utf8.specs.Steps.{begun, Passes}
 use Rattle.laws.proofs.BoolLaws.{T_true, T_or_left, T_or_right, T_or_cases}
 use Rattle.utf8.proofs.SequenceLaws.{inside_true, inside_below, inside_above, spells_length, Above, Below, Ordered, utf8_char_ordered, derives_above, derives_nil}
 
@@ -221,3 +222,12 @@ stops_length {s} {r} stops = (λ e. rw (e, take-length) at stops.whole, text)
 
 pub valid_up_to_length : (s : List ℕ) → (valid_up_to s ≡ length s) ↔ Text s
 valid_up_to_length s = stops_length (valid_up_to_stops s)
+
+-- a sequence that begins, by how many octets it has
+pub begun_some : (n : ℕ) → 0 < n → begun n ≡ Some n
+begun_some zero h = absurd (omega arith)
+begun_some (suc n) h = refl
+
+pub begun_is : (n k : ℕ) → begun n ≡ Some k → (k ≡ n) × (0 < k)
+begun_is zero k e = cc
+begun_is (suc n) k e = let same : suc n ≡ k = cc in (sym same, omega arith)

@@ -1,14 +1,11 @@
 // Octets of UTF8-1 in a row, taken eight at a time, and more at a time after eight: by the highest bit of each, which is clear in such an
 // octet.
-ghost use Rattle.std.specs.Prelude.{ℕ, ◌+◌, ◌^◌, ◌≤◌, ◌<◌, List, ◌≡◌, eqb, length};
-ghost use Rattle.std.specs.Int.Bits.{bit_and};
+ghost use Rattle.std.specs.Prelude.{ℕ, ◌+◌, ◌≤◌, ◌<◌, List, ◌≡◌, eqb, length};
 ghost use Rattle.utf8.specs.Steps.{Passes, NoAscii, run, high_bits};
 
 use crate::UTF8_1_LAST;
 
-// Octets of half a word, a word, two words, a block of four, and a double block.
-const HALF: usize = 4;
-
+// Octets of a word, two words, a block of four, and a double block.
 const WORD: usize = 8;
 
 const PAIR: usize = 16;
@@ -16,9 +13,6 @@ const PAIR: usize = 16;
 const BLOCK: usize = 32;
 
 const DOUBLE: usize = 64;
-
-// How many numbers half a word has.
-const HALF_COUNT: u64 = 0x1_0000_0000;
 
 // Bits of an octet.
 const OCTET_BITS: usize = 8;
@@ -33,6 +27,7 @@ pub(crate) fn ascii_after(text: &[u8], from: usize) -> usize
     ensures no_ascii { NoAscii text.now result }
 {
     let mut at = from;
+    // A cursor: each turn passes as many octets as it reads.
     while text.len() - at >= WORD {
         let high = high_bits(text, at);
         if high != 0 {
@@ -49,6 +44,7 @@ fn blocks_after(text: &[u8], from: usize) -> usize
     ensures { Passes text.now from result }
 {
     let mut at = from;
+    // A cursor: each turn passes as many octets as it reads.
     while text.len() - at >= BLOCK {
         if !is_ascii_block(text, at) {
             return at;
@@ -59,11 +55,13 @@ fn blocks_after(text: &[u8], from: usize) -> usize
 }
 
 // Where whole double blocks of such octets end.
+// Apart from `blocks_after`, which hands on to it: one over the size would also need a const argument computed from another.
 fn doubles_after(text: &[u8], from: usize) -> usize
     requires { from ≤ length text.now }
     ensures { Passes text.now from result }
 {
     let mut at = from;
+    // A cursor, handed on from the loops over words and blocks.
     while text.len() - at >= DOUBLE {
         if !is_ascii_double(text, at) {
             return at;
@@ -99,14 +97,12 @@ fn octets_after(text: &[u8], from: usize) -> usize
     ensures passes { Passes text.now from result }
     ensures no_ascii { NoAscii text.now result }
 {
-    let mut at = from;
-    while at < text.len() {
+    for at in from..text.len() {
         if text[at] > UTF8_1_LAST {
             return at;
         }
-        at += 1;
     }
-    at
+    text.len()
 }
 
 // How many octets of UTF8-1 stand before the first other one, by the highest bits of up to eight octets.
@@ -114,10 +110,11 @@ fn octets_below(high: u64) -> usize
     requires { 0 < high }
     ensures { (s : List ℕ) (at n : ℕ) → n ≤ 8 → high ≡ high_bits s at n → result ≡ run s at n }
 {
-    u64::trailing_zeros(high) as usize / OCTET_BITS
+    high.trailing_zeros() as usize / OCTET_BITS
 }
 
 // Whether the octets of a double block are all of UTF8-1. All are read before any is judged, so that one test serves them all.
+// Each of these three is of two of the next smaller: one over the size would need a const argument computed from another.
 fn is_ascii_double(text: &[u8], at: usize) -> bool
     requires { at + 64 ≤ length text.now }
     ensures { result ≡ eqb (high_bits text.now at 64) 0 }
@@ -147,28 +144,20 @@ fn is_ascii_pair(text: &[u8], at: usize) -> bool
     (first == 0) & (second == 0)
 }
 
-// The highest bits of the octets of a word.
+// The highest bits of the octets of a word, whose first octet is the lowest.
 fn high_bits(text: &[u8], at: usize) -> u64
     requires { at + 8 ≤ length text.now }
     ensures { result ≡ high_bits text.now at 8 }
 {
-    let low = half(text, at);
-    let high = half(text, at + HALF);
-    (low + HALF_COUNT * high) & HIGH_BITS
-}
-
-// The number of half a word, whose first octet is the lowest. Of it the highest bits of the octets count.
-fn half(text: &[u8], at: usize) -> u64
-    requires { at + 4 ≤ length text.now }
-    ensures { (result < 2 ^ 32) × (bit_and result 0x8080_8080 ≡ high_bits text.now at 4) }
-{
-    wide(text[at])
-        + 256 * (wide(text[at + 1]) + 256 * (wide(text[at + 2]) + 256 * wide(text[at + 3])))
-}
-
-// An octet as a number.
-fn wide(octet: u8) -> u64
-    ensures { (result ≡ octet) × (result < 256) }
-{
-    octet as u64
+    let word = [
+        text[at],
+        text[at + 1],
+        text[at + 2],
+        text[at + 3],
+        text[at + 4],
+        text[at + 5],
+        text[at + 6],
+        text[at + 7],
+    ];
+    u64::from_le_bytes(word) & HIGH_BITS
 }

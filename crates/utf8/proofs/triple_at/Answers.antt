@@ -6,6 +6,7 @@ use mathlib.Core.Path.{◌≡◌, refl, sym, ap, ap₂, ◌∙◌}
 use native.Mathlib.Omega.{arith}
 use lib.ListN.{take, drop, replicate, length-drop}
 use Rattle.utf8.specs.Sequence.{◌to◌, tail, spells}
+use Rattle.utf8.specs.Steps.{begun}
 use Rattle.utf8.proofs.SequenceLaws.{spells_at, spells_tails, spells_cut}
 use Rattle.utf8.proofs.triple_at.Goals as goal
 use Rattle.utf8.proofs.triple_at.Goals.{After-within-2}
@@ -13,13 +14,13 @@ use Rattle.utf8.proofs.triple_at.Goals.{After-within-2}
 pub returns-then-text-at-lt3 : goal.returns-then-text-at-lt3
 returns-then-text-at-lt3 c =
     let a = c.args in
-    sym (ap (λ (t : Bool). cond t 3 0) (spells_cut (a.low to a.high) 1 (drop (a.at + 1) a.text.now) (simp length-drop (omega arith))))
+    ap (λ (t : Bool). begun (cond t 3 0)) (sym (spells_cut (a.low to a.high) 1 (drop (a.at + 1) a.text.now) (simp length-drop (omega arith))))
 
 pub returns-then-not-within : goal.returns-then-not-within
 returns-then-not-within c =
     let a = c.args in
     sym
-    (ap (λ (t : Bool). cond t 3 0)
+    (ap (λ (t : Bool). begun (cond t 3 0))
     (spells_at (a.low to a.high) (replicate 1 tail) 1 (a.at + 1) (a.at + 2) a.text.now c.within.result (omega arith) (omega arith) c.within.ensures)
     ∙ rw c.if-not-within.true)
 
@@ -42,7 +43,7 @@ both_read c =
     ∙ ap₂ ◌&&◌ c.if-not-within.false (second_read c)
 
 pub returns-then-not-within-2 : goal.returns-then-not-within-2
-returns-then-not-within-2 c = sym (ap (λ (t : Bool). cond t 3 0) (both_read (goal.at.returns-then-not-within-2 c).After-within-2) ∙ rw c.if-not-within-2.true)
+returns-then-not-within-2 c = sym (ap (λ (t : Bool). begun (cond t 3 0)) (both_read (goal.at.returns-then-not-within-2 c).After-within-2) ∙ rw c.if-not-within-2.true)
 
 pub returns : goal.returns
-returns c = sym (ap (λ (t : Bool). cond t 3 0) (both_read (goal.at.returns c).After-within-2) ∙ rw c.if-not-within-2.false)
+returns c = sym (ap (λ (t : Bool). begun (cond t 3 0)) (both_read (goal.at.returns c).After-within-2) ∙ rw c.if-not-within-2.false)

@@ -9,12 +9,9 @@ use native.Mathlib.Omega.{arith}
 use lib.ListN.{length, drop, length-drop}
 use Rattle.utf8.specs.Valid.{leading, valid_up_to, Stops}
 use Rattle.utf8.specs.Steps.{Passes}
-use Rattle.utf8.proofs.ValidLaws.{valid_up_to_none, valid_up_to_stops, passes_none, passes_on}
+use Rattle.utf8.proofs.ValidLaws.{valid_up_to_none, valid_up_to_stops, passes_on}
 use Rattle.utf8.proofs.valid_up_to.Goals as goal
 use Rattle.utf8.proofs.valid_up_to.Goals.{After-letters_after-to}
-
-pub loop-at-init : goal.loop-at-init
-loop-at-init c = passes_none _ 0 (omega arith)
 
 -- no sequence begins where reading has come to
 answer : (s : List ℕ) (r : ℕ) → Passes s 0 r → (r < length s → leading (drop r s) ≡ 0) → (r ≡ valid_up_to s) × Stops s r
@@ -38,15 +35,6 @@ returns-then-to-from c =
     (λ inside. letters.no_letter inside (rw c.if-to-from.true (ascii.no_ascii (omega arith))))
     in
     record { value = done.0; stops = done.1 }
-
-pub loop-at-smaller : goal.loop-at-smaller
-loop-at-smaller c =
-    let ascii = c.ascii_after-from.ensures.passes in
-    let letters = c.letters_after-to.ensures.passes in
-    omega (arith, ascii.onward, letters.onward, letters.within)
-
-pub loop-at-preserved : goal.loop-at-preserved
-loop-at-preserved c = passed (goal.at.loop-at-preserved c).After-letters_after-to
 
 pub returns : goal.returns
 returns c =

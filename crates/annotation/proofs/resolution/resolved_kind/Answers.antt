@@ -11,4 +11,4 @@ returns-then-is_plain c =
     ∙ plain_kind_lem c.args.n c.args.under_map (sym c.is_plain.ensures ∙ c.if-is_plain.true)
 
 pub returns : goal.returns
-returns c = c.kind_as.ensures ∙ kind_read _ _ _ c.annotation_of.ensures
+returns c = c.kind_as.ensures ∙ kind_read _ _ _ c.annotation.ensures

@@ -4,4 +4,4 @@ use Rattle.annotation.proofs.SlotLaws.{written_read}
 use Rattle.annotation.proofs.rewriting.written_of.Goals as goal
 
 pub returns : goal.returns
-returns c = c.written_as.ensures ∙ written_read _ _ _ c.annotation_of.ensures
+returns c = c.written_as.ensures ∙ written_read _ _ _ c.annotation.ensures

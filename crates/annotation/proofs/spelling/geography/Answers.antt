@@ -7,22 +7,6 @@ use Rattle.annotation.proofs.PairLaws.{edged_rest}
 use borrow.Author.Rules.{rules}
 use Rattle.annotation.proofs.spelling.geography.Goals as goal
 
-pub returns-in-1 : goal.returns-in-1
-unfolding stated_of valid_parameters named_of edge_of packed_of
-returns-in-1 c = rw c.in-1.is
-
-pub returns-in-2 : goal.returns-in-2
-unfolding stated_of valid_parameters named_of edge_of packed_of
-returns-in-2 c = rw c.in-2.is
-
-pub returns-in-3 : goal.returns-in-3
-unfolding stated_of valid_parameters named_of edge_of packed_of
-returns-in-3 c = rw c.in-3.is
-
-pub returns-in-4 : goal.returns-in-4
-unfolding stated_of valid_parameters named_of edge_of packed_of
-returns-in-4 c = rw c.in-4.is
-
 pub returns-in_default : goal.returns-in_default
 unfolding stated_of valid_parameters named_of edge_of packed_of
 returns-in_default c = rw (edged_rest c.args.pair c.requires (search rules))

@@ -1,16 +1,11 @@
--- `block_check::check::whole_sum` meets its contract. The invariant: the sums over the chunks passed weigh what the bytes of those
--- chunks do, and are small.
-use Rattle.std.proofs.Common.{◌-◌, ◌*◌, ◌≤◌}
-use Rattle.block_check.specs.Steps.{chunk_size, chunks, AtMost}
-use Rattle.block_check.proofs.LaneLaws.{LanesWeighed}
+-- `block_check::check::whole_sum` meets its contract. The invariant: the sums are those over the bytes of the chunks passed.
+use Rattle.std.proofs.Common.{◌+◌, ◌*◌}
+use Rattle.block_check.specs.Steps.{chunk_size}
+use Rattle.block_check.proofs.LaneLaws.{Summed}
 use Rattle.block_check.proofs.check.whole_sum.Given as goal
 
-abbrev pub invariant-loop-chunk : goal.invariant-loop-chunk
-invariant-loop-chunk l =
-    (l.chunk ≤ chunks)
-    × AtMost (255 * l.chunk) l.plain l.plain_highs
-    × AtMost (255 * chunks * l.chunk) l.cumulative l.cumulative_highs
-    × LanesWeighed l.block (chunk_size * l.chunk) l.plain l.plain_highs l.cumulative l.cumulative_highs
+abbrev pub invariant-loop-turn : goal.invariant-loop-turn
+invariant-loop-turn l = Summed l.block (chunk_size * (2 * l.turn)) l.plain l.cumulative
 
-abbrev pub decreases-loop-chunk : goal.decreases-loop-chunk
-decreases-loop-chunk l = chunks - l.chunk
+abbrev pub invariant-loop-k : goal.invariant-loop-k
+invariant-loop-k l = Summed l.block (chunk_size * (2 * l.turn + l.k)) l.plain l.cumulative

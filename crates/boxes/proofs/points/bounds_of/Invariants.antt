@@ -1,5 +1,5 @@
 -- `boxes::points::bounds_of` meets its contract: of the points that were passed each bound is the furthest number of its side.
-use Prim.Native.Nat.{ℕ, ◌-◌, ◌≤◌}
+use Prim.Native.Nat.{ℕ}
 use mathlib.Core.List.{List}
 use lib.Ieee.{Float}
 use Rattle.boxes.specs.Coordinates.{X, Y}
@@ -15,7 +15,4 @@ pub record Passed (coordinates : List Float) (point : ℕ) (xmin xmax ymin ymax 
   pub ymax_is : Furthest high_side (coordinate_of coordinates Y) point ymax
 
 abbrev pub invariant-loop-point : goal.invariant-loop-point
-invariant-loop-point l = (l.point ≤ l.points) × Passed l.coordinates l.point l.xmin l.xmax l.ymin l.ymax
-
-abbrev pub decreases-loop-point : goal.decreases-loop-point
-decreases-loop-point l = l.points - l.point
+invariant-loop-point l = Passed l.coordinates l.point l.x.least l.x.greatest l.y.least l.y.greatest

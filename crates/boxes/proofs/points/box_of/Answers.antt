@@ -1,10 +1,10 @@
 -- `boxes::points::box_of` meets its contract: the range of the bounds is that of the points, and the least is above the greatest where nothing counts.
-use mathlib.Core.Path.{◌≡◌, sym, ap, ◌∙◌}
+use mathlib.Core.Path.{◌≡◌, sym, ◌∙◌}
 use mathlib.Core.Bool.{true}
 use mathlib.Core.List.{List}
 use mathlib.Core.Logic.{inl, inr}
 use lib.Ieee.{Float}
-use Rattle.refusal.specs.declared.answers.Verdict.{Verdict}
+use Rattle.std.specs.Prelude.{Ok}
 use Rattle.parquet.specs.Logical.{is_geospatial}
 use Rattle.boxes.specs.Coordinates.{X, Y}
 use Rattle.boxes.specs.Points.{judgement}
@@ -17,25 +17,24 @@ use Rattle.boxes.proofs.points.box_of.Goals.{Else-beyond_degrees, Else-not-has_b
 
 -- past the first test the kind has boxes
 known : (c : Else-not-has_boxes) → is_geospatial c.args.kind ≡ true
-known c = sym c.has_boxes.ensures ∙ c.if-not-has_boxes.false
+known c = sym c.if-not-has_boxes.ensures
 
 pub returns-then-not-has_boxes : goal.returns-then-not-has_boxes
 returns-then-not-has_boxes c =
     let args = c.args in
-    judgement_20 args.kind args.coordinates.now (sym c.has_boxes.ensures ∙ c.if-not-has_boxes.true) ∙ ap Verdict.Refused (sym c.unknown_kind.ensures)
+    judgement_20 args.kind args.coordinates.now (sym c.if-not-has_boxes.ensures)
 
 pub returns-then-coordinates-ne0 : goal.returns-then-coordinates-ne0
 returns-then-coordinates-ne0 c =
     let args = c.args in
-    judgement_15 args.kind args.coordinates.now (known (goal.at.returns-then-coordinates-ne0 c).Else-not-has_boxes) c.if-coordinates-ne0.true ∙ ap Verdict.Refused (sym c.odd_run.ensures)
+    judgement_15 args.kind args.coordinates.now (known (goal.at.returns-then-coordinates-ne0 c).Else-not-has_boxes) c.if-coordinates-ne0.true
 
 pub returns-then-beyond_degrees : goal.returns-then-beyond_degrees
 returns-then-beyond_degrees c =
     let args = c.args in
     let b = c.bounds_of-found.result in
     judgement_16 args.kind args.coordinates.now (known (goal.at.returns-then-beyond_degrees c).Else-not-has_boxes) c.if-coordinates-ne0.false
-    (found_refused args.kind args.coordinates.now b c.bounds_of-found.ensures (sym c.beyond_degrees.ensures ∙ c.if-beyond_degrees.true))
-    ∙ ap Verdict.Refused (sym c.not_allowed.ensures)
+    (found_refused args.kind args.coordinates.now b c.bounds_of-found.ensures (sym c.if-beyond_degrees.ensures))
 
 -- past the third the points are lawful
 abbrev coordinates : Else-beyond_degrees → List Float
@@ -44,11 +43,11 @@ coordinates c = c.args.coordinates.now
 abbrev bounds : Else-beyond_degrees → BoundingBox
 bounds c = c.bounds_of-found.result
 
-lawful : (c : Else-beyond_degrees) → judgement c.args.kind (coordinates c) ≡ Verdict.Lawful
+lawful : (c : Else-beyond_degrees) → judgement c.args.kind (coordinates c) ≡ Ok tt
 lawful c =
     let kind = c.args.kind in
-    judgement_lawful kind (coordinates c) (sym c.has_boxes.ensures ∙ c.if-not-has_boxes.false) c.if-coordinates-ne0.false
-    (found_allowed kind (coordinates c) (bounds c) c.bounds_of-found.ensures (sym c.beyond_degrees.ensures ∙ c.if-beyond_degrees.false))
+    judgement_lawful kind (coordinates c) (sym c.if-not-has_boxes.ensures) c.if-coordinates-ne0.false
+    (found_allowed kind (coordinates c) (bounds c) c.bounds_of-found.ensures (sym c.if-beyond_degrees.ensures))
 
 pub returns-then-found : goal.returns-then-found
 returns-then-found c =

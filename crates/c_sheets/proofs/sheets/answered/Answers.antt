@@ -2,7 +2,7 @@
 use mathlib.Core.Path.{◌≡◌, sym, ap, ◌∙◌, subst}
 use native.Mathlib.Omega.{arith}
 use Rattle.refusal.specs.Numbers.{GREATEST}
-use Rattle.refusal.specs.declared.answers.Counted.{Counted}
+use Rattle.refusal.specs.Outcome.{Counted}
 use Rattle.sheet.specs.Block.{most_bytes, most_nodes}
 use Rattle.c_answer.specs.Answers.{counted_answer}
 use Rattle.refusal.specs.Bounds.{CountedBounded}
@@ -14,13 +14,10 @@ module _ {counted told : Counted} (is : counted ≡ told) (bounds : CountedBound
   bounded = subst (CountedBounded most_bytes GREATEST most_nodes) is bounds
 
 pub overflow_cast-count : goal.overflow_cast-count
-overflow_cast-count c = record { fits = omega (arith, bounded c.in-Count.is c.requires) }
+overflow_cast-count c = record { fits = omega (arith, bounded c.in-Ok.is c.requires) }
 
-pub overflow_cast-r : goal.overflow_cast-r
-overflow_cast-r c = record { fits = omega (arith, (bounded c.in-Refused.is c.requires).most_place) }
+pub returns-in-Ok : goal.returns-in-Ok
+returns-in-Ok c = c.packed.ensures ∙ ap counted_answer (sym c.in-Ok.is)
 
-pub returns-in-Count : goal.returns-in-Count
-returns-in-Count c = c.packed.ensures ∙ ap counted_answer (sym c.in-Count.is)
-
-pub returns-in-Refused : goal.returns-in-Refused
-returns-in-Refused c = c.packed-in-Refused.ensures ∙ ap counted_answer (sym c.in-Refused.is)
+pub returns-in-Err : goal.returns-in-Err
+returns-in-Err c = c.refused.ensures.answer (omega (arith, (bounded c.in-Err.is c.requires).most_place)) ∙ ap counted_answer (sym c.in-Err.is)

@@ -1,66 +1,108 @@
--- `column::reading::read_present` meets its contract.
+-- `column::reading::read_present` meets its contract: each arm knows the physical type, and so the length.
 -- Assumes nothing.
-use mathlib.Core.Path.{◌≡◌, sym, ap, subst, ◌∙◌}
-use mathlib.Core.Bool.{true}
-use mathlib.Core.List.{List}
-use Prim.Native.Nat.{ℕ, ◌*◌, ◌-◌, ◌<◌, ◌≤◌, ◌^◌}
-use native.Mathlib.Nat.{pow-le-pow_right}
+use mathlib.Core.Path.{◌≡◌, refl, sym, ap, subst, ◌∙◌}
+use Prim.Native.Nat.{ℕ, ◌<◌, ◌^◌}
+use native.Mathlib.Nat.{lt_of_lt_of_le}
 use native.Mathlib.Omega.{arith}
 use lib.ListN.{length}
-use Rattle.column.specs.Numbers.{sign_weight}
-use Rattle.column.specs.Lengths.{is_byte_form}
-use Rattle.column.specs.Annotations.{is_whole}
-use Rattle.column.proofs.LengthLaws.{decimal_right}
-use Rattle.column.proofs.ReadingLaws.{bytes_read, whole_read, whole_length}
+use lib.Signed.{mag}
+use mir.Syntax.{w32, w64}
+use mir.Val.{to_z, of_z}
+use borrow.Author.Tests.{ne_eqb}
+use Rattle.laws.proofs.SignedLaws.{read_back}
+use Rattle.column.specs.Numbers.{sign_weight, signed}
+use Rattle.column.specs.Annotations.{annotation_place, keeps}
+use Rattle.column.specs.Reading.{value_of}
+use Rattle.column.proofs.LengthLaws.{width_right, decimal_right}
+use Rattle.column.proofs.NumberLaws.{read_signed, signed_small}
+use Rattle.column.proofs.ReadingLaws.{bytes_read, whole_read}
 use Rattle.column.proofs.reading.read_present.Goals as goal
-use Rattle.column.proofs.reading.read_present.Goals.{After-sign_weight, Then-is_byte_form, Then-is_whole}
+use Rattle.column.proofs.reading.read_present.Goals.{In-0, In-1, In-2, In-4, In-5}
 
-form : (c : Then-is_byte_form) → is_byte_form c.args.c ≡ true
-form c = sym c.is_byte_form.ensures ∙ c.if-is_byte_form.true
+-- the length of a value of each physical type
+boolean_bytes : (c : In-0) → length c.args.value.now ≡ 1
+boolean_bytes c = width_right _ _ c.requires.0 1 (rw c.in-0.is)
 
--- a whole number's length, and the weight of its first bit
-module _ (c : Then-is_whole) where
-  abbrev bs : List ℕ
-  bs = c.args.value.now
+int32_bytes : (c : In-1) → length c.args.value.now ≡ 4
+int32_bytes c = width_right _ _ c.requires.0 4 (rw c.in-1.is)
 
-  whole : is_whole c.args.c ≡ true
-  whole = sym c.is_whole.ensures ∙ c.if-is_whole.true
+int64_bytes : (c : In-2) → length c.args.value.now ≡ 8
+int64_bytes c = width_right _ _ c.requires.0 8 (rw c.in-2.is)
 
-  few : length bs ≤ 8
-  few = (whole_length c.args.c (length bs) c.requires.0 whole).0
+float_bytes : (c : In-4) → length c.args.value.now ≡ 4
+float_bytes c = width_right _ _ c.requires.0 4 (rw c.in-4.is)
 
-  all : 256 ^ length bs ≡ 2 * sign_weight (length bs)
-  all = (whole_length c.args.c (length bs) c.requires.0 whole).2
-
-weight : (c : After-sign_weight) → c.sign_weight.result ≡ sign_weight (length c.args.value.now)
-weight c =
-    c.sign_weight.ensures ∙ (whole_length c.args.c (length c.args.value.now) c.requires.0 (sym c.is_whole.ensures ∙ c.if-is_whole.true)).1
+double_bytes : (c : In-5) → length c.args.value.now ≡ 8
+double_bytes c = width_right _ _ c.requires.0 8 (rw c.in-5.is)
 
 pub read_bytes-requires : goal.read_bytes-requires
-read_bytes-requires c = decimal_right _ _ c.requires.0 (form c)
+read_bytes-requires c = decimal_right _ _ c.requires.0 (sym c.if-is_byte_form.ensures)
 
 pub returns-then-is_byte_form : goal.returns-then-is_byte_form
-returns-then-is_byte_form c = c.read_bytes.ensures ∙ bytes_read c.args.c c.args.value.now c.requires.1 (form (goal.at.returns-then-is_byte_form c).Then-is_byte_form)
+returns-then-is_byte_form c = c.read_bytes.ensures ∙ bytes_read c.args.c c.args.value.now c.requires.1 (sym c.if-is_byte_form.ensures)
 
 pub little-requires : goal.little-requires
-little-requires c = few c
+little-requires c = omega (arith, boolean_bytes c)
 
-pub read_whole-requires : goal.read_whole-requires
-read_whole-requires c =
-    let n = c.little.result in (
-      subst (λ (m : ℕ). n < m) (all (goal.at.read_whole-requires c).Then-is_whole ∙ ap (λ (m : ℕ). 2 * m) (sym (weight c))) c.little.ensures.1,
-      subst (λ (m : ℕ). m ≤ 2 ^ 63) (sym (weight c)) (pow-le-pow_right {n = 2} (omega arith) {i = 8 * length (bs (goal.at.read_whole-requires c).Then-is_whole) - 1} {j = 63} (let h = few (goal.at.read_whole-requires c).Then-is_whole in omega arith)),
-    )
+pub little-n-requires : goal.little-n-requires
+little-n-requires c = omega (arith, int32_bytes c)
 
-pub returns-then-is_whole : goal.returns-then-is_whole
-returns-then-is_whole c =
+pub overflow_cast-n : goal.overflow_cast-n
+overflow_cast-n c =
+    let e = int32_bytes (goal.at.overflow_cast-n c).In-1 in
+    record { fits = subst (λ (n : ℕ). c.little-n.result < 256 ^ n) e c.little-n.ensures.1 }
+
+pub little-n-requires-in-2 : goal.little-n-requires-in-2
+little-n-requires-in-2 c = omega (arith, int64_bytes c)
+
+pub little-requires-in-4 : goal.little-requires-in-4
+little-requires-in-4 c = omega (arith, float_bytes c)
+
+pub overflow_cast-little : goal.overflow_cast-little
+overflow_cast-little c =
+    let e = float_bytes (goal.at.overflow_cast-little c).In-4 in
+    record { fits = subst (λ (n : ℕ). c.little-in-4.result < 256 ^ n) e c.little-in-4.ensures.1 }
+
+pub little-requires-in-5 : goal.little-requires-in-5
+little-requires-in-5 c = omega (arith, double_bytes c)
+
+pub returns-in-0 : goal.returns-in-0
+unfolding keeps value_of annotation_place
+returns-in-0 c = rw (c.requires.1, c.in-0.is, ← c.little.ensures.0) c.read_truth.ensures
+
+pub returns-in-1 : goal.returns-in-1
+returns-in-1 c =
+    let bs = c.args.value.now in
+    let n = c.little-n.result in
+    let e : length bs ≡ 4 = int32_bytes (goal.at.returns-in-1 c).In-1 in
+    let weight : 2 ^ 31 ≡ sign_weight (length bs) = ap sign_weight (sym e) in
+    let below : n < 2 ^ 32 = subst (λ (k : ℕ). n < 256 ^ k) e c.little-n.ensures.1 in
+    let told = c.from-in-1.ensures ∙ read_signed w32 bs refl weight n c.cast_signed.ensures c.little-n.ensures.0 below in
+    let small : mag (signed bs) < 2 ^ 31 = signed_small w32 bs refl weight (subst (λ (k : ℕ). k < 2 ^ 32) c.little-n.ensures.0 below) in
     c.read_whole.ensures
-    ∙ whole_read c.args.c (bs (goal.at.returns-then-is_whole c).Then-is_whole) c.requires.1 c.little.result c.sign_weight.result (whole (goal.at.returns-then-is_whole c).Then-is_whole) c.little.ensures.0 (weight (goal.at.returns-then-is_whole c).After-sign_weight)
+    ∙ whole_read c.args.c bs c.requires.1 c.from.result (to_z w64 (of_z w64 c.from-in-1.result)) (rw c.in-1.is) (c.from.ensures ∙ c.little-n.ensures.0)
+    (read_back told (lt_of_lt_of_le small (omega arith)))
 
-pub read_other-requires : goal.read_other-requires
-read_other-requires c = (
-  c.requires.0,
-  sym c.is_whole.ensures ∙ c.if-is_whole.false,
-  sym c.is_byte_form.ensures ∙ c.if-is_byte_form.false,
-  c.requires.1,
-)
+pub returns-in-2 : goal.returns-in-2
+returns-in-2 c =
+    let bs = c.args.value.now in
+    let n = c.little-n-in-2.result in
+    let e : length bs ≡ 8 = int64_bytes (goal.at.returns-in-2 c).In-2 in
+    let below : n < 2 ^ 64 = subst (λ (k : ℕ). n < 256 ^ k) e c.little-n-in-2.ensures.1 in
+    let told = read_signed w64 bs refl (ap sign_weight (sym e)) n c.cast_signed-in-2.ensures c.little-n-in-2.ensures.0 below in
+    c.read_whole-in-2.ensures
+    ∙ whole_read c.args.c bs c.requires.1 n (to_z w64 (of_z w64 c.cast_signed-in-2.result)) (rw c.in-2.is) c.little-n-in-2.ensures.0 told
+
+pub returns-in-4 : goal.returns-in-4
+unfolding keeps value_of
+returns-in-4 c = rw (c.requires.1, c.in-4.is, ← c.little-in-4.ensures.0, c.f32_from_bits_with_nan.ensures)
+
+pub returns-in-5 : goal.returns-in-5
+unfolding keeps value_of
+returns-in-5 c = rw (c.requires.1, c.in-5.is, ← c.little-in-5.ensures.0, c.f64_from_bits_with_nan.ensures)
+
+pub returns-in_default : goal.returns-in_default
+unfolding keeps value_of
+returns-in_default c =
+    let rest = c.in_default.in_default-own.rest in
+    rw (c.requires.1, ne_eqb _ _ rest.0.0.0.0.1, ne_eqb _ _ rest.0.0.0.1, ne_eqb _ _ rest.0.0.1, sym c.if-is_byte_form.ensures, ne_eqb _ _ rest.0.1, ne_eqb _ _ rest.1, c.stretch.ensures)

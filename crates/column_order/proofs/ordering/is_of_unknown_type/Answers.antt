@@ -2,5 +2,5 @@
 -- Assumes nothing.
 use Rattle.column_order.proofs.ordering.is_of_unknown_type.Goals as goal
 
-pub returns-in-Refused : goal.returns-in-Refused
-returns-in-Refused c = rw c.in-Refused.is
+pub returns-in-Err : goal.returns-in-Err
+returns-in-Err c = rw c.in-Err.is

@@ -1,7 +1,7 @@
--- `column_text::values::make_double` meets its contract: a float that differs from itself is the NaN, and any other has bits.
+-- `column_text::values::make_double` meets its contract by whether the float is the NaN.
 use Prim.Native.Nat.{ℕ}
 use mathlib.Core.List.{List, ◌++◌}
-use mathlib.Core.Path.{◌≡◌, ap}
+use mathlib.Core.Path.{◌≡◌, sym, ap, ◌∙◌}
 use native.Mathlib.Omega.{arith}
 use lib.Ieee.{binary64, to_bits}
 use lib.ListN.{length}
@@ -9,19 +9,15 @@ use Rattle.text.specs.Characters.{ascii}
 use Rattle.text.specs.Numbers.{hex_text}
 use Rattle.text.proofs.NumberLaws.{length_hex}
 use Rattle.text.proofs.PlacingLaws.{holds_none, holds_more}
-use Rattle.column.proofs.FloatLaws.{has_bits}
 use Rattle.column_text.proofs.ValueLaws.{made, nan_text, number_text}
 use Rattle.column_text.proofs.values.make_double.Goals as goal
 
-pub returns-then-x : goal.returns-then-x
-returns-then-x c =
+pub returns-then-is_nan : goal.returns-then-is_nan
+returns-then-is_nan c =
     let word = holds_more (holds_none c.args.room.now 0 (omega arith)) (ascii "double ") (omega arith) (c.put-word.ensures.value, c.put-word.ensures.out_after) in
-    let nan = nan_text binary64 c.args.x c.if-x.true in
+    let nan = nan_text binary64 c.args.x (sym c.is_nan.ensures.value ∙ c.if-is_nan.true) in
     let m = made (holds_more word (ascii "NaN") (omega arith) (c.put.ensures.value, c.put.ensures.out_after)) (ap (λ (t : List ℕ). ascii "double " ++ t) nan) (omega arith) in
     record { prefix_len = m.counted; room_after = m.front; upper_bound = m.short }
-
-pub float_to_bits-x : goal.float_to_bits-x
-float_to_bits-x c = has_bits _ c.if-x.false
 
 pub returns : goal.returns
 returns c =
@@ -29,6 +25,6 @@ returns c =
     let bits = hex_text 16 (to_bits binary64 x) in
     let digits : length bits ≡ 16 = length_hex 16 (to_bits binary64 x) in
     let word = holds_more (holds_none c.args.room.now 0 (omega arith)) (ascii "double ") (omega arith) (c.put-word.ensures.value, c.put-word.ensures.out_after) in
-    let number = number_text binary64 x c.if-x.false in
+    let number = number_text binary64 x (sym c.is_nan.ensures.value ∙ c.if-is_nan.false) in
     let m = made (holds_more word bits (omega arith) (c.put_hex64.ensures.value, c.put_hex64.ensures.out_after)) (ap (λ (t : List ℕ). ascii "double " ++ t) number) (omega arith) in
     record { prefix_len = m.counted; room_after = m.front; upper_bound = m.short }

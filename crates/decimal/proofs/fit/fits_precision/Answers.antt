@@ -1,19 +1,32 @@
--- `decimal::fit::fits_precision` meets its contract: by words where the number has them. Assumes nothing.
+-- `decimal::fit::fits_precision` meets its contract: by a number of 128 bits where it is short. Assumes nothing.
 use mathlib.Core.Path.{◌≡◌, sym, ap, ◌∙◌}
+use Prim.Native.Nat.{◌^◌, ◌≤◌}
+use lib.Dec.{ltb}
+use lib.IntN.{ℤ, nat_abs}
+use lib.ListN.{length}
+use Rattle.std.specs.Prelude.{Ok}
+use Rattle.decimal_bytes.specs.Fit.{fit_of}
+use Rattle.decimal_bytes.proofs.FitLaws.{held, fit_of_test}
 use Rattle.decimal.specs.Outcome.{fitted}
-use Rattle.decimal_bytes.specs.declared.fit.Fit.{Fit}
-use Rattle.decimal.proofs.WordLaws.{is_short_bounds}
+use Rattle.decimal.proofs.WordLaws.{is_short_bounds, short_length}
 use Rattle.decimal.proofs.fit.fits_precision.Goals as goal
+use Rattle.decimal.proofs.fit.fits_precision.Goals.{Then-is_short}
 
--- an answer, and what it stands for
-answered : {f g : Fit} → f ≡ g → (f ≡ g) × (fitted f ≡ fitted g)
-answered e = (e, ap fitted e)
+short : (c : Then-is_short) → let n = length c.args.number.now in (1 ≤ n) × (n ≤ 16)
+short c = is_short_bounds _ (sym c.is_short.ensures ∙ c.if-is_short.true)
 
-pub fits_short-requires : goal.fits_short-requires
-fits_short-requires c = is_short_bounds _ (sym c.is_short.ensures ∙ c.if-is_short.true)
+pub raised-requires : goal.raised-requires
+raised-requires c = short c
 
 pub returns-then-is_short : goal.returns-then-is_short
-returns-then-is_short c = record { value = (answered c.fits_short.ensures).0; result_value = (answered c.fits_short.ensures).1 }
+returns-then-is_short c =
+    let bs = c.args.number.now in
+    let p = c.args.precision in
+    let n = short (goal.at.returns-then-is_short c).Then-is_short in
+    let e : Ok c.keeps_to.result ≡ fit_of bs p
+    = ap held c.keeps_to.ensures ∙ ap (λ (z : ℤ). held (ltb (nat_abs z) (10 ^ p))) c.raised.ensures
+    ∙ sym (fit_of_test bs p (short_length (length bs) n.0 n.1)) in
+    record { value = e; result_value = ap fitted e }
 
 pub returns : goal.returns
-returns c = record { value = (answered c.fits_by_bytes.ensures).0; result_value = (answered c.fits_by_bytes.ensures).1 }
+returns c = record { value = c.fits_by_bytes.ensures; result_value = ap fitted c.fits_by_bytes.ensures }

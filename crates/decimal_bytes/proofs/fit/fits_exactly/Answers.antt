@@ -1,6 +1,6 @@
 -- `decimal_bytes::fit::fits_exactly` meets its contract: the order against the power of ten, or its negative, is judged. Assumes nothing.
-use mathlib.Core.Path.{◌≡◌, refl, sym, ap, ap₂, subst, ◌∙◌}
-use mathlib.Core.Bool.{Bool, true, false, cond}
+use mathlib.Core.Path.{◌≡◌, sym, ap, subst, ◌∙◌}
+use mathlib.Core.Bool.{Bool, true, cond}
 use mathlib.Core.List.{List, ◌++◌}
 use Prim.Native.Nat.{ℕ, ◌^◌, ◌≤◌}
 use native.Mathlib.Nat.{le_trans, pow-le-pow_right}
@@ -8,16 +8,17 @@ use native.Mathlib.Omega.{arith}
 use lib.IntN.{pos, neg_ℤ}
 use lib.ListN.{length, take, drop, length-append}
 use lib.Seq.{length-take-le, take_at}
-use Rattle.decimal_bytes.specs.declared.order.Order.{Order}
+use Rattle.std.specs.Prelude.{Ok}
+use Rattle.std.specs.declared.cmp.Ordering.{Ordering}
 use Rattle.decimal_bytes.specs.Precision.{is_length, greatest_length, greatest_number}
 use Rattle.decimal_bytes.specs.Number.{is_negative, number}
-use Rattle.decimal_bytes.specs.Order.{order_of}
+use Rattle.decimal_bytes.specs.Order.{order}
 use Rattle.decimal_bytes.specs.Fit.{fit_of}
 use Rattle.decimal_bytes.proofs.PrecisionLaws.{is_length_bounds, greatest_precision_low}
 use Rattle.decimal_bytes.proofs.UnsignedLaws.{each_get_d}
 use Rattle.decimal_bytes.proofs.FitLaws.{judged, fit_of_judged}
 use Rattle.decimal_bytes.proofs.fit.fits_exactly.Goals as goal
-use Rattle.decimal_bytes.proofs.fit.fits_exactly.Goals.{After-compare_by_bytes, After-room-bound, After-write_power, Start}
+use Rattle.decimal_bytes.proofs.fit.fits_exactly.Goals.{After-compare_numbers, After-room-bound, After-write_power, Start}
 
 -- the number's length holds the power of ten
 held : (c : Start) → 10 ^ c.args.precision ≤ greatest_number (length c.args.number.now)
@@ -44,7 +45,7 @@ module _ (c : After-write_power) where
       ∙ length-take-le _ c.room-bound.result (within _ c.room-bound.result c.requires.0 c.room-bound.ensures)
 
 -- what the order says of the number
-module _ (c : After-compare_by_bytes) where
+module _ (c : After-compare_numbers) where
   abbrev bs : List ℕ
   bs = c.args.number.now
 
@@ -59,19 +60,20 @@ module _ (c : After-compare_by_bytes) where
       c.write_power.auto.bytes
       ∙ length-take-le _ c.room-bound.result (within _ c.room-bound.result c.requires.0 c.room-bound.ensures)
 
-  compared : c.compare_by_bytes.result ≡ order_of bs bound
-  compared = c.compare_by_bytes.ensures ∙ ap (order_of bs) (take_at bound (drop (length bs) c.room-bound.result) (length bs) length_bound)
+  order_is : c.compare_numbers.result ≡ order (number bs) (number bound)
+  order_is =
+      c.compare_numbers.ensures
+      ∙ ap (λ (l : List ℕ). order (number bs) (number l)) (take_at bound (drop (length bs) c.room-bound.result) (length bs) length_bound)
 
   value : number bound ≡ cond (is_negative bs) (neg_ℤ (pos (10 ^ precision))) (pos (10 ^ precision))
   value =
       c.write_power.ensures
       ∙ ap (λ (t : Bool). cond t (neg_ℤ (pos (10 ^ precision))) (pos (10 ^ precision))) c.is_negative-negative.ensures
 
-  answer : (o : Order) (negative : Bool) → c.compare_by_bytes.result ≡ o → c.is_negative-negative.result ≡ negative → judged negative o ≡ fit_of bs precision
-  answer o negative e s =
-      ap₂ judged (sym s ∙ c.is_negative-negative.ensures) (sym e ∙ compared)
-      ∙ fit_of_judged bs bound precision c.requires.0 (ap is_length (length_bound) ∙ c.requires.0)
-      (each_get_d bs (λ k. (c.type_inv.number k).fits)) value
+  answer : (o : Ordering) → c.compare_numbers.result ≡ o → Ok (judged c.is_negative-negative.result o) ≡ fit_of bs precision
+  answer o e =
+      fit_of_judged bs bound precision c.requires.0 (each_get_d bs (λ k. (c.type_inv.number k).fits)) value
+      c.is_negative-negative.result o (sym c.is_negative-negative.ensures) (sym order_is ∙ e)
 
 pub slice_bounds-bound-end : goal.slice_bounds-bound-end
 slice_bounds-bound-end c = within _ _ c.requires.0 c.room-bound.ensures
@@ -89,23 +91,14 @@ write_power-requires c =
 pub slice_bounds-bound-end-2 : goal.slice_bounds-bound-end-2
 slice_bounds-bound-end-2 c = front _ _ _ (length_power (goal.at.slice_bounds-bound-end-2 c).After-write_power)
 
-pub slice_bounds-compare_by_bytes-end : goal.slice_bounds-compare_by_bytes-end
-slice_bounds-compare_by_bytes-end c = sym (length-take-le _ _ (front _ _ _ (length_power (goal.at.slice_bounds-compare_by_bytes-end c).After-write_power)))
+pub slice_bounds-compare_numbers-end : goal.slice_bounds-compare_numbers-end
+slice_bounds-compare_numbers-end c = sym (length-take-le _ _ (front _ _ _ (length_power (goal.at.slice_bounds-compare_numbers-end c).After-write_power)))
 
-pub returns-then-negative : goal.returns-then-negative
-returns-then-negative c = answer (goal.at.returns-then-negative c).After-compare_by_bytes Order.Less true c.in-Less.is c.if-negative.true
-
-pub returns-then-negative-2 : goal.returns-then-negative-2
-returns-then-negative-2 c = answer (goal.at.returns-then-negative-2 c).After-compare_by_bytes Order.Greater true c.in-Greater.is c.if-negative-2.true
-
-pub returns-else-negative : goal.returns-else-negative
-returns-else-negative c = answer (goal.at.returns-else-negative c).After-compare_by_bytes Order.Less false c.in-Less.is c.if-negative.false
+pub returns-in-Less : goal.returns-in-Less
+returns-in-Less c = answer (goal.at.returns-in-Less c).After-compare_numbers Ordering.Less c.in-Less.is
 
 pub returns-in-Equal : goal.returns-in-Equal
-returns-in-Equal c = answer (goal.at.returns-in-Equal c).After-compare_by_bytes Order.Equal _ c.in-Equal.is refl
+returns-in-Equal c = answer (goal.at.returns-in-Equal c).After-compare_numbers Ordering.Equal c.in-Equal.is
 
-pub returns-else-negative-2 : goal.returns-else-negative-2
-returns-else-negative-2 c = answer (goal.at.returns-else-negative-2 c).After-compare_by_bytes Order.Greater false c.in-Greater.is c.if-negative-2.false
-
-pub returns-in-WrongLength : goal.returns-in-WrongLength
-returns-in-WrongLength c = answer (goal.at.returns-in-WrongLength c).After-compare_by_bytes Order.WrongLength _ c.in-WrongLength.is refl
+pub returns-in-Greater : goal.returns-in-Greater
+returns-in-Greater c = answer (goal.at.returns-in-Greater c).After-compare_numbers Ordering.Greater c.in-Greater.is

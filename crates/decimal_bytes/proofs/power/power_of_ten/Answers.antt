@@ -1,76 +1,12 @@
--- `decimal_bytes::power::power_of_ten` meets its contract: each arm's number is the power. Assumes nothing.
-use mathlib.Core.Path.{◌≡◌}
-use mathlib.Core.Logic.{◌≢◌}
-use Prim.Native.Nat.{ℕ, ◌≤◌, min, zero-le}
+-- `decimal_bytes::power::power_of_ten` meets its contract: one test, which antt computes over the table, shows that each entry is the power of its
+-- place. Assumes nothing.
+use Prim.Native.Nat.{◌<◌}
 use native.Mathlib.Omega.{arith}
 use borrow.Author.Rules.{rules}
-use Rattle.decimal_bytes.proofs.PowerLaws.{past}
+use Rattle.decimal_bytes.proofs.PowerLaws.{power_entry}
 use Rattle.decimal_bytes.proofs.power.power_of_ten.Goals as goal
 
-pub returns-in-0 : goal.returns-in-0
-returns-in-0 c = rw c.in-0.is
-
-pub returns-in-1 : goal.returns-in-1
-returns-in-1 c = rw c.in-1.is
-
-pub returns-in-2 : goal.returns-in-2
-returns-in-2 c = rw c.in-2.is
-
-pub returns-in-3 : goal.returns-in-3
-returns-in-3 c = rw c.in-3.is
-
-pub returns-in-4 : goal.returns-in-4
-returns-in-4 c = rw c.in-4.is
-
-pub returns-in-5 : goal.returns-in-5
-returns-in-5 c = rw c.in-5.is
-
-pub returns-in-6 : goal.returns-in-6
-returns-in-6 c = rw c.in-6.is
-
-pub returns-in-7 : goal.returns-in-7
-returns-in-7 c = rw c.in-7.is
-
-pub returns-in-8 : goal.returns-in-8
-returns-in-8 c = rw c.in-8.is
-
-pub returns-in-9 : goal.returns-in-9
-returns-in-9 c = rw c.in-9.is
-
-pub returns-in-10 : goal.returns-in-10
-returns-in-10 c = rw c.in-10.is
-
-pub returns-in-11 : goal.returns-in-11
-returns-in-11 c = rw c.in-11.is
-
-pub returns-in-12 : goal.returns-in-12
-returns-in-12 c = rw c.in-12.is
-
-pub returns-in-13 : goal.returns-in-13
-returns-in-13 c = rw c.in-13.is
-
-pub returns-in-14 : goal.returns-in-14
-returns-in-14 c = rw c.in-14.is
-
-pub returns-in-15 : goal.returns-in-15
-returns-in-15 c = rw c.in-15.is
-
-pub returns-in-16 : goal.returns-in-16
-returns-in-16 c = rw c.in-16.is
-
-pub returns-in-17 : goal.returns-in-17
-returns-in-17 c = rw c.in-17.is
-
-pub returns-in-18 : goal.returns-in-18
-returns-in-18 c = rw c.in-18.is
-
-last : (n : ℕ) → 18 ≤ n → n ≢ 18 → min n 19 ≡ 19
-last n k a = omega arith
-
-pub returns-in_default : goal.returns-in_default
-returns-in_default c =
-    let n = c.args.exponent in
-    let six = past n 0 zero-le (search rules) (search rules) (search rules) (search rules) (search rules) (search rules) in
-    let twelve = past n 6 six (search rules) (search rules) (search rules) (search rules) (search rules) (search rules) in
-    let eighteen = past n 12 twelve (search rules) (search rules) (search rules) (search rules) (search rules) (search rules) in
-    rw (last n eighteen (search rules))
+pub returns : goal.returns
+returns c =
+    let held : c.min.result < 20 = omega (arith, c.min.ensures) in
+    rw (← c.min.ensures) (search (rules, power_entry))

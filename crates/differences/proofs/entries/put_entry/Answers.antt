@@ -15,11 +15,11 @@ pub returns-then-out-end : goal.returns-then-out-end
 returns-then-out-end c = puts_full _ _ _ (omega (arith, c.if-out-end.true))
 
 pub write_entry-requires : goal.write_entry-requires
-write_entry-requires c = record { node_bound = c.requires.node_bound; first_len_bound = c.requires.first_len_bound; second_len_bound = c.requires.second_len_bound; out_len = simp (length-take, length-drop) (omega (arith, c.if-out-end.false)) }
+write_entry-requires c = simp (length-take, length-drop) (omega (arith, c.if-out-end.false))
 
 pub returns : goal.returns
 returns c =
-    let fits = fits_entry c.args.code c.args.node c.args.first.now c.args.second.now (omega (arith, c.ranges.code)) (omega (arith, c.requires.node_bound)) c.requires.first_len_bound c.requires.second_len_bound in
+    let fits = fits_entry c.args.told.now.code c.args.told.now.node c.args.told.now.first.now c.args.told.now.second.now (omega arith) (omega arith) c.args.told.now.first_len_bound c.args.told.now.second_len_bound in
     let long = ap length c.write_entry.ensures ∙ length_entry _ fits in
     puts_one _ _ _ _ (omega (arith, c.if-out-end.false))
     (part_stretched c.args.out.now _ (entry_size * c.args.entries) (entry_size * c.args.entries + entry_size - entry_size * c.args.entries) (long ∙ omega arith) ∙ ap (stretched c.args.out.now (entry_size * c.args.entries)) c.write_entry.ensures)

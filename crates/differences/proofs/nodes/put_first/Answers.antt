@@ -6,20 +6,14 @@ use Rattle.differences.proofs.nodes.put_first.Goals as goal
 pub loop-node-init : goal.loop-node-init
 loop-node-init c = nodes_put_start _ _ _ _
 
-pub offset_bounds-matches-node : goal.offset_bounds-matches-node
-offset_bounds-matches-node c = record { fits = omega (arith, c.loop-node-test.true, c.requires.one.most) }
+pub offset_bounds-matching-node : goal.offset_bounds-matching-node
+offset_bounds-matching-node c = record { fits = omega (arith, c.loop-node-test.true, c.requires.one.most) }
 
-pub bounds-matches-node : goal.bounds-matches-node
-bounds-matches-node c = omega (arith, c.loop-node-test.true, c.requires.one.most, c.requires.long)
+pub bounds-matching-node : goal.bounds-matching-node
+bounds-matching-node c = omega (arith, c.loop-node-test.true, c.requires.one.most, c.requires.long)
 
 pub put_node-entries-requires : goal.put_node-entries-requires
 put_node-entries-requires c = record { node_lt_most_nodes = omega (arith, c.loop-node-test.true, c.requires.one.most); node_value = c.requires.one.reached _ c.loop-node-test.true; names = c.requires.names _; entries_bound = omega (arith, c.loop-node.invariant.few, c.loop-node-test.true, c.requires.one.most) }
-
-pub overflow_add-node : goal.overflow_add-node
-overflow_add-node c = omega (arith, c.loop-node-test.true)
-
-pub loop-node-smaller : goal.loop-node-smaller
-loop-node-smaller c = omega (arith, c.loop-node-test.true)
 
 pub loop-node-preserved : goal.loop-node-preserved
 loop-node-preserved c = nodes_put_next _ _ _ _ _ _ _ c.loop-node.invariant (omega (arith, c.loop-node-test.true, c.requires.one.total)) _ _ c.put_node-entries.auto.out c.put_node-entries.ensures.upper_bound c.put_node-entries.ensures.puts

@@ -8,11 +8,11 @@ use Rattle.differences.proofs.PutLaws.{puts_none, puts_as}
 use Rattle.differences.proofs.NodeStepLaws.{slot_is, slot_whole, other_marked, other_unmarked}
 use Rattle.differences.proofs.nodes.put_other.Goals as goal
 
-pub returns-then-mark-eq-MATCHED : goal.returns-then-mark-eq-MATCHED
-returns-then-mark-eq-MATCHED c = record { puts = puts_as (other_marked _ _ _ c.if-mark-eq-MATCHED.true) (puts_none _ _); upper_bound = omega arith }
+pub returns-then-marked : goal.returns-then-marked
+returns-then-marked c = record { puts = puts_as (other_marked _ _ _ c.if-marked.true) (puts_none _ _); upper_bound = omega arith }
 
-pub put_entry-requires : goal.put_entry-requires
-put_entry-requires c = record { node_bound = omega (arith, c.requires.node_lt_most_nodes); first_len_bound = omega arith; second_len_bound = omega (arith, slot_whole _ _ c.requires.node_value _ c.slot_bytes-theirs.ensures); entries_bound = c.requires.entries_bound }
+pub invariant_of-told : goal.invariant_of-told
+invariant_of-told c = record { first_len_bound = omega arith; second_len_bound = omega (arith, slot_whole _ _ c.requires.node_value _ c.slot_bytes-theirs.ensures) }
 
 pub returns : goal.returns
-returns c = record { puts = puts_as (other_unmarked _ _ _ c.if-mark-eq-MATCHED.false ∙ ap (λ (s : List ℕ). entry ONLY_SECOND c.args.node [] s ∷ []) (sym (slot_is _ _ c.requires.node_value _ c.slot_bytes-theirs.ensures))) c.put_entry.ensures; upper_bound = omega (arith, c.put_entry.ensures.counts) }
+returns c = record { puts = puts_as (other_unmarked _ _ _ c.if-marked.false ∙ ap (λ (s : List ℕ). entry ONLY_SECOND c.args.node [] s ∷ []) (sym (slot_is _ _ c.requires.node_value _ c.slot_bytes-theirs.ensures))) c.put_entry.ensures; upper_bound = omega (arith, c.put_entry.ensures.counts) }

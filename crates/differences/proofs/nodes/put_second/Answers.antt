@@ -12,12 +12,6 @@ bounds-marks-node c = omega (arith, c.loop-node-test.true, c.requires.reached.mo
 pub put_other-count-requires : goal.put_other-count-requires
 put_other-count-requires c = record { node_lt_most_nodes = omega (arith, c.loop-node-test.true, c.requires.reached.most); node_value = c.requires.reached.reached _ c.loop-node-test.true; entries_bound = omega (arith, c.loop-node.invariant.few, c.loop-node-test.true, c.requires.reached.most, c.requires.entries_bound) }
 
-pub overflow_add-node : goal.overflow_add-node
-overflow_add-node c = omega (arith, c.loop-node-test.true)
-
-pub loop-node-smaller : goal.loop-node-smaller
-loop-node-smaller c = omega (arith, c.loop-node-test.true)
-
 pub loop-node-preserved : goal.loop-node-preserved
 loop-node-preserved c = others_put_next _ _ _ _ _ _ _ c.loop-node.invariant (omega (arith, c.loop-node-test.true, c.requires.reached.total)) _ _ c.put_other-count.auto.out c.put_other-count.ensures.puts
 

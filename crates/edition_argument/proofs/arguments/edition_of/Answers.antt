@@ -16,8 +16,8 @@ returns-then-byte-lt48 c = record { no_other = λ k. absurd (none_unknown k); ea
 pub returns-then-is_known : goal.returns-then-is_known
 returns-then-is_known c =
     record {
-      no_other = λ k. spells _ _ (omega (arith, c.if-text-ne1.false)) (omega (arith, c.wide-edition.ensures)) k;
-      each_known = λ e k t. omega (arith, c.wide-edition.ensures, (spelt _ e k t).1);
+      no_other = λ k. spells _ _ (omega (arith, c.if-text-ne1.false)) (omega (arith, c.from-edition.ensures)) k;
+      each_known = λ e k t. omega (arith, c.from-edition.ensures, (spelt _ e k t).1);
     }
 
 pub returns : goal.returns
@@ -25,5 +25,5 @@ returns c =
     let unknown = sym c.is_known.ensures ∙ c.if-is_known.false in
     record {
       no_other = λ k. absurd (none_unknown k);
-      each_known = λ e k t. absurd (true≢false (sym k ∙ ap is_known (omega (arith, c.wide-edition.ensures, (spelt _ e k t).1)) ∙ unknown));
+      each_known = λ e k t. absurd (true≢false (sym k ∙ ap is_known (omega (arith, c.from-edition.ensures, (spelt _ e k t).1)) ∙ unknown));
     }

@@ -6,14 +6,14 @@ use lib.IntN.{ℤ}
 use lib.ListN.{drop}
 use mir.Syntax.{w64}
 use mir.ValLaws.{to_z-of_z}
-use Rattle.refusal.specs.declared.answers.Counted.{Counted}
+use Rattle.std.specs.Prelude.{Err}
 use Rattle.int96.specs.Value.{VALUE_BYTES, value_of}
 use Rattle.int96.specs.Outcomes.{encoding, encoded}
 use Rattle.int96.proofs.conversion.encode.Goals as goal
 
 pub returns-then-out-lt-VALUE_SIZE : goal.returns-then-out-lt-VALUE_SIZE
 unfolding encoding encoded
-returns-then-out-lt-VALUE_SIZE c = let short = lt-ltb _ 12 c.if-out-lt-VALUE_SIZE.true in record { value = rw short (ap Counted.Refused c.short_output.ensures); out_after = rw short }
+returns-then-out-lt-VALUE_SIZE c = let short = lt-ltb _ 12 c.if-out-lt-VALUE_SIZE.true in record { value = rw short (ap Err c.short_output.ensures); out_after = rw short }
 
 pub returns : goal.returns
 unfolding encoding encoded

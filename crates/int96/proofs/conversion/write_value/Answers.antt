@@ -1,19 +1,19 @@
 -- `int96::conversion::write_value` meets its contract: the parts into which the count is divided are those of its value.
 use Prim.Native.Nat.{ℕ, ◌/◌, ◌%◌, ◌<◌, ◌≤◌, ◌^◌}
 use native.Mathlib.Omega.{arith}
-use mathlib.Core.Path.{◌≡◌, sym, ap, ap₂, subst, ◌∙◌}
+use mathlib.Core.Path.{◌≡◌, sym, ap, ap₂, ◌∙◌}
 use mathlib.Core.List.{List, ◌++◌, append_assoc}
 use borrow.Author.Rules.{sfits_of}
 use borrow.Rule.Slice.PartMut.{put_mid}
 use lib.IntN.{ℤ, pos, nat_abs, ◌+ℤ◌}
-use lib.ListN.{length, take, drop, length-take, length-drop}
+use lib.ListN.{length, take, drop, length-drop}
 use lib.Seq.{length-take-le, take_at, drop_at, drop-drop}
 use mir.Syntax.{w64}
 use mir.Val.{SFits, to_z, of_z}
 use mir.ValLaws.{to_z-of_z}
 use Rattle.laws.specs.Bytes.{bytes_of}
 use Rattle.laws.proofs.ByteLaws.{length_bytes_of}
-use Rattle.laws.proofs.SignedLaws.{read_back, cast_fits}
+use Rattle.laws.proofs.SignedLaws.{read_back}
 use Rattle.timestamp.specs.declared.division.Division.{Division}
 use Rattle.timestamp.specs.FloorDivision.{FloorDivision}
 use Rattle.timestamp.proofs.FloorLaws.{division_told}
@@ -21,9 +21,6 @@ use Rattle.int96.specs.Value.{NANOS_BYTES, DAY_BYTES, VALUE_BYTES, DAY_OF_1970, 
 use Rattle.int96.proofs.ValueLaws.{divided_day, divided_small, divided_rest}
 use Rattle.int96.proofs.conversion.write_value.Goals as goal
 use Rattle.int96.proofs.conversion.write_value.Goals.{After-divide-parts, After-store}
-
-pub slice_bounds-store-end-2 : goal.slice_bounds-store-end-2
-slice_bounds-store-end-2 c = simp length-take (omega (arith, c.requires))
 
 -- what is stored: the nanoseconds, and the day behind them
 written : (out nanos day : List ℕ) (z : ℤ) → nanos ≡ bytes_of NANOS_BYTES (since_day0 z % NANOS_PER_DAY) → day ≡ bytes_of DAY_BYTES (since_day0 z / NANOS_PER_DAY)
@@ -48,16 +45,6 @@ day_is count d fits day_fits parts = ap (λ (z : ℤ). z +ℤ pos DAY_OF_1970) (
 
 day_small : (c : After-divide-parts) → since_day0 c.args.count / NANOS_PER_DAY < 2 ^ 63
 day_small c = divided_small c.args.count c.divide-parts.result c.ranges.count.sfits (divided c)
-
-pub overflow_add-parts : goal.overflow_add-parts
-overflow_add-parts c =
-    let at_divide = (goal.at.overflow_add-parts c).After-divide-parts in
-    subst (SFits w64) (sym (day_is c.args.count c.divide-parts.result c.ranges.count (search sfits_of) (divided at_divide))) (record { sfits = day_small at_divide })
-
-pub overflow_cast-parts : goal.overflow_cast-parts
-overflow_cast-parts c =
-    let at_divide = (goal.at.overflow_cast-parts c).After-divide-parts in
-    cast_fits (read_back (day_is c.args.count c.divide-parts.result c.ranges.count (search sfits_of) (divided at_divide)) (day_small at_divide)) (day_small at_divide)
 
 -- and its rest the nanoseconds
 nanos_are : (c : After-store) → c.store.new.out ≡ bytes_of NANOS_BYTES (since_day0 c.args.count % NANOS_PER_DAY)

@@ -3,17 +3,11 @@ use native.Mathlib.Omega.{arith}
 use Rattle.little_endian.proofs.NumberLaws.{stored_start, stored_next, stored_end}
 use Rattle.little_endian.proofs.numbers.store.Goals as goal
 
-pub loop-i-init : goal.loop-i-init
-loop-i-init c = stored_start _ _
+pub loop-byte-init : goal.loop-byte-init
+loop-byte-init c = stored_start _ _
 
-pub loop-i-smaller : goal.loop-i-smaller
-loop-i-smaller c = omega (arith, c.loop-i-test.true, c.loop-i.invariant.long)
-
-pub loop-i-preserved : goal.loop-i-preserved
-loop-i-preserved c = stored_next _ _ _ _ _ c.loop-i-test.true c.loop-i.invariant
-
-pub shape_of-out : goal.shape_of-out
-shape_of-out c = c.loop-i.invariant.long
+pub loop-byte-preserved : goal.loop-byte-preserved
+loop-byte-preserved c = stored_next _ _ c.loop-byte.out _ _ (omega (arith, c.loop-byte-test.true, c.loop-byte.invariant.long)) c.loop-byte.invariant
 
 pub returns : goal.returns
-returns c = stored_end _ _ _ _ _ c.loop-i-test.false c.loop-i.invariant
+returns c = stored_end _ _ c.loop-byte.out _ _ (omega (arith, c.loop-byte-test.false, c.loop-byte.invariant.long)) c.loop-byte.invariant

@@ -7,9 +7,9 @@ use Rattle.matching.proofs.candidates.is_free.Goals as goal
 pub returns-then-takers-number : goal.returns-then-takers-number
 returns-then-takers-number c = free_taken _ _ (eq-eqb _ _ c.if-takers-number.true)
 
-pub returns-then-prints-number : goal.returns-then-prints-number
-returns-then-prints-number c =
-    sym (prints_unlike _ _ _ (c.requires.prints.print_at c.args.number c.requires.number_bound) (λ e. c.if-prints-number.true (e ∙ sym c.requires.print_value)))
+pub returns-then-side-number : goal.returns-then-side-number
+returns-then-side-number c =
+    sym (prints_unlike _ _ _ (c.args.side.now.surveyed.printed.print_at c.args.number c.requires.number_bound) (λ e. c.if-side-number.true (e ∙ sym c.args.sought.now.print_value)))
     ∙ free_untaken _ _ (ne_eqb _ _ c.if-takers-number.false)
 
 pub returns : goal.returns

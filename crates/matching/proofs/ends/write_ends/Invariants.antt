@@ -5,6 +5,3 @@ use Rattle.matching.proofs.ends.write_ends.Given as goal
 
 abbrev pub invariant-loop-node : goal.invariant-loop-node
 invariant-loop-node l = (l.node ≤ l.total) × EndsFrom l.sheet l.node l.ends
-
-abbrev pub decreases-loop-node : goal.decreases-loop-node
-decreases-loop-node l = l.node

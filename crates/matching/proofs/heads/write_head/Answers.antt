@@ -2,8 +2,8 @@
 use Rattle.matching.proofs.HeadLaws.{head_kept, head_written}
 use Rattle.matching.proofs.heads.write_head.Goals as goal
 
-pub returns-then-head-taker : goal.returns-then-head-taker
-returns-then-head-taker c = head_kept _ _ _ _ _ c.if-head-taker.true
+pub returns-then-heads-rest : goal.returns-then-heads-rest
+returns-then-heads-rest c = head_kept _ _ _ _ _ c.if-heads-rest.true
 
 pub returns : goal.returns
-returns c = head_written _ _ _ _ _ c.if-head-taker.false
+returns c = head_written _ _ _ _ _ c.if-heads-rest.false

@@ -10,32 +10,32 @@ use Rattle.matching.proofs.heads.write_heads.Goals as goal
 pub loop-place-init : goal.loop-place-init
 loop-place-init c = heads_to_start _ _ _ _ _ c.requires.heads_below c.requires.stands
 
-pub offset_bounds-prints-number : goal.offset_bounds-prints-number
-offset_bounds-prints-number c = record { fits = omega (arith, below_most _ _ _ _ c.loop-place.invariant.stands c.loop-place-test.true) }
+pub offset_bounds-side-number : goal.offset_bounds-side-number
+offset_bounds-side-number c = record { fits = omega (arith, below_most _ _ _ _ c.loop-place.invariant.stands c.loop-place-test.true) }
 
-pub bounds-prints-number : goal.bounds-prints-number
-bounds-prints-number c = read_at _ _ _ _ c.loop-place.invariant.stands c.loop-place-test.true c.args.prints.now c.requires.prints.long
+pub bounds-side-number : goal.bounds-side-number
+bounds-side-number c = read_at _ _ _ _ c.loop-place.invariant.stands c.loop-place-test.true c.args.side.now.prints.now c.args.side.now.surveyed.printed.long
 
 pub write_head-requires : goal.write_head-requires
 write_head-requires c = record { rest_lt_head_count = omega arith; number_lt_most_nodes = below_most _ _ _ _ c.loop-place.invariant.stands c.loop-place-test.true; place_lt_most_nodes = omega (arith, c.loop-place-test.true, c.requires.count_le_most_nodes); taker_le_most_nodes = c.requires.taker_le_most_nodes; heads_len = c.loop-place.invariant.long }
 
-pub offset_bounds-ends-number : goal.offset_bounds-ends-number
-offset_bounds-ends-number c = record { fits = omega (arith, below_most _ _ _ _ c.loop-place.invariant.stands c.loop-place-test.true) }
+pub offset_bounds-side-number-in-loop-place : goal.offset_bounds-side-number-in-loop-place
+offset_bounds-side-number-in-loop-place c = record { fits = omega (arith, below_most _ _ _ _ c.loop-place.invariant.stands c.loop-place-test.true) }
 
-pub bounds-ends-number : goal.bounds-ends-number
-bounds-ends-number c = end_read _ _ _ _ c.loop-place.invariant.stands c.loop-place-test.true _ c.requires.ends
+pub bounds-side-number-in-loop-place : goal.bounds-side-number-in-loop-place
+bounds-side-number-in-loop-place c = end_read _ _ _ _ c.loop-place.invariant.stands c.loop-place-test.true _ c.args.side.now.surveyed.ended
 
 pub overflow_cast-number : goal.overflow_cast-number
-overflow_cast-number c = record { fits = omega (arith, end_below _ _ _ _ c.loop-place.invariant.stands c.loop-place-test.true _ c.requires.ends) }
+overflow_cast-number c = record { fits = omega (arith, end_below _ _ _ _ c.loop-place.invariant.stands c.loop-place-test.true _ c.args.side.now.surveyed.ended) }
 
 pub loop-place-preserved : goal.loop-place-preserved
 loop-place-preserved c =
     let here = below _ _ _ _ c.loop-place.invariant.stands c.loop-place-test.true in
-    heads_to_written _ _ _ _ _ _ _ c.loop-place.invariant c.loop-place-test.true c.requires.count_le_most_nodes c.requires.taker_le_most_nodes _ c.requires.ends _
-    (ap (◌% head_count) (c.requires.prints.print_at _ here)) _ c.write_head.ensures
+    heads_to_written _ _ _ _ _ _ _ c.loop-place.invariant c.loop-place-test.true c.requires.count_le_most_nodes c.requires.taker_le_most_nodes _ c.args.side.now.surveyed.ended _
+    (ap (◌% head_count) (c.args.side.now.surveyed.printed.print_at _ here)) _ c.write_head.ensures
 
 pub shape_of-heads : goal.shape_of-heads
 shape_of-heads c = c.loop-place.invariant.long ∙ sym c.requires.heads_below.1.long
 
 pub returns : goal.returns
-returns c = let inv = c.loop-place.invariant in record { heads = heads_to_end _ _ _ _ _ _ _ inv c.loop-place-test.false; heads_most = record { long = inv.long; stamp_at = inv.most } }
+returns c = let inv = c.loop-place.invariant in record { heads = heads_to_end _ _ _ _ _ _ _ inv c.loop-place-test.false; heads_most = record { long = inv.long; taker_at = inv.most } }

@@ -1,54 +1,24 @@
 -- `matching::prints::print_of` meets its contract: the bytes passed, and those that are left, give the print.
-use Prim.Native.Nat.{◌+◌}
+use mathlib.Core.Path.{◌∙◌}
 use native.Mathlib.Omega.{arith}
-use Rattle.matching.proofs.PrintLaws.{printed_start, printed_next, printed_last, printed_end}
+use Rattle.std.proofs.Common.{rules}
+use Rattle.matching.proofs.PrintLaws.{printed_next, printed_last, printed_end}
 use Rattle.matching.proofs.prints.print_of.Goals as goal
 
-pub loop-i-init : goal.loop-i-init
-loop-i-init c = (printed_start _, omega arith)
+pub loop-pair-preserved : goal.loop-pair-preserved
+loop-pair-preserved c =
+    let steps = c.in-Some.ensures.steps in
+    record {
+      size = steps.0 ∙ c.loop-pair.invariant.size;
+      printed = printed_next _ _ _ c.loop-pair.invariant.printed c.in-Some.pair.now _ steps.1.0 (steps.1.1 ∙ c.loop-pair.invariant.size);
+    }
 
-pub overflow_cast-high : goal.overflow_cast-high
-overflow_cast-high c = record { fits = omega (arith, c.type_inv.name c.loop-i.i) }
-
-pub overflow_cast-low : goal.overflow_cast-low
-overflow_cast-low c = record { fits = omega (arith, c.type_inv.name (c.loop-i.i + 1)) }
-
-pub overflow_mul-print : goal.overflow_mul-print
-overflow_mul-print c = record { fits = omega (arith, c.loop-i.invariant.0.small) }
-
-pub overflow_mul-print-in-loop-i : goal.overflow_mul-print-in-loop-i
-overflow_mul-print-in-loop-i c =
-    let high = c.type_inv.name c.loop-i.i in
-    record { fits = omega (arith, high) }
-
-pub overflow_add-print : goal.overflow_add-print
-overflow_add-print c =
-    let high = c.type_inv.name c.loop-i.i in
-    record { fits = omega (arith, c.loop-i.invariant.0.small, high) }
-
-pub overflow_add-print-in-loop-i : goal.overflow_add-print-in-loop-i
-overflow_add-print-in-loop-i c =
-    let high = c.type_inv.name c.loop-i.i in
-    let low = c.type_inv.name (c.loop-i.i + 1) in
-    record { fits = omega (arith, c.loop-i.invariant.0.small, high, low) }
-
-pub loop-i-preserved : goal.loop-i-preserved
-loop-i-preserved c = (printed_next _ _ _ c.loop-i.invariant.0 (omega (arith, c.loop-i-test.true, c.loop-i.invariant.1)), omega (arith, c.loop-i.invariant.1))
-
-pub overflow_mul-result : goal.overflow_mul-result
-overflow_mul-result c = record { fits = omega (arith, c.loop-i.invariant.0.small) }
-
-pub overflow_cast-result : goal.overflow_cast-result
-overflow_cast-result c = record { fits = omega (arith, c.type_inv.name c.loop-i.i) }
-
-pub overflow_add-result : goal.overflow_add-result
-overflow_add-result c = record { fits = omega (arith, c.loop-i.invariant.0.small, c.type_inv.name c.loop-i.i) }
-
-pub returns-then-i-name : goal.returns-then-i-name
-returns-then-i-name c = printed_last _ _ _ c.loop-i.invariant.0 c.if-i-name.true (omega (arith, c.loop-i-test.false))
-
-pub overflow_cast-result-2 : goal.overflow_cast-result-2
-overflow_cast-result-2 c = record { fits = omega (arith, c.loop-i.invariant.0.small) }
+pub returns-then-is_empty : goal.returns-then-is_empty
+returns-then-is_empty c =
+    printed_end _ _ _ c.loop-pair.invariant.printed (omega (arith, c.in-None.ensures.steps.1.0, c.loop-pair.invariant.size)) _
+    (c.remainder-last.ensures ∙ c.chunks_exact-pairs.ensures.remainder) (search rules)
 
 pub returns : goal.returns
-returns c = printed_end _ _ _ c.loop-i.invariant.0 c.if-i-name.false
+returns c =
+    printed_last _ _ _ c.loop-pair.invariant.printed (omega (arith, c.in-None.ensures.steps.1.0, c.loop-pair.invariant.size)) _
+    (c.remainder-last.ensures ∙ c.chunks_exact-pairs.ensures.remainder) (search rules)

@@ -1,7 +1,6 @@
 -- `matching::sheets::match_nodes` meets its contract: all that the loop over the nodes asks for is made first.
 use mathlib.Core.Path.{refl, ◌∙◌}
 use native.Mathlib.Omega.{arith}
-use Rattle.matching.proofs.PrintLaws.{prints_all}
 use Rattle.matching.proofs.NodesLaws.{takers_none, heads_none, names_root, matched_nodes}
 use Rattle.matching.proofs.sheets.match_nodes.Goals as goal
 
@@ -18,7 +17,7 @@ pub write_prints-requires-2 : goal.write_prints-requires-2
 write_prints-requires-2 c = record { total_le_most_nodes = omega (arith, c.requires.others_value, c.requires.one_tree_2.claimed.most); prints_len = refl }
 
 pub match_below-requires : goal.match_below-requires
-match_below-requires c = record { surveyed = record { claimed = c.requires.one_tree.claimed; ended = c.write_ends.ensures; printed = prints_all _ _ _ _ c.write_prints.ensures (omega (arith, c.requires.nodes_value)) }; surveyed_2 = record { claimed = c.requires.one_tree_2.claimed; ended = c.write_ends-2.ensures; printed = prints_all _ _ _ _ c.write_prints-2.ensures (omega (arith, c.requires.others_value)) }; nodes_value = c.requires.nodes_value; takers_most = takers_none; heads_most = heads_none; named = names_root _ c.requires.one_tree_2.some }
+match_below-requires c = record { nodes_value = c.requires.nodes_value; takers_most = takers_none; heads_most = heads_none; named = names_root _ c.requires.one_tree_2.some }
 
 pub returns : goal.returns
-returns c = c.match_below.ensures ∙ matched_nodes _ _ _ _ c.requires.one_tree c.requires.one_tree_2 c.requires.nodes_value
+returns c = c.match_below.ensures ∙ matched_nodes _ _ _ c.requires.one_tree c.requires.one_tree_2 c.requires.nodes_value

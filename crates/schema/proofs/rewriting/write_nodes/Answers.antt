@@ -6,17 +6,11 @@ use Rattle.schema.proofs.rewriting.write_nodes.Goals as goal
 pub loop-node-init : goal.loop-node-init
 loop-node-init c = written_start _ _
 
-pub overflow_add-node : goal.overflow_add-node
-overflow_add-node c = omega (arith, c.loop-node-test.true)
-
-pub loop-node-smaller : goal.loop-node-smaller
-loop-node-smaller c = omega (arith, c.loop-node-test.true)
-
 pub loop-node-preserved : goal.loop-node-preserved
-loop-node-preserved c = written_next _ _ _ _ _ c.loop-node.invariant (omega (arith, c.loop-node-test.true, c.requires)) _ _ c.write_node-under_map.ensures.out_after c.write_node-under_map.ensures.value c.write_node-under_map.auto.out
+loop-node-preserved c = written_next _ _ _ _ _ c.loop-node.invariant (omega (arith, c.requires)) _ _ c.write_node-under_map.ensures.out_after c.write_node-under_map.ensures.value c.write_node-under_map.auto.out
 
 pub shape_of-out : goal.shape_of-out
 shape_of-out c = c.loop-node.invariant.long
 
 pub returns : goal.returns
-returns c = written_end _ _ _ _ _ c.loop-node.invariant (omega (arith, c.loop-node-test.false, c.requires))
+returns c = written_end _ _ _ _ _ c.loop-node.invariant (omega (arith, c.requires))

@@ -11,6 +11,7 @@ use Rattle.tree.specs.declared.layer.Layer.{Layer}
 use Rattle.tree.specs.declared.layer.Layer.TheVariants.{Element, ByName, Empty}
 use Rattle.tree.proofs.VisitLaws.{repetition_behind}
 use Rattle.schema.specs.Rows.{list_role}
+use Rattle.schema.specs.Steps.{role_number}
 use Rattle.schema.proofs.RolesLaws.{role_leaf, role_by}
 use Rattle.schema.proofs.roles.list_role.Goals as goal
 use Rattle.schema.proofs.roles.list_role.Goals.{After-layer_of}
@@ -32,20 +33,21 @@ module _ (c : After-layer_of) where
       rw (← told) (role_by _ _ _ c.requires _ c.if-s-ne-GROUP.false)
 
 pub returns-then-s-ne-GROUP : goal.returns-then-s-ne-GROUP
+unfolding role_number
 returns-then-s-ne-GROUP c = role_leaf _ _ _ c.requires _ c.if-s-ne-GROUP.true
 
-pub returns-then-named_element : goal.returns-then-named_element
-unfolding is_element_by
-returns-then-named_element c = sym (by_layer (goal.at.returns-then-named_element c).After-layer_of ByName c.in-ByName.is ∙ rw (sym c.named_element.ensures ∙ c.if-named_element.true))
+pub returns-in-ByName : goal.returns-in-ByName
+unfolding is_element_by role_number
+returns-in-ByName c = sym (by_layer (goal.at.returns-in-ByName c).After-layer_of ByName c.in-ByName.is ∙ rw (sym c.named_element.ensures ∙ c.if-named_element.true))
 
 pub returns-in-Empty : goal.returns-in-Empty
-unfolding is_element_by
+unfolding is_element_by role_number
 returns-in-Empty c = sym (by_layer (goal.at.returns-in-Empty c).After-layer_of Empty c.in-Empty.is)
 
 pub returns-in-Element : goal.returns-in-Element
-unfolding is_element_by
+unfolding is_element_by role_number
 returns-in-Element c = sym (by_layer (goal.at.returns-in-Element c).After-layer_of Element c.in-Element.is)
 
-pub returns-else-named_element : goal.returns-else-named_element
-unfolding is_element_by
-returns-else-named_element c = sym (by_layer (goal.at.returns-else-named_element c).After-layer_of ByName c.in-ByName.is ∙ rw (sym c.named_element.ensures ∙ c.if-named_element.false))
+pub returns-in-ByName-2 : goal.returns-in-ByName-2
+unfolding is_element_by role_number
+returns-in-ByName-2 c = sym (by_layer (goal.at.returns-in-ByName-2 c).After-layer_of ByName c.in-ByName.is ∙ rw (sym c.named_element.ensures ∙ c.if-named_element.false))

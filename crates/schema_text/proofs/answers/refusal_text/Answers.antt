@@ -5,7 +5,7 @@ use mathlib.Core.Path.{sym, ap, ◌∙◌, refl}
 use native.Mathlib.Omega.{arith}
 use lib.ListN.{length, replicate, length-append}
 use lib.Seq.{length-take-le}
-use Rattle.refusal.specs.declared.answers.Counted.{Counted}
+use Rattle.std.specs.Prelude.{Err}
 use Rattle.text.specs.Placing.{position_after, placed_text}
 use Rattle.text.specs.Refusals.{refusal_text, most_refusal}
 use Rattle.text.specs.Characters.{LF}
@@ -41,7 +41,7 @@ pub returns-then-next-out : goal.returns-then-next-out
 unfolding made_in
 returns-then-next-out c =
     let text = holds_front (held (goal.at.returns-then-next-out c).After-put-count) in
-    let made = made_beyond _ _ _ _ _ refl (c.put-next.ensures.value ∙ ap (position_after _ _) text) (c.put-next.ensures.out_after ∙ ap (placed_text _ _) text) (omega (arith, c.if-next-out.true, c.put-next.auto.out)) in record { value = ap Counted.Refused c.short_output.ensures ∙ made.0; out_after = made.1; refusal_len_bound = most (goal.at.returns-then-next-out c).After-put-count }
+    let made = made_beyond _ _ _ _ _ refl (c.put-next.ensures.value ∙ ap (position_after _ _) text) (c.put-next.ensures.out_after ∙ ap (placed_text _ _) text) (omega (arith, c.if-next-out.true, c.put-next.auto.out)) in record { value = ap Err c.short_output.ensures ∙ made.0; out_after = made.1; refusal_len_bound = most (goal.at.returns-then-next-out c).After-put-count }
 
 pub returns : goal.returns
 unfolding made_in

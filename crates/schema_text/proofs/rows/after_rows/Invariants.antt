@@ -1,5 +1,4 @@
 -- `schema_text::rows::after_rows` meets its contract.
-use Prim.Native.Nat.{◌≤◌, ◌-◌}
 use mathlib.Core.Path.{◌≡◌}
 use lib.ListN.{length}
 use Rattle.text.specs.Placing.{position_after}
@@ -7,7 +6,4 @@ use Rattle.schema_text.specs.Rows.{cut, lines_of}
 use Rattle.schema_text.proofs.rows.after_rows.Given as goal
 
 abbrev pub invariant-loop-i : goal.invariant-loop-i
-invariant-loop-i l = (l.i ≤ l.total) × (l.next ≡ position_after (length l.out) l.at (lines_of (cut l.i l.rows)))
-
-abbrev pub decreases-loop-i : goal.decreases-loop-i
-decreases-loop-i l = l.total - l.i
+invariant-loop-i l = l.next ≡ position_after (length l.out) l.at (lines_of (cut l.i l.rows))

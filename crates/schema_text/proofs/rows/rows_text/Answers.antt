@@ -4,7 +4,7 @@ use mathlib.Core.List.{List}
 use mathlib.Core.Path.{◌≡◌, refl, sym, ap, ◌∙◌}
 use native.Mathlib.Omega.{arith}
 use lib.ListN.{length, take, length-append}
-use Rattle.refusal.specs.declared.answers.Counted.{Counted}
+use Rattle.std.specs.Prelude.{Err}
 use Rattle.text.specs.Placing.{position_past, position_after, placed_text}
 use Rattle.text.proofs.PlacingLaws.{past_within, past_beyond, placed_short, after_more, holds_none, holds_more, holds_placed}
 use Rattle.schema_text.specs.Rows.{cut, lines_of, header_text, rows_text}
@@ -26,13 +26,13 @@ reached c =
     c.after_rows-end.ensures
 
 pub returns-then-rows-total : goal.returns-then-rows-total
-returns-then-rows-total c = let made = made_none _ _ (rows_few _ _ c.if-rows-total.true) in record { value = ap Counted.Refused c.short_output.ensures ∙ made.0; out_after = made.1; by_index = λ text e. rows_most _ _ text (λ i. omega (arith, c.type_inv.rows i)) e }
+returns-then-rows-total c = let made = made_none _ _ (rows_few _ _ c.if-rows-total.true) in record { value = ap Err c.short_output.ensures ∙ made.0; out_after = made.1; by_index = λ text e. rows_most _ _ text (λ i. omega (arith, c.type_inv.rows i)) e }
 
 pub returns-then-end-out : goal.returns-then-end-out
 returns-then-end-out c =
     let enough = rows_enough c.args.total c.args.rows.now (omega arith) in
     let after = reached (goal.at.returns-then-end-out c).After-after_rows-end in
-    let made = made_beyond _ _ _ _ _ enough after (sym (placed_short _ _ _ (past_beyond _ _ _ _ after c.if-end-out.true))) c.if-end-out.true in record { value = ap Counted.Refused c.short_output-then-end-out.ensures ∙ made.0; out_after = made.1; by_index = λ text e. rows_most _ _ text (λ i. omega (arith, c.type_inv.rows i)) e }
+    let made = made_beyond _ _ _ _ _ enough after (sym (placed_short _ _ _ (past_beyond _ _ _ _ after c.if-end-out.true))) c.if-end-out.true in record { value = ap Err c.short_output-then-end-out.ensures ∙ made.0; out_after = made.1; by_index = λ text e. rows_most _ _ text (λ i. omega (arith, c.type_inv.rows i)) e }
 
 pub write_rows-requires : goal.write_rows-requires
 unfolding rows_text

@@ -1,11 +1,7 @@
 -- `schema_text::rows::write_rows` meets its contract.
-use Prim.Native.Nat.{◌≤◌, ◌-◌}
 use Rattle.text.proofs.PlacingLaws.{Holds}
 use Rattle.schema_text.specs.Rows.{cut, lines_of}
 use Rattle.schema_text.proofs.rows.write_rows.Given as goal
 
 abbrev pub invariant-loop-i : goal.invariant-loop-i
-invariant-loop-i l = (l.i ≤ l.total) × Holds l.initial.out l.out l.at l.next (lines_of (cut l.i l.rows))
-
-abbrev pub decreases-loop-i : goal.decreases-loop-i
-decreases-loop-i l = l.total - l.i
+invariant-loop-i l = Holds l.initial.out l.out l.at l.next (lines_of (cut l.i l.rows))

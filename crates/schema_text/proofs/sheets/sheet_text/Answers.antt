@@ -22,10 +22,10 @@ steps c =
       most = c.answer_text-made.ensures.by_index;
     }
 
-pub returns-in-Count : goal.returns-in-Count
-returns-in-Count c =
-    let done = steps (goal.at.returns-in-Count c).After-answer_text-made in
-    let held = steps_hold _ done _ c.in-Count.is in record { prefix_len = (holds_within held, sym (length-take-le _ _ (holds_within held))); out_after = holds_front held; out_unchanged = holds_back held; rows_after = steps_written _ done }
+pub returns-in-Ok : goal.returns-in-Ok
+returns-in-Ok c =
+    let done = steps (goal.at.returns-in-Ok c).After-answer_text-made in
+    let held = steps_hold _ done _ c.in-Ok.is in record { prefix_len = (holds_within held, sym (length-take-le _ _ (holds_within held))); out_after = holds_front held; out_unchanged = holds_back held; rows_after = steps_written _ done }
 
-pub returns-in-Refused : goal.returns-in-Refused
-returns-in-Refused c = absurd (refused_other _ _ (sym c.in-Refused.is ∙ steps_made _ (steps (goal.at.returns-in-Refused c).After-answer_text-made)))
+pub returns-in-Err : goal.returns-in-Err
+returns-in-Err c = absurd (refused_other _ _ (sym c.in-Err.is ∙ steps_made _ (steps (goal.at.returns-in-Err c).After-answer_text-made)))

@@ -1,6 +1,6 @@
 -- `sheet::slots::numbers_of` meets its contract: each field is read where the definition has it.
 use borrow.Author.Rules.{sfits_of}
-use mathlib.Core.Path.{◌≡◌, ap, ◌∙◌}
+use mathlib.Core.Path.{◌≡◌, ◌∙◌}
 use Prim.Native.Nat.{ℕ, ◌^◌, ◌<◌}
 use lib.IntN.{ℤ}
 use lib.ListN.{get_or}
@@ -13,19 +13,13 @@ use Rattle.sheet.specs.Slot.{physical_at, repetition_at, converted_at, logical_a
 use Rattle.sheet.proofs.slots.numbers_of.Goals as goal
 
 -- a signed field, read back from its bits
-field : {z : ℤ} {n m : ℕ} → mag z < 2 ^ 31 → z ≡ signed32 n → n ≡ m → to_z w32 (of_z w32 z) ≡ signed32 m
-field fits e q = to_z-of_z {w = w32} (sfits_of fits) ∙ e ∙ ap signed32 q
+field : {z : ℤ} (n : ℕ) → mag z < 2 ^ 31 → z ≡ signed32 n → to_z w32 (of_z w32 z) ≡ signed32 n
+field n fits e = to_z-of_z {w = w32} (sfits_of fits) ∙ e
 
 pub returns : goal.returns
 unfolding numbers_of physical repetition converted logical parameter_a parameter_b child_count type_length_of scale precision name_length_of
 returns c =
     let slot = c.args.slot.now in
-    let type_length : to_z w32 (of_z w32 c.signed32-type_length.result) ≡ type_length_of slot =
-    field c.signed32-type_length.type_inv c.signed32-type_length.ensures c.number32.ensures in
-    let scale_is : to_z w32 (of_z w32 c.signed32-scale.result) ≡ scale slot =
-    field c.signed32-scale.type_inv c.signed32-scale.ensures c.number32-2.ensures in
-    let precision_is : to_z w32 (of_z w32 c.signed32-precision.result) ≡ precision slot =
-    field c.signed32-precision.type_inv c.signed32-precision.ensures c.number32-3.ensures in
     λ i.
     record {
       physical = get_or slot physical_at 0;
@@ -34,9 +28,9 @@ returns c =
       logical = get_or slot logical_at 0;
       a = get_or slot parameter_a_at 0;
       b = get_or slot parameter_b_at 0;
-      children = c.number16.ensures.value i;
-      type_length = type_length i;
-      scale = scale_is i;
-      precision = precision_is i;
+      children = c.number16.ensures i;
+      type_length = field _ c.signed32.type_inv c.signed32.ensures i;
+      scale = field _ c.signed32-2.type_inv c.signed32-2.ensures i;
+      precision = field _ c.signed32-3.type_inv c.signed32-3.ensures i;
       name_length = get_or slot name_length_at 0;
     }

@@ -26,7 +26,7 @@ loop-i-init c =
     let most : length (integers_text (take 1 zs)) ≤ 20 = omega (arith, signed_most z fits, ap length alone) in
     let put = put_as c.args.room.now 0 (ap signed_text (to_z-of_z w64 z fits) ∙ alone) (c.put_signed-next.ensures.value, c.put_signed-next.ensures.out_after) in
     let first = holds_again (holds_more (holds_none c.args.room.now 0 (omega arith)) (integers_text (take 1 zs)) (omega arith) put) in
-    (omega arith, omega arith, first, omega arith, omega arith)
+    (first, omega arith, omega arith)
 
 pub loop-i-preserved : goal.loop-i-preserved
 loop-i-preserved c =
@@ -36,15 +36,13 @@ loop-i-preserved c =
     let z = get_or zs i (pos 0) in
     let fits : SFits w64 z = record { sfits = omega arith } in
     let most : length (signed_text z) ≤ 20 = signed_most z fits in
-    let later = integers_later zs i inv.0 (omega arith) in
+    let later = integers_later zs i (omega arith) (omega arith) in
     let longer : length (integers_text (take i zs)) + 1 + length (signed_text z) ≡ length (integers_text (take (suc i) zs)) = sym (simp length-append) ∙ ap length later in
-    let space = holds_more inv.2 (ascii " ") (omega (arith, inv)) (c.put-next.ensures.value, c.put-next.ensures.out_after) in
+    let space = holds_more inv.0 (ascii " ") (omega (arith, inv)) (c.put-next.ensures.value, c.put-next.ensures.out_after) in
     let number = holds_more space (signed_text z) (simp length-append (omega (arith, inv))) (put_as _ _ (ap signed_text (to_z-of_z w64 z fits)) (c.put_signed-next-in-loop-i.ensures.value, c.put_signed-next-in-loop-i.ensures.out_after)) in
     let next = sym (add-one i) in (
-      omega arith,
-      omega arith,
       subst (Holds _ _ 0 _) (later ∙ ap (λ (k : ℕ). integers_text (take k zs)) next) number,
-      inv.3,
+      inv.1,
       subst (λ (k : ℕ). length (integers_text (take k zs)) < 21 * k) next (omega (arith, inv)),
     )
 
@@ -52,6 +50,6 @@ pub returns : goal.returns
 returns c =
     let zs = c.args.numbers.now in
     let inv = c.loop-i.invariant in
-    let made = holds_made inv.2 in
+    let made = holds_made inv.0 in
     let all : c.loop-i.i ≡ length zs = omega arith in
-    let whole = ap integers_text (ap (λ (k : ℕ). take k zs) all ∙ take-length zs) in record { prefix_len = made.0; room_after = made.1 ∙ whole; numbers_len_bound = omega (arith, inv.4, ap length whole) }
+    let whole = ap integers_text (ap (λ (k : ℕ). take k zs) all ∙ take-length zs) in record { prefix_len = made.0; room_after = made.1 ∙ whole; numbers_len_bound = omega (arith, inv.2, ap length whole) }

@@ -16,23 +16,20 @@ use Rattle.text.proofs.lines.after_line.Goals as goal
 
 pub loop-i-init : goal.loop-i-init
 unfolding spaced
-loop-i-init c = (omega arith, c.after-next.ensures)
+loop-i-init c = c.after-next.ensures
 
 pub loop-i-preserved : goal.loop-i-preserved
 loop-i-preserved c =
     let room = length c.args.out.now in
     let ns = c.args.numbers.now in
     let i = c.loop-i.i in
-    let taken = c.loop-i-test.true in
-    let n : c.item_length.result ≡ length (item i (get_or ns i 0)) = c.item_length.ensures ∙ ap (λ (n : ℕ). length (item i n)) c.wide.ensures in (
-      omega arith,
-      after_more _ _ (spaced (map decimal_text (take i ns))) (item i (get_or ns i 0)) c.loop-i.invariant.1 (c.after-next-in-loop-i.ensures ∙ ap (position_past room _) n)
-          ∙ ap (position_after room c.args.at) (sym (spaced_suc ns i taken) ∙ ap (λ (k : ℕ). spaced (map decimal_text (take k ns))) (sym (add-one i))),
-    )
+    let n : c.item_length.result ≡ length (item i (get_or ns i 0)) = c.item_length.ensures ∙ ap (λ (n : ℕ). length (item i n)) c.from.ensures in
+    after_more _ _ (spaced (map decimal_text (take i ns))) (item i (get_or ns i 0)) c.loop-i.invariant (c.after-next-in-loop-i.ensures ∙ ap (position_past room _) n)
+    ∙ ap (position_after room c.args.at) (sym (spaced_suc ns i (omega arith)) ∙ ap (λ (k : ℕ). spaced (map decimal_text (take k ns))) (sym (add-one i)))
 
 pub returns : goal.returns
 returns c =
     let ns = c.args.numbers.now in
     let i = c.loop-i.i in
-    after_more _ _ (spaced (map decimal_text (take i ns))) (LF ∷ []) c.loop-i.invariant.1 c.after.ensures
+    after_more _ _ (spaced (map decimal_text (take i ns))) (LF ∷ []) c.loop-i.invariant c.after.ensures
     ∙ ap (position_after (length c.args.out.now) c.args.at) (line_end ns i (omega arith))

@@ -1,5 +1,5 @@
 -- `text::lines::write_line` meets its contract.
-use Prim.Native.Nat.{ℕ}
+use Prim.Native.Nat.{ℕ, ◌<◌}
 use mathlib.Core.List.{map, [], ◌∷◌}
 use mathlib.Core.Path.{◌≡◌, sym, ap, subst, ◌∙◌}
 use native.Mathlib.Numerals.{add-one}
@@ -16,24 +16,22 @@ use Rattle.text.proofs.lines.write_line.Goals as goal
 
 pub loop-i-init : goal.loop-i-init
 unfolding spaced
-loop-i-init c = (omega arith, holds_none _ _ (omega (arith, c.requires)))
+loop-i-init c = holds_none _ _ (omega (arith, c.requires))
 
 pub loop-i-preserved : goal.loop-i-preserved
 loop-i-preserved c =
     let ns = c.args.numbers.now in
     let i = c.loop-i.i in
-    let taken = c.loop-i-test.true in
-    let n : item i c.wide.result ≡ item i (get_or ns i 0) = ap (item i) c.wide.ensures in (
-      omega arith,
-      subst (Holds _ _ _ _) (sym (spaced_suc ns i taken) ∙ ap (λ (k : ℕ). spaced (map decimal_text (take k ns))) (sym (add-one i)))
-          (holds_more c.loop-i.invariant.1 (item i (get_or ns i 0)) (omega (arith, c.requires, line_longer ns i taken))
-          (c.put_item-next.ensures.value ∙ ap (position_after _ _) n, c.put_item-next.ensures.out_after ∙ ap (placed_text _ _) n)),
-    )
+    let taken : i < length ns = omega arith in
+    let n : item i c.from.result ≡ item i (get_or ns i 0) = ap (item i) c.from.ensures in
+    subst (Holds _ _ _ _) (sym (spaced_suc ns i taken) ∙ ap (λ (k : ℕ). spaced (map decimal_text (take k ns))) (sym (add-one i)))
+    (holds_more c.loop-i.invariant (item i (get_or ns i 0)) (omega (arith, c.requires, line_longer ns i taken))
+    (c.put_item-next.ensures.value ∙ ap (position_after _ _) n, c.put_item-next.ensures.out_after ∙ ap (placed_text _ _) n))
 
 pub returns : goal.returns
 returns c =
     let ns = c.args.numbers.now in
     let i = c.loop-i.i in
-    let line = line_end ns i (omega (arith, c.loop-i.invariant.0, c.loop-i-test.false)) in
-    holds_placed (holds_more c.loop-i.invariant.1 (LF ∷ []) (omega (arith, c.requires, ap length line, length-append (spaced (map decimal_text (take i ns))) (LF ∷ []))) (c.put.ensures.value, c.put.ensures.out_after))
+    let line = line_end ns i (omega arith) in
+    holds_placed (holds_more c.loop-i.invariant (LF ∷ []) (omega (arith, c.requires, ap length line, length-append (spaced (map decimal_text (take i ns))) (LF ∷ []))) (c.put.ensures.value, c.put.ensures.out_after))
     ∙ ap (placed_text _ _) line

@@ -1,39 +1,36 @@
--- `timestamp::decoding::decode` meets its contract, unit by unit.
-use mathlib.Core.Path.{◌≡◌}
-use native.Mathlib.Omega.{arith}
-use borrow.Author.Rules.{rules}
-use Rattle.refusal.specs.Outcome.{Outcome}
+-- `timestamp::decoding::decode` meets its contract: fields that a count stands for are its only ones.
+use mathlib.Core.Path.{◌≡◌, refl, sym, ap, subst, ◌∙◌}
+use mathlib.Core.Option.{Option, some}
+use lib.IntN.{ℤ}
+use mir.Syntax.{w64}
+use mir.Val.{SFits, to_z, of_z}
+use mir.ValLaws.{to_z-of_z}
+use Rattle.std.specs.Prelude as code
+use Rattle.refusal.specs.Outcome.{Outcome, given}
 use Rattle.timestamp.specs.declared.fields.Fields.{Fields}
-use Rattle.timestamp.specs.declared.units.FoundUnit.{FoundUnit}
-use Rattle.timestamp.specs.Units.{unit_of}
+use Rattle.logical_type.specs.declared.types.TimeUnit.{TimeUnit}
+use Rattle.timestamp.specs.Units.{ticks_per_second_of}
+use Rattle.timestamp.specs.Count.{FieldsOf}
 use Rattle.timestamp.specs.Outcomes.{Decodes}
 use Rattle.timestamp.specs.Steps.{unit_found}
-use Rattle.timestamp.proofs.FloorLaws.{division_days, division_told}
-use Rattle.timestamp.proofs.UnitLaws.{decodes_told}
+use Rattle.timestamp.proofs.CountLaws.{decodes_one}
 use Rattle.timestamp.proofs.decoding.decode.Goals as goal
-use Rattle.timestamp.proofs.decoding.decode.Goals.{After-find_unit-found}
 
--- what is answered in the unit that was found
-told : (c : After-find_unit-found) (k : FoundUnit) (o : Outcome Fields) → let a = c.args in c.find_unit-found.result ≡ k → Decodes (unit_found k) a.count o → Decodes (unit_of a.unit) a.count o × ((o' : Outcome Fields) → Decodes (unit_of a.unit) a.count o' → o' ≡ o)
-told c k o e p = let a = c.args in decodes_told (unit_of a.unit) c.find_unit-found.result k a.count o c.find_unit-found.ensures e p
+-- so they are in the unit that was found, of the count as it is passed on
+only : (u : Option TimeUnit) (r : code.Option TimeUnit) (unit : TimeUnit) (count : ℤ) (f : Fields) → unit_found r ≡ u → r ≡ code.Some unit → SFits w64 count → FieldsOf (ticks_per_second_of unit) (to_z w64 (of_z w64 count)) f → (o : Outcome Fields) → Decodes u count o → o ≡ given f
+only u r unit count f e told fits p o q = decodes_one u count o (given f) q (subst (λ (v : Option TimeUnit). Decodes v count (given f)) unit_is (f, refl, held))
+  where
+    unit_is : some unit ≡ u
+    unit_is = sym (ap unit_found told) ∙ e
 
-pub decode_in-requires : goal.decode_in-requires
-decode_in-requires c = (omega arith, omega arith, search (rules, division_days), search)
+    held : FieldsOf (ticks_per_second_of unit) count f
+    held = subst (λ (z : ℤ). FieldsOf (ticks_per_second_of unit) z f) (to_z-of_z w64 count fits) p
 
-pub decode_in-requires-in-Micros : goal.decode_in-requires-in-Micros
-decode_in-requires-in-Micros c = (omega arith, omega arith, search (rules, division_days), search)
+pub returns-in-Some-Millis-clause-o_value : goal.returns-in-Some-Millis-clause-o_value
+returns-in-Some-Millis-clause-o_value c = only _ _ TimeUnit.Millis _ _ c.find_unit.ensures (c.in-Some-Millis.is ∙ ap code.Some c.in-Some-Millis.field-0-is) c.ranges.count c.decode_in.ensures
 
-pub decode_in-requires-in-Nanos : goal.decode_in-requires-in-Nanos
-decode_in-requires-in-Nanos c = (omega arith, omega arith, search (rules, division_days), search)
+pub returns-in-Some-Micros-clause-o_value : goal.returns-in-Some-Micros-clause-o_value
+returns-in-Some-Micros-clause-o_value c = only _ _ TimeUnit.Micros _ _ c.find_unit.ensures (c.in-Some-Micros.is ∙ ap code.Some c.in-Some-Micros.field-0-is) c.ranges.count c.decode_in-in-Some-Micros.ensures
 
-pub returns-in-Millis : goal.returns-in-Millis
-returns-in-Millis c = record { decodes = (told (goal.at.returns-in-Millis c).After-find_unit-found FoundUnit.Millis _ (search) (c.decode_in.ensures _ (search division_told))).0; o_value = (told (goal.at.returns-in-Millis c).After-find_unit-found FoundUnit.Millis _ (search) (c.decode_in.ensures _ (search division_told))).1 }
-
-pub returns-in-Micros : goal.returns-in-Micros
-returns-in-Micros c = record { decodes = (told (goal.at.returns-in-Micros c).After-find_unit-found FoundUnit.Micros _ (search) (c.decode_in-in-Micros.ensures _ (search division_told))).0; o_value = (told (goal.at.returns-in-Micros c).After-find_unit-found FoundUnit.Micros _ (search) (c.decode_in-in-Micros.ensures _ (search division_told))).1 }
-
-pub returns-in-Nanos : goal.returns-in-Nanos
-returns-in-Nanos c = record { decodes = (told (goal.at.returns-in-Nanos c).After-find_unit-found FoundUnit.Nanos _ (search) (c.decode_in-in-Nanos.ensures _ (search division_told))).0; o_value = (told (goal.at.returns-in-Nanos c).After-find_unit-found FoundUnit.Nanos _ (search) (c.decode_in-in-Nanos.ensures _ (search division_told))).1 }
-
-pub returns-in-Unknown : goal.returns-in-Unknown
-returns-in-Unknown c = record { decodes = (told (goal.at.returns-in-Unknown c).After-find_unit-found FoundUnit.Unknown _ (search) (search)).0; o_value = (told (goal.at.returns-in-Unknown c).After-find_unit-found FoundUnit.Unknown _ (search) (search)).1 }
+pub returns-in-Some-Nanos-clause-o_value : goal.returns-in-Some-Nanos-clause-o_value
+returns-in-Some-Nanos-clause-o_value c = only _ _ TimeUnit.Nanos _ _ c.find_unit.ensures (c.in-Some-Nanos.is ∙ ap code.Some c.in-Some-Nanos.field-0-is) c.ranges.count c.decode_in-in-Some-Nanos.ensures

@@ -1,33 +1,26 @@
 -- `timestamp::encoding::count_of` meets its contract: the count folds onto the ticks that its seconds fold onto, with the fraction turned
 -- before 0.
 use Prim.Native.Nat.{ℕ, ◌+◌, ◌*◌, ◌-◌, ◌/◌, ◌<◌, ◌≤◌, ◌^◌}
-use native.Mathlib.Nat.{le-div_iff_mul-le, div-lt_iff_lt-mul}
+use native.Mathlib.Nat.{div-lt_iff_lt-mul}
 use native.Mathlib.Omega.{arith}
 use mathlib.Core.Path.{◌≡◌, sym, ap, ◌∙◌}
-use mathlib.Core.Bool.{Bool, not}
-use lib.IntN.{ℤ}
-use lib.Signed.{mag, non_neg}
+use mathlib.Core.Bool.{Bool}
+use lib.IntN.{ℤ, pos}
+use lib.Signed.{mag, lt_z}
 use mir.Syntax.{w64}
-use mir.Val.{Fits, SFits, to_z, of_z}
+use mir.Val.{SFits, to_z, of_z}
+use Rattle.laws.proofs.SignedLaws.{below_zero}
 use Rattle.refusal.specs.Outcome.{given}
 use Rattle.timestamp.specs.Outcomes.{not_representable, counting}
 use Rattle.timestamp.proofs.CountLaws.{counted_fits, counted_beyond}
-use Rattle.timestamp.proofs.FloorLaws.{joined, joined_signed, turned_of, turned_below}
+use Rattle.timestamp.proofs.FloorLaws.{joined, joined_signed, turned_of}
 use Rattle.timestamp.proofs.SignedLaws.{signed_of, signed_told, signed_back}
 use Rattle.timestamp.proofs.encoding.count_of.Goals as goal
 
--- n seconds, whose ticks are not above the greatest number, and a fraction, turned or not
-module _ (t n fraction : ℕ) (below : fraction < t) where
-  seconds_fit : n ≤ (2 ^ 63 - 1) / t → Fits w64 (n * t)
-  seconds_fit h = record { fits = omega (arith, (le-div_iff_mul-le {k = t} (omega arith)).0 h) }
-
-  size_fits : (b : Bool) (r : ℕ) → t < 2 ^ 63 → n ≤ (2 ^ 63 - 1) / t → r ≡ turned_of b fraction t → Fits w64 (n * t + r)
-  size_fits b r k h e = record { fits = omega (arith, (le-div_iff_mul-le {k = t} (omega arith)).0 h, turned_below b fraction t below) }
-
 -- the sign of a second and what it folds onto
-module _ (s : ℤ) (t fraction : ℕ) (b : Bool) (n : ℕ) (fits : SFits w64 s) (sign : b ≡ not (non_neg (to_z w64 (of_z w64 s)))) (fold : n ≡ mag (to_z w64 (of_z w64 s))) (below : fraction < t) where
+module _ (s : ℤ) (t fraction : ℕ) (b : Bool) (n : ℕ) (fits : SFits w64 s) (sign : b ≡ lt_z (to_z w64 (of_z w64 s)) (pos 0)) (fold : n ≡ mag (to_z w64 (of_z w64 s))) (below : fraction < t) where
   count_is : joined s t fraction ≡ signed_of b (n * t + turned_of b fraction t)
-  count_is = ap (λ (z : ℤ). joined z t fraction) (signed_told {x = s} fits sign fold) ∙ joined_signed b n t fraction below
+  count_is = ap (λ (z : ℤ). joined z t fraction) (signed_told {x = s} fits (sign ∙ below_zero _) fold) ∙ joined_signed b n t fraction below
 
   -- where its ticks alone are too many, so are all
   seconds_beyond : (2 ^ 63 - 1) / t < n → not_representable ≡ counting (joined s t fraction)
@@ -47,12 +40,6 @@ module _ (s : ℤ) (t fraction : ℕ) (b : Bool) (n : ℕ) (fits : SFits w64 s) 
 
 pub returns-then-ticks_per_second-seconds : goal.returns-then-ticks_per_second-seconds
 returns-then-ticks_per_second-seconds c = search seconds_beyond
-
-pub overflow_mul-size : goal.overflow_mul-size
-overflow_mul-size c = search seconds_fit
-
-pub overflow_add-size : goal.overflow_add-size
-overflow_add-size c = search size_fits
 
 pub returns-then-size-gt-GREATEST_COUNT : goal.returns-then-size-gt-GREATEST_COUNT
 returns-then-size-gt-GREATEST_COUNT c = search size_beyond

@@ -9,7 +9,7 @@ use mir.Val.{to_z, of_z}
 use mir.ValLaws.{to_z-of_z}
 use Rattle.refusal.specs.Outcome.{Outcome}
 use Rattle.timestamp.specs.declared.fields.Fields.{Fields}
-use Rattle.timestamp.specs.declared.near.Near.{Near}
+use Rattle.std.specs.Prelude as code
 use Rattle.timestamp.specs.declared.moment.Moment.{Moment}
 use Rattle.logical_type.specs.declared.types.TimeUnit.{TimeUnit}
 use Rattle.timestamp.specs.Outcomes.{encoding}
@@ -18,8 +18,8 @@ use Rattle.timestamp.proofs.MomentLaws.{moment_for}
 use Rattle.timestamp.proofs.encoding.encode.Goals as goal
 
 -- what is told of near fields, of their second as it is passed on
-module _ (f : Fields) (n : Near) (s : ℤ) (is : IsNear f n) (e : n ≡ Near.Second s) (fits : mag s < 2 ^ 63) where
-  near : IsNear f (Near.Second s)
+module _ (f : Fields) (n : code.Option ℤ) (s : ℤ) (is : IsNear f n) (e : n ≡ code.Some s) (fits : mag s < 2 ^ 63) where
+  near : IsNear f (code.Some s)
   near = subst (IsNear f) e is
 
   second_near : mag (to_z w64 (of_z w64 s)) < seconds_reached
@@ -32,8 +32,8 @@ module _ (f : Fields) (n : Near) (s : ℤ) (is : IsNear f n) (e : n ≡ Near.Sec
 pub encode_near-requires : goal.encode_near-requires
 encode_near-requires c = search second_near
 
-pub returns-in-Second : goal.returns-in-Second
-returns-in-Second c = search near_encoded
+pub returns-in-Some : goal.returns-in-Some
+returns-in-Some c = search near_encoded
 
-pub returns-in-Other : goal.returns-in-Other
-returns-in-Other c = search moment_for
+pub returns-in-None : goal.returns-in-None
+returns-in-None c = search moment_for

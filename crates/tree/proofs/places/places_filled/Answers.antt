@@ -1,5 +1,5 @@
 use Rattle.refusal.specs.Outcome.{refusal}
-use Rattle.refusal.specs.declared.answers.Verdict.TheVariants.{Refused}
+use Rattle.std.specs.Prelude.{Err}
 use mathlib.Core.Path.{ap, ◌∙◌}
 use Rattle.tree.proofs.CountingLaws.{counted_start, counted_next, counted_left, counted_filled, counted_missing}
 use native.Mathlib.Omega.{arith}
@@ -15,14 +15,11 @@ returns-then-open-eq0 c = counted_left _ _ _ c.loop-node.invariant (omega (arith
 pub overflow_add-open : goal.overflow_add-open
 overflow_add-open c = omega (arith, c.loop-node.invariant.few, c.loop-node.invariant.within, c.requires.total_value, c.requires.total_le_most_nodes, c.struct_known-1.given)
 
-pub overflow_add-node : goal.overflow_add-node
-overflow_add-node c = omega (arith, c.loop-node-test.true, c.requires.total_le_most_nodes)
-
 pub loop-node-preserved : goal.loop-node-preserved
-loop-node-preserved c = counted_next _ _ _ c.loop-node.invariant _ (omega (arith, c.requires.total_value)) c.if-open-eq0.false c.slot_at-s.ensures (omega (arith, c.struct_known-1.given))
+loop-node-preserved c = counted_next _ _ _ c.loop-node.invariant _ (omega (arith, c.requires.total_value)) c.if-open-eq0.false c.slot_at.ensures (omega (arith, c.struct_known-1.given))
 
 pub returns-then-open-eq0-2 : goal.returns-then-open-eq0-2
 returns-then-open-eq0-2 c = counted_filled _ _ _ c.loop-node.invariant (omega (arith, c.requires.total_value)) c.if-open-eq0-2.true
 
 pub returns : goal.returns
-returns c = ap (λ (n : ℕ). Refused (refusal 5 n)) c.requires.total_value ∙ counted_missing _ _ _ c.loop-node.invariant (omega (arith, c.requires.total_value)) c.if-open-eq0-2.false
+returns c = ap (λ (n : ℕ). Err (refusal 5 n)) c.requires.total_value ∙ counted_missing _ _ _ c.loop-node.invariant (omega (arith, c.requires.total_value)) c.if-open-eq0-2.false

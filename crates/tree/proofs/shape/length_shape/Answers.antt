@@ -9,6 +9,6 @@ pub returns-then-physical-eq-FIXED_LEN_BYTE_ARRAY : goal.returns-then-physical-e
 unfolding length_shape
 returns-then-physical-eq-FIXED_LEN_BYTE_ARRAY c = rw (to_z-of_z {w = w32} c.ranges.type_length, eq-eqb _ _ c.if-physical-eq-FIXED_LEN_BYTE_ARRAY.true)
 
-pub returns : goal.returns
+pub returns-else-physical-eq-FIXED_LEN_BYTE_ARRAY : goal.returns-else-physical-eq-FIXED_LEN_BYTE_ARRAY
 unfolding length_shape
-returns c = rw (ne_eqb _ _ c.if-physical-eq-FIXED_LEN_BYTE_ARRAY.false) (rw (to_z-of_z {w = w32} c.ranges.type_length) at c.is_nought.ensures)
+returns-else-physical-eq-FIXED_LEN_BYTE_ARRAY c = rw (ne_eqb _ _ c.if-physical-eq-FIXED_LEN_BYTE_ARRAY.false) (rw (to_z-of_z {w = w32} c.ranges.type_length) at c.is_nought.ensures)

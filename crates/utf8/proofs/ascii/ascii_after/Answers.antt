@@ -4,13 +4,10 @@ use Prim.Native.Nat.{◌+◌}
 use mathlib.Core.Path.{sym, ◌∙◌}
 use native.Mathlib.Omega.{arith}
 use Rattle.utf8.specs.Steps.{Passes, NoAscii}
-use Rattle.utf8.proofs.ValidLaws.{passes_none, passes_on}
+use Rattle.utf8.proofs.ValidLaws.{passes_on}
 use Rattle.utf8.proofs.AsciiLaws.{passes_ended, passes_clear}
 use Rattle.utf8.proofs.ascii.ascii_after.Goals as goal
 use Rattle.utf8.proofs.ascii.ascii_after.Goals.{After-octets_below}
-
-pub loop-at-init : goal.loop-at-init
-loop-at-init c = passes_none _ _ c.requires
 
 -- the word at `at` ends the run
 passed : (c : After-octets_below)
@@ -28,13 +25,7 @@ overflow_add-result c = record { fits = omega (arith, (passed c).0.within) }
 pub returns-then-high-ne0 : goal.returns-then-high-ne0
 returns-then-high-ne0 c = record { passes = (passed c).0; no_ascii = (passed c).1 }
 
-pub loop-at-smaller : goal.loop-at-smaller
-loop-at-smaller c = omega (arith, c.blocks_after-at.ensures.onward)
-
 pub loop-at-preserved : goal.loop-at-preserved
 loop-at-preserved c =
     let word = sym c.high_bits-high.ensures ∙ c.if-high-ne0.false in
     passes_on (passes_clear 8 _ _ c.loop-at.at (omega arith) word c.loop-at.invariant) c.blocks_after-at.ensures
-
-pub returns : goal.returns
-returns c = record { passes = passes_on c.loop-at.invariant c.last_after.ensures.passes; no_ascii = c.last_after.ensures.no_ascii }

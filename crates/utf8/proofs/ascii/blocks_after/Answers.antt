@@ -2,26 +2,12 @@
 -- of the length.
 use mathlib.Core.Path.{sym, ◌∙◌}
 use native.Mathlib.Omega.{arith}
-use borrow.Author.Tests.{eqb-true, not-false}
-use Rattle.utf8.proofs.ValidLaws.{passes_none, passes_on}
+use borrow.Author.Tests.{eqb-true}
+use Rattle.utf8.proofs.ValidLaws.{passes_on}
 use Rattle.utf8.proofs.AsciiLaws.{passes_clear}
-use mathlib.Core.Path.{ap}
-use mathlib.Core.Bool.{not}
 use Rattle.utf8.proofs.ascii.blocks_after.Goals as goal
-
-pub loop-at-init : goal.loop-at-init
-loop-at-init c = passes_none _ _ c.requires
-
-pub returns-then-not-is_ascii_block : goal.returns-then-not-is_ascii_block
-returns-then-not-is_ascii_block c = c.loop-at.invariant
-
-pub loop-at-smaller : goal.loop-at-smaller
-loop-at-smaller c = omega (arith, c.doubles_after-at.ensures.onward)
 
 pub loop-at-preserved : goal.loop-at-preserved
 loop-at-preserved c =
-    let none = eqb-true _ 0 (sym c.is_ascii_block.ensures ∙ not-false _ (ap not c.if-not-is_ascii_block.false)) in
+    let none = eqb-true _ 0 (sym c.is_ascii_block.ensures ∙ c.if-not-is_ascii_block.false) in
     passes_on (passes_clear 32 _ _ c.loop-at.at (omega arith) none c.loop-at.invariant) c.doubles_after-at.ensures
-
-pub returns : goal.returns
-returns c = c.loop-at.invariant

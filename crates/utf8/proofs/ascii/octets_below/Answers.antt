@@ -3,12 +3,8 @@
 use Prim.Native.Nat.{◌+◌, ◌-◌, ◌*◌}
 use mathlib.Core.Path.{◌≡◌}
 use native.Mathlib.Omega.{arith}
-use lib.Count.{trailing_le}
 use Rattle.utf8.proofs.AsciiLaws.{run_trailing}
 use Rattle.utf8.proofs.ascii.octets_below.Goals as goal
-
-pub overflow_cast-result : goal.overflow_cast-result
-overflow_cast-result c = record { fits = omega (arith, trailing_le 64 c.args.high) }
 
 pub returns : goal.returns
 returns c s at n few e =

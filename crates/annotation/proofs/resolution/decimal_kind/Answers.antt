@@ -1,6 +1,0 @@
--- `annotation::resolution::decimal_kind` meets its contract: each number is what its callee ensures.
--- Assumes nothing.
-use Rattle.annotation.proofs.resolution.decimal_kind.Goals as goal
-
-pub returns : goal.returns
-returns c = cc

@@ -1,0 +1,1 @@
+-- `matching::fields::Taken::match_node` meets its contract: a node that matches none spreads nothing.
