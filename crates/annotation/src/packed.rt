@@ -180,6 +180,7 @@ pub(crate) const INT_64: u64 = UINT_64 + SIGNED;
 pub(crate) const DISAGREEMENT_MARK: u64 = 72057594037927936;
 
 // The parts of a packed annotation.
+// The parts of a packed number that are written, one byte each: four functions, so that each has the name of its part.
 pub(crate) fn converted(packed: u64) -> u8
     ensures { result ≡ converted_part packed }
 {

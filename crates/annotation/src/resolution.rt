@@ -27,7 +27,7 @@ pub struct Judged {
     pub logical: u8,
 }
 
-// The kinds of nodes without annotation.
+// The kinds of nodes without annotation: numbers of a row, as C reads them.
 const PLAIN_LEAF: u32 = 0;
 
 const PLAIN_GROUP: u32 = 30;

@@ -80,7 +80,7 @@ pub fn type_length(n: Annotated) -> u32
     natural(n.type_length)
 }
 
-// A signed number as a natural number, 0 where it is negative.
+// A signed number as a natural number, 0 where it is negative: the library's conversion, with the one clause that its callers cite.
 pub(crate) fn natural(x: i32) -> u32
     ensures { result ≡ natural x }
 {

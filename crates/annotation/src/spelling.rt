@@ -60,6 +60,7 @@ fn with_parameters(logical: u8, pair: u32) -> u64
     }
 }
 
+// TIME and TIMESTAMP are two tables of the paper, alike in the units, and their packed numbers differ.
 #[tactic(auto, unfolding(logical_type::specs::Spelling::stated_of, logical_type::specs::Spelling::named_of, logical_type::specs::Parameters::valid_parameters, logical_type::specs::Parameters::unit_of, crate::specs::Packed::packed_of))]
 fn time(pair: u32) -> u64
     ensures { result ≡ packed_of (stated_of logical.TIME (pair_a pair) (pair_b pair)) }

@@ -13,7 +13,8 @@ pub(crate) fn little(value: &[u8]) -> u64
     little_endian::number(value)
 }
 
-// A signed number folded onto the naturals: itself, or -1 less it where it is negative, so that -1 folds onto 0.
+// A signed number folded onto the naturals: itself, or -1 less it where it is negative, so that -1 folds onto 0. No method of the library
+// does it: `unsigned_abs` of the least number has 64 bits.
 fn folded(z: i64) -> u64
     ensures { result ≡ mag z }
 {

@@ -1,4 +1,5 @@
 // Whether a column type is lawful: whether the slot of such a leaf keeps the rules of an edition.
+// Its codes stay numbers: a column type is five numbers from C that may be any.
 ghost use Rattle.std.specs.Prelude.{◌≡◌, true, false, eqb, pos};
 ghost use Rattle.parquet.specs.Logical.{DECIMAL};
 ghost use Rattle.tree.specs.Rules.{length_shape};

@@ -51,7 +51,7 @@ fn fits_exactly(number: &[u8], precision: u32) -> bool
     }
 }
 
-// Room for a number of the greatest length.
+// Room for a number of the greatest length, whose length callers cite by this clause.
 fn room() -> [u8; precision::GREATEST_LENGTH]
     ensures { length result ≡ greatest_length }
 {

@@ -30,8 +30,8 @@ pub(crate) struct Entry<'a> {
     ghost second_len_bound: { length second.now ≤ slot_size },
 }
 
-// The output and the count stay two: the count is handed on by value, and a struct of both would state each clause through what it lends.
 // Puts an entry behind so many others, where there is room for it, and answers how many there are with it.
+// The output and the count stay two: the count is handed on by value, and a struct of both would state each clause through what it lends.
 pub(crate) fn put_entry(told: &Entry, out: &mut [u8], entries: usize) -> usize
     requires { entries < 2 ^ 32 }
     ensures { Puts out.old entries (entry told.now.code told.now.node told.now.first.now told.now.second.now ∷ []) out.new result }

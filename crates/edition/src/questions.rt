@@ -18,7 +18,7 @@ pub fn is_known(edition: u32) -> bool
     (FIRST..=THIRD).contains(&edition)
 }
 
-// Whether a DECIMAL's scale may equal its precision.
+// Whether a DECIMAL's scale may equal its precision. This and the next are apart, since an edition decides each for itself.
 #[tactic(auto, unfolding(crate::specs::Editions::scale_may_equal))]
 pub fn scale_may_equal(edition: u32) -> bool
     ensures { result ≡ scale_may_equal edition }

@@ -1,5 +1,5 @@
-// Logical types with their parameters, how they are spelled, and what the annotations of a slot say. Contracts speak of these, the code
-// goes by numbers.
+// Logical types with their parameters, how they are spelled, and what the annotations of a slot say. Contracts speak of these; code goes
+// by the codes of a slot, but for `timestamp`, which goes by `TimeUnit`.
 
 #[derive(Clone, Copy)]
 pub enum TimeUnit {

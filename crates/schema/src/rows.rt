@@ -36,8 +36,9 @@ struct Row {
 }
 
 // Writes the rows of the run of so many fields at a number, one field after the other, with so many depths allowed, under the
-// node at up, which has this definition and this repetition level, and answers where the next tree stands. Those are four parameters:
-// one struct of them was tried in their place, on this code as Rust: 5 to 15 instructions a node more, 1 to 4 in a hundred.
+// node at `parent_at`, which has this definition and this repetition level, and answers where the next tree stands.
+// Those are four parameters: one struct of them was tried in their place, on this code as Rust: 5 to 15 instructions a node more, 1 to 4
+// in a hundred.
 // The sheet and the rows stay two: the rows are lent to be written, and a struct of both would state each clause through what it lends.
 // The clauses stand at each function of the cycle: the numbers that they bound change from call to call, and `tree`'s struct of a sheet
 // that claims rightly is its own, since to build one a caller must show that, which no public function asks.

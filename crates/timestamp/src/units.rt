@@ -31,7 +31,7 @@ pub trait Unit {
 
     ghost day_ticks: { TICKS_PER_DAY ≡ ticks_per_day_of (ticks_per_second_of unit) };
 
-    // The number that names the unit.
+    // The number that names the unit, as C gives it: `find_unit` alone reads it.
     const NUMBER: u32;
 
     const TICKS_PER_SECOND: u64;

@@ -118,7 +118,7 @@ fn are_tails(octets: &[u8]) -> bool
         .all(|octet| within(*octet, TAIL_LOW, TAIL_HIGH))
 }
 
-// Whether an octet is one from `low` to `high`.
+// Whether an octet is one from `low` to `high`: the library's `contains`, with the one clause that its callers cite.
 #[tactic(auto, unfolding(crate::specs::Sequence::inside))]
 fn within(octet: u8, low: u8, high: u8) -> bool
     ensures { result ≡ inside (low to high) octet }
