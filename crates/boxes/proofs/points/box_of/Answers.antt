@@ -1,11 +1,9 @@
 -- `boxes::points::box_of` meets its contract: the range of the bounds is that of the points, and the least is above the greatest where nothing counts.
 use mathlib.Core.Path.{◌≡◌, sym, ◌∙◌}
-use mathlib.Core.Bool.{true}
 use mathlib.Core.List.{List}
 use mathlib.Core.Logic.{inl, inr}
 use lib.Ieee.{Float}
 use Rattle.std.specs.Prelude.{Ok}
-use Rattle.parquet.specs.Logical.{is_geospatial}
 use Rattle.boxes.specs.Coordinates.{X, Y}
 use Rattle.boxes.specs.Points.{judgement}
 use Rattle.boxes.specs.declared.bounding_box.BoundingBox.{BoundingBox}
@@ -13,11 +11,7 @@ use Rattle.boxes.proofs.CoordinateLaws.{is_above_lt}
 use Rattle.boxes.proofs.RangeLaws.{found_allowed, found_refused}
 use Rattle.boxes.proofs.PointLaws.{judgement_20, judgement_15, judgement_16, judgement_lawful, found_none, found_bounds}
 use Rattle.boxes.proofs.points.box_of.Goals as goal
-use Rattle.boxes.proofs.points.box_of.Goals.{Else-beyond_degrees, Else-not-has_boxes}
-
--- past the first test the kind has boxes
-known : (c : Else-not-has_boxes) → is_geospatial c.args.kind ≡ true
-known c = sym c.if-not-has_boxes.ensures
+use Rattle.boxes.proofs.points.box_of.Goals.{Else-beyond_degrees}
 
 pub returns-then-not-has_boxes : goal.returns-then-not-has_boxes
 returns-then-not-has_boxes c =
@@ -27,13 +21,13 @@ returns-then-not-has_boxes c =
 pub returns-then-coordinates-ne0 : goal.returns-then-coordinates-ne0
 returns-then-coordinates-ne0 c =
     let args = c.args in
-    judgement_15 args.kind args.coordinates.now (known (goal.at.returns-then-coordinates-ne0 c).Else-not-has_boxes) c.if-coordinates-ne0.true
+    judgement_15 args.kind args.coordinates.now (sym c.if-not-has_boxes.ensures) c.if-coordinates-ne0.true
 
 pub returns-then-beyond_degrees : goal.returns-then-beyond_degrees
 returns-then-beyond_degrees c =
     let args = c.args in
     let b = c.bounds_of-found.result in
-    judgement_16 args.kind args.coordinates.now (known (goal.at.returns-then-beyond_degrees c).Else-not-has_boxes) c.if-coordinates-ne0.false
+    judgement_16 args.kind args.coordinates.now (sym c.if-not-has_boxes.ensures) c.if-coordinates-ne0.false
     (found_refused args.kind args.coordinates.now b c.bounds_of-found.ensures (sym c.if-beyond_degrees.ensures))
 
 -- past the third the points are lawful
