@@ -25,7 +25,7 @@ use Rattle.timestamp.specs.Outcomes.{no_date_time, day_has, refusal_of, encoded,
 use Rattle.timestamp.specs.Outcomes as timestamp
 use Rattle.timestamp.specs.declared.fields.Fields.{Fields}
 use Rattle.std.specs.Prelude as prelude
-use Rattle.std.specs.Prelude.{Result, Some, None}
+use Rattle.std.specs.Prelude.{Result, Some, None, IfSome}
 use Rattle.timestamp.specs.declared.encoding.EncodeError.{EncodeError}
 use Rattle.timestamp.specs.declared.encoding.EncodeError.TheVariants as error
 use Rattle.timestamp.proofs.UnitLaws.{ticks_most}
@@ -133,6 +133,10 @@ module _ (numbers : List ℤ) where
         fraction_is = p5.1;
       }
 
+  -- fields are at least seven numbers
+  pub fields_enough : are_fields numbers ≡ true → 7 ≤ length numbers
+  fields_enough e = (each e).enough
+
   -- numbers in range are fields
   pub ranged_are : FIELDS ≤ length numbers → InRange numbers → are_fields numbers ≡ true
   unfolding are_fields
@@ -182,6 +186,19 @@ module _ (numbers : List ℤ) where
   -- what numbers are read as, where they are no fields in range
   pub read_none : {r : prelude.Option Fields} → r ≡ None → (are_fields numbers ≡ true → InRange numbers → ⊥) → (u : Option TimeUnit) → encoding_read u r ≡ encoding_of u numbers
   read_none e h u = ap (encoding_read u) e ∙ sym (encoding_unformed h u)
+
+-- what is read of numbers are their fields
+abbrev pub AreRead : List ℤ → prelude.Option Fields → Type 0
+AreRead numbers r = IfSome r (λ f. (are_fields numbers ≡ true) × (f ≡ fields_of numbers))
+
+-- of none nothing is told
+pub none_read : (numbers : List ℤ) {r : prelude.Option Fields} → r ≡ None → AreRead numbers r
+none_read numbers e = rw e tt
+
+-- and of some both
+pub some_read : (numbers : List ℤ) (f : Fields) → are_fields numbers ≡ true → f ≡ fields_of numbers
+    → AreRead numbers (Some f) × ((u : Option TimeUnit) → encoding_read u (Some f) ≡ encoding_of u numbers)
+some_read numbers f e p = ((e, p), λ u. encoding_fields numbers f u e p)
 
 -- ---- no numbers
 

@@ -1,10 +1,10 @@
 // Counts decoded and fields encoded, in the unit of a number.
-ghost use Rattle.std.specs.Prelude.{◌≡◌, cond, ◌&&◌, [], ℕ, pos, nat_abs, Some, None, length};
+ghost use Rattle.std.specs.Prelude.{◌≡◌, true, cond, ◌&&◌, [], ℕ, pos, nat_abs, Some, None, IfSome, length};
 ghost use Rattle.std.proofs.Math.Option.{Option};
 ghost use Rattle.std.specs.Int.Signed.{le_z};
 ghost use Rattle.logical_type.specs.declared.types.TimeUnit.{TimeUnit};
 ghost use Rattle.c_answer.specs.Answers.{answer, left};
-ghost use Rattle.c_timestamps.specs.Timestamps.{field_numbers, Decoding, encoding_of, encoding_read, encoding};
+ghost use Rattle.c_timestamps.specs.Timestamps.{field_numbers, are_fields, fields_of, Decoding, encoding_of, encoding_read, encoding};
 
 use c_answer::{packed, refused};
 use refusal::numbers;
@@ -72,19 +72,26 @@ fn numbers_of(f: Fields) -> [i64; 7]
 
 // The fields of seven numbers, each but the year within bounds that no date and time leaves. Others form none in any unit.
 fn fields_of(numbers: &[i64]) -> Option<Fields>
-    ensures { (u : Option TimeUnit) → encoding_read u result ≡ encoding_of u numbers.now }
+    ensures fields { IfSome result (λ f. (are_fields numbers.now ≡ true) × (f ≡ fields_of numbers.now)) }
+    ensures encoded { (u : Option TimeUnit) → encoding_read u result ≡ encoding_of u numbers.now }
 {
     let [year, month, day, hour, minute, second, fraction, ..] = *numbers else {
         return None;
     };
+    let month = within(month, 1, GREATEST_MONTH)?;
+    let day = within(day, 0, GREATEST_DAY)?;
+    let hour = within(hour, 0, GREATEST_HOUR)?;
+    let minute = within(minute, 0, GREATEST_MINUTE)?;
+    let second = within(second, 0, GREATEST_SECOND)?;
+    let fraction = within(fraction, 0, GREATEST_FRACTION)?;
     Some(Fields {
         year,
-        month: within(month, 1, GREATEST_MONTH)?,
-        day: within(day, 0, GREATEST_DAY)?,
-        hour: within(hour, 0, GREATEST_HOUR)?,
-        minute: within(minute, 0, GREATEST_MINUTE)?,
-        second: within(second, 0, GREATEST_SECOND)?,
-        fraction: within(fraction, 0, GREATEST_FRACTION)?,
+        month,
+        day,
+        hour,
+        minute,
+        second,
+        fraction,
     })
 }
 

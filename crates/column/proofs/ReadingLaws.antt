@@ -57,7 +57,7 @@ unfolding read_of
 read_lawful_lem edition c bs e = rw e
 
 -- and where that check refuses
-read_unlawful : (edition : ℕ) (c : ColumnType) (bs : List ℕ) → is_lawful edition c ≡ false → Err (type_refusal edition) ≡ read_of edition c bs
+pub read_unlawful : (edition : ℕ) (c : ColumnType) (bs : List ℕ) → is_lawful edition c ≡ false → Err (type_refusal edition) ≡ read_of edition c bs
 unfolding read_of
 read_unlawful edition c bs e = rw e
 

@@ -31,7 +31,7 @@ use Rattle.std.specs.declared.cmp.Ordering.TheVariants.{Less, Equal, Greater}
 use Rattle.column_order.specs.Keys.{Key, whole, bytes, none, number_of, number_key, key_of, byte_order, key_order}
 use Rattle.column_order.specs.Order.{has_order, order_of}
 use Rattle.column_order.specs.Comparison.{Valid, NotANumber, reversed, turned, at_most}
-use Rattle.column_order.proofs.Turning.{related, ordered, at_most_both, related_as, turned_some}
+use Rattle.column_order.proofs.Turning.{related, ordered, at_most_both, related_some, turned_some}
 use Rattle.column_order.proofs.WholeLaws.{whole_less, whole_equal, whole_greater, whole_turned, whole_trans, whole_total}
 use Rattle.column_order.proofs.ByteLaws.{byte_refl, byte_turned, byte_trans, byte_total}
 
@@ -203,11 +203,11 @@ module _ (edition : ℕ) (c : ColumnType) (a b : List ℕ) (p : Valid edition c 
   decimal_order = order_keys edition c (decimal_ordered c kind physical) a b p q ∙ ap₂ (λ (k l : Key). related (key_order k l)) (decimal_key c a kind physical) (decimal_key c b kind physical)
 
   pub decimal_less : (order_of edition c a b ≡ related (Some Less)) ↔ (number_of c a <ℤ number_of c b)
-  decimal_less = rw decimal_order (related_as (whole_less (number_of c a) (number_of c b)))
+  decimal_less = rw decimal_order (related_some (whole_less (number_of c a) (number_of c b)))
 
   -- equal exactly when the numbers are
   pub decimal_equal : (order_of edition c a b ≡ related (Some Equal)) ↔ (number_of c a ≡ number_of c b)
-  decimal_equal = rw decimal_order (related_as (whole_equal (number_of c a) (number_of c b)))
+  decimal_equal = rw decimal_order (related_some (whole_equal (number_of c a) (number_of c b)))
 
   pub decimal_greater : (order_of edition c a b ≡ related (Some Greater)) ↔ (number_of c b <ℤ number_of c a)
-  decimal_greater = rw decimal_order (related_as (whole_greater (number_of c a) (number_of c b)))
+  decimal_greater = rw decimal_order (related_some (whole_greater (number_of c a) (number_of c b)))

@@ -35,7 +35,7 @@ use Rattle.column_order.specs.Comparison.{Valid}
 use Rattle.column_order.specs.Outcome.{outcome_of, outcome}
 use Rattle.column_order.specs.Promises.{AsNumbers, Before, prefix, lower, further, AsBytes, bits_below, FLOAT_SIGN, FLOAT_INFINITY, DOUBLE_SIGN, DOUBLE_INFINITY, IsNan}
 use Rattle.column_order.specs.Order.{Order}
-use Rattle.column_order.proofs.Turning.{related, faulted, ordered, related_is, related_as}
+use Rattle.column_order.proofs.Turning.{related, faulted, ordered, related_is, related_some}
 use Rattle.column_order.proofs.WholeLaws.{whole_less, whole_equal, whole_greater}
 use Rattle.column_order.proofs.ByteLaws.{byte_refl, byte_turned}
 use Rattle.column_order.proofs.OrderLaws.{order_keys, decimal_less, decimal_equal, decimal_greater}
@@ -90,7 +90,7 @@ module _ (edition : ℕ) (c : ColumnType) (has : has_order c ≡ true) (a b : Li
   unfolding key_order
   as_numbers x y e f =
       let o : order_of edition c a b ≡ related (Some (whole_order x y)) = order_keys edition c has a b p q ∙ ap₂ (λ (k l : Key). related (key_order k l)) e f in
-      record { less = rw o (related_as (whole_less x y)); equal = rw o (related_as (whole_equal x y)); greater = rw o (related_as (whole_greater x y)) }
+      record { less = rw o (related_some (whole_less x y)); equal = rw o (related_some (whole_equal x y)); greater = rw o (related_some (whole_greater x y)) }
 
   -- "signed for numbers, dates, times, decimals"
   pub signed_order_lem : Whole c → ((c.kind ≡ INTEGER) × (c.p2 ≡ 0) → ⊥) → AsNumbers edition c a b (signed a) (signed b)
@@ -129,9 +129,9 @@ module _ (edition : ℕ) (c : ColumnType) (has : has_order c ≡ true) (a b : Li
   bytes_order_lem form d =
       let o : order_of edition c a b ≡ related (Some (byte_order a b)) = order_keys edition c has a b p q ∙ ap₂ (λ (k l : Key). related (key_order k l)) (key form a) (key form b) in
       record {
-        less = rw o (related_as (less_before a b, before_less a b));
-        equal = rw o (related_as (equal_same a b, λ e. rw (← e) (byte_refl a)));
-        greater = rw o (related_as (λ e. less_before b a (byte_turned a b ∙ ap ordering_reverse e), λ h. reversed_less (byte_order a b) (sym (byte_turned a b) ∙ before_less b a h)));
+        less = rw o (related_some (less_before a b, before_less a b));
+        equal = rw o (related_some (equal_same a b, λ e. rw (← e) (byte_refl a)));
+        greater = rw o (related_some (λ e. less_before b a (byte_turned a b ∙ ap ordering_reverse e), λ h. reversed_less (byte_order a b) (sym (byte_turned a b) ∙ before_less b a h)));
       }
     where
       key : ByteForm c → (bs : List ℕ) → key_of c bs ≡ bytes bs

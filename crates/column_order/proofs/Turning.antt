@@ -33,8 +33,12 @@ at_most_both (Err f) p q = cc
 pub related_is : {r s : Option Ordering} → related r ≡ related s → r ≡ s
 related_is e = cc
 
-pub related_as : {r s : Ordering} {P : Type 0} → (r ≡ s) ↔ P → (related (Some r) ≡ related (Some s)) ↔ P
-related_as {r} {s} h = (λ e. h.0 (same (related_is e)), λ p. ap (λ (o : Ordering). related (Some o)) (h.1 p))
+pub related_as : {r s : Option Ordering} {P : Type 0} → (r ≡ s) ↔ P → (related r ≡ related s) ↔ P
+related_as h = (λ e. h.0 (related_is e), λ p. ap related (h.1 p))
+
+-- and of two that are ordered, which order
+pub related_some : {r s : Ordering} {P : Type 0} → (r ≡ s) ↔ P → (related (Some r) ≡ related (Some s)) ↔ P
+related_some {r} {s} h = related_as (λ e. h.0 (same e), λ p. ap ordered (h.1 p))
   where
     same : ordered r ≡ ordered s → r ≡ s
     same e = cc

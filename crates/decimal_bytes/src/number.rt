@@ -30,11 +30,12 @@ pub(crate) fn sign_byte(number: &[u8]) -> u8
 pub(crate) fn significant(number: &[u8]) -> &[u8]
     ensures { result.now ≡ significant number.now }
 {
-    let last = number.len().saturating_sub(1);
-    for at in 0..last {
-        if number[at] != sign_byte(&number[at + 1..]) {
+    // By the byte behind: a loop over the first of the two tests twice whether there is another, and takes a quarter more time.
+    for next in 1..number.len() {
+        let at = next - 1;
+        if number[at] != sign_byte(&number[next..]) {
             return &number[at..];
         }
     }
-    &number[last..]
+    &number[number.len().saturating_sub(1)..]
 }

@@ -114,7 +114,7 @@ module _ {A : Type 0} (f : List Sibling → A) (b : List ℕ) (from : Candidate)
     pub passed_end : n ≤ place → f (fields_from b from n) ≡ f []
     passed_end h = p.same ∙ ap f (fields_from_end b number place n h)
 
-untaken_none : (takers : List ℕ) (taker : ℕ) → untaken takers taker [] ≡ []
+pub untaken_none : (takers : List ℕ) (taker : ℕ) → untaken takers taker [] ≡ []
 unfolding untaken
 untaken_none takers taker = refl
 

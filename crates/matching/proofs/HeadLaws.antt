@@ -16,7 +16,7 @@ use Rattle.tree.specs.Tree.{size}
 use Rattle.tree.specs.Steps.{tree_at, run_at}
 use Rattle.tree.proofs.StandingLaws.{count_run_at}
 use Rattle.matching.specs.Matching.{Sibling, name_of}
-use Rattle.matching.specs.Steps.{Ends, print_of, Stands, fields_from, is_taken, first_free, head_count, from_alike, head_of, no_head, HeadsBelow, with_head, IsHead, Heads, Indexed, Leads}
+use Rattle.matching.specs.Steps.{Ends, print_of, Stands, fields_from, is_taken, first_free, head_count, from_alike, packed_head, taker_of, place_of, number_of, head_of, no_head, HeadsBelow, with_head, IsHead, Heads, Indexed, Leads}
 use Rattle.matching.specs.declared.candidates.Candidate.{Candidate}
 use Rattle.matching.specs.declared.heads.Head.{Head}
 use Rattle.matching.proofs.NthLaws.{length_siblings}
@@ -77,9 +77,9 @@ length_from b c n s = length_siblings c.number c.place (run_at (slots b) c.numbe
 -- up to a field, each head that was written is one; of other rests the fields are those from this field on
 pub record HeadsTo (b : List ℕ) (start : Candidate) (n taker : ℕ) (heads : List Head) (number place : ℕ) : Type 0 where
   pub long : length heads ≡ head_count
-  pub most : (r : ℕ) → (get_or heads r no_head).taker ≤ taker
-  pub known : (r : ℕ) → r < head_count → (get_or heads r no_head).taker ≡ taker → IsHead b start n r (head_of (get_or heads r no_head))
-  pub open_at : (r : ℕ) → r < head_count → ((get_or heads r no_head).taker ≡ taker → ⊥) → from_alike r (fields_from b start n) ≡ from_alike r (fields_from b (at number place) n)
+  pub most : (r : ℕ) → taker_of (get_or heads r no_head) ≤ taker
+  pub known : (r : ℕ) → r < head_count → taker_of (get_or heads r no_head) ≡ taker → IsHead b start n r (head_of (get_or heads r no_head))
+  pub open_at : (r : ℕ) → r < head_count → (taker_of (get_or heads r no_head) ≡ taker → ⊥) → from_alike r (fields_from b start n) ≡ from_alike r (fields_from b (at number place) n)
   pub stands : Stands b (at number place) n
 
 module _ (b : List ℕ) (start : Candidate) (n taker : ℕ) where
@@ -129,7 +129,7 @@ module _ (b : List ℕ) (start : Candidate) (n taker : ℕ) where
       stands' = stands_next b number place n p.stands l next next_is
 
       abbrev head : Head
-      head = record { taker = taker; place = place; number = number }
+      head = packed_head taker place number
 
       number_few : number < most_nodes
       number_few = below_most b number place n p.stands l
@@ -138,12 +138,12 @@ module _ (b : List ℕ) (start : Candidate) (n taker : ℕ) where
       rest_few = omega (arith, is)
 
       -- a head for its rest is there already
-      stays : (get_or heads rest no_head).taker ≡ taker → HeadsTo b start n taker heads next (place + 1)
+      stays : taker_of (get_or heads rest no_head) ≡ taker → HeadsTo b start n taker heads next (place + 1)
       stays e = record {
         long = p.long;
         most = p.most;
         known = p.known;
-        open_at = λ r k f. p.open_at r k f ∙ other_rest r (λ q. f (ap (λ (i : ℕ). (get_or heads i no_head).taker) q ∙ e));
+        open_at = λ r k f. p.open_at r k f ∙ other_rest r (λ q. f (ap (λ (i : ℕ). taker_of (get_or heads i no_head)) q ∙ e));
         stands = stands';
       }
 
@@ -157,7 +157,19 @@ module _ (b : List ℕ) (start : Candidate) (n taker : ℕ) where
       others : (r : ℕ) → (r ≡ rest → ⊥) → get_or written r no_head ≡ get_or heads r no_head
       others r f = get_or-set_other heads rest r head no_head f
 
-      writes : ((get_or heads rest no_head).taker ≡ taker → ⊥) → HeadsTo b start n taker written next (place + 1)
+      head_taker : taker_of head ≡ taker
+      head_taker = omega (arith, number_few, l, small)
+
+      head_number : number_of head ≡ number
+      head_number = omega (arith, number_few, l, small)
+
+      head_place : place_of head ≡ place
+      head_place = omega (arith, number_few, l, small)
+
+      head_is : head_of head ≡ at number place
+      head_is = λ i. record { number = head_number i; place = head_place i }
+
+      writes : (taker_of (get_or heads rest no_head) ≡ taker → ⊥) → HeadsTo b start n taker written next (place + 1)
       writes f = record {
         long = length-set heads rest head ∙ p.long;
         most = λ r. most_at r (ℕ_discrete r rest);
@@ -166,23 +178,23 @@ module _ (b : List ℕ) (start : Candidate) (n taker : ℕ) where
         stands = stands';
       }
         where
-          most_at : (r : ℕ) → Dec (r ≡ rest) → (get_or written r no_head).taker ≤ taker
-          most_at r (yes q) = omega (arith, ap (λ (i : ℕ). (get_or written i no_head).taker) q ∙ ap (λ (x : Head). x.taker) own)
-          most_at r (no g) = omega (arith, ap (λ (x : Head). x.taker) (others r g), p.most r)
+          most_at : (r : ℕ) → Dec (r ≡ rest) → taker_of (get_or written r no_head) ≤ taker
+          most_at r (yes q) = omega (arith, ap (λ (i : ℕ). taker_of (get_or written i no_head)) q ∙ ap taker_of own, head_taker)
+          most_at r (no g) = omega (arith, ap taker_of (others r g), p.most r)
 
-          known_at : (r : ℕ) → r < head_count → (get_or written r no_head).taker ≡ taker → Dec (r ≡ rest) → IsHead b start n r (head_of (get_or written r no_head))
+          known_at : (r : ℕ) → r < head_count → taker_of (get_or written r no_head) ≡ taker → Dec (r ≡ rest) → IsHead b start n r (head_of (get_or written r no_head))
           known_at r k e (yes q) =
-              rw (q, own) (record { stands = p.stands; is = sym (p.open_at rest rest_few f ∙ own_rest) })
-          known_at r k e (no g) = rw (others r g) (p.known r k (ap (λ (x : Head). x.taker) (sym (others r g)) ∙ e))
+              rw (q, own, head_is) (record { stands = p.stands; is = sym (p.open_at rest rest_few f ∙ own_rest) })
+          known_at r k e (no g) = rw (others r g) (p.known r k (ap taker_of (sym (others r g)) ∙ e))
 
-          open_at : (r : ℕ) → r < head_count → ((get_or written r no_head).taker ≡ taker → ⊥) → Dec (r ≡ rest) → from_alike r (fields_from b start n) ≡ from_alike r (fields_from b (at next (place + 1)) n)
-          open_at r k g (yes q) = absurd (g (ap (λ (x : Head). x.taker) (ap (λ (i : ℕ). get_or written i no_head) q ∙ own)))
-          open_at r k g (no h) = p.open_at r k (λ e. g (ap (λ (x : Head). x.taker) (others r h) ∙ e)) ∙ other_rest r h
+          open_at : (r : ℕ) → r < head_count → (taker_of (get_or written r no_head) ≡ taker → ⊥) → Dec (r ≡ rest) → from_alike r (fields_from b start n) ≡ from_alike r (fields_from b (at next (place + 1)) n)
+          open_at r k g (yes q) = absurd (g (ap taker_of (ap (λ (i : ℕ). get_or written i no_head) q ∙ own) ∙ head_taker))
+          open_at r k g (no h) = p.open_at r k (λ e. g (ap taker_of (others r h) ∙ e)) ∙ other_rest r h
 
       heads_to_next : HeadsTo b start n taker (with_head heads rest number place taker) next (place + 1)
       unfolding with_head
       heads_to_next =
-          by_test (eqb ((get_or heads rest no_head).taker) taker)
+          by_test (eqb (taker_of (get_or heads rest no_head)) taker)
           (λ e. rw e (stays (eqb-true _ _ e)))
           (λ e. rw e (writes (λ q. true≢false (sym (eq-eqb _ _ q) ∙ e))))
 
@@ -210,7 +222,7 @@ module _ (b : List ℕ) (from : Candidate) (n taker : ℕ) (heads : List Head) (
           ∙ alike_found takers t m (fields_from b from n)
 
   -- no field has the rest
-  pub leads_none : ((get_or heads rest no_head).taker ≡ taker → ⊥) → Leads b from n print (at from.number n)
+  pub leads_none : (taker_of (get_or heads rest no_head) ≡ taker → ⊥) → Leads b from n print (at from.number n)
   leads_none f =
       leads (at from.number n) (record { claimed = x.stands.claimed; most = omega arith; fields = omega arith })
       (fields_from_end b from.number n n (omega arith) ∙ sym (x.headed.none_at rest (omega arith) f))
@@ -221,16 +233,16 @@ module _ (b : List ℕ) (from : Candidate) (n taker : ℕ) (heads : List Head) (
   leads_from = record { stands = x.stands; same = λ takers t m q. refl }
 
   -- or behind
-  pub leads_head : (get_or heads rest no_head).taker ≡ taker → from.place < (get_or heads rest no_head).place → Leads b from n print (head_of (get_or heads rest no_head))
+  pub leads_head : taker_of (get_or heads rest no_head) ≡ taker → from.place < place_of (get_or heads rest no_head) → Leads b from n print (head_of (get_or heads rest no_head))
   leads_head e l = let head = x.headed.known rest (omega arith) e in leads (head_of (get_or heads rest no_head)) head.stands head.is (omega (arith, l))
 
 -- ---- one head
 
 module _ (heads : List Head) (r number place taker : ℕ) where
-  pub head_kept : (get_or heads r no_head).taker ≡ taker → heads ≡ with_head heads r number place taker
+  pub head_kept : taker_of (get_or heads r no_head) ≡ taker → heads ≡ with_head heads r number place taker
   unfolding with_head
   head_kept e = rw (eq-eqb _ _ e)
 
-  pub head_written : ((get_or heads r no_head).taker ≡ taker → ⊥) → set heads r (record { taker = taker; place = place; number = number }) ≡ with_head heads r number place taker
+  pub head_written : (taker_of (get_or heads r no_head) ≡ taker → ⊥) → set heads r (packed_head taker place number) ≡ with_head heads r number place taker
   unfolding with_head
   head_written f = rw (ne_eqb _ _ f)

@@ -1,5 +1,5 @@
 -- What the steps of matching answer, which the contracts of private functions cite. Nothing here is a promise to a caller.
-use Rattle.std.specs.Prelude.{ℕ, zero, suc, ◌+◌, ◌*◌, ◌-◌, ◌%◌, ◌^◌, ◌≤◌, ◌<◌, ◌≡◌, Bool, cond, not, ◌&&◌, List, [], ◌∷◌, ◌++◌, eqb, length, get_or, set, drop, Option as Found, Some, None}
+use Rattle.std.specs.Prelude.{ℕ, zero, suc, ◌+◌, ◌*◌, ◌-◌, ◌/◌, ◌%◌, ◌^◌, ◌≤◌, ◌<◌, ◌≡◌, Bool, cond, not, ◌&&◌, List, [], ◌∷◌, ◌++◌, eqb, length, get_or, set, drop, Option as Found, Some, None}
 use Rattle.std.proofs.Math.Option.{Option, none, some}
 use Rattle.sheet.specs.Block.{total_of, most_nodes}
 use Rattle.sheet.specs.Slot.{slots, slot_at, name}
@@ -138,18 +138,30 @@ unfoldable pub from_alike : ℕ → List Sibling → List Sibling
 from_alike r [] = []
 from_alike r (c ∷ cs) = cond (eqb (print_of (name_of c.tree) % head_count) r) (c ∷ cs) (from_alike r cs)
 
--- a head has the number and the place of a field, and the number of the taker that it was written for
+-- a head has the number and the place of a field, and the number of the taker that it was written for, each below 1024
+abbrev pub packed_head : ℕ → ℕ → ℕ → Head
+packed_head taker place number = record { packed = taker * 1048576 + place * 1024 + number }
+
+abbrev pub taker_of : Head → ℕ
+taker_of h = h.packed / 1048576
+
+abbrev pub place_of : Head → ℕ
+place_of h = h.packed / 1024 % 1024
+
+abbrev pub number_of : Head → ℕ
+number_of h = h.packed % 1024
+
 abbrev pub head_of : Head → Candidate
-head_of h = record { number = h.number; place = h.place }
+head_of h = record { number = number_of h; place = place_of h }
 
 -- what stands where none was written: no node is taker 0
 abbrev pub no_head : Head
-no_head = record { taker = 0; place = 0; number = 0 }
+no_head = record { packed = 0 }
 
 -- no head was written for a taker above this one
 pub record HeadsMost (most : ℕ) (heads : List Head) : Type 0 where
   pub long : length heads ≡ head_count
-  pub taker_at : (r : ℕ) → (get_or heads r no_head).taker ≤ most
+  pub taker_at : (r : ℕ) → taker_of (get_or heads r no_head) ≤ most
 
 -- and none for this one yet
 abbrev pub HeadsBelow : ℕ → List Head → Type 0
@@ -158,7 +170,7 @@ HeadsBelow taker heads = (0 < taker) × HeadsMost (taker - 1) heads
 -- heads with that of a field, where there is none for its rest yet
 unfoldable pub with_head : List Head → ℕ → ℕ → ℕ → ℕ → List Head
 with_head heads r number place taker =
-    cond (eqb ((get_or heads r no_head).taker) taker) heads (set heads r (record { taker = taker; place = place; number = number }))
+    cond (eqb (taker_of (get_or heads r no_head)) taker) heads (set heads r (packed_head taker place number))
 
 -- a field from which on a node's fields are those from the first on whose print leaves a rest
 pub record IsHead (bytes : List ℕ) (start : Candidate) (number r : ℕ) (head : Candidate) : Type 0 where
@@ -168,8 +180,8 @@ pub record IsHead (bytes : List ℕ) (start : Candidate) (number r : ℕ) (head 
 -- the heads of a node's fields, from the first of them on: each that was written for this taker is one, and of other rests there is no field
 pub record Heads (bytes : List ℕ) (start : Candidate) (number taker : ℕ) (heads : List Head) : Type 0 where
   pub long : length heads ≡ head_count
-  pub known : (r : ℕ) → r < head_count → (get_or heads r no_head).taker ≡ taker → IsHead bytes start number r (head_of (get_or heads r no_head))
-  pub none_at : (r : ℕ) → r < head_count → ((get_or heads r no_head).taker ≡ taker → ⊥) → from_alike r (fields_from bytes start number) ≡ []
+  pub known : (r : ℕ) → r < head_count → taker_of (get_or heads r no_head) ≡ taker → IsHead bytes start number r (head_of (get_or heads r no_head))
+  pub none_at : (r : ℕ) → r < head_count → (taker_of (get_or heads r no_head) ≡ taker → ⊥) → from_alike r (fields_from bytes start number) ≡ []
 
 -- the fields of a node have heads, and from one of them on some are left
 pub record Indexed (bytes : List ℕ) (from : Candidate) (number taker : ℕ) (heads : List Head) : Type 0 where

@@ -63,7 +63,7 @@ unfolding high_bits
 high_bits_written s at = simp towards_suc (omega arith)
 
 -- and in a number
-high_bits_four : (s : List ℕ) (at : ℕ) → ((i : ℕ) → get_or s i 0 < 256)
+pub high_bits_four : (s : List ℕ) (at : ℕ) → ((i : ℕ) → get_or s i 0 < 256)
     → bit_and (get_or s at 0 + 256 * (get_or s (at + 1) 0 + 256 * (get_or s (at + 2) 0 + 256 * get_or s (at + 3) 0))) 0x8080_8080 ≡ high_bits s at 4
 high_bits_four s at each =
     let b = get_or s (at + 1) 0 in

@@ -18,7 +18,7 @@ pub returns-in_default : goal.returns-in_default
 returns-in_default c =
     let args = c.args in
     let count = args.count.now in
-    let same = unformed_encoding args.unit args.fields.now (length count) (sym (c.in_default.ensures (unit_of args.unit))) in
+    let same = unformed_encoding args.unit args.fields.now (length count) (sym (c.in_default.ensures.encoded (unit_of args.unit))) in
     record {
       value = c.no_date_time.ensures (length count) ∙ ap answer (sym same);
       count_after = sym (unformed_left args.unit (length count) count) ∙ ap (λ (f : Effect ℤ). left f count) (sym same);
@@ -29,7 +29,7 @@ pub returns-in-Ok : goal.returns-in-Ok
 returns-in-Ok c =
     let args = c.args in
     let count = args.count.now in
-    let e = encoding_of_lem args.unit args.fields.now (length count) (c.encode.ensures ∙ c.in-Some.ensures (unit_of args.unit)) c.in-Ok.is in
+    let e = encoding_of_lem args.unit args.fields.now (length count) (c.encode.ensures ∙ c.in-Some.ensures.encoded (unit_of args.unit)) c.in-Ok.is in
     let back = to_z-of_z w64 _ (search sfits_of) in
     record {
       value = c.write.ensures.value ∙ ap (λ (z : ℤ). answer (within (length count) (listed (z ∷ [])))) back ∙ ap answer (sym e);
@@ -41,7 +41,7 @@ pub returns-in-Err : goal.returns-in-Err
 returns-in-Err c =
     let args = c.args in
     let count = args.count.now in
-    let same = encoding_of_lem args.unit args.fields.now (length count) (c.encode.ensures ∙ c.in-Some.ensures (unit_of args.unit)) c.in-Err.is in
+    let same = encoding_of_lem args.unit args.fields.now (length count) (c.encode.ensures ∙ c.in-Some.ensures.encoded (unit_of args.unit)) c.in-Err.is in
     record {
       value = c.refused.ensures.answer (omega (arith, ap (λ (r : Refusal). r.place) c.into.ensures, error_place c.in-Err.e)) ∙ ap refusal_answer c.into.ensures ∙ ap answer (sym same);
       count_after = ap (λ (f : Effect ℤ). left f count) (sym same);

@@ -1,8 +1,8 @@
 -- `decimal_bytes::number::significant` meets its contract. The loop's invariant: the bytes that are needed are those that are needed
--- from `at` on. Assumes nothing.
+-- from the byte before `next` on. Assumes nothing.
 use mathlib.Core.Path.{◌≡◌, sym, ap, ◌∙◌}
-use mathlib.Core.List.{List}
-use Prim.Native.Nat.{ℕ, ◌+◌, ◌-◌, ◌<◌}
+use mathlib.Core.List.{List, [], ◌∷◌}
+use Prim.Native.Nat.{ℕ, ◌+◌, ◌-◌, ◌≤◌, ◌<◌}
 use native.Mathlib.Nat.{le_of_eq}
 use native.Mathlib.Omega.{arith}
 use lib.ListN.{length, take, drop, length-drop}
@@ -16,31 +16,45 @@ use Rattle.decimal_bytes.proofs.number.significant.Goals.{After-sign_byte}
 whole : (bs : List ℕ) (at : ℕ) → take (length bs - at) (drop at bs) ≡ drop at bs
 whole bs at = take_all (length bs - at) (drop at bs) (le_of_eq (length-drop at bs))
 
+-- the sign of the bytes behind the byte before `next`
 sign : (c : After-sign_byte)
-    → c.sign_byte.result ≡ sign_byte (drop (c.loop-at.at + 1) c.args.number.now)
-sign c = c.sign_byte.ensures ∙ ap sign_byte (whole c.args.number.now (c.loop-at.at + 1))
+    → c.sign_byte.result ≡ sign_byte (drop (c.loop-next.next - 1 + 1) c.args.number.now)
+sign c =
+    c.sign_byte.ensures ∙ ap sign_byte (whole c.args.number.now c.loop-next.next)
+    ∙ ap (λ (n : ℕ). sign_byte (drop n c.args.number.now)) (omega (arith, c.loop-next.auto.next))
 
 -- the last byte is needed
 last_needed : (bs : List ℕ) (last : ℕ) → last ≡ length bs - 1 → significant (drop last bs) ≡ drop last bs
 last_needed bs last e = significant_short (drop last bs) (omega (arith, length-drop last bs))
 
+-- and where no byte is left behind it, it is the byte before `next`, if there is one
+last_left : (bs : List ℕ) (next last : ℕ) → last ≡ length bs - 1 → 1 ≤ next → (1 ≤ length bs → next ≤ length bs) → length bs ≤ next
+    → significant (drop (next - 1) bs) ≡ significant bs → significant (drop last bs) ≡ significant bs
+last_left [] next last e one within end needed = ap (λ (n : ℕ). significant (drop n [])) e
+last_left (b ∷ bs) next last e one within end needed =
+    ap (λ (n : ℕ). significant (drop n (b ∷ bs))) (omega (arith, e, one, within (omega arith), end)) ∙ needed
+
 pub returns-then-number-at : goal.returns-then-number-at
 returns-then-number-at c =
     let bs = c.args.number.now in
-    let within : c.loop-at.at + 1 < length bs = omega (arith, c.loop-at-test.true, c.saturating_sub-last.ensures) in
-    whole bs c.loop-at.at
-    ∙ sym (significant_stop bs c.loop-at.at within (λ e. c.if-number-at.true (e ∙ sym (sign (goal.at.returns-then-number-at c).After-sign_byte))))
-    ∙ c.loop-at.invariant
+    let at = c.loop-next.next - 1 in
+    let within : at + 1 < length bs = omega (arith, c.loop-next-test.true, c.loop-next.auto.next) in
+    whole bs at
+    ∙ sym (significant_stop bs at within (λ e. c.if-number-at.true (e ∙ sym (sign (goal.at.returns-then-number-at c).After-sign_byte))))
+    ∙ c.loop-next.invariant
 
-pub loop-at-preserved : goal.loop-at-preserved
-loop-at-preserved c =
+pub loop-next-preserved : goal.loop-next-preserved
+loop-next-preserved c =
     let bs = c.args.number.now in
-    let within : c.loop-at.at + 1 < length bs = omega (arith, c.loop-at-test.true, c.saturating_sub-last.ensures) in
-    sym (significant_next bs c.loop-at.at within (c.if-number-at.false ∙ sign (goal.at.loop-at-preserved c).After-sign_byte)) ∙ c.loop-at.invariant
+    let at = c.loop-next.next - 1 in
+    let within : at + 1 < length bs = omega (arith, c.loop-next-test.true, c.loop-next.auto.next) in
+    ap (λ (n : ℕ). significant (drop n bs)) (omega (arith, c.loop-next.auto.next))
+    ∙ sym (significant_next bs at within (c.if-number-at.false ∙ sign (goal.at.loop-next-preserved c).After-sign_byte))
+    ∙ c.loop-next.invariant
 
 pub returns : goal.returns
 returns c =
     let bs = c.args.number.now in
-    let last = c.saturating_sub-last.result in
-    let at_last : last ≡ c.loop-at.at = omega (arith, c.loop-at-test.false) in
-    whole bs last ∙ sym (last_needed bs last c.saturating_sub-last.ensures) ∙ ap (λ (n : ℕ). significant (drop n bs)) at_last ∙ c.loop-at.invariant
+    let last = c.saturating_sub.result in
+    whole bs last ∙ sym (last_needed bs last c.saturating_sub.ensures)
+    ∙ last_left bs _ last c.saturating_sub.ensures c.loop-next.auto.next c.loop-next.auto.next-end c.loop-next-test.false c.loop-next.invariant
